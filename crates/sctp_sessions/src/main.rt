@@ -1,0 +1,55 @@
+//! Plays sessions that were recorded between usrsctp 0.9.5, an SCTP of other authors, and another endpoint: hands an
+//! `Endpoint` what usrsctp sent, at the time when it came, and does the same calls. `stdout` was written from what the
+//! user of the recorded end was told, so a session goes wrong at the first line that differs.
+//!
+//! It is given the names of files in `data/`, a session each. Octets are hexadecimal, times milliseconds. A line that
+//! begins with `#` says what happens; in every other line the first word is the kind of the row:
+//!
+//! - `open TIME HOW`, `tick TIME`, `shutdown TIME`, `send STREAM PROTOCOL OCTETS`: a call;
+//! - `hear TIME DATAGRAM`: what came from usrsctp;
+//! - `drew TAG TSN`: a tag and first TSN that the recorded end drew;
+//! - `told WHAT`: what its user was told.
+//!
+//! An `Endpoint` draws other tags and first TSNs, and signs cookies of its own. So in what comes the verification tag,
+//! the TSNs of SACK and SHUTDOWN, the echoed cookie and the checksum are made to fit (`fitting`). All other octets are
+//! those of usrsctp. Of the one message of 300 octets that the recorded end sent, an `Endpoint` takes the first 290.
+//!
+//! Below the name of a session is what the user was told, each message with its stream, its protocol and its octets;
+//! how many datagrams were heard, and put out; and whether that is what the recorded user was told. How many are put
+//! out is no matter of the recording: the other end, which delayed SACK, put out 24, 10, 76 and 6.
+#![tactic(auto)]
+
+mod fitting;
+mod names;
+mod recorder;
+mod rows;
+mod session;
+
+use session::Session;
+use std::rt::Files;
+use std::{env, fs, io};
+
+fn main(rt: HostRuntime) -> io::Result<()> {
+    let names: Vec<String> = env::args(&rt)?.skip(1).collect(rt.alloc())?;
+    for name in &names {
+        print_session(&rt, name.as_str())?;
+    }
+    Ok(())
+}
+
+/// Plays a session, and prints what came of it.
+fn print_session<R: Files + Print + AllocGlobal>(rt: &R, name: &str) -> io::Result<()> {
+    let rows = fs::read_to_string(rt, name)?;
+    println!(rt; "{name}")?;
+    let mut session = Session::new(rt.alloc())?;
+    for row in rows.as_str().lines() {
+        session.play(row);
+    }
+    let told = session.told();
+    let heard = session.heard();
+    let put_out = session.put_out();
+    let verdict = session.verdict();
+    print!(rt; "{told}")?;
+    println!(rt; " heard {heard}, put out {put_out}")?;
+    println!(rt; " {verdict}")
+}

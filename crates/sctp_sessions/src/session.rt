@@ -1,0 +1,173 @@
+//! A session: an endpoint, to which happens what happened to the recorded end.
+
+ghost use Rattle.std.specs.Prelude.{◌≤◌, ◌^◌};
+
+use crate::fitting::fit;
+use crate::names::{Name, add};
+use crate::recorder::Recorder;
+use crate::rows::{OCTETS, hexadecimal, number, octets, word};
+use sctp_endpoint::endpoint::KEY_OCTETS;
+use sctp_endpoint::{Address, Endpoint, Settings};
+use sctp_sending::{Bounds, Message};
+use std::alloc::{AllocError, Global};
+use std::fmt::Write;
+
+/// The latest time, in milliseconds.
+const LATEST: u64 = 1 << 63;
+
+/// Octets of a message, at most.
+const MESSAGE_OCTETS: usize = 290;
+
+/// Where usrsctp is.
+const PEER: Address = Address {
+    host: [0; 16],
+    port: 9_899,
+};
+
+/// The settings of the recorded end.
+const SETTINGS: Settings = Settings {
+    own_port: 3_565,
+    far_port: 3_565,
+    address: PEER,
+    bounds: Bounds {
+        initial: 300,
+        least: 100,
+        most: 60_000,
+    },
+    init_retransmissions: 8,
+    retransmissions: 30,
+    heartbeat: 30_000,
+    cookie_life: 60_000,
+};
+
+/// Under these keys the endpoint draws tags and signs cookies.
+const TAG_KEY: [u8; KEY_OCTETS] = [1; KEY_OCTETS];
+
+const COOKIE_KEY: [u8; KEY_OCTETS] = [2; KEY_OCTETS];
+
+/// An endpoint in a session.
+#[derive(Drop)]
+pub struct Session {
+    endpoint: Endpoint,
+    recorder: Recorder,
+    names: Vec<Name>,
+    recorded: String,
+    now: u64,
+    heard: u32,
+}
+
+impl Session {
+    /// A session that begins. The error means that memory ran out.
+    pub fn new(alloc: Global) -> Result<Session, AllocError> {
+        Ok(Session {
+            endpoint: Endpoint::new(alloc, SETTINGS, TAG_KEY, COOKIE_KEY)?,
+            recorder: Recorder::new(alloc),
+            names: Vec::new(alloc),
+            recorded: String::new(alloc),
+            now: 0,
+            heard: 0,
+        })
+    }
+
+    /// What a row says happens.
+    pub fn play(&mut self, row: &str) {
+        match word(row, 0) {
+            "drew" => self.note_name(row),
+            "told" => self.note_told(row),
+            "send" => self.send(row),
+            "open" | "hear" | "tick" | "shutdown" => {
+                self.now = number::<u64>(row, 1).min(LATEST);
+                self.happen(row);
+            }
+            _ => return,
+        }
+        if self.now <= LATEST {
+            self.endpoint.flush(self.now, &mut self.recorder);
+        }
+    }
+
+    /// What happens at a time.
+    fn happen(&mut self, row: &str) {
+        if self.now > LATEST || !self.endpoint.lasts() {
+            return;
+        }
+        let now = self.now;
+        match word(row, 0) {
+            "open" => {
+                let is_active = word(row, 2) == "active";
+                self.endpoint.open(is_active, now, &mut self.recorder);
+            }
+            "tick" => self.endpoint.tick(now, &mut self.recorder),
+            "shutdown" => self.endpoint.shutdown(now, &mut self.recorder),
+            _ => self.hear(row, now),
+        }
+    }
+
+    /// A datagram comes.
+    fn hear(&mut self, row: &str, now: u64) {
+        let mut buffer = [0; OCTETS];
+        let datagram = octets(row, 2, &mut buffer);
+        let own = &self.recorder;
+        fit(
+            datagram,
+            self.names.as_slice(),
+            own.names.as_slice(),
+            &own.cookie,
+        );
+        self.heard = self.heard.saturating_add(1);
+        if now <= LATEST && self.endpoint.lasts() {
+            self.endpoint.hear(datagram, &PEER, now, &mut self.recorder);
+        }
+    }
+
+    /// The user gives a message, or as much of it as an `Endpoint` takes.
+    fn send(&mut self, row: &str) {
+        let mut buffer = [0; OCTETS];
+        let whole: &[u8] = octets(row, 3, &mut buffer);
+        let message = Message {
+            stream: number(row, 1),
+            protocol: number(row, 2),
+            octets: whole.get(..MESSAGE_OCTETS).unwrap_or(whole),
+        };
+        let _ = self.endpoint.send(message);
+    }
+
+    /// The recorded end drew a name.
+    fn note_name(&mut self, row: &str) {
+        let name = Name {
+            tag: hexadecimal(row, 1),
+            first: hexadecimal(row, 2),
+        };
+        add(&mut self.names, name);
+    }
+
+    /// The user of the recorded end was told something.
+    fn note_told(&mut self, row: &str) {
+        let told = row.strip_prefix("told").unwrap_or("");
+        let _ = write!(self.recorded, "{told}\n");
+    }
+
+    /// What the user was told, a line each.
+    pub fn told(&self) -> &str {
+        self.recorder.told.as_str()
+    }
+
+    /// How many datagrams were heard.
+    pub fn heard(&self) -> u32 {
+        self.heard
+    }
+
+    /// How many datagrams were put out.
+    pub fn put_out(&self) -> u32 {
+        self.recorder.put_out
+    }
+
+    /// Whether the user was told what was recorded.
+    pub fn verdict(&self) -> &'static str {
+        if self.told() == self.recorded.as_str() {
+            "as recorded"
+        } else {
+            "not as recorded"
+        }
+    }
+}
