@@ -1,2 +1,3 @@
+pub mod Packets
 pub mod Sites
 pub mod Standing

@@ -1,5 +1,5 @@
 -- What is done at an end, as what happens there.
-use Rattle.std.specs.Prelude.{ℕ, ◌<◌, ◌^◌}
+use Rattle.std.specs.Prelude.{ℕ, ◌<◌, ◌^◌, Bool, true, ◌&&◌, nat_lt, nat_le, length}
 use Rattle.sctp_codec.specs.Reading.{read_packet}
 use Rattle.sctp_sending.specs.Cells.{given_as}
 use Rattle.sctp_rules.specs.Endpoint.{Opens, Sends, Aborts, ShutsDown, Ticked, Flushes}
@@ -25,6 +25,17 @@ kept_did Flush now other k = kept_happened (Flushes now) k
 kept_did (Hear place source) now other k =
     with_done (heard_datagram (read_packet (octets_at other place)) k.endpoint.settings (secrets_of k.endpoint) now
     (address_of source) k.endpoint.state) k.given k
+
+-- there is such a datagram
+abbrev pub is_there : Doing → (other : KeptSite) → Bool
+is_there (Hear place source) other = nat_lt place (length other.log.sent)
+is_there what other = true
+
+-- whether it is done: in time, at an endpoint that lasts
+abbrev pub is_done : Doing → (now : ℕ) → (other : KeptSite) → KeptSite → Bool
+is_done what now other k =
+    nat_le now (2 ^ 63) && (nat_lt k.endpoint.state.generation (2 ^ 63) && nat_lt k.endpoint.state.nonces (2 ^ 63))
+    && is_there what other
 
 -- the numbers of a message have as many bits as on the wire
 abbrev pub HasNumbers : Doing → Type 0

@@ -7,7 +7,7 @@ ghost use Rattle.sctp_ends.specs.Theorems.{Delivers, AreAssociated};
 ghost use Rattle.sctp_ends.specs.Told.{told_by};
 ghost use Rattle.sctp_endpoint.specs.Settings.{settings_of};
 ghost use Rattle.sctp_world.specs.Kept.{Keeps, first_kept, kept_at, other_kept, is_whole};
-ghost use Rattle.sctp_world.specs.Doing.{kept_did, HasNumbers, MayCome, site_at, other_site};
+ghost use Rattle.sctp_world.specs.Doing.{is_done, kept_did, HasNumbers, MayCome, site_at, other_site};
 ghost use Rattle.sctp_world.specs.Stands.{StandsFor, GoesOn, make_of, first_of};
 
 use crate::log::{Datagram, Kept};
@@ -81,6 +81,7 @@ impl World {
     /// Does something at an end, at a time in milliseconds. Answers whether it was done: not where the time is over
     /// 2^63 ms, where the endpoint doesn't last (`Endpoint::lasts`), or where there is no such datagram.
     pub fn act(&mut self, end: End, what: Doing<'_>, now: u64) -> bool
+        ensures answer { result ≡ is_done what.entry now (other_kept end self.old) (kept_at end self.old) }
         // What it does is the rule's: at the endpoint in any case, and in all that is kept of it if that is whole.
         ensures done { result ≡ true → Keeps (kept_at end self.old) (kept_did what.entry now (other_kept end self.old)
             (kept_at end self.old)) (kept_at end self.new) }
@@ -173,6 +174,7 @@ fn has_numbers(what: Doing<'_>)
 
 /// Does something at an endpoint, where the other one put out some datagrams.
 fn act_at(site: &mut Site, other: &Site, what: Doing<'_>, now: u64) -> bool
+    ensures answer { result ≡ is_done what.entry now other.now site.old }
     ensures did { result ≡ true → Keeps site.old (kept_did what.entry now other.now site.old) site.new }
     ensures unchanged { result ≡ false → site.new ≡ site.old }
     ensures whole { site.new.log.is_whole ≡ true → site.old.log.is_whole ≡ true }

@@ -1,0 +1,43 @@
+//! Two endpoints of SCTP (`World` of `sctp_world`) under random schedules: datagrams are lost, doubled, delayed and
+//! reordered, those of former associations come too, and users open, end and shut down associations.
+//!
+//! A schedule is 4,000 steps, each at one of the ends: of 64 steps 16 send a message, 12 flush, 6 tick, 2 open, and most
+//! others let a datagram come that the other end put out: mostly one of the latest twelve, else any that ever was. It
+//! plays as many schedules as its first word says, or 200. Each message has a number of its own, so it is seen whether
+//! it is the next one of its association; `World::told` promises that it is, so `out of place` is 0.
+#![tactic(auto)]
+
+mod counts;
+mod dice;
+mod judging;
+mod octets;
+mod schedule;
+
+use counts::Counts;
+use schedule::play;
+use std::{env, io};
+
+/// How many schedules are played.
+const SCHEDULES: u32 = 200;
+
+fn main(rt: HostRuntime) -> io::Result<()> {
+    let words: Vec<String> = env::args(&rt)?.skip(1).collect(rt.alloc())?;
+    let mut schedules = SCHEDULES;
+    for word in &words {
+        schedules = word.as_str().parse::<u32>().unwrap_or(SCHEDULES);
+    }
+    let mut counts = Counts::new();
+    for seed in 0..schedules {
+        play(rt.alloc(), seed, &mut counts)?;
+    }
+    println!(rt; "schedules {schedules}, whole {}", counts.whole)?;
+    println!(rt;
+        "opened first {}, second {}, after the first fell {}",
+        counts.firsts, counts.seconds, counts.late_seconds
+    )?;
+    println!(rt; "stale cookies {}", counts.stale)?;
+    println!(rt; "numbers behind the last {}", counts.wraps)?;
+    println!(rt; "datagrams of former associations {}", counts.former)?;
+    println!(rt; "messages given {}, told {}", counts.given, counts.told)?;
+    println!(rt; "out of place {}", counts.misplaced)
+}
