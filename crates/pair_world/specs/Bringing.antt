@@ -17,7 +17,8 @@ use Rattle.sccp_relay.specs.Return.{returned}
 use Rattle.exchange_rules.specs.Local.{sccp}
 use Rattle.exchange_rules.specs.Messages.{whither_goes}
 use Rattle.exchange_rules.specs.Relaying.{in_place_of, own_of}
-use Rattle.exchange.specs.Counting.{is_user_picked, kept_behind_number}
+use Rattle.cell_pool.specs.Lanes.{is_user_picked}
+use Rattle.exchange.specs.Counting.{kept_behind_number}
 use Rattle.exchange.specs.KeptQueues.{kept, counts_at, link_lane}
 use Rattle.exchange.specs.Stands.{Kept}
 use Rattle.pair_moves.specs.Laws.{sum_to}
