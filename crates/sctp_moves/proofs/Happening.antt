@@ -5,7 +5,7 @@ use Rattle.sctp_moves.specs.Ends.{Name, Cookie, Chunk, Acknowledgement, Epoch, n
 use Rattle.sctp_moves.specs.Moves as moves
 use Rattle.sctp_moves.specs.Moves.{answer_to, Move}
 use Rattle.sctp_moves.specs.Example.{near_name, far_name, next_near_name, next_far_name, old_cookie, next_cookie, lost_message, first_message, second_message}
-use Rattle.sctp_moves.specs.Example.{first_chunk, second_chunk, Happens}
+use Rattle.sctp_moves.specs.Example.{first_chunk, second_chunk, other_cookie, Happens}
 use Rattle.sctp_moves.proofs.Members.{In, in-from}
 use Rattle.sctp_moves.proofs.Sides.{tag_of}
 
@@ -292,9 +292,13 @@ happens = record {
     far_own = refl;
     far_far = refl;
   };
+  refuses = record { hole = refl; stranger = stranger };
 } where
   stale : (q : End) (m : moves.OpensByCookie s23.far s23.near q) → m.cookie ≡ old_cookie → ⊥
   stale q m e =
       let now : m.cookie.generation ≡ 2 = m.present in
       let was : m.cookie.generation ≡ 0 = ap (λ (c : Cookie). c.generation) e in
       omega (arith, now, was)
+
+  stranger : moves.MayOpen (CookieEchoed far_name near_name) other_cookie → ⊥
+  stranger m = omega (arith, m.1)

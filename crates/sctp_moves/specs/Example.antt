@@ -4,9 +4,9 @@
 -- Its old cookie comes again and opens nothing; then a new association opens at both ends.
 use Rattle.std.specs.Prelude.{◌≡◌, true, ◌-◌, ◌^◌, List, [], ◌∷◌}
 use Rattle.std.specs.List.{Contains}
-use Rattle.sctp_moves.specs.Ends.{Message, Name, Cookie, Chunk, Epoch}
+use Rattle.sctp_moves.specs.Ends.{Message, Name, Cookie, Chunk, Acknowledgement, Epoch, new_epoch}
 use Rattle.sctp_moves.specs.Ends.{Closed, CookieEchoed, Established, End, Ends, new_ends}
-use Rattle.sctp_moves.specs.Moves.{OpensByCookie, Moves, last_of}
+use Rattle.sctp_moves.specs.Moves.{OpensByCookie, MayOpen, Moves, ack_of, last_of}
 
 abbrev pub near_name : Name
 near_name = record { tag = 11; first = 7 }
@@ -81,6 +81,24 @@ pub record OpensAgain (p : Ends) : Type 0 where
   pub far_own : far_epoch.own ≡ next_far_name
   pub far_far : far_epoch.far ≡ next_near_name
 
+-- the near end while it has heard the second message alone
+abbrev pub with_a_hole : Epoch
+with_a_hole = record (new_epoch near_name far_name) { heard = record { place = 1; message = second_message } ∷ [] }
+
+-- then it acknowledges nothing: the number before the first
+abbrev pub nothing_received : Acknowledgement
+nothing_received = record { to = 21; number = 2 ^ 32 - 2; count = 0 }
+
+-- a cookie for the far end's try, by an answer that names another peer
+abbrev pub other_cookie : Cookie
+other_cookie = record { generation = 1; own = far_name; far = next_near_name }
+
+-- What an end doesn't do, for whatever reason: count what it heard behind a hole, or open by a cookie of another peer
+-- than the one that its try has found.
+pub record Refuses : Type 0 where
+  pub hole : ack_of with_a_hole ≡ nothing_received
+  pub stranger : MayOpen (CookieEchoed far_name near_name) other_cookie → ⊥
+
 pub record Happens : Type 0 where
   pub opening : List Ends
   pub opening_moves : Moves new_ends opening
@@ -91,3 +109,4 @@ pub record Happens : Type 0 where
   pub reopening : List Ends
   pub reopening_moves : Moves (last_of (last_of new_ends opening) carrying) reopening
   pub again : OpensAgain (last_of (last_of (last_of new_ends opening) carrying) reopening)
+  pub refuses : Refuses

@@ -56,7 +56,7 @@ pub fn moves_of_ends_join()
 /// These laws aren't empty: in a run of 31 moves an association opens at one end and then at the
 /// other, and messages go round the end of the numbers, of which one overtakes another, one comes
 /// twice and one is lost. It falls at one end, where its old cookie opens nothing, and a new one opens
-/// at both.
+/// at both. Behind the hole nothing was acknowledged, and no cookie of another peer might have opened.
 pub fn associations_open_and_fall()
     ensures { Happens }
 {}
