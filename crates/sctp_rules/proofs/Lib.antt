@@ -1,6 +1,7 @@
 pub mod Rows
 pub mod Telling
 pub mod GivenMessages
+pub mod Halves
 pub mod Passing
 pub mod ReceivedMessages
 pub mod Openings
