@@ -187,7 +187,7 @@ off = record { up = λ e. absurd (cc); down = λ e. refl }
 none-bare : All IsBare []
 none-bare = All-nil IsBare
 
-one-bare : (chunk : ChunkValue) → IsBare chunk → All IsBare (chunk ∷ [])
+pub one-bare : (chunk : ChunkValue) → IsBare chunk → All IsBare (chunk ∷ [])
 one-bare chunk b = All-cons IsBare chunk [] b none-bare
 
 pub none-sent : AreBare []
@@ -214,7 +214,7 @@ itself s = record {
 }
 
 -- nothing that is seen changes
-unmoved : (s : State) → Right s → Follows s s
+pub unmoved : (s : State) → Right s → Follows s s
 unmoved s r = record { same = itself s; half = same s.association.sender; right = r }
 
 -- ---- the states before there is an association
@@ -258,14 +258,14 @@ echoing = record { up = λ e. absurd (cc); down = λ e. refl }
 there : IsRight Established true
 there = record { up = λ e. refl; down = λ e. absurd (cc) }
 
-same-number : (m n : ℕ) → nat_eq m n ≡ true → m ≡ n
+pub same-number : (m n : ℕ) → nat_eq m n ≡ true → m ≡ n
 same-number m n e = grind (arith, nat_tests, e)
 
-second-true : (x y : Bool) → (x && y) ≡ true → y ≡ true
+pub second-true : (x y : Bool) → (x && y) ≡ true → y ≡ true
 second-true true y e = e
 second-true false y e = absurd (cc)
 
-both-true : (x y : Bool) → (x && y) ≡ true → x ≡ true
+pub both-true : (x y : Bool) → (x && y) ≡ true → x ≡ true
 both-true true y e = refl
 both-true false y e = absurd (cc)
 
@@ -289,7 +289,7 @@ with-answer chunk s a bare f =
     let r = f.right in
     choice (ending.has_place a.control chunk) s a (a.control ++ chunk ∷ []) (All-push IsBare a.control chunk r.control bare) f
 
-answer-follows : (chunk : ChunkValue) (s : State) → IsBare chunk → Right s → Follows s (ending.answered chunk s)
+pub answer-follows : (chunk : ChunkValue) (s : State) → IsBare chunk → Right s → Follows s (ending.answered chunk s)
 answer-follows chunk s bare r = with-answer chunk s s.association bare (unmoved s r)
 
 pub answer-alike : (chunk : ChunkValue) (s : State) → Alike s (ending.answered chunk s)
@@ -406,7 +406,7 @@ Comes A (Sends message) = A.message message
 Comes A (Flushes now) = A.flush
 Comes A what = Unit {0}
 
-told-right : (c : Settings) (tolds : List consuming.Told) (s : State) → Right s → Right (data_rules.told_each c tolds s).left
+pub told-right : (c : Settings) (tolds : List consuming.Told) (s : State) → Right s → Right (data_rules.told_each c tolds s).left
 told-right c [] s r = r
 told-right c (consuming.Nothing ∷ more) s r = told-right c more s r
 told-right c (consuming.Tells message ∷ more) s r = told-right c more s r
@@ -447,7 +447,7 @@ data-goes : (b : Bool) (now : ℕ) (s : State) → Right s →
 data-goes true now s r = (itself s, record { right = r.right; control = none-bare; trying = r.trying })
 data-goes false now s r = (itself s, record { right = r.right; control = none-bare; trying = r.trying })
 
-last-bare : (c : Settings) (a : Association) (chunks : List ChunkValue) → All IsBare chunks → AreBare (ending.last_words c a chunks)
+pub last-bare : (c : Settings) (a : Association) (chunks : List ChunkValue) → All IsBare chunks → AreBare (ending.last_words c a chunks)
 last-bare c a [] h = none-sent
 last-bare c a (chunk ∷ chunks) h = if-there (ending.has_peer a.phase) where
   if-there : (b : Bool) → AreBare (if b then state.datagram_to c a.address a.far_tag (chunk ∷ chunks) ∷ [] else [])

@@ -139,7 +139,7 @@ each-turns c (consuming.Violates v ∷ one ∷ more) s h u = let e : true ≡ fa
 abbrev pub anything : Arrivals
 anything = record { carried = λ d. Unit {0}; cumulative = λ n. Unit {0}; tag = λ n. Unit {0}; message = λ m. Unit {0}; flush = Unit {0} }
 
-turn-steps : AreSteps anything Turns
+pub turn-steps : AreSteps anything Turns
 turn-steps = record {
   alike = λ s left sent f bare. let a = f.same in record { turn = ap (λ (up : Bool). Some up) a.up };
   ended = λ c why chunks s bare. ended-turns c why chunks s;
