@@ -1,10 +1,9 @@
 -- The sending half of an association keeps what was given in it and isn't confirmed.
 use Rattle.std.proofs.Common.{◌≡◌, ℕ, zero, suc, ◌+◌, ◌-◌, ◌%◌, ◌^◌, ◌<◌, ◌≤◌, ◌⊎◌, Bool, true, false, List, [], ◌∷◌, ◌++◌}
-use Rattle.std.proofs.Common.{length, map, take, drop, get_or, refl, ap, sym, ◌∙◌, subst, arith, inl, inr, nat_eq, nat_lt}
+use Rattle.std.proofs.Common.{length, map, take, drop, get_or, refl, ap, sym, ◌∙◌, subst, arith, inl, inr, nat_eq}
 use Rattle.std.proofs.Common.{length-append, length-drop, append_assoc}
 use Rattle.std.specs.Prelude.{sum_by, slice_index, slice_set, if◌then◌else◌}
 use Rattle.std.specs.List.{Contains}
-use Rattle.std.proofs.lemmas.Bool.Decides.{nat_tests}
 use Rattle.std.proofs.lemmas.List.{append-nil, map-append, length-map, length-take-le, drop-map, take-map, take-take, take_all, drop-take, drop-drop}
 use Rattle.std.proofs.lemmas.List.{drop-append-le, get_or-take, get_or-drop}
 use Rattle.std.proofs.lemmas.List.Sums.{sum_by-append}
@@ -16,7 +15,7 @@ use Rattle.sctp_sending.specs.Outgoing.{Message, Outgoing, no_message, new_outgo
 use Rattle.sctp_sending.specs.Sending.{Sending, first_sending, given, stopped, confirmation, messages_of}
 use Rattle.sctp_codec.specs.Packets.{DataValue}
 use Rattle.sctp_rules.specs.SentMessages.{count_on, chunk_at, IsSaid}
-use Rattle.sctp_rules.proofs.Halves.{Numbered, numbered_of, numbered_in, no_number, Half, half_of, AreSame, Same, same-length, IsConfirmed, IsAnswered}
+use Rattle.sctp_rules.proofs.Halves.{Numbered, numbered_of, numbered_in, no_number, Half, half_of, AreSame, same-length, IsConfirmed, IsAnswered}
 use Rattle.sctp_rules.proofs.Halves.{count-is, data_by, IsDataOf, Goes}
 
 -- ---- messages under their numbers
@@ -42,7 +41,7 @@ numbered-more before [] m = ap (λ (ms : List Message). number ms m ∷ []) (sym
 numbered-more before (x ∷ more) m =
     ap (λ (ns : List Numbered). number before x ∷ ns) (numbered-more (before ++ x ∷ []) more m)
     ∙ ap (λ (ms : List Message). number before x ∷ (numbered_from (before ++ x ∷ []) more ++ number ms m ∷ []))
-      (append_assoc before (x ∷ []) more)
+    (append_assoc before (x ∷ []) more)
 
 numbered-at : (before given : List Message) (place : ℕ) → place < length given →
     get_or (numbered_from before given) place no_number ≡ number (before ++ take place given) (get_or given place no_message)
@@ -248,14 +247,14 @@ kept-given first messages acknowledged is_up s m stream up k =
           ∙ ap (λ (n : Numbered). rest ++ n ∷ []) last
           ∙ sym behind
           ∙ sym (take_all (length (s.out ++ added ∷ [])) (drop k.confirmed (numbered (messages ++ m ∷ [])))
-            (let e = ap (λ (ns : List Numbered). length ns) behind ∙ length-append rest (number messages m ∷ []) in
-            omega (arith, e, rest-long, full, long)));
+          (let e = ap (λ (ns : List Numbered). length ns) behind ∙ length-append rest (number messages m ∷ []) in
+          omega (arith, e, rest-long, full, long)));
       enough = omega (arith, full, long, more);
       all = λ e. omega (arith, full, long, more);
       went = omega (arith, k.went, long);
       numbers = ap (λ (ns : List ℕ). slice_set ns m.stream ((slice_index ns m.stream + 1) % 2 ^ 16)) k.numbers
           ∙ numbers-on m.stream (count_on 0 messages) (count_on 1 messages) (count_on 0 (messages ++ m ∷ [])) (count_on 1 (messages ++ m ∷ []))
-            stream (count-more 0 messages m) (count-more 1 messages m);
+          stream (count-more 0 messages m) (count-more 1 messages m);
     }
 
 -- ---- messages go out

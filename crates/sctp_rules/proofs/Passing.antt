@@ -17,7 +17,7 @@ use Rattle.sctp_codec.specs.Parameters.{CauseValue, InvalidParameter, EndedByUse
 use Rattle.sctp_codec.specs.Parameters.{UnrecognizedChunk, cause_item, cookie_in, host_name_in, has_stale_cookie}
 use Rattle.sctp_codec.specs.Parameters.{information_of, unrecognized_parameters, complained_of}
 use Rattle.sctp_sending.specs.Outgoing.{Message}
-use Rattle.sctp_sending.specs.Sending.{confirmation, given, stopped, after_cumulative, after_t3}
+use Rattle.sctp_sending.specs.Sending.{confirmation, given, stopped}
 use Rattle.sctp_sending.specs.RoundTrips.{backed_off}
 use Rattle.sctp_rules.specs.declared.phase.Phase.{Phase}
 use Rattle.sctp_rules.specs.declared.phase.Phase.TheVariants.{Closed, CookieWait, CookieEchoed, Established}

@@ -1,11 +1,11 @@
 -- What an endpoint puts out was given, by the pass over all rules.
-use Rattle.std.proofs.Common.{◌≡◌, ℕ, zero, suc, ◌+◌, ◌<◌, ◌^◌, Bool, true, false, List, [], ◌∷◌, ◌++◌, Option, Some, None}
-use Rattle.std.proofs.Common.{refl, ap, sym, ◌∙◌, subst, arith, map, nat_eq, nat_lt, inl, inr}
+use Rattle.std.proofs.Common.{◌≡◌, ℕ, suc, ◌+◌, ◌<◌, Bool, true, false, List, [], ◌∷◌, ◌++◌, Option}
+use Rattle.std.proofs.Common.{refl, ap, sym, ◌∙◌, subst, arith, map, nat_eq}
 use Rattle.std.specs.Prelude.{All, ◌&&◌, if◌then◌else◌}
 use Rattle.std.specs.List.{Contains}
 use Rattle.std.proofs.lemmas.Bool.{eq-eqb}
 use Rattle.std.proofs.lemmas.Bool.Decides.{nat_tests}
-use Rattle.std.proofs.lemmas.List.Elements.{All-append, All-nil, All-cons, All-head, All-tail, All-weaker, All-map, Contains-append_left, Contains-append_right}
+use Rattle.std.proofs.lemmas.List.Elements.{All-append, All-nil, All-cons, All-weaker, All-map, Contains-append_left, Contains-append_right}
 use Rattle.sctp_receiving.specs.Consuming as consuming
 use Rattle.sctp_receiving.specs.Receiver as receiving
 use Rattle.sctp_receiving.specs.Receiver.{received}
@@ -33,13 +33,13 @@ use Rattle.sctp_rules.specs.Sending as sending
 use Rattle.sctp_rules.specs.Endpoint.{Happening, Opens, Came, Ticked, Sends, Aborts, ShutsDown, Flushes, after, after_all}
 use Rattle.sctp_rules.specs.Openings.{openings}
 use Rattle.sctp_rules.specs.ReceivedMessages.{tag_of}
-use Rattle.sctp_rules.specs.SentMessages.{cumulative_in, acknowledged_by, acknowledged_with, Latest, no_latest, opened_by, given_by, latest_by, latest_after}
-use Rattle.sctp_rules.specs.SentMessages.{IsOneOf, IsGiven, AreGiven, IsRest, given_messages_are_sent, given_messages_are_kept}
-use Rattle.sctp_rules.proofs.Halves.{Half, half_of, same, Same, IsAnswered, IsDataOf, Goes, going-so, AreGone, numbered_in}
+use Rattle.sctp_rules.specs.SentMessages.{cumulative_in, acknowledged_by, acknowledged_with, Latest, no_latest, opened_by, latest_by, latest_after}
+use Rattle.sctp_rules.specs.SentMessages.{IsOneOf, IsGiven, AreGiven, given_messages_are_sent, given_messages_are_kept}
+use Rattle.sctp_rules.proofs.Halves.{Half, half_of, IsAnswered, IsDataOf, going-so, AreGone, numbered_in}
 use Rattle.sctp_rules.proofs.KeptMessages.{IsKept, kept-first, kept-same, kept-more, kept-answered, kept-stopped, kept-given, kept-gone, kept-chunk, kept-messages, kept-all}
-use Rattle.sctp_rules.proofs.Openings.{openings-on, no-openings, none-shut}
+use Rattle.sctp_rules.proofs.Openings.{openings-on, none-shut}
 use Rattle.sctp_rules.proofs.Telling.{turn-steps, Turns, any-happening}
-use Rattle.sctp_rules.proofs.Passing.{Seen, seen, Alike, Follows, IsTry, IsShut, Arrivals, AreSteps, Passes, Right, HaveCome, Comes, IsBare, AreBare}
+use Rattle.sctp_rules.proofs.Passing.{Alike, Follows, IsShut, Arrivals, AreSteps, Passes, Right, HaveCome, Comes, IsBare, AreBare}
 use Rattle.sctp_rules.proofs.Passing.{happens, none-right, none-sent, unmoved, told-right, answer-follows, last-bare, one-bare, both-true, second-true}
 use Rattle.sctp_rules.proofs.Written.{IsBundle, packets-of}
 
