@@ -1184,13 +1184,13 @@ module _ (c : Settings) (ports : HasPorts c) where
     sack-of : (a : Association) → Kept c a → IsBundled (data_rules.sack_of a.receiver)
     sack-of a kept = let r = kept.receives in sack-chunk a.receiver r.last r.again r.few
 
-    datagrams : (a : Association) (bundles : List (List ChunkValue)) → a.far_tag < 2 ^ 32 → All IsBundle bundles →
+    datagrams : (a : Association) (bundles : List (List ChunkValue)) → a.far_tag < 2 ^ 32 → All (IsBundle IsBundled) bundles →
         All IsWritten (map (λ chunks. state.datagram_to c a.address a.far_tag chunks) bundles)
     datagrams a [] t h = none
     datagrams a (chunks ∷ more) t h =
-        let b : IsBundle chunks = All-head IsBundle chunks more h in
+        let b : IsBundle IsBundled chunks = All-head (IsBundle IsBundled) chunks more h in
         All-cons IsWritten (state.datagram_to c a.address a.far_tag chunks) (map (λ chunks. state.datagram_to c a.address a.far_tag chunks) more)
-        (packet-of c a.far_tag chunks ports t b.some b.each) (datagrams a more t (All-tail IsBundle chunks more h))
+        (packet-of c a.far_tag chunks ports t b.some b.each) (datagrams a more t (All-tail (IsBundle IsBundled) chunks more h))
 
     acknowledgement-in : (phase : Phase) (a : Association) → Kept c a → All IsBundled (sending.acknowledgement_in phase a)
     acknowledgement-in ShutdownSent a kept =
@@ -1239,7 +1239,7 @@ module _ (c : Settings) (ports : HasPorts c) where
           left = sent-kept (data_rules.takes_sack (sending.with_acknowledged now a).phase) now (sending.with_acknowledged now a)
               (acknowledged-kept (sending.is_acknowledging a) (sending.t2_in a.phase now a) a kept);
           sent = datagrams a (sending.packets_of (sending.due_chunks now a)) kept.far
-              (packets-of (sending.due_chunks now a) (due-fits now a kept));
+              (packets-of IsBundled (sending.due_chunks now a) (due-fits now a kept));
         }
 
     -- ---- all that can happen

@@ -1,8 +1,11 @@
 pub mod Rows
 pub mod Telling
 pub mod GivenMessages
+pub mod Halves
+pub mod KeptMessages
 pub mod Passing
 pub mod ReceivedMessages
 pub mod Openings
+pub mod SentMessages
 pub mod Written
 pub mod Fitting

@@ -23,12 +23,12 @@ use Rattle.sctp_rules.specs.Packets as arriving
 use Rattle.sctp_rules.specs.Endpoint.{Happening, after, after_all}
 use Rattle.sctp_rules.specs.Openings.{openings, generations_grow, cookies_open_in_their_generation, other_tags_are_dropped}
 use Rattle.sctp_rules.specs.Openings.{has_own_rule}
-use Rattle.sctp_rules.proofs.Passing.{AreSteps, Passes, Right, happens, off, answer-alike}
-use Rattle.sctp_rules.proofs.Telling.{AnyData, AnyTag, any-happening}
+use Rattle.sctp_rules.proofs.Passing.{AreSteps, Passes, Right, happens, none-right, answer-alike}
+use Rattle.sctp_rules.proofs.Telling.{anything, any-happening}
 
 -- ---- the generation
 
-openings-on : (first second : List Told) → openings (first ++ second) ≡ openings first + openings second
+pub openings-on : (first second : List Told) → openings (first ++ second) ≡ openings first + openings second
 openings-on [] second = omega arith
 openings-on (Up ∷ more) second = omega (arith, openings-on more second)
 openings-on (Heard m ∷ more) second = openings-on more second
@@ -42,13 +42,13 @@ pub record Grows (s : State) (d : Done) : Type 0 where
 also-grows : (s : State) (d : Done) (rule : State → Done) → Grows s d → Grows d.left (rule d.left) → Grows s (followed_by d rule)
 also-grows s d rule t u = record { grows = omega (arith, t.grows, u.grows, openings-on d.told (rule d.left).told) }
 
-no-openings : (is_up is_wanted : Bool) (why : Loss) →
+pub no-openings : (is_up is_wanted : Bool) (why : Loss) →
     openings (if is_up then Down why ∷ [] else (if is_wanted then Failed why ∷ [] else [])) ≡ 0
 no-openings true is_wanted why = refl
 no-openings false true why = refl
 no-openings false false why = refl
 
-none-shut : (up : Bool) (why : Loss) → openings (if up then Down why ∷ [] else []) ≡ 0
+pub none-shut : (up : Bool) (why : Loss) → openings (if up then Down why ∷ [] else []) ≡ 0
 none-shut true why = refl
 none-shut false why = refl
 
@@ -83,18 +83,21 @@ each-grows c (told ∷ more) s =
     also-grows s (data_rules.told_one c told s) (λ left. data_rules.told_each c more left) (one-grows c told s)
     (each-grows c more (data_rules.told_one c told s).left)
 
-growing-steps : AreSteps AnyData AnyTag Grows
+growing-steps : AreSteps anything Grows
 growing-steps = record {
-  alike = λ s left sent a. record { grows = omega (arith, a.generation) };
-  ended = ended-grows;
-  tries = λ s left sent i. record { grows = omega (arith, i.generation) };
+  alike = λ s left sent f bare. let a = f.same in record { grows = omega (arith, a.generation) };
+  ended = λ c why chunks s bare. ended-grows c why chunks s;
+  tries = λ s left sent i bare. record { grows = omega (arith, i.generation) };
   opens = λ c now own far first peer address s t d. record { grows = omega arith };
-  shuts = λ s left sent g d e. record { grows = omega (arith, g, none-shut s.association.is_up losses.Shutdown) };
-  takes = λ c d s come t up now-takes.
+  shuts = λ s left i. record { grows = omega (arith, i.generation, none-shut s.association.is_up losses.Shutdown) };
+  takes = λ c d s come t r up now-takes.
       let steps : receiving.Steps = received s.association.receiver d.tsn (data_rules.piece_of d) in
       let taken : State = state.with_association s (record s.association { receiver = steps.left; is_sack_due = true }) in
       record { grows = (each-grows c steps.told taken).grows };
+  confirms = λ s left n h t a answer. record { grows = omega (arith, a.generation) };
+  gives = λ m s left h a. record { grows = omega (arith, a.generation) };
   reports = λ s. record { grows = omega arith };
+  puts = λ s left sent h a. record { grows = omega (arith, a.generation) };
   also = also-grows;
 }
 
@@ -108,7 +111,7 @@ all-grow c k (what ∷ more) s r =
 
 pub generations-grow : generations_grow
 generations-grow c k before happenings =
-    let start : Passes Grows (first_state c) (after_all c k before (first_state c)) = all-grow c k before (first_state c) (record { right = off }) in
+    let start : Passes Grows (first_state c) (after_all c k before (first_state c)) = all-grow c k before (first_state c) none-right in
     let g = (all-grow c k happenings (after_all c k before (first_state c)).left start.left).kept.grows in
     omega (arith, g)
 

@@ -33,7 +33,7 @@ use Rattle.sctp_receiving.specs.declared.violation.Violation.{Violation}
 use Rattle.sctp_rules.specs.ReceivedMessages.{chunks_in, came_by, came_with, Fits, HaveTsns, Epoch, tag_of, new_epoch, with_come, with_heard, with_told, epochs_after}
 use Rattle.sctp_rules.specs.ReceivedMessages.{messages_in, IsCourse, IsReceived, Presents, AreReceived, messages_are_received}
 use Rattle.sctp_rules.proofs.Telling.{OnlyLast, received-last, rest-last}
-use Rattle.sctp_rules.proofs.Passing.{Alike, AreSteps, Passes, Right, HaveCome, Comes, happens, off}
+use Rattle.sctp_rules.proofs.Passing.{Alike, Arrivals, AreSteps, Passes, Right, HaveCome, Comes, happens, none-right}
 use Rattle.sctp_rules.proofs.Passing.{answer-alike}
 
 -- ---- lists
@@ -280,8 +280,14 @@ record HasComeBy (what : Happening) (d : DataValue) : Type 0 where
   fits : d.tsn < 2 ^ 32
   there : Contains (came_by what) (chunk_of d)
 
-abbrev HasTagOf : Happening → ℕ → Type 0
-HasTagOf what tag = tag ≡ tag_of what
+abbrev arrived : Happening → Arrivals
+arrived what = record {
+  carried = λ d. HasComeBy what d;
+  cumulative = λ n. Unit {0};
+  tag = λ tag. tag ≡ tag_of what;
+  message = λ m. Unit {0};
+  flush = Unit {0};
+}
 
 present-as : (epochs : List Epoch) (a b : Association) → IsSame a b → Presents epochs a → Presents epochs b
 present-as [] a b e h = h
@@ -427,20 +433,23 @@ shut-told : (what : Happening) (up : Bool) (epochs : List Epoch) → with_told w
 shut-told what true epochs = refl
 shut-told what false epochs = refl
 
-received-steps : (what : Happening) → AreSteps (HasComeBy what) (HasTagOf what) (Keeps what)
+received-steps : (what : Happening) → AreSteps (arrived what) (Keeps what)
 received-steps what = record {
-  alike = alike-keeps what;
-  ended = λ c why chunks s.
+  alike = λ s left sent f bare. alike-keeps what s left sent f.same;
+  ended = λ c why chunks s bare.
       let d : Done = ending.ended_with c why chunks s in
       gone-keeps what s d.left d.sent d.told (end-told what s.association.is_up s.is_wanted why) refl;
-  tries = λ s left sent i. gone-keeps what s left sent [] (λ epochs. refl) i.takes_none;
+  tries = λ s left sent i bare. gone-keeps what s left sent [] (λ epochs. refl) i.takes_none;
   opens = opens-keeps what;
-  shuts = λ s left sent g d e. gone-keeps what s left sent _ (shut-told what s.association.is_up) e;
-  takes = λ c d s come tag up now-takes. record {
+  shuts = λ s left i. gone-keeps what s left [] _ (shut-told what s.association.is_up) i.takes_none;
+  takes = λ c d s come tag right up now-takes. record {
     keeps = λ epochs h.
         let r = h.received in
         takes-present what c d s epochs come tag h.current r.each (r.present now-takes);
   };
+  confirms = λ s left n h tag a answer. alike-keeps what s left [] a;
+  gives = λ m s left h a. alike-keeps what s left [] a;
+  puts = λ s left sent h a. alike-keeps what s left sent a;
   reports = λ s. record {
     keeps = λ epochs h.
         let r = h.received in
@@ -455,7 +464,7 @@ received-steps what = record {
 -- ---- all that happens
 
 chunks-come : (what : Happening) (chunks : List ChunkValue) → All Fits (chunks_in chunks) →
-    ((x : Chunk) → Contains (chunks_in chunks) x → Contains (came_by what) x) → HaveCome (HasComeBy what) chunks
+    ((x : Chunk) → Contains (chunks_in chunks) x → Contains (came_by what) x) → HaveCome (arrived what) chunks
 chunks-come what [] f h = tt
 chunks-come what (packets.DataChunk d ∷ chunks) f h = (
   record { fits = f 0 (chunk_of d) (omega arith); there = h (chunk_of d) (0, omega arith, refl) },
@@ -476,7 +485,7 @@ chunks-come what (packets.ShutdownCompleteChunk is_reflected ∷ chunks) f h = (
 chunks-come what (packets.UnknownChunk kind flags value ∷ chunks) f h = (tt, chunks-come what chunks f h)
 chunks-come what (packets.MalformedChunk kind ∷ chunks) f h = (tt, chunks-come what chunks f h)
 
-what-comes : (what : Happening) → HaveTsns what → Comes (HasComeBy what) (HasTagOf what) what
+what-comes : (what : Happening) → HaveTsns what → Comes (arrived what) what
 what-comes (Came now source packet) f = (chunks-come (Came now source packet) packet.chunks f (λ x i. i), refl)
 what-comes (Opens now is_active) f = tt
 what-comes (Ticked now) f = tt
@@ -525,4 +534,5 @@ all-keep c k (what ∷ more) s epochs f h r =
 
 pub all-received : messages_are_received
 all-received c k happenings f =
-    all-keep c k happenings (first_state c) [] f (record { each = All-nil IsReceived; present = λ t. absurd (cc) }) (record { right = off })
+    all-keep c k happenings (first_state c) [] f (record { each = All-nil IsReceived; present = λ t. absurd (cc) })
+    none-right

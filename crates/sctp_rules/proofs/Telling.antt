@@ -18,7 +18,7 @@ use Rattle.sctp_rules.specs.Ending as ending
 use Rattle.sctp_rules.specs.Data as data_rules
 use Rattle.sctp_rules.specs.Endpoint.{Happening, Opens, Came, Ticked, Sends, Aborts, ShutsDown, Flushes, after, after_all}
 use Rattle.sctp_rules.specs.Telling.{turned, turned_by, and_then, told_in_turn}
-use Rattle.sctp_rules.proofs.Passing.{AreSteps, Passes, Right, HaveCome, Comes, happens, off, answer-alike}
+use Rattle.sctp_rules.proofs.Passing.{Arrivals, AreSteps, Passes, Right, HaveCome, Comes, happens, none-right, answer-alike}
 
 -- ---- lists of what is told
 
@@ -136,47 +136,47 @@ each-turns c (consuming.Violates v ∷ one ∷ more) s h u = let e : true ≡ fa
 
 -- ---- the pass
 
-abbrev pub AnyData : DataValue → Type 0
-AnyData d = Unit {0}
+abbrev pub anything : Arrivals
+anything = record { carried = λ d. Unit {0}; cumulative = λ n. Unit {0}; tag = λ n. Unit {0}; message = λ m. Unit {0}; flush = Unit {0} }
 
-abbrev pub AnyTag : ℕ → Type 0
-AnyTag tag = Unit {0}
-
-turn-steps : AreSteps AnyData AnyTag Turns
+pub turn-steps : AreSteps anything Turns
 turn-steps = record {
-  alike = λ s left sent a. record { turn = ap (λ (up : Bool). Some up) a.up };
-  ended = ended-turns;
-  tries = λ s left sent i. record { turn = ap (λ (up : Bool). Some up) (i.was_down ∙ sym i.is_down) };
+  alike = λ s left sent f bare. let a = f.same in record { turn = ap (λ (up : Bool). Some up) a.up };
+  ended = λ c why chunks s bare. ended-turns c why chunks s;
+  tries = λ s left sent i bare. record { turn = ap (λ (up : Bool). Some up) (i.was_down ∙ sym i.is_down) };
   opens = λ c now own far first peer address s t d. record { turn = ap (λ (up : Bool). turned_by (Up ∷ []) up) d };
-  shuts = λ s left sent g d e. record { turn = shut-turn s.association.is_up losses.Shutdown ∙ ap (λ (up : Bool). Some up) (sym d) };
-  takes = λ c d s come t up now-takes.
+  shuts = λ s left i. record { turn = shut-turn s.association.is_up losses.Shutdown ∙ ap (λ (up : Bool). Some up) (sym i.is_down) };
+  takes = λ c d s come t r up now-takes.
       let steps : receiving.Steps = received s.association.receiver d.tsn (data_rules.piece_of d) in
       let taken : State = state.with_association s (record s.association { receiver = steps.left; is_sack_due = true }) in
       record { turn = (each-turns c steps.told taken (received-last s.association.receiver d.tsn (data_rules.piece_of d)) up).turn };
+  confirms = λ s left n h t a answer. record { turn = ap (λ (up : Bool). Some up) a.up };
+  gives = λ m s left h a. record { turn = ap (λ (up : Bool). Some up) a.up };
   reports = λ s. record { turn = refl };
+  puts = λ s left sent h a. record { turn = ap (λ (up : Bool). Some up) a.up };
   also = also-turns;
 }
 
-any-data : (chunks : List ChunkValue) → HaveCome AnyData chunks
-any-data [] = tt
-any-data (packets.DataChunk d ∷ chunks) = (tt, any-data chunks)
-any-data (packets.InitChunk init ∷ chunks) = (tt, any-data chunks)
-any-data (packets.InitAckChunk init ∷ chunks) = (tt, any-data chunks)
-any-data (packets.SackChunk sack ∷ chunks) = (tt, any-data chunks)
-any-data (packets.HeartbeatChunk information ∷ chunks) = (tt, any-data chunks)
-any-data (packets.HeartbeatAckChunk information ∷ chunks) = (tt, any-data chunks)
-any-data (packets.AbortChunk is_reflected causes ∷ chunks) = (tt, any-data chunks)
-any-data (packets.ShutdownChunk cumulative ∷ chunks) = (tt, any-data chunks)
-any-data (packets.ShutdownAckChunk ∷ chunks) = (tt, any-data chunks)
-any-data (packets.ErrorChunk causes ∷ chunks) = (tt, any-data chunks)
-any-data (packets.CookieEchoChunk cookie ∷ chunks) = (tt, any-data chunks)
-any-data (packets.CookieAckChunk ∷ chunks) = (tt, any-data chunks)
-any-data (packets.ShutdownCompleteChunk is_reflected ∷ chunks) = (tt, any-data chunks)
-any-data (packets.UnknownChunk kind flags value ∷ chunks) = (tt, any-data chunks)
-any-data (packets.MalformedChunk kind ∷ chunks) = (tt, any-data chunks)
+any-chunks : (chunks : List ChunkValue) → HaveCome anything chunks
+any-chunks [] = tt
+any-chunks (packets.DataChunk d ∷ chunks) = (tt, any-chunks chunks)
+any-chunks (packets.InitChunk init ∷ chunks) = (tt, any-chunks chunks)
+any-chunks (packets.InitAckChunk init ∷ chunks) = (tt, any-chunks chunks)
+any-chunks (packets.SackChunk sack ∷ chunks) = (tt, any-chunks chunks)
+any-chunks (packets.HeartbeatChunk information ∷ chunks) = (tt, any-chunks chunks)
+any-chunks (packets.HeartbeatAckChunk information ∷ chunks) = (tt, any-chunks chunks)
+any-chunks (packets.AbortChunk is_reflected causes ∷ chunks) = (tt, any-chunks chunks)
+any-chunks (packets.ShutdownChunk cumulative ∷ chunks) = (tt, any-chunks chunks)
+any-chunks (packets.ShutdownAckChunk ∷ chunks) = (tt, any-chunks chunks)
+any-chunks (packets.ErrorChunk causes ∷ chunks) = (tt, any-chunks chunks)
+any-chunks (packets.CookieEchoChunk cookie ∷ chunks) = (tt, any-chunks chunks)
+any-chunks (packets.CookieAckChunk ∷ chunks) = (tt, any-chunks chunks)
+any-chunks (packets.ShutdownCompleteChunk is_reflected ∷ chunks) = (tt, any-chunks chunks)
+any-chunks (packets.UnknownChunk kind flags value ∷ chunks) = (tt, any-chunks chunks)
+any-chunks (packets.MalformedChunk kind ∷ chunks) = (tt, any-chunks chunks)
 
-pub any-happening : (what : Happening) → Comes AnyData AnyTag what
-any-happening (Came now source packet) = (any-data packet.chunks, tt)
+pub any-happening : (what : Happening) → Comes anything what
+any-happening (Came now source packet) = (any-chunks packet.chunks, tt)
 any-happening (Opens now is_active) = tt
 any-happening (Ticked now) = tt
 any-happening (Sends message) = tt
@@ -191,4 +191,4 @@ all-turn c k (what ∷ more) s r =
     also-turns s (after c k what s) (λ left. after_all c k more left) t.kept (all-turn c k more (after c k what s).left t.left)
 
 pub in-turn : told_in_turn
-in-turn c k happenings = (all-turn c k happenings (first_state c) (record { right = off })).turn
+in-turn c k happenings = (all-turn c k happenings (first_state c) none-right).turn

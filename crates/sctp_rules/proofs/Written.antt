@@ -233,9 +233,9 @@ sack-chunk r cumulative duplicates few =
 -- ---- bundles
 
 -- the chunks of a packet that goes out with others
-pub record IsBundle (chunks : List ChunkValue) : Type 0 where
+pub record IsBundle (P : ChunkValue → Type 0) (chunks : List ChunkValue) : Type 0 where
   pub some : chunks ≢ []
-  pub each : All IsBundled chunks
+  pub each : All P chunks
 
 some-waiting : (waiting : List ChunkValue) → sending.is_some waiting ≡ true → waiting ≢ []
 some-waiting [] e = absurd (cc)
@@ -245,25 +245,26 @@ both-true : (x y : Bool) → (x && y) ≡ true → x ≡ true
 both-true true y e = refl
 both-true false y e = absurd (cc)
 
-bundles-if : (b : Bool) (waiting : List ChunkValue) (xs ys : List (List ChunkValue)) → (b ≡ true → waiting ≢ []) → All IsBundled waiting →
-    All IsBundle xs → All IsBundle ys → All IsBundle (if b then waiting ∷ xs else ys)
-bundles-if true waiting xs ys some w h i = All-cons IsBundle waiting xs (record { some = some refl; each = w }) h
-bundles-if false waiting xs ys some w h i = i
+module _ (P : ChunkValue → Type 0) where
+  bundles-if : (b : Bool) (waiting : List ChunkValue) (xs ys : List (List ChunkValue)) → (b ≡ true → waiting ≢ []) → All P waiting →
+      All (IsBundle P) xs → All (IsBundle P) ys → All (IsBundle P) (if b then waiting ∷ xs else ys)
+  bundles-if true waiting xs ys some w h i = All-cons (IsBundle P) waiting xs (record { some = some refl; each = w }) h
+  bundles-if false waiting xs ys some w h i = i
 
-bundles : (waiting : List ChunkValue) (octets : ℕ) (chunks : List ChunkValue) → All IsBundled waiting → All IsBundled chunks →
-    All IsBundle (sending.bundled waiting octets chunks)
-bundles [] octets [] w h = All-nil IsBundle
-bundles (chunk ∷ chunks) octets [] w h =
-    All-cons IsBundle (chunk ∷ chunks) [] (record { some = λ e. absurd (cc); each = w }) (All-nil IsBundle)
-bundles waiting octets (chunk ∷ chunks) w h =
-    let fits : Bool = nat_lt 1200 (octets + ending.chunk_size chunk) in
-    bundles-if (sending.is_some waiting && fits) waiting
-    (sending.bundled (chunk ∷ []) (12 + ending.chunk_size chunk) chunks)
-    (sending.bundled (waiting ++ chunk ∷ []) (octets + ending.chunk_size chunk) chunks)
-    (λ e. some-waiting waiting (both-true (sending.is_some waiting) fits e)) w
-    (bundles (chunk ∷ []) (12 + ending.chunk_size chunk) chunks (only IsBundled chunk (All-head IsBundled chunk chunks h)) (All-tail IsBundled chunk chunks h))
-    (bundles (waiting ++ chunk ∷ []) (octets + ending.chunk_size chunk) chunks
-    (All-append IsBundled waiting (chunk ∷ []) w (only IsBundled chunk (All-head IsBundled chunk chunks h))) (All-tail IsBundled chunk chunks h))
+  bundles : (waiting : List ChunkValue) (octets : ℕ) (chunks : List ChunkValue) → All P waiting → All P chunks →
+      All (IsBundle P) (sending.bundled waiting octets chunks)
+  bundles [] octets [] w h = All-nil (IsBundle P)
+  bundles (chunk ∷ chunks) octets [] w h =
+      All-cons (IsBundle P) (chunk ∷ chunks) [] (record { some = λ e. absurd (cc); each = w }) (All-nil (IsBundle P))
+  bundles waiting octets (chunk ∷ chunks) w h =
+      let fits : Bool = nat_lt 1200 (octets + ending.chunk_size chunk) in
+      bundles-if (sending.is_some waiting && fits) waiting
+      (sending.bundled (chunk ∷ []) (12 + ending.chunk_size chunk) chunks)
+      (sending.bundled (waiting ++ chunk ∷ []) (octets + ending.chunk_size chunk) chunks)
+      (λ e. some-waiting waiting (both-true (sending.is_some waiting) fits e)) w
+      (bundles (chunk ∷ []) (12 + ending.chunk_size chunk) chunks (only P chunk (All-head P chunk chunks h)) (All-tail P chunk chunks h))
+      (bundles (waiting ++ chunk ∷ []) (octets + ending.chunk_size chunk) chunks
+      (All-append P waiting (chunk ∷ []) w (only P chunk (All-head P chunk chunks h))) (All-tail P chunk chunks h))
 
-pub packets-of : (chunks : List ChunkValue) → All IsBundled chunks → All IsBundle (sending.packets_of chunks)
-packets-of chunks h = bundles [] 12 chunks (All-nil IsBundled) h
+  pub packets-of : (chunks : List ChunkValue) → All P chunks → All (IsBundle P) (sending.packets_of chunks)
+  packets-of chunks h = bundles [] 12 chunks (All-nil P) h

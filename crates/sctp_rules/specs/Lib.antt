@@ -12,6 +12,7 @@ pub mod Endpoint
 pub mod Rows
 pub mod Telling
 pub mod GivenMessages
+pub mod SentMessages
 pub mod ReceivedMessages
 pub mod Openings
 pub mod WrittenPackets

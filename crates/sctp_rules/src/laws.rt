@@ -3,6 +3,7 @@
 ghost use Rattle.sctp_rules.specs.GivenMessages.{given_messages_go_out};
 ghost use Rattle.sctp_rules.specs.Openings.{generations_grow, cookies_open_in_their_generation, other_tags_are_dropped};
 ghost use Rattle.sctp_rules.specs.ReceivedMessages.{messages_are_received};
+ghost use Rattle.sctp_rules.specs.SentMessages.{given_messages_are_sent, given_messages_are_kept};
 ghost use Rattle.sctp_rules.specs.Telling.{told_in_turn};
 ghost use Rattle.sctp_rules.specs.WrittenPackets.{packets_are_written, packets_are_read};
 
@@ -18,10 +19,14 @@ pub fn what_is_told_was_received()
     ensures { messages_are_received }
 {}
 
-/// Whatever comes, each chunk that goes out of a sending half is a message that was given, under the first TSN and its
-/// place; and what is confirmed leaves from the front.
+/// Whatever happens: each DATA chunk in a packet that goes out carries a message that the user gave in that association,
+/// whole, under its first TSN and the place of the message, on the stream that it was given for and under its number
+/// there, and goes to the association's peer. What isn't confirmed is what was given without its beginning, and the peer
+/// said how much that is. A sending half alone does so under any list of calls.
 pub fn what_goes_out_was_given()
-    ensures { given_messages_go_out }
+    ensures sent { given_messages_are_sent }
+    ensures kept { given_messages_are_kept }
+    ensures half { given_messages_go_out }
 {}
 
 /// From any moment on, the generation grows by as many as associations open at least; and a cookie of another
