@@ -104,7 +104,9 @@ impl Station {
 
     /// Lets a tick pass, where one is due, and does what there is to do on each socket.
     pub(crate) fn turn(&mut self, rt: &HostRuntime, now: Duration, is_due: bool) {
-        self.server.tick(u64::from(is_due), now, &mut Unlogged);
+        if is_due {
+            self.server.tick(now, &mut Unlogged);
+        }
         self.server.turn(rt, now, &mut Unlogged, &mut self.arrivals);
     }
 

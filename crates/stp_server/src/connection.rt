@@ -3,15 +3,11 @@
 ghost use Rattle.std.specs.Prelude.{◌≡◌, ◌<◌, true, length};
 ghost use Rattle.served_link.specs.Connections.{is_pending};
 
-use crate::log::Log;
-use crate::node::Node;
-use crate::observers::FrameObserver;
-use crate::socket::{Progress, read_some, write_some};
-use exchange::Exchange;
 use mio::event::Event as Readiness;
 use mio::net::TcpStream;
 use script::Sink;
 use served_link::{Association, Broken, Watch};
+use served_node::{FrameObserver, Log, Node, Progress, read_some, write_some};
 use settings::{FailureReason, LinkId};
 use std::net::SocketAddr;
 
@@ -23,10 +19,12 @@ const LOOK_OCTETS: usize = 1024;
 #[derive(Drop)]
 pub(crate) struct Connection {
     stream: TcpStream,
-    peer: SocketAddr,
-    association: Association,
+    /// Where it leads.
+    pub(crate) peer: SocketAddr,
+    pub(crate) association: Association,
     is_made: bool,
-    can_read: bool,
+    /// Whether there may be something to read now, or to learn of how it was made.
+    pub(crate) can_read: bool,
     can_write: bool,
 }
 
@@ -69,61 +67,28 @@ pub(crate) enum Transfer {
 }
 
 impl Connection {
-    /// A connection that this end begins to make. Its association isn't up until something comes on it.
-    pub(crate) fn begun(link: LinkId, stream: TcpStream, peer: SocketAddr) -> Connection {
-        let _soon = stream.set_nodelay(true);
-        Connection {
-            stream,
-            peer,
-            association: Association::connected(link),
-            is_made: false,
-            can_read: false,
-            can_write: false,
-        }
-    }
-
-    /// A connection that was accepted. Its association is up, if the link wants that.
-    pub(crate) fn accepted(
-        link: LinkId,
+    /// A connection that is made, since it was accepted, or that this end begins to make.
+    pub(crate) fn new(
         stream: TcpStream,
         peer: SocketAddr,
-        exchange: &mut Exchange,
+        association: Association,
+        is_made: bool,
     ) -> Connection {
         let _soon = stream.set_nodelay(true);
         Connection {
             stream,
             peer,
-            association: Association::accepted(link, exchange),
-            is_made: true,
-            can_read: true,
-            can_write: true,
+            association,
+            is_made,
+            can_read: is_made,
+            can_write: is_made,
         }
-    }
-
-    /// Where it leads.
-    pub(crate) fn peer(&self) -> SocketAddr {
-        self.peer
-    }
-
-    /// Whether its association is up.
-    pub(crate) fn is_up(&self) -> bool {
-        self.association.is_up()
-    }
-
-    /// It ends, and its association goes down, if it is up.
-    pub(crate) fn fall(&mut self, exchange: &mut Exchange) {
-        self.association.fall(exchange);
     }
 
     /// Its socket may be ready; or, while it is being made, knows how that ended.
     pub(crate) fn mark(&mut self, event: &Readiness) {
         self.can_read = true;
         self.can_write = self.can_write || event.is_writable();
-    }
-
-    /// Whether there may be something to read now, or to learn of how it was made.
-    pub(crate) fn is_busy(&self) -> bool {
-        self.can_read
     }
 
     /// Learns whether it is made, if the socket knows. False if it couldn't be made.
@@ -134,17 +99,6 @@ impl Connection {
         self.is_made = is_connected(&self.stream);
         self.can_write = self.is_made;
         self.is_made
-    }
-
-    /// Tells that its association is up.
-    pub(crate) fn tell_open<W: Sink>(&self, node: &mut Node, log: &mut Log<'_, W>) {
-        log.tell_at(
-            "open",
-            node.observers.name(self.association.link()),
-            self.peer,
-        );
-        node.note_up();
-        node.look(FailureReason::Association, log);
     }
 
     /// Makes one read, to the front of the buffer, and hands in what came.
@@ -198,7 +152,7 @@ impl Connection {
         }
         let is_up = self.association.hear(octets, &mut node.exchange);
         if is_up {
-            self.tell_open(node, log);
+            tell_open(self.association.link(), self.peer, node, log);
         }
         is_up
     }
@@ -272,6 +226,18 @@ impl Connection {
         };
         self.association.fill(&mut node.exchange, &mut observer)
     }
+}
+
+/// Tells that a link's association is up over its connection.
+pub(crate) fn tell_open<W: Sink>(
+    link: LinkId,
+    peer: SocketAddr,
+    node: &mut Node,
+    log: &mut Log<'_, W>,
+) {
+    log.tell_at("open", node.observers.name(link), peer);
+    node.note_up();
+    node.look(FailureReason::Association, log);
 }
 
 /// Whether a socket is connected, and not to itself: if nobody listens at a port of this machine, the system may give a

@@ -2,17 +2,15 @@
 
 mod dialling;
 
-use crate::connection::{CloseReason, Connection, Transfer};
-use crate::log::Log;
-use crate::naming::SocketName;
-use crate::node::Node;
+use crate::connection::{CloseReason, Connection, Transfer, tell_open};
 use exchange::Wants;
+use mio::Registry;
 use mio::event::Event as Readiness;
-use mio::net::{TcpListener, TcpStream};
-use mio::{Interest, Registry};
+use mio::net::TcpStream;
 use script::Sink;
 use serve_settings::Endpoint;
-use served_link::{Retry, Watch};
+use served_link::{Association, Retry, Watch};
+use served_node::{Listener, Log, Node, SocketName};
 use settings::{FailureReason, LinkId};
 use std::net::{Net, SocketAddr};
 use std::time::Duration;
@@ -41,10 +39,10 @@ enum ConnectionState {
 /// What a link's connection is made of, and the connection.
 #[derive(Drop)]
 pub(crate) struct LinkSocket {
-    link: LinkId,
+    pub(crate) link: LinkId,
     endpoint: Endpoint,
-    listener: Option<TcpListener>,
-    can_accept: bool,
+    /// Where its connections come, if it is one that listens.
+    pub(crate) listener: Listener,
     connection: Option<Connection>,
     retry: Retry,
     next_try: Duration,
@@ -53,16 +51,11 @@ pub(crate) struct LinkSocket {
 }
 
 impl LinkSocket {
-    /// The socket of a link without a connection. It listens by `listener`, if it is one that listens.
-    pub(crate) fn new(
-        link: LinkId,
-        endpoint: Endpoint,
-        listener: Option<TcpListener>,
-    ) -> LinkSocket {
+    /// The socket of a link without a connection.
+    pub(crate) fn new(link: LinkId, endpoint: Endpoint, listener: Listener) -> LinkSocket {
         LinkSocket {
             link,
             endpoint,
-            can_accept: listener.is_some(),
             listener,
             connection: None,
             retry: Retry::new(),
@@ -72,23 +65,13 @@ impl LinkSocket {
         }
     }
 
-    /// The link.
-    pub(crate) fn link(&self) -> LinkId {
-        self.link
-    }
-
     /// How far the connection is.
     fn state(&self) -> ConnectionState {
         match &self.connection {
             None => ConnectionState::Closed,
-            Some(connection) if connection.is_up() => ConnectionState::Up,
+            Some(connection) if connection.association.is_up() => ConnectionState::Up,
             Some(_) => ConnectionState::Silent,
         }
-    }
-
-    /// A connection may have come.
-    pub(crate) fn mark_listener(&mut self) {
-        self.can_accept = self.listener.is_some();
     }
 
     /// The connection's socket may be ready.
@@ -100,9 +83,10 @@ impl LinkSocket {
 
     /// Whether there may be something to accept, to read or to write now, or to settle.
     pub(crate) fn is_busy(&self) -> bool {
+        let may_accept = self.listener.may_accept();
         match &self.connection {
-            None => self.can_accept,
-            Some(connection) => self.can_accept || connection.is_busy(),
+            None => may_accept,
+            Some(connection) => may_accept || connection.can_read,
         }
     }
 
@@ -124,22 +108,14 @@ impl LinkSocket {
         log: &mut Log<'_, W>,
     ) {
         for _ in 0..ACCEPTS {
-            if !self.can_accept {
-                return;
-            }
-            match self.accepted() {
+            match self.listener.accept() {
                 Some((stream, peer)) => self.admit(stream, peer, node, registry, log),
-                None => self.can_accept = false,
+                None => return,
             }
         }
     }
 
-    /// The next connection that came.
-    fn accepted(&self) -> Option<(TcpStream, SocketAddr)> {
-        self.listener.as_ref()?.accept().ok()
-    }
-
-    /// Takes a connection, if the link wants to open.
+    /// Takes a connection, if the link wants to open, and the poll tells of the connection from now on.
     fn admit<W: Sink>(
         &mut self,
         mut stream: TcpStream,
@@ -148,26 +124,20 @@ impl LinkSocket {
         registry: &Registry,
         log: &mut Log<'_, W>,
     ) {
-        if self.admits(&mut stream, node, registry) {
+        let wants_open = node.exchange.wants(self.link) == Wants::Open;
+        if wants_open && self.name().is_registered(registry, &mut stream) {
             self.open(stream, peer, node, log);
         } else {
             log.tell_at("refuse", node.observers.name(self.link), peer);
         }
     }
 
-    /// Whether the link wants to open, and the poll tells of a connection's socket from now on.
-    fn admits(&self, stream: &mut TcpStream, node: &Node, registry: &Registry) -> bool {
-        node.exchange.wants(self.link) == Wants::Open && self.is_registered(stream, registry)
+    /// The name of the connection in the poll.
+    fn name(&self) -> SocketName {
+        SocketName::Link(self.link.index() as u8)
     }
 
-    /// Has the poll tell of a connection's socket. False if it doesn't.
-    fn is_registered(&self, stream: &mut TcpStream, registry: &Registry) -> bool {
-        let interests = Interest::READABLE | Interest::WRITABLE;
-        let token = SocketName::Link(self.link.index() as u8).token();
-        registry.register(stream, token, interests).is_ok()
-    }
-
-    /// A connection was accepted: the link's association comes up over it.
+    /// A connection was accepted: the link's association comes up over it. If it doesn't, the connection ends.
     fn open<W: Sink>(
         &mut self,
         stream: TcpStream,
@@ -175,15 +145,10 @@ impl LinkSocket {
         node: &mut Node,
         log: &mut Log<'_, W>,
     ) {
-        self.hold(Connection::accepted(self.link, stream, peer, &mut node.exchange));
-        self.tell_open(node, log);
-    }
-
-    /// Tells that the link's association is up. The connection ends if it isn't.
-    fn tell_open<W: Sink>(&mut self, node: &mut Node, log: &mut Log<'_, W>) {
-        match &self.connection {
-            Some(connection) if connection.is_up() => connection.tell_open(node, log),
-            _ => self.leave(),
+        let association = Association::accepted(self.link, &mut node.exchange);
+        if association.is_up() {
+            self.hold(Connection::new(stream, peer, association, true));
+            tell_open(self.link, peer, node, log);
         }
     }
 
@@ -211,15 +176,11 @@ impl LinkSocket {
         let Some(connection) = &mut self.connection else {
             return;
         };
-        let (name, peer, word) = (
-            node.observers.name(self.link),
-            connection.peer(),
-            why.word(),
-        );
+        let (name, peer, word) = (node.observers.name(self.link), connection.peer, why.word());
         log.tell(&format_args!("close {name} {peer} {word}"));
-        connection.fall(&mut node.exchange);
+        connection.association.fall(&mut node.exchange);
         self.leave();
-        self.wait(log.now());
+        self.wait(log.now);
         node.look(FailureReason::Association, log);
     }
 

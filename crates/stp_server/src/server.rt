@@ -1,33 +1,21 @@
 //! A node on sockets.
 
 mod opening;
+mod waiting;
 
-use crate::held_file::HeldFile;
 use crate::link_socket::LinkSocket;
-use crate::log::Log;
-use crate::naming::SocketName;
-use crate::node::Node;
-use exchange::{Event, Exchange, Wants};
+use exchange::{Event, Exchange};
 use mio::{Events, Poll};
 use script::Sink;
 use serve_settings::Endpoint;
 use served_link::Watch;
+use served_node::{FileCapture, Log, Node};
 use settings::{FailureReason, Outcome};
 use std::alloc::Global;
-use std::io;
 use std::marker::Model;
 use std::net::{Net, SocketAddr};
 use std::time::Duration;
-use trace::{Capture, PointFormat, UntilFailure};
-
-/// Sockets that one wait tells of, at most. Further ones are told of by the next.
-const EVENTS: usize = 128;
-
-/// Octets that one read of a link asks for.
-const READ_OCTETS: usize = 65_536;
-
-/// A capture into a file.
-pub type FileCapture = Capture<UntilFailure<HeldFile>>;
+use trace::PointFormat;
 
 /// Where a server is reached, and how it shows points.
 #[derive(Clone, Copy)]
@@ -42,7 +30,7 @@ pub struct Places<'a> {
 
 /// A node whose links are TCP connections: an association of a link is a connection.
 ///
-/// It has no clock: `tick` lets ticks pass, and `now` is the time since the start, as the client reads it.
+/// It has no clock: `tick` lets a tick pass, and `now` is the time since the start, as the client reads it.
 #[derive(Drop)]
 pub struct Server {
     alloc: Global,
@@ -80,32 +68,23 @@ impl Server {
 
     /// Hands in an event that doesn't come from a socket: a message of a user part, or an operator's order.
     pub fn step<W: Sink>(&mut self, event: &Event<'_>, now: Duration, log: &mut W) -> Outcome {
-        let outcome = self.node.exchange.step(event);
-        self.node
-            .look(FailureReason::Operator, &mut Log::new(log, now));
         self.is_busy = true;
-        outcome
+        self.node.step(event, FailureReason::Operator, &mut Log { sink: log, now })
     }
 
-    /// Lets so many ticks pass. The next turn then asks each listener for connections again: one that came may still
-    /// be waiting because there were no sockets left.
-    pub fn tick<W: Sink>(&mut self, ticks: u64, now: Duration, log: &mut W) {
-        let mut log = Log::new(log, now);
-        for _ in 0..ticks {
-            self.node.tick(&mut log);
-        }
-        if ticks > 0 {
-            self.mark_listeners();
-            self.is_busy = true;
-        }
-    }
-
-    /// A connection may have come to any listener.
-    fn mark_listeners(&mut self) {
+    /// Lets a tick pass. A link that fails in it fails by a timer. The next turn then asks each listener for
+    /// connections again: one that came may still be waiting because there were no sockets left.
+    pub fn tick<W: Sink>(&mut self, now: Duration, log: &mut W) {
+        self.is_busy = true;
+        self.node.step(
+            &Event::Tick,
+            FailureReason::Timer,
+            &mut Log { sink: log, now },
+        );
         for socket in self.links.iter_mut() {
-            socket.mark_listener();
+            socket.listener.mark();
         }
-        self.node.observers.clients.mark_console();
+        self.node.observers.clients.listener.mark();
     }
 
     /// Closes its sockets. Only this drops a server: its parts are many, and so are the states of a body that drops
@@ -114,33 +93,9 @@ impl Server {
         drop(self);
     }
 
-    /// Waits until a socket is ready, a connection is to be tried, or `most` is over. If the last turn left something
-    /// to do, it doesn't wait.
-    pub fn wait(&mut self, now: Duration, most: Duration) -> io::Result<()> {
-        let wait = if self.is_busy {
-            Duration::ZERO
-        } else {
-            self.until_next_try(now).min(most)
-        };
-        self.poll.poll(&mut self.events, Some(wait))?;
-        mark_ready(&self.events, &mut self.links, &mut self.node);
-        Ok(())
-    }
-
-    /// How long it takes until the next connection is to be tried.
-    fn until_next_try(&self, now: Duration) -> Duration {
-        let mut least = Duration::MAX;
-        for socket in self.links.iter() {
-            let wants = self.node.exchange.wants(socket.link());
-            if let (Wants::Open, Some(next)) = (wants, socket.next_try()) {
-                least = least.min(next.saturating_sub(now));
-            }
-        }
-        least
-    }
-
     /// Does what there is to do on each socket, once or a few times, and returns: hands in what came, takes, opens and
-    /// closes connections as the links want, and takes frames and writes them while the sockets take them.
+    /// closes connections as the links want, and takes frames and writes them while the sockets take them. Then what
+    /// was captured goes out, as far as its file takes it.
     pub fn turn<N: Net, W: Sink, U: Watch>(
         &mut self,
         net: &N,
@@ -148,7 +103,7 @@ impl Server {
         log: &mut W,
         user: &mut U,
     ) {
-        let mut log = Log::new(log, now);
+        let mut log = Log { sink: log, now };
         self.node.observers.now = now;
         self.is_busy = false;
         self.read(&mut log, user);
@@ -156,7 +111,7 @@ impl Server {
         self.read_clients(&mut log);
         self.settle(net, &mut log);
         self.write(&mut log, user);
-        self.finish(&mut log);
+        self.node.observers.flush_capture(&mut log);
     }
 
     /// Takes the connections that came.
@@ -202,33 +157,5 @@ impl Server {
         }
         self.node.observers.clients.write(log);
         self.is_busy = self.is_busy || self.node.observers.clients.is_busy();
-    }
-
-    /// Ends a round: what was captured goes out, as far as the file takes it.
-    fn finish<W: Sink>(&mut self, log: &mut Log<'_, W>) {
-        self.node.observers.flush_capture(log);
-    }
-}
-
-/// Marks the sockets that the last wait told of.
-fn mark_ready(events: &Events, links: &mut [LinkSocket], node: &mut Node) {
-    for event in events.iter() {
-        match SocketName::of(event.token()) {
-            Some(SocketName::Listener(link)) => {
-                if let Some(socket) = links.get_mut(usize::from(link)) {
-                    socket.mark_listener();
-                }
-            }
-            Some(SocketName::Link(link)) => {
-                if let Some(socket) = links.get_mut(usize::from(link)) {
-                    socket.mark(event);
-                }
-            }
-            Some(SocketName::Client(place)) => {
-                node.observers.clients.mark(usize::from(place), event);
-            }
-            Some(SocketName::Console) => node.observers.clients.mark_console(),
-            None => {}
-        }
     }
 }

@@ -2,17 +2,15 @@
 
 ghost use Rattle.std.specs.Prelude.{◌≤◌};
 
-use crate::dropping::DroppingLog;
-use crate::fault::{OpenFault, ServeFailure};
-use crate::held_file::HeldFile;
-use crate::log::Log;
-use crate::server::{FileCapture, Places, Server};
+use crate::failure::ServeFailure;
+use crate::server::{Places, Server};
 use script::Sink;
 use serve_settings::ServeSettings;
 use served_link::{MOST_TICKS, TickClock, Unwatched};
+use served_node::{DroppingLog, FileCapture, HeldFile, Log, OpenFault};
 use settings::Settings;
 use std::time::{Duration, Instant, SystemTime};
-use std::{fs, io};
+use std::{fmt, fs};
 use trace::{Capture, UntilFailure};
 
 /// Serves a node with these settings until a client stops it. The log writes to standard output; lines that it doesn't
@@ -34,8 +32,18 @@ fn serve_logged<W: Sink>(
     serve: &ServeSettings,
     log: &mut W,
 ) -> Result<(), ServeFailure> {
-    tell_start(&settings, serve, log);
-    match Server::open(rt, rt.alloc(), settings, places_of(serve), log) {
+    let (links, tick_ms) = (settings.link_count(), serve.tick_ms());
+    tell(
+        &format_args!("start {links} links, tick {tick_ms} ms"),
+        Duration::ZERO,
+        log,
+    );
+    let places = Places {
+        links: serve.links(),
+        console: serve.console(),
+        points: serve.points(),
+    };
+    match Server::open(rt, rt.alloc(), settings, places, log) {
         Ok(mut server) => {
             let served = serve_opened(rt, &mut server, serve, log);
             server.close();
@@ -43,6 +51,11 @@ fn serve_logged<W: Sink>(
         }
         Err(fault) => Err(ServeFailure::Open(fault)),
     }
+}
+
+/// Writes a line of the log.
+fn tell<T: fmt::Display, W: Sink>(text: &T, now: Duration, log: &mut W) {
+    Log { sink: log, now }.tell(text);
 }
 
 /// Serves a node whose server is open. Its capture begins only now: if another process serves the same settings, its
@@ -55,40 +68,24 @@ fn serve_opened<W: Sink>(
 ) -> Result<(), ServeFailure> {
     if let Some(file) = serve.capture() {
         server.capture_to(capture(rt, file)?);
-        Log::new(log, Duration::ZERO).tell(&format_args!("capture {file}"));
+        tell(&format_args!("capture {file}"), Duration::ZERO, log);
     }
-    let started = now(rt)?;
+    let started = Instant::now(rt)?;
     run(rt, server, serve.tick_ms(), started, log)
 }
 
 /// A capture into a new file of this name.
 fn capture(rt: &HostRuntime, file: &str) -> Result<FileCapture, ServeFailure> {
-    let Ok(started) = since_1970(rt) else {
-        return Err(ServeFailure::System);
-    };
+    let now = SystemTime::now(rt)?;
+    let since_1970 = now
+        .duration_since(SystemTime::UNIX_EPOCH)
+        .unwrap_or(Duration::ZERO);
     let Ok(file) = fs::create(rt, file) else {
         return Err(ServeFailure::Capture);
     };
     match HeldFile::new(rt, rt.alloc(), file) {
-        Ok(file) => Ok(Capture::begin(UntilFailure::new(file), started)),
+        Ok(file) => Ok(Capture::begin(UntilFailure::new(file), since_1970)),
         Err(_) => Err(ServeFailure::Open(OpenFault::NoMemory)),
-    }
-}
-
-/// How long after 1970 it is.
-fn since_1970(rt: &HostRuntime) -> io::Result<Duration> {
-    let now = SystemTime::now(rt)?;
-    Ok(
-        now.duration_since(SystemTime::UNIX_EPOCH)
-            .unwrap_or(Duration::ZERO),
-    )
-}
-
-/// A reading of the monotonic clock.
-fn now(rt: &HostRuntime) -> Result<Instant, ServeFailure> {
-    match Instant::now(rt) {
-        Ok(now) => Ok(now),
-        Err(_) => Err(ServeFailure::System),
     }
 }
 
@@ -110,7 +107,7 @@ fn run<W: Sink>(
         server.turn(rt, elapsed, log, &mut Unwatched);
         was_behind = pass_tick(&mut clock, was_behind, server, elapsed, log);
         if server.is_stopping() {
-            Log::new(log, elapsed).tell(&"stop");
+            tell(&"stop", elapsed, log);
             return Ok(());
         }
     }
@@ -124,12 +121,10 @@ fn wait(
     clock: &TickClock,
     started: Instant,
 ) -> Result<Duration, ServeFailure> {
-    let before = now(rt)?.duration_since(started);
+    let before = Instant::now(rt)?.duration_since(started);
     let rest = Duration::from_millis(clock.until_next(millis(before)));
-    match server.wait(before, rest) {
-        Ok(()) => Ok(now(rt)?.duration_since(started)),
-        Err(_) => Err(ServeFailure::System),
-    }
+    server.wait(before, rest)?;
+    Ok(Instant::now(rt)?.duration_since(started))
 }
 
 /// Lets a tick pass if one is due. Returns whether the clock is late; the log is told when that begins.
@@ -143,28 +138,13 @@ fn pass_tick<W: Sink>(
     let elapsed = millis(now);
     let is_behind = clock.is_behind(elapsed);
     if is_behind && !was_behind {
-        Log::new(log, now).tell(&format_args!("behind: more than {MOST_TICKS} ticks are due"));
+        let text = format_args!("behind: more than {MOST_TICKS} ticks are due");
+        tell(&text, now, log);
     }
     if clock.is_due(elapsed) {
-        server.tick(1, now, log);
+        server.tick(now, log);
     }
     is_behind
-}
-
-/// Begins the log.
-fn tell_start<W: Sink>(settings: &Settings, serve: &ServeSettings, log: &mut W) {
-    let links = settings.link_count();
-    let tick_ms = serve.tick_ms();
-    Log::new(log, Duration::ZERO).tell(&format_args!("start {links} links, tick {tick_ms} ms"));
-}
-
-/// Where the server is reached, and how it shows points.
-fn places_of(serve: &ServeSettings) -> Places<'_> {
-    Places {
-        links: serve.links(),
-        console: serve.console(),
-        points: serve.points(),
-    }
 }
 
 /// The whole milliseconds of a time.

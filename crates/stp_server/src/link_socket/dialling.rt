@@ -2,13 +2,12 @@
 
 use super::LinkSocket;
 use crate::connection::Connection;
-use crate::log::Log;
-use crate::node::Node;
 use mio::Registry;
 use mio::net::TcpStream;
 use script::Sink;
 use serve_settings::Endpoint;
-use served_link::LONGEST_WAIT;
+use served_link::{Association, LONGEST_WAIT};
+use served_node::{Log, Node};
 use std::net::{Net, SocketAddr};
 use std::time::Duration;
 
@@ -27,7 +26,7 @@ impl LinkSocket {
         let Endpoint::Connect(address) = self.endpoint else {
             return;
         };
-        if log.now() < self.next_try {
+        if log.now < self.next_try {
             return;
         }
         if self.was_tried {
@@ -49,8 +48,9 @@ impl LinkSocket {
         match self.connecting(net, address, registry) {
             Some(stream) => {
                 let most = Duration::from_secs(GIVEN_UP_AFTER_SECONDS);
-                self.given_up_at = log.now().saturating_add(most);
-                self.hold(Connection::begun(self.link, stream, address));
+                self.given_up_at = log.now.saturating_add(most);
+                let association = Association::connected(self.link);
+                self.hold(Connection::new(stream, address, association, false));
             }
             None => self.fail(node, log),
         }
@@ -64,7 +64,7 @@ impl LinkSocket {
         registry: &Registry,
     ) -> Option<TcpStream> {
         let mut stream = TcpStream::connect(net, address).ok()?;
-        if self.is_registered(&mut stream, registry) {
+        if self.name().is_registered(registry, &mut stream) {
             Some(stream)
         } else {
             None
@@ -78,7 +78,7 @@ impl LinkSocket {
             Some(connection) => connection.is_possible(),
             None => true,
         };
-        if !is_possible || self.given_up_at <= log.now() {
+        if !is_possible || self.given_up_at <= log.now {
             self.fail(node, log);
         }
     }
@@ -86,7 +86,7 @@ impl LinkSocket {
     /// The connection couldn't be made, or ended before something came on it.
     pub(super) fn fail<W: Sink>(&mut self, node: &Node, log: &mut Log<'_, W>) {
         self.leave();
-        self.wait(log.now());
+        self.wait(log.now);
         if let Endpoint::Connect(address) = self.endpoint {
             log.tell_at("fail", node.observers.name(self.link), address);
         }

@@ -1,20 +1,22 @@
 //! Opening a server: its sockets that listen.
 
-use super::{EVENTS, Places, READ_OCTETS, Server};
-use crate::fault::{OpenFault, listen_fault};
+use super::{Places, Server};
 use crate::link_socket::LinkSocket;
-use crate::log::Log;
-use crate::naming::SocketName;
-use crate::node::Node;
-use mio::net::TcpListener;
-use mio::{Events, Interest, Poll};
+use mio::{Events, Poll};
 use script::Sink;
 use serve_settings::Endpoint;
+use served_node::{Listener, Log, Node, OpenFault, SocketName};
 use settings::{LinkId, Settings};
 use std::alloc::Global;
 use std::net::{Net, SocketAddr};
 use std::time::Duration;
 use trace::PointFormat;
+
+/// Sockets that one wait tells of, at most. Further ones are told of by the next.
+const EVENTS: usize = 128;
+
+/// Octets that one read of a link asks for.
+const READ_OCTETS: usize = 65_536;
 
 impl Server {
     /// A server of a node with these settings. It listens from now on, and no connection is there yet.
@@ -25,7 +27,10 @@ impl Server {
         places: Places<'_>,
         log: &mut W,
     ) -> Result<Server, OpenFault> {
-        let mut log = Log::new(log, Duration::ZERO);
+        let mut log = Log {
+            sink: log,
+            now: Duration::ZERO,
+        };
         let mut server = Server::boot(net, alloc, settings, places.points)?;
         match server.add_listeners(net, places, &mut log) {
             Ok(()) => Ok(server),
@@ -43,7 +48,10 @@ impl Server {
         places: Places<'_>,
         log: &mut Log<'_, W>,
     ) -> Result<(), OpenFault> {
-        self.add_link_sockets(net, places.links, log)?;
+        for (k, endpoint) in places.links.iter().enumerate() {
+            let link = LinkId::new(u8::try_from(k).unwrap_or(u8::MAX));
+            self.add_link_socket(net, link, *endpoint, log)?;
+        }
         self.add_console(net, places.console, log)
     }
 
@@ -75,21 +83,7 @@ impl Server {
         }
     }
 
-    /// Adds the sockets of all links.
-    fn add_link_sockets<N: Net, W: Sink>(
-        &mut self,
-        net: &N,
-        links: &[Endpoint],
-        log: &mut Log<'_, W>,
-    ) -> Result<(), OpenFault> {
-        for (k, endpoint) in links.iter().enumerate() {
-            let link = LinkId::new(u8::try_from(k).unwrap_or(u8::MAX));
-            self.add_link_socket(net, link, *endpoint, log)?;
-        }
-        Ok(())
-    }
-
-    /// Adds the socket of a link.
+    /// Adds the socket of the next link.
     fn add_link_socket<N: Net, W: Sink>(
         &mut self,
         net: &N,
@@ -97,21 +91,14 @@ impl Server {
         endpoint: Endpoint,
         log: &mut Log<'_, W>,
     ) -> Result<(), OpenFault> {
-        match endpoint {
-            Endpoint::Listen(address) => {
-                let listener = self.listen(net, link, address, log)?;
-                self.push_link_socket(LinkSocket::new(link, endpoint, Some(listener)))
-            }
+        let listener = match endpoint {
+            Endpoint::Listen(address) => self.listen(net, link, address, log)?,
             Endpoint::Connect(address) => {
                 log.tell_at("connect", self.node.observers.name(link), address);
-                self.push_link_socket(LinkSocket::new(link, endpoint, None))
+                Listener::none()
             }
-        }
-    }
-
-    /// Adds the socket of the next link.
-    fn push_link_socket(&mut self, socket: LinkSocket) -> Result<(), OpenFault> {
-        self.links.push(socket)?;
+        };
+        self.links.push(LinkSocket::new(link, endpoint, listener))?;
         Ok(())
     }
 
@@ -122,9 +109,9 @@ impl Server {
         link: LinkId,
         address: SocketAddr,
         log: &mut Log<'_, W>,
-    ) -> Result<TcpListener, OpenFault> {
+    ) -> Result<Listener, OpenFault> {
         let name = SocketName::Listener(link.index() as u8);
-        let (listener, address) = self.listener(net, address, name)?;
+        let (listener, address) = Listener::open(net, self.poll.registry(), address, name)?;
         log.tell_at("listen", self.node.observers.name(link), address);
         Ok(listener)
     }
@@ -139,34 +126,11 @@ impl Server {
         let Some(address) = address else {
             return Ok(());
         };
-        let (listener, address) = self.listener(net, address, SocketName::Console)?;
-        log.tell(&format_args!("console {address}"));
-        self.node.observers.clients.listen(listener);
-        Ok(())
-    }
-
-    /// A listener at an address of which the poll tells, and the address that it has.
-    fn listener<N: Net>(
-        &self,
-        net: &N,
-        address: SocketAddr,
-        name: SocketName,
-    ) -> Result<(TcpListener, SocketAddr), OpenFault> {
-        let mut listener = match TcpListener::bind(net, address) {
-            Ok(listener) => listener,
-            Err(error) => return Err(listen_fault(address, &error)),
-        };
         let registry = self.poll.registry();
-        if registry
-            .register(&mut listener, name.token(), Interest::READABLE)
-            .is_err()
-        {
-            return Err(OpenFault::Poll);
-        }
-        match listener.local_addr() {
-            Ok(address) => Ok((listener, address)),
-            Err(error) => Err(listen_fault(address, &error)),
-        }
+        let (listener, address) = Listener::open(net, registry, address, SocketName::Console)?;
+        log.tell(&format_args!("console {address}"));
+        self.node.observers.clients.listener = listener;
+        Ok(())
     }
 }
 

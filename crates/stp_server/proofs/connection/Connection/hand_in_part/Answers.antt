@@ -1,5 +1,5 @@
 use Rattle.std.proofs.Common.{sym}
-use Rattle.stp_server.proofs.Sights.{kept}
+use Rattle.served_node.proofs.Sights.{kept}
 use Rattle.stp_server.proofs.connection.Connection.hand_in_part.Goals as goal
 
 pub shape_of-node : goal.shape_of-node

@@ -17,7 +17,7 @@ const LINE_OCTETS: usize = 64;
 /// A log over standard output. A line that it doesn't take at once, since its reader is slow, is dropped, and so is one
 /// whose write fails; the next line that is taken follows one that tells how many were missed.
 #[derive(Drop)]
-pub(crate) struct DroppingLog<'a, W> {
+pub struct DroppingLog<'a, W> {
     sink: &'a mut W,
     readiness: Option<Readiness>,
     missed: u64,
@@ -25,7 +25,7 @@ pub(crate) struct DroppingLog<'a, W> {
 
 impl<'a, W: Sink> DroppingLog<'a, W> {
     /// The log over this sink, which writes to standard output. Nothing was dropped yet.
-    pub(crate) fn new<N: Net>(net: &N, alloc: Global, sink: &'a mut W) -> DroppingLog<'a, W> {
+    pub fn new<N: Net>(net: &N, alloc: Global, sink: &'a mut W) -> DroppingLog<'a, W> {
         DroppingLog {
             sink,
             readiness: Readiness::of(net, alloc, STANDARD_OUTPUT),

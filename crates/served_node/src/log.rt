@@ -1,5 +1,7 @@
 //! The log of a server.
 
+ghost use Rattle.std.specs.Prelude.{◌≡◌};
+
 use arrayvec::ArrayString;
 use script::Sink;
 use std::fmt;
@@ -13,28 +15,24 @@ const LINE_OCTETS: usize = 256;
 /// The log: each line begins with the seconds since start.
 #[derive(Drop)]
 pub struct Log<'a, W> {
-    sink: &'a mut W,
-    now: Duration,
+    /// Where the lines go.
+    pub sink: &'a mut W,
+    /// How long after the start it is.
+    pub now: Duration,
 }
 
-impl<'a, W: Sink> Log<'a, W> {
-    /// The log on this sink, so long after the start.
-    pub fn new(sink: &'a mut W, now: Duration) -> Log<'a, W> {
-        Log { sink, now }
-    }
-
-    /// How long after the start it is.
-    pub fn now(&self) -> Duration {
-        self.now
-    }
-
+impl<W: Sink> Log<'_, W> {
     /// Writes a line of what becomes of an address of a link.
-    pub fn tell_at(&mut self, word: &str, link: &str, address: SocketAddr) {
+    pub fn tell_at(&mut self, word: &str, link: &str, address: SocketAddr)
+        ensures { self.new.now ≡ self.old.now }
+    {
         self.tell(&format_args!("{word} {link} {address}"));
     }
 
-    /// Writes a line, cut to 255 octets. If the write fails, the line is lost, and the node goes on.
-    pub fn tell<T: fmt::Display>(&mut self, text: &T) {
+    /// Writes a line, cut to 255 octets, in one write. If the write fails, the line is lost, and the node goes on.
+    pub fn tell<T: fmt::Display>(&mut self, text: &T)
+        ensures { self.new.now ≡ self.old.now }
+    {
         let seconds = self.now.as_secs();
         let millis = self.now.subsec_millis();
         let mut line = ArrayString::<LINE_OCTETS>::new();

@@ -23,15 +23,17 @@ const LOW_OCTETS: usize = 65_536;
 #[derive(Drop)]
 pub(crate) struct ClientSocket {
     stream: TcpStream,
-    peer: SocketAddr,
-    client: ConsoleClient,
+    /// Where its connection leads.
+    pub(crate) peer: SocketAddr,
+    pub(crate) client: ConsoleClient,
     piece: [u8; PIECE_OCTETS],
     start: usize,
     end: usize,
     can_read: bool,
     can_write: bool,
     has_ended: bool,
-    is_closing: bool,
+    /// Whether its connection is over.
+    pub(crate) is_closing: bool,
 }
 
 impl ClientSocket {
@@ -51,25 +53,10 @@ impl ClientSocket {
         }
     }
 
-    /// Where its connection leads.
-    pub(crate) fn peer(&self) -> SocketAddr {
-        self.peer
-    }
-
     /// Its socket may be ready.
     pub(crate) fn mark(&mut self, event: &Event) {
         self.can_read = true;
         self.can_write = self.can_write || event.is_writable();
-    }
-
-    /// Whether its connection is over.
-    pub(crate) fn is_over(&self) -> bool {
-        self.is_closing
-    }
-
-    /// Whether the client asked for such news.
-    pub(crate) fn sees(&self, news: News) -> bool {
-        self.client.sees(news)
     }
 
     /// Whether there is something to read or to write now.
@@ -172,13 +159,10 @@ impl ClientSocket {
             Progress::Octets(count) => self.client.written(count),
             Progress::Later => self.can_write = false,
             Progress::Again => {}
-            Progress::End | Progress::Failed => self.end(),
+            Progress::End | Progress::Failed => {
+                self.is_closing = true;
+                self.can_write = false;
+            }
         }
-    }
-
-    /// A write failed: nothing more can be written.
-    fn end(&mut self) {
-        self.is_closing = true;
-        self.can_write = false;
     }
 }

@@ -1,8 +1,7 @@
-//! Why a server doesn't start, or ends.
+//! Why a server doesn't start.
 
 use exchange::NoMemory;
 use std::alloc::{AllocError, AllocFailed};
-use std::io;
 use std::io::ErrorKind;
 use std::net::SocketAddr;
 
@@ -15,16 +14,6 @@ pub enum OpenFault {
     Poll,
     /// It can't listen at this address, for this reason.
     Listen(SocketAddr, ErrorKind),
-}
-
-/// Why a node isn't served any more, although nobody stopped it.
-pub enum ServeFailure {
-    /// The server couldn't be opened.
-    Open(OpenFault),
-    /// The capture file couldn't be made.
-    Capture,
-    /// The clock or the poll failed.
-    System,
 }
 
 impl From<AllocError> for OpenFault {
@@ -43,9 +32,4 @@ impl From<NoMemory> for OpenFault {
     fn from(_error: NoMemory) -> OpenFault {
         OpenFault::NoMemory
     }
-}
-
-/// The fault of a listener that the system refuses.
-pub(crate) fn listen_fault(address: SocketAddr, error: &io::Error) -> OpenFault {
-    OpenFault::Listen(address, error.kind())
 }

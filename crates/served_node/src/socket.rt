@@ -1,14 +1,14 @@
 //! Reads and writes of a socket.
 
 ghost use Rattle.std.specs.Prelude.{ℕ, length};
-ghost use Rattle.stp_server.specs.Progress.{IsWithin};
+ghost use Rattle.served_node.specs.Progress.{IsWithin};
 
 use mio::net::TcpStream;
 use std::io::{ErrorKind, Read, Write};
 
 /// What a read or a write of a socket came to.
 #[derive(Clone, Copy)]
-pub(crate) enum Progress {
+pub enum Progress {
     /// So many octets moved, one at least, and more may.
     Octets(usize),
     /// None can now: the socket tells when one may.
@@ -22,7 +22,7 @@ pub(crate) enum Progress {
 }
 
 /// Makes one read, to the front of the buffer.
-pub(crate) fn read_some(stream: &mut TcpStream, buffer: &mut [u8]) -> Progress
+pub fn read_some(stream: &mut TcpStream, buffer: &mut [u8]) -> Progress
     ensures { IsWithin result (length buffer.new) }
 {
     match stream.read(buffer) {
@@ -33,7 +33,7 @@ pub(crate) fn read_some(stream: &mut TcpStream, buffer: &mut [u8]) -> Progress
 }
 
 /// Makes one write, from the first of the octets on.
-pub(crate) fn write_some(stream: &mut TcpStream, octets: &[u8]) -> Progress
+pub fn write_some(stream: &mut TcpStream, octets: &[u8]) -> Progress
     ensures { IsWithin result (length octets.now) }
 {
     match stream.write(octets) {

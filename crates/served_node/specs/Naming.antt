@@ -1,8 +1,8 @@
 -- The tokens of sockets: as many for each kind.
 use Rattle.std.specs.Prelude.{ℕ, ◌+◌, ◌*◌}
-use Rattle.stp_server.specs.declared.naming.TheConstants.{KIND}
-use Rattle.stp_server.specs.declared.naming.SocketName.{SocketName}
-use Rattle.stp_server.specs.declared.naming.SocketName.TheVariants.{Listener, Link, Client, Console}
+use Rattle.served_node.specs.declared.naming.TheConstants.{KIND}
+use Rattle.served_node.specs.declared.naming.SocketName.{SocketName}
+use Rattle.served_node.specs.declared.naming.SocketName.TheVariants.{Listener, Link, Client, Console}
 
 abbrev pub number_of : SocketName → ℕ
 number_of (Listener link) = link

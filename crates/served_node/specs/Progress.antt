@@ -1,7 +1,7 @@
 -- What a read or a write of a socket may come to.
 use Rattle.std.specs.Prelude.{ℕ, ◌<◌, ◌≤◌}
-use Rattle.stp_server.specs.declared.socket.Progress.{Progress}
-use Rattle.stp_server.specs.declared.socket.Progress.TheVariants.{Octets, Later, Again, End, Failed}
+use Rattle.served_node.specs.declared.socket.Progress.{Progress}
+use Rattle.served_node.specs.declared.socket.Progress.TheVariants.{Octets, Later, Again, End, Failed}
 
 -- some octets moved, no more than this, or none did
 abbrev pub IsWithin : Progress → (most : ℕ) → Type 0

@@ -1,13 +1,14 @@
 //! The clients of the console, and their sockets.
 
 use crate::client_socket::ClientSocket;
+use crate::listener::Listener;
 use crate::log::Log;
 use crate::naming::SocketName;
 use arrayvec::ArrayString;
 use console_session::{ConsoleContext, News};
+use mio::Registry;
 use mio::event::Event;
-use mio::net::{TcpListener, TcpStream};
-use mio::{Interest, Registry};
+use mio::net::TcpStream;
 use script::Sink;
 use std::alloc::{AllocError, Global};
 use std::fmt::Write as _;
@@ -37,9 +38,7 @@ fn is_seated<W: Sink>(
         log.tell(&format_args!("caller {peer} no place"));
         return false;
     }
-    let interests = Interest::READABLE | Interest::WRITABLE;
-    let token = SocketName::Client(free as u8).token();
-    let is_registered = registry.register(stream, token, interests).is_ok();
+    let is_registered = SocketName::Client(free as u8).is_registered(registry, stream);
     if is_registered {
         log.tell(&format_args!("caller {peer}"));
     }
@@ -56,12 +55,11 @@ fn tell_no_place(stream: &mut TcpStream) {
 /// Writes what waits for a client. True if its connection is over; the log is told of it.
 fn is_over<W: Sink>(socket: &mut ClientSocket, log: &mut Log<'_, W>) -> bool {
     socket.write();
-    let is_over = socket.is_over();
-    if is_over {
-        let peer = socket.peer();
+    if socket.is_closing {
+        let peer = socket.peer;
         log.tell(&format_args!("caller {peer} gone"));
     }
-    is_over
+    socket.is_closing
 }
 
 /// A place is free from now on. The connection of the client in it is closed.
@@ -71,18 +69,28 @@ fn clear(place: &mut Option<ClientSocket>) {
 
 /// The clients of the console, each in a place of its own, and the listener of the console.
 #[derive(Drop)]
-pub(crate) struct ConsoleClients {
-    listener: Option<TcpListener>,
-    can_accept: bool,
+pub struct ConsoleClients {
+    /// Where they come.
+    pub listener: Listener,
     places: Vec<Option<ClientSocket>>,
-    asked: Asked,
+    pub(crate) asked: Asked,
 }
 
 /// Which news any client asked for, so that nobody has to be asked for each frame.
 #[derive(Clone, Copy)]
-struct Asked {
-    messages: bool,
-    frames: bool,
+pub(crate) struct Asked {
+    pub(crate) messages: bool,
+    pub(crate) frames: bool,
+}
+
+impl Asked {
+    /// No client asked for any.
+    fn none() -> Asked {
+        Asked {
+            messages: false,
+            frames: false,
+        }
+    }
 }
 
 impl ConsoleClients {
@@ -93,55 +101,27 @@ impl ConsoleClients {
             places.push(None)?;
         }
         Ok(ConsoleClients {
-            listener: None,
-            can_accept: false,
+            listener: Listener::none(),
             places,
-            asked: Asked {
-                messages: false,
-                frames: false,
-            },
+            asked: Asked::none(),
         })
     }
 
-    /// Clients come by this listener.
-    pub(crate) fn listen(&mut self, listener: TcpListener) {
-        self.listener = Some(listener);
-        self.can_accept = true;
-    }
-
-    /// Someone may have come.
-    pub(crate) fn mark_console(&mut self) {
-        self.can_accept = self.listener.is_some();
-    }
-
     /// The socket in a place may be ready.
-    pub(crate) fn mark(&mut self, place: usize, event: &Event) {
+    pub fn mark(&mut self, place: usize, event: &Event) {
         if let Some(Some(socket)) = self.places.get_mut(place) {
             socket.mark(event);
         }
     }
 
     /// Takes the clients that came.
-    pub(crate) fn accept<W: Sink>(
-        &mut self,
-        alloc: Global,
-        registry: &Registry,
-        log: &mut Log<'_, W>,
-    ) {
+    pub fn accept<W: Sink>(&mut self, alloc: Global, registry: &Registry, log: &mut Log<'_, W>) {
         for _ in 0..ACCEPTS {
-            if !self.can_accept {
-                return;
-            }
-            match self.accepted() {
+            match self.listener.accept() {
                 Some((stream, peer)) => self.seat(alloc, stream, peer, registry, log),
-                None => self.can_accept = false,
+                None => return,
             }
         }
-    }
-
-    /// The next client that came.
-    fn accepted(&self) -> Option<(TcpStream, SocketAddr)> {
-        self.listener.as_ref()?.accept().ok()
     }
 
     /// Gives a client a place, if there is one, and closes its connection otherwise.
@@ -190,21 +170,18 @@ impl ConsoleClients {
 
     /// Which news any client asked for by now.
     fn asked_now(&self) -> Asked {
-        let mut asked = Asked {
-            messages: false,
-            frames: false,
-        };
+        let mut asked = Asked::none();
         for place in self.places.iter() {
             if let Some(socket) = place {
-                asked.messages = asked.messages || socket.sees(News::Message);
-                asked.frames = asked.frames || socket.sees(News::Frame);
+                asked.messages = asked.messages || socket.client.sees(News::Message);
+                asked.frames = asked.frames || socket.client.sees(News::Frame);
             }
         }
         asked
     }
 
     /// Writes what waits for the clients, and closes the connections that are over.
-    pub(crate) fn write<W: Sink>(&mut self, log: &mut Log<'_, W>) {
+    pub fn write<W: Sink>(&mut self, log: &mut Log<'_, W>) {
         for place in self.places.iter_mut() {
             if let Some(socket) = place
                 && is_over(socket, log)
@@ -215,24 +192,14 @@ impl ConsoleClients {
     }
 
     /// Whether a client has something to read or to write now.
-    pub(crate) fn is_busy(&self) -> bool {
-        let mut is_busy = self.can_accept;
+    pub fn is_busy(&self) -> bool {
+        let mut is_busy = self.listener.may_accept();
         for place in self.places.iter() {
             if let Some(socket) = place {
                 is_busy = is_busy || socket.is_busy();
             }
         }
         is_busy
-    }
-
-    /// Whether any client asked for the messages for this point.
-    pub(crate) fn any_sees_messages(&self) -> bool {
-        self.asked.messages
-    }
-
-    /// Whether any client asked for the frames.
-    pub(crate) fn any_sees_frames(&self) -> bool {
-        self.asked.frames
     }
 
     /// Tells the clients that asked for such news a line, which is given without its line feed.

@@ -44,17 +44,8 @@ impl Readiness {
             .poll
             .registry()
             .reregister(&mut source, TOKEN, Interest::WRITABLE);
-        if asked.is_err() || !self.is_polled() {
-            return true;
-        }
-        self.events.iter().next().is_some()
-    }
-
-    /// Asks the poll. False if that fails.
-    fn is_polled(&mut self) -> bool {
-        self.poll
-            .poll(&mut self.events, Some(Duration::ZERO))
-            .is_ok()
+        let polled = self.poll.poll(&mut self.events, Some(Duration::ZERO));
+        asked.is_err() || polled.is_err() || self.events.iter().next().is_some()
     }
 }
 

@@ -1,10 +1,13 @@
 //! The file of a capture, which holds nobody up.
 
+ghost use Rattle.std.specs.Prelude.{◌≡◌, ◌-◌, [], length, nat_le, IfOk};
+
 use crate::readiness::{AT_ONCE, Readiness, is_ready};
 use std::alloc::{AllocError, Global};
 use std::fs::File;
 use std::io;
 use std::io::Write;
+use std::marker::Model;
 use std::net::Net;
 use std::os::fd::AsRawFd;
 use trace::PACKET_OCTETS;
@@ -24,9 +27,20 @@ pub struct HeldFile {
     held: Vec<u8>,
 }
 
+// The octets that wait.
+impl Model for HeldFile {
+    ghost use Rattle.std.specs.Prelude.{ℕ, List};
+
+    ghost Value = { List ℕ };
+
+    ghost view = { λ f. f.held.items };
+}
+
 impl HeldFile {
-    /// A file to which nothing waits to be written.
-    pub(crate) fn new<N: Net>(net: &N, alloc: Global, file: File) -> Result<HeldFile, AllocError> {
+    /// A file to which nothing waits to be written. The error means that memory ran out.
+    pub fn new<N: Net>(net: &N, alloc: Global, file: File) -> Result<HeldFile, AllocError>
+        ensures { IfOk result (λ file. file ≡ []) }
+    {
         let held = Vec::with_capacity(alloc, HELD_OCTETS)?;
         Ok(HeldFile {
             readiness: Readiness::of(net, alloc, file.as_raw_fd()),
@@ -36,24 +50,23 @@ impl HeldFile {
     }
 
     /// Whether the longest packet finds room.
-    pub(crate) fn has_room(&self) -> bool {
+    pub(crate) fn has_room(&self) -> bool
+        ensures { result ≡ nat_le (length self.now) (HELD_OCTETS - PACKET_OCTETS) }
+    {
         self.held.len() <= HELD_OCTETS - PACKET_OCTETS
     }
 
     /// Writes some octets, the first ones that wait: to a pipe no more than it takes at once.
     fn write_first(&mut self) -> io::Result<()> {
-        let first = first_of(self.held.as_slice(), self.readiness.is_some());
-        let count = self.file.write(first)?;
+        let most = if self.readiness.is_some() {
+            AT_ONCE
+        } else {
+            HELD_OCTETS
+        };
+        let first = self.held.len().min(most);
+        let count = self.file.write(&self.held[..first])?;
         self.held.drain(..count.min(self.held.len()));
         Ok(())
-    }
-}
-
-/// The first of these octets, as many as a pipe takes at once; all, to a file.
-fn first_of(held: &[u8], is_pipe: bool) -> &[u8] {
-    match held.get(..AT_ONCE) {
-        Some(first) if is_pipe => first,
-        _ => held,
     }
 }
 

@@ -1,11 +1,13 @@
 //! Who is told of what passes: the counters, the capture, and the clients of the console.
 
-ghost use Rattle.std.specs.Prelude.{◌≡◌, ◌≤◌, length};
-ghost use Rattle.stp_server.specs.Observers.{counted_sight};
+ghost use Rattle.std.specs.Prelude.{◌≡◌, ◌≤◌, length, replicate, IfOk};
+ghost use Rattle.served_link.specs.Counting.{no_counts};
+ghost use Rattle.served_node.specs.Observers.{counted_sight};
 
 use crate::clients::ConsoleClients;
+use crate::held_file::HeldFile;
 use crate::log::Log;
-use crate::server::FileCapture;
+use crate::noticing::Seen;
 use arrayvec::ArrayString;
 use console_session::News;
 use script::Sink;
@@ -14,22 +16,29 @@ use settings::{Limits, LinkId, MsuRef, Outcome, Settings};
 use std::alloc::{AllocError, Global};
 use std::fmt::Write;
 use std::time::Duration;
-use trace::{Direction, ObservedFrame, PointFormat, frame_words};
+use trace::{Capture, Direction, ObservedFrame, PointFormat, UntilFailure, frame_words};
 
 /// Octets of the line of a message for this point, at most: its link, two digits for each octet of the longest message,
 /// and the word in front.
 const MESSAGE_OCTETS: usize = 640;
 
-/// Who is told of the frames of a server.
+/// A capture into a file.
+pub type FileCapture = Capture<UntilFailure<HeldFile>>;
+
+/// Who is told what happens in a node, and which notices they were told.
 #[derive(Drop)]
-pub(crate) struct Observers {
-    pub(crate) names: Vec<String>,
-    pub(crate) counters: Counters,
+pub struct Observers {
+    /// What passed on each link.
+    pub counters: Counters,
+    /// The clients of the console.
+    pub clients: ConsoleClients,
+    /// How long after the start it is.
+    pub now: Duration,
+    pub(crate) points: PointFormat,
+    pub(crate) seen: Seen,
+    names: Vec<String>,
     capture: Option<FileCapture>,
     missed_frames: u64,
-    pub(crate) clients: ConsoleClients,
-    pub(crate) points: PointFormat,
-    pub(crate) now: Duration,
 }
 
 impl Observers {
@@ -38,22 +47,25 @@ impl Observers {
         alloc: Global,
         settings: &Settings,
         points: PointFormat,
-    ) -> Result<Observers, AllocError> {
+    ) -> Result<Observers, AllocError>
+        ensures { IfOk result (λ observers. observers.counters ≡ replicate (length settings.now.links) no_counts) }
+    {
         let names = names_of(alloc, settings)?;
         let counters = Counters::new(alloc, settings.link_count())?;
         Ok(Observers {
-            names,
             counters,
+            clients: ConsoleClients::new(alloc)?,
+            now: Duration::ZERO,
+            points,
+            seen: Seen::new(),
+            names,
             capture: None,
             missed_frames: 0,
-            clients: ConsoleClients::new(alloc)?,
-            points,
-            now: Duration::ZERO,
         })
     }
 
     /// The name of a link; nothing if no link has this number.
-    pub(crate) fn name(&self, link: LinkId) -> &str
+    pub fn name(&self, link: LinkId) -> &str
         ensures { length result.now ≤ Limits.NAME_OCTETS }
     {
         match self.names.get(link.index()) {
@@ -64,7 +76,7 @@ impl Observers {
 
     /// Whether there is a capture, or a client that watches frames.
     fn is_watched(&self) -> bool {
-        self.capture.is_some() || self.clients.any_sees_frames()
+        self.capture.is_some() || self.clients.asked.frames
     }
 
     /// A frame came in: whoever watches is told.
@@ -93,7 +105,7 @@ impl Observers {
         ensures { self.new.counters ≡ self.old.counters }
     {
         self.capture_frame(link, direction, frame);
-        if self.clients.any_sees_frames() {
+        if self.clients.asked.frames {
             self.tell_frame(link, direction, frame);
         }
     }
@@ -114,31 +126,29 @@ impl Observers {
 
     /// What was captured goes out, as far as its file takes it. The log is told if that fails, which ends the
     /// capture, and how many frames were missed once there is room for others.
-    pub(crate) fn flush_capture<W: Sink>(&mut self, log: &mut Log<'_, W>) {
+    pub fn flush_capture<W: Sink>(&mut self, log: &mut Log<'_, W>)
+        ensures { self.new.counters ≡ self.old.counters }
+    {
         let Some(capture) = &mut self.capture else {
             return;
         };
         capture.flush();
-        if capture.has_failed() {
+        let (has_failed, has_room) = (capture.has_failed(), capture.output().writer().has_room());
+        if has_failed {
             log.tell(&"capture failed");
             self.capture_to(None);
-        } else if capture.output().writer().has_room() {
-            self.tell_missed(log);
+        } else if has_room && self.missed_frames > 0 {
+            let missed = self.missed_frames;
+            log.tell(&format_args!("capture missed {missed} frames"));
+            self.missed_frames = 0;
         }
     }
 
     /// Each frame goes into this capture from now on; into none, if there is none.
-    pub(crate) fn capture_to(&mut self, capture: Option<FileCapture>) {
+    pub fn capture_to(&mut self, capture: Option<FileCapture>)
+        ensures { self.new.counters ≡ self.old.counters }
+    {
         self.capture = capture;
-    }
-
-    /// Tells the log how many frames the capture missed, if it missed some.
-    fn tell_missed<W: Sink>(&mut self, log: &mut Log<'_, W>) {
-        let missed = self.missed_frames;
-        if missed > 0 {
-            log.tell(&format_args!("capture missed {missed} frames"));
-            self.missed_frames = 0;
-        }
     }
 
     /// Tells clients of a frame in words.
@@ -157,7 +167,7 @@ impl Observers {
     fn delivered(&mut self, link: LinkId, frame: &ObservedFrame<'_>)
         ensures { self.new.counters ≡ self.old.counters }
     {
-        if self.clients.any_sees_messages() {
+        if self.clients.asked.messages {
             self.tell_message(link, frame);
         }
     }
@@ -196,9 +206,11 @@ fn message_line(name: &str, message: MsuRef<'_>) -> ArrayString<MESSAGE_OCTETS> 
 
 /// The observers, and what else watches the frames.
 #[derive(Drop)]
-pub(crate) struct FrameObserver<'a, U> {
-    pub(crate) observers: &'a mut Observers,
-    pub(crate) user: &'a mut U,
+pub struct FrameObserver<'a, U> {
+    /// Those who are told what happens in the node.
+    pub observers: &'a mut Observers,
+    /// What else watches.
+    pub user: &'a mut U,
 }
 
 impl<U: Watch> Watch for FrameObserver<'_, U> {

@@ -1,9 +1,10 @@
 //! The names of sockets in the events of a poll.
 
 ghost use Rattle.std.specs.Prelude.{◌≡◌, ◌≤◌, IfSome, IsSome};
-ghost use Rattle.stp_server.specs.Naming.{number_of};
+ghost use Rattle.served_node.specs.Naming.{number_of};
 
-use mio::Token;
+use mio::net::TcpStream;
+use mio::{Interest, Registry, Token};
 
 /// Tokens of each kind of socket.
 const KIND: usize = 256;
@@ -47,5 +48,11 @@ impl SocketName {
             3 if number == 0 => Some(SocketName::Console),
             _ => None,
         }
+    }
+
+    /// Has the poll tell when this connection may be read or written, under this name. False if the poll doesn't.
+    pub fn is_registered(self, registry: &Registry, stream: &mut TcpStream) -> bool {
+        let interests = Interest::READABLE | Interest::WRITABLE;
+        registry.register(stream, self.token(), interests).is_ok()
     }
 }

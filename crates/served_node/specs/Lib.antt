@@ -1,0 +1,4 @@
+pub mod Listening
+pub mod Naming
+pub mod Observers
+pub mod Progress

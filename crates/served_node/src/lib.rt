@@ -1,0 +1,29 @@
+//! A node that is served, without the connections of its links: the node and who is told what happens in it, which are
+//! its log, its counters, its capture and the clients of its console on their sockets; and the sockets of a poll.
+#![tactic(auto)]
+
+mod client_socket;
+pub mod clients;
+pub mod dropping;
+pub mod fault;
+pub mod held_file;
+pub mod listener;
+pub mod log;
+pub mod naming;
+pub mod node;
+mod noticing;
+pub mod observers;
+mod readiness;
+pub mod socket;
+mod telling;
+
+pub use clients::ConsoleClients;
+pub use dropping::DroppingLog;
+pub use fault::OpenFault;
+pub use held_file::HeldFile;
+pub use listener::Listener;
+pub use log::Log;
+pub use naming::SocketName;
+pub use node::Node;
+pub use observers::{FileCapture, FrameObserver, Observers};
+pub use socket::{Progress, read_some, write_some};

@@ -1,0 +1,104 @@
+//! The node of a server.
+
+ghost use Rattle.std.specs.Prelude.{◌≡◌, IfOk, replicate, length};
+ghost use Rattle.exchange.specs.KeptQueues.{kept};
+ghost use Rattle.exchange.specs.Stands.{kept_of};
+ghost use Rattle.exchange.specs.Calls.{happened};
+ghost use Rattle.exchange_rules.specs.Exchange.{outcome_of, after};
+ghost use Rattle.exchange_rules.specs.First.{first_state};
+ghost use Rattle.served_link.specs.Counting.{no_counts};
+
+use crate::fault::OpenFault;
+use crate::log::Log;
+use crate::observers::Observers;
+use console_session::ConsoleContext;
+use exchange::{Event, Exchange};
+use script::Sink;
+use settings::{FailureReason, Outcome, Settings};
+use std::alloc::Global;
+use trace::PointFormat;
+
+/// A node, and who is told what happens in it. Behind a call of its exchange that isn't one of these, `look` tells
+/// what is new.
+#[derive(Drop)]
+pub struct Node {
+    /// The node itself.
+    pub exchange: Exchange,
+    /// Who is told.
+    pub observers: Observers,
+}
+
+impl Node {
+    /// The node with these settings, in its first state. Nothing is counted yet. The error is NoMemory.
+    pub fn boot(alloc: Global, settings: Settings, points: PointFormat) -> Result<Node, OpenFault>
+        ensures first { IfOk result (λ node. node.exchange ≡ kept_of (first_state settings)) }
+        ensures counters { IfOk result (λ node.
+            node.observers.counters ≡ replicate (length settings.links) no_counts) }
+    {
+        let exchange = Exchange::boot(alloc, settings)?;
+        match Observers::new(alloc, exchange.settings(), points) {
+            Ok(observers) => Ok(Node {
+                exchange,
+                observers,
+            }),
+            Err(_) => {
+                drop(exchange);
+                Err(OpenFault::NoMemory)
+            }
+        }
+    }
+
+    /// Hands in an event, and tells what is new. A failure whose notice was dropped for later ones is counted as one
+    /// for this reason.
+    pub fn step<W: Sink>(
+        &mut self,
+        event: &Event<'_>,
+        dropped: FailureReason,
+        log: &mut Log<'_, W>,
+    ) -> Outcome
+        ensures outcome { result ≡ outcome_of kept (happened event.now result) self.old.exchange }
+        ensures state { self.new.exchange ≡ after kept (happened event.now result) self.old.exchange }
+    {
+        let outcome = self.exchange.step(event);
+        self.look(dropped, log);
+        outcome
+    }
+
+    /// Does the lines that clients of the console wrote. True if one of them stops the node.
+    pub fn read_clients(&mut self) -> bool {
+        let Node {
+            exchange,
+            observers: Observers {
+                counters,
+                clients,
+                points,
+                ..
+            },
+        } = self;
+        let mut context = ConsoleContext {
+            exchange,
+            counters,
+            points: *points,
+        };
+        clients.read(&mut context)
+    }
+
+    /// An association came up, and its link perhaps with it: the next `look` counts it as failed if it is down by then.
+    pub fn note_up(&mut self)
+        ensures exchange { self.new.exchange ≡ self.old.exchange }
+        ensures counters { self.new.observers.counters ≡ self.old.observers.counters }
+    {
+        self.observers.seen.note_up(&self.exchange);
+    }
+
+    /// Tells the log and the clients that watch them of new notices, if there are any, and the log of flags that were
+    /// raised, and counts failures. A failure whose notice was dropped for later ones is counted as one for this
+    /// reason.
+    pub fn look<W: Sink>(&mut self, dropped: FailureReason, log: &mut Log<'_, W>)
+        ensures { self.new.exchange ≡ self.old.exchange }
+    {
+        if !self.observers.seen.has_all(&self.exchange) {
+            self.observers.look(&self.exchange, dropped, log);
+        }
+    }
+}

@@ -1,0 +1,91 @@
+//! What is told of notices and flags: the log and the clients that watch them, and what is counted of failures.
+
+use crate::log::Log;
+use crate::noticing::newly_raised;
+use crate::observers::Observers;
+use arrayvec::ArrayString;
+use console::{LINE_OCTETS, show_notices};
+use console_session::News;
+use exchange::Exchange;
+use script::Sink;
+use settings::{FailureReason, LinkId, Notice};
+use std::fmt::Write;
+
+impl Observers {
+    /// Tells the log and the clients that watch them of the new notices: how many were missed, and then those that are
+    /// kept. Counts failures; one whose notice was dropped for later ones is counted as one for this reason.
+    #[inline(never)]
+    pub(crate) fn look<W: Sink>(
+        &mut self,
+        exchange: &Exchange,
+        dropped: FailureReason,
+        log: &mut Log<'_, W>,
+    ) {
+        let new = self.seen.look(exchange);
+        if new.missed > 0 {
+            self.tell_missed(new.missed, log);
+        }
+        self.tell_last(exchange, new.kept, log);
+        self.count_dropped_failures(exchange, new.kept, dropped);
+        self.tell_flags(exchange, log);
+    }
+
+    /// Tells how many notices were dropped for later ones before they could be told.
+    fn tell_missed<W: Sink>(&mut self, missed: u64, log: &mut Log<'_, W>) {
+        let mut line = ArrayString::<LINE_OCTETS>::new();
+        let _fits = write!(line, "missed {missed}");
+        self.clients.tell_line(News::Notice, line.as_bytes());
+        log.tell(&line.as_str());
+    }
+
+    /// Tells the log of a flag that was raised since the last time, and how often it was by now.
+    fn tell_flags<W: Sink>(&mut self, exchange: &Exchange, log: &mut Log<'_, W>) {
+        if let Some(times) = newly_raised(&mut self.seen.times_lost, exchange.times_lost()) {
+            log.tell(&format_args!("flag lost_any {times}"));
+        }
+        if let Some(times) = newly_raised(&mut self.seen.times_late, exchange.times_late()) {
+            log.tell(&format_args!("flag late_any {times}"));
+        }
+    }
+
+    /// Tells of the last `count` notices.
+    #[inline(never)]
+    fn tell_last<W: Sink>(&mut self, exchange: &Exchange, count: usize, log: &mut Log<'_, W>) {
+        let kept = exchange.notices().len();
+        for k in kept.saturating_sub(count)..kept {
+            self.tell(exchange, k, log);
+        }
+    }
+
+    /// Tells of the notice in this place.
+    fn tell<W: Sink>(&mut self, exchange: &Exchange, k: usize, log: &mut Log<'_, W>) {
+        if let Some(Notice::Failed(link, reason)) = exchange.notices().get(k) {
+            self.counters.count_failure(*link, *reason);
+        }
+        let mut line = ArrayString::<LINE_OCTETS>::new();
+        if show_notices(exchange, k, self.points, &mut line) {
+            self.clients.tell_line(News::Notice, line.as_bytes());
+            log.tell(&format_args!("notice {line}"));
+        }
+    }
+
+    /// Counts the failures of links whose notice isn't among the last `count`, since it was dropped for later ones. More
+    /// notices than are kept come between two looks if a changeover order loses many messages, or if the messages that
+    /// a changeover held find no route.
+    fn count_dropped_failures(&mut self, exchange: &Exchange, count: usize, reason: FailureReason) {
+        let first = exchange.notices().len().saturating_sub(count);
+        for k in 0..exchange.settings().link_count() {
+            let link = LinkId::new(u8::try_from(k).unwrap_or(u8::MAX));
+            if self.seen.fell(link) && !is_failure_told(exchange, link, first) {
+                self.counters.count_failure(link, reason);
+            }
+        }
+    }
+}
+
+/// Whether one of the notices from this place on tells that a link failed.
+fn is_failure_told(exchange: &Exchange, link: LinkId, first: usize) -> bool {
+    exchange.notices().iter().skip(first).any(
+        |notice| matches!(notice, Notice::Failed(failed, _) if *failed == link),
+    )
+}

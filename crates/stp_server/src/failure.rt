@@ -1,0 +1,20 @@
+//! Why a node isn't served any more.
+
+use served_node::OpenFault;
+use std::io;
+
+/// Why a node isn't served any more, although nobody stopped it.
+pub enum ServeFailure {
+    /// The server couldn't be opened.
+    Open(OpenFault),
+    /// The capture file couldn't be made.
+    Capture,
+    /// The clock or the poll failed.
+    System,
+}
+
+impl From<io::Error> for ServeFailure {
+    fn from(_error: io::Error) -> ServeFailure {
+        ServeFailure::System
+    }
+}
