@@ -17,7 +17,8 @@ use Rattle.sctp_sending.specs.Outgoing.{gone_out, lost_from}
 use Rattle.sctp_rules.specs.Confirming.{data_at, going, gone_from}
 use Rattle.sctp_rules.specs.GivenMessages as courses
 use Rattle.sctp_rules.specs.GivenMessages.{Course, IsInOrder, IsGiven, message_of, counted}
-use Rattle.sctp_rules.proofs.GivenMessages.{IsCourse, call-so, kept-at, next-within, timed-alike, left-over}
+use Rattle.sctp_rules.proofs.GivenMessages.{IsCourse, call-so, kept-at, timed-alike, left-over}
+use Rattle.sctp_rules.proofs.Halves.{next-within}
 use Rattle.sctp_moves.specs.Numbers.{modulus, window, number_of, cumulative, steps_between}
 use Rattle.sctp_moves.specs.Ends.{Message, Chunk, Acknowledgement, Epoch, End}
 use Rattle.sctp_moves.specs.Moves.{chunk_of}

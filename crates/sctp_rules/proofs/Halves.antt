@@ -1,23 +1,23 @@
 -- What each rule of the sending half does to its messages, with their numbers on their streams.
 use Rattle.std.proofs.Common.{◌≡◌, ℕ, zero, suc, ◌+◌, ◌-◌, ◌^◌, ◌<◌, ◌≤◌, Bool, true, false, List, [], ◌∷◌, ◌++◌}
-use Rattle.std.proofs.Common.{Option, Some, None, length, map, take, drop, set, get_or, refl, ap, sym, ◌∙◌, subst, arith}
+use Rattle.std.proofs.Common.{Option, Some, None, length, map, take, drop, set, get_or, refl, inl, inr, ap, sym, ◌∙◌, subst, arith}
 use Rattle.std.proofs.Common.{nat_lt, nat_le, length-drop, min}
 use Rattle.std.specs.Prelude.{◌&&◌, ◌||◌, not, ◌==◌, if◌then◌else◌, All, sum_by}
 use Rattle.std.proofs.Math.Seq.{map-set_same}
 use Rattle.std.proofs.Math.ListN.{get_or-map}
+use Rattle.std.proofs.lemmas.Bool.{cases_lt}
 use Rattle.std.proofs.lemmas.Bool.Decides.{nat_tests}
 use Rattle.std.proofs.lemmas.List.{length-map, length-set, drop-map}
 use Rattle.std.proofs.lemmas.List.Elements.{All-nil, All-cons}
 use Rattle.sctp_sending.specs.declared.confirmation.Confirmation.{Confirmation}
 use Rattle.sctp_sending.specs.declared.confirmation.Confirmation.TheVariants.{Old, Beyond, Of}
 use Rattle.sctp_sending.specs.Outgoing.{Message, Outgoing, no_message, new_outgoing, outgoing_at, gone_out, named_or_not}
-use Rattle.sctp_sending.specs.Outgoing.{passed_over, timed_out, newly_confirmed_of, tsn_at, ahead_of, lost_from}
+use Rattle.sctp_sending.specs.Outgoing.{passed_over, timed_out, newly_confirmed_of, octets_of, tsn_at, ahead_of, lost_from}
 use Rattle.sctp_sending.specs.Sending.{Sending, next_place, gone_next, gone_again, gone_first, confirmation, confirmed, settled, acknowledged}
 use Rattle.sctp_sending.specs.Sending.{after_cumulative, after_t3, named_below, passed_below, naming_of, passing_of, is_named, under_way}
-use Rattle.sctp_sending.specs.Sending.{is_timed_named, congestion_by, burst_octets, measured_in}
+use Rattle.sctp_sending.specs.Sending.{next_of, may_begin, may_repeat, has_credit, finds_window, is_timed_named, congestion_by, burst_octets, measured_in}
 use Rattle.sctp_codec.specs.Packets.{DataValue, SackValue}
 use Rattle.sctp_rules.specs.Confirming.{data_at, going, gone_from, Gone, with_sack_of}
-use Rattle.sctp_rules.proofs.GivenMessages.{next-within}
 
 pub record Numbered : Type 0 where
   pub message : Message
@@ -25,6 +25,9 @@ pub record Numbered : Type 0 where
 
 abbrev pub numbered_of : Outgoing → Numbered
 numbered_of o = record { message = o.message; sequence = o.sequence }
+
+abbrev pub message_in : Numbered → Message
+message_in n = n.message
 
 abbrev pub numbered_in : List Outgoing → List Numbered
 numbered_in out = map numbered_of out
@@ -114,7 +117,7 @@ settled-if true d x y z a e = a
 settled-if false true x y z a e = e
 settled-if false false x y z a e = same z
 
-settled-same : (s : Sending) (count now : ℕ) → Same s (settled s count now)
+pub settled-same : (s : Sending) (count now : ℕ) → Same s (settled s count now)
 unfolding settled
 settled-same s count now = settled-if (s.went == 0) (nat_lt 0 count) _ _ s (same s) (same s)
 
@@ -138,7 +141,7 @@ of-cases true b n count e = absurd (cc)
 of-cases false true n count e = absurd (cc)
 of-cases false false n count e = (refl, cc)
 
-confirmed-within : (s : Sending) (cumulative count : ℕ) → confirmation s cumulative ≡ Of count → count ≤ s.went
+pub confirmed-within : (s : Sending) (cumulative count : ℕ) → confirmation s cumulative ≡ Of count → count ≤ s.went
 unfolding confirmation
 confirmed-within s cumulative count e =
     let n : ℕ = ahead_of (tsn_at cumulative 1) s.first in
@@ -191,7 +194,7 @@ unsettled s now window count names =
     } in
     record after { peer_window = window - under_way after }
 
-acknowledged-same : (s : Sending) (now window count : ℕ) (names : ℕ → Bool) →
+pub acknowledged-same : (s : Sending) (now window count : ℕ) (names : ℕ → Bool) →
     Same (confirmed s count now) (acknowledged s now window count names)
 unfolding acknowledged
 acknowledged-same s now window count names =
@@ -286,6 +289,56 @@ place-goes true s now place e l = again-goes s now place
 place-goes false s now place e l =
     let above : s.went ≤ place = grind (arith, nat_tests, e) in
     first-goes s now place l above
+
+beyond : {A : Type 0} → (xs : List A) (i : ℕ) (d : A) → length xs ≤ i → get_or xs i d ≡ d
+beyond [] i d l = refl
+beyond (x ∷ xs) zero d l = absurd (omega (arith, l))
+beyond (x ∷ xs) (suc i) d l = beyond xs i d (omega (arith, l))
+
+found-or : (b : Bool) (out : List Outgoing) (place p : ℕ) (rest : Option ℕ) → (outgoing_at out place).lost ≡ b →
+    (if b then Some place else rest) ≡ Some p → (rest ≡ Some p → (outgoing_at out p).lost ≡ true) → (outgoing_at out p).lost ≡ true
+found-or true out place p rest b e h =
+    let same : place ≡ p = cc in
+    subst (λ (i : ℕ). (outgoing_at out i).lost ≡ true) same b
+found-or false out place p rest b e h = h e
+
+lost-is : (out : List Outgoing) (place left p : ℕ) → lost_from out place left ≡ Some p → (outgoing_at out p).lost ≡ true
+unfolding lost_from
+lost-is out place zero p e = absurd (cc)
+lost-is out place (suc left) p e =
+    found-or (outgoing_at out place).lost out place p (lost_from out (place + 1) left) refl e (λ f. lost-is out (place + 1) left p f)
+
+lost-within : (out : List Outgoing) (p : ℕ) → (outgoing_at out p).lost ≡ true → p < length out
+lost-within out p e =
+    elim (cases_lt p (length out)) [
+      | inl below ↦ below
+      | inr above ↦
+          let default : outgoing_at out p ≡ new_outgoing no_message 0 = beyond out p (new_outgoing no_message 0) above in
+          let no : (outgoing_at out p).lost ≡ false = ap (λ (o : Outgoing). o.lost) default in
+          absurd (cc)
+    ]
+
+if-some : (b : Bool) (q p : ℕ) → (if b then Some q else None) ≡ Some p → (b ≡ true) × (q ≡ p)
+if-some true q p e = (refl, cc)
+if-some false q p e = absurd (cc)
+
+both-parts : (x y : Bool) → (x && y) ≡ true → x ≡ true
+both-parts true y e = refl
+both-parts false y e = absurd (cc)
+
+pub next-within : (lost : Option ℕ) (s : Sending) (p : ℕ) → lost_from s.out 0 s.went ≡ lost → next_of s lost ≡ Some p → p < length s.out
+next-within (Some q) s p f e =
+    let parts = if-some (may_repeat s q) q p e in
+    let there : (outgoing_at s.out p).lost ≡ true =
+    subst (λ (i : ℕ). (outgoing_at s.out i).lost ≡ true) parts.1 (lost-is s.out 0 s.went q f) in
+    lost-within s.out p there
+next-within None s p f e =
+    let parts = if-some (may_begin s) s.went p e in
+    let fresh : nat_lt s.went (length s.out) ≡ true =
+    both-parts (nat_lt s.went (length s.out)) (has_credit s)
+    (both-parts (nat_lt s.went (length s.out) && has_credit s) (finds_window s (octets_of (outgoing_at s.out s.went))) parts.0) in
+    let below : s.went < length s.out = grind (arith, nat_tests, fresh) in
+    omega (arith, below, parts.1)
 
 place-within : (s : Sending) (place : ℕ) → next_place s ≡ Some place → place < length s.out
 unfolding next_place

@@ -15,7 +15,7 @@ use Rattle.sctp_sending.specs.Outgoing.{Message, Outgoing, no_message, new_outgo
 use Rattle.sctp_sending.specs.Sending.{Sending, first_sending, given, stopped, confirmation, messages_of}
 use Rattle.sctp_codec.specs.Packets.{DataValue}
 use Rattle.sctp_rules.specs.SentMessages.{count_on, chunk_at, IsSaid}
-use Rattle.sctp_rules.proofs.Halves.{Numbered, numbered_of, numbered_in, no_number, Half, half_of, AreSame, same-length, IsConfirmed, IsAnswered}
+use Rattle.sctp_rules.proofs.Halves.{Numbered, message_in, numbered_of, numbered_in, no_number, Half, half_of, AreSame, same-length, IsConfirmed, IsAnswered}
 use Rattle.sctp_rules.proofs.Halves.{count-is, data_by, IsDataOf, Goes}
 
 -- ---- messages under their numbers
@@ -50,9 +50,6 @@ numbered-at before (m ∷ more) zero l = ap (λ (ms : List Message). number ms m
 numbered-at before (m ∷ more) (suc place) l =
     numbered-at (before ++ m ∷ []) more place (omega (arith, l))
     ∙ ap (λ (ms : List Message). number ms (get_or more place no_message)) (append_assoc before (m ∷ []) (take place more))
-
-abbrev pub message_in : Numbered → Message
-message_in n = n.message
 
 numbered-messages : (before given : List Message) → map message_in (numbered_from before given) ≡ given
 numbered-messages before [] = refl
