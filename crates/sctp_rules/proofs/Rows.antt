@@ -33,6 +33,10 @@ pub acknowledgement_opens : rows.acknowledgement_opens
 unfolding after going drained run_from blocks_from lost_from named_below passed_below given next_place gone_again gone_first confirmation confirmed settled acknowledged after_t3 stopped
 acknowledgement_opens = record { phase_is = refl; sent_is = refl; told_is = refl }
 
+pub cookie_with_another_tag_is_dropped : rows.cookie_with_another_tag_is_dropped
+unfolding after going drained run_from blocks_from lost_from named_below passed_below given next_place gone_again gone_first confirmation confirmed settled acknowledged after_t3 stopped
+cookie_with_another_tag_is_dropped = record { phase_is = refl; sent_is = refl; told_is = refl }
+
 pub unwanted_init_is_dropped : rows.unwanted_init_is_dropped
 unfolding after going drained run_from blocks_from lost_from named_below passed_below given next_place gone_again gone_first confirmation confirmed settled acknowledged after_t3 stopped
 unwanted_init_is_dropped = record { phase_is = refl; sent_is = refl; told_is = refl }

@@ -156,6 +156,11 @@ cookie_is_acknowledged = Does acknowledges Established ((11 ∷ []) ∷ []) []
 abbrev pub acknowledgement_opens : Type 0
 acknowledgement_opens = Does opens_second Established [] (Up ∷ [])
 
+-- in a packet with another tag than its own a cookie opens nothing (§5.1.5)
+abbrev pub cookie_with_another_tag_is_dropped : Type 0
+cookie_with_another_tag_is_dropped =
+    Does (far (comes 3 (record (packet echoes) { tag = 21 })) answers.left) Closed [] []
+
 -- ---- no association is wanted, or there is none (§8.4)
 
 abbrev pub unwanted_init_is_dropped : Type 0
