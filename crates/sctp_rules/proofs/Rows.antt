@@ -33,6 +33,10 @@ pub acknowledgement_opens : rows.acknowledgement_opens
 unfolding after going drained run_from blocks_from lost_from named_below passed_below given next_place gone_again gone_first confirmation confirmed settled acknowledged after_t3 stopped
 acknowledgement_opens = record { phase_is = refl; sent_is = refl; told_is = refl }
 
+pub cookie_with_another_tag_is_dropped : rows.cookie_with_another_tag_is_dropped
+unfolding after going drained run_from blocks_from lost_from named_below passed_below given next_place gone_again gone_first confirmation confirmed settled acknowledged after_t3 stopped
+cookie_with_another_tag_is_dropped = record { phase_is = refl; sent_is = refl; told_is = refl }
+
 pub unwanted_init_is_dropped : rows.unwanted_init_is_dropped
 unfolding after going drained run_from blocks_from lost_from named_below passed_below given next_place gone_again gone_first confirmation confirmed settled acknowledged after_t3 stopped
 unwanted_init_is_dropped = record { phase_is = refl; sent_is = refl; told_is = refl }
@@ -52,6 +56,10 @@ cookie_ack_out_of_the_blue = record { phase_is = refl; sent_is = refl; told_is =
 pub shutdown_ack_out_of_the_blue : rows.shutdown_ack_out_of_the_blue
 unfolding after going drained run_from blocks_from lost_from named_below passed_below given next_place gone_again gone_first confirmation confirmed settled acknowledged after_t3 stopped
 shutdown_ack_out_of_the_blue = record { phase_is = refl; sent_is = refl; told_is = refl }
+
+pub init_without_tag_is_dropped : rows.init_without_tag_is_dropped
+unfolding after going drained run_from blocks_from lost_from named_below passed_below given next_place gone_again gone_first confirmation confirmed settled acknowledged after_t3 stopped
+init_without_tag_is_dropped = record { phase_is = refl; sent_is = refl; told_is = refl }
 
 pub init_goes_out_again : rows.init_goes_out_again
 unfolding after going drained run_from blocks_from lost_from named_below passed_below given next_place gone_again gone_first confirmation confirmed settled acknowledged after_t3 stopped
@@ -209,6 +217,10 @@ pub answer_ends_the_beat : rows.answer_ends_the_beat
 unfolding after going drained run_from blocks_from lost_from named_below passed_below given next_place gone_again gone_first confirmation confirmed settled acknowledged after_t3 stopped
 answer_ends_the_beat = refl
 
+pub late_answer_ends_no_beat : rows.late_answer_ends_no_beat
+unfolding after going drained run_from blocks_from lost_from named_below passed_below given next_place gone_again gone_first confirmation confirmed settled acknowledged after_t3 stopped
+late_answer_ends_no_beat = refl
+
 pub unknown_chunk_is_reported : rows.unknown_chunk_is_reported
 unfolding after going drained run_from blocks_from lost_from named_below passed_below given next_place gone_again gone_first confirmation confirmed settled acknowledged after_t3 stopped
 unknown_chunk_is_reported = record { phase_is = refl; sent_is = refl; told_is = refl }
@@ -217,6 +229,22 @@ pub unknown_chunk_is_passed_over : rows.unknown_chunk_is_passed_over
 unfolding after going drained run_from blocks_from lost_from named_below passed_below given next_place gone_again gone_first confirmation confirmed settled acknowledged after_t3 stopped
 unknown_chunk_is_passed_over = record { phase_is = refl; sent_is = refl; told_is = refl }
 
+pub unknown_chunk_ends_its_packet : rows.unknown_chunk_ends_its_packet
+unfolding after going drained run_from blocks_from lost_from named_below passed_below given next_place gone_again gone_first confirmation confirmed settled acknowledged after_t3 stopped
+unknown_chunk_ends_its_packet = record { phase_is = refl; sent_is = refl; told_is = refl }
+
+pub reported_chunk_ends_its_packet : rows.reported_chunk_ends_its_packet
+unfolding after going drained run_from blocks_from lost_from named_below passed_below given next_place gone_again gone_first confirmation confirmed settled acknowledged after_t3 stopped
+reported_chunk_ends_its_packet = record { phase_is = refl; sent_is = refl; told_is = refl }
+
+pub chunks_behind_one_passed_over_count : rows.chunks_behind_one_passed_over_count
+unfolding after going drained run_from blocks_from lost_from named_below passed_below given next_place gone_again gone_first confirmation confirmed settled acknowledged after_t3 stopped
+chunks_behind_one_passed_over_count = record { phase_is = refl; sent_is = refl; told_is = refl }
+
+pub chunks_behind_one_reported_count : rows.chunks_behind_one_reported_count
+unfolding after going drained run_from blocks_from lost_from named_below passed_below given next_place gone_again gone_first confirmation confirmed settled acknowledged after_t3 stopped
+chunks_behind_one_reported_count = record { phase_is = refl; sent_is = refl; told_is = refl }
+
 pub data_without_data_is_a_violation : rows.data_without_data_is_a_violation
 unfolding after going drained run_from blocks_from lost_from named_below passed_below given next_place gone_again gone_first confirmation confirmed settled acknowledged after_t3 stopped
 data_without_data_is_a_violation = record { phase_is = refl; sent_is = refl; told_is = refl }
@@ -224,6 +252,10 @@ data_without_data_is_a_violation = record { phase_is = refl; sent_is = refl; tol
 pub shutdown_is_pending : rows.shutdown_is_pending
 unfolding after going drained run_from blocks_from lost_from named_below passed_below given next_place gone_again gone_first confirmation confirmed settled acknowledged after_t3 stopped
 shutdown_is_pending = record { phase_is = refl; sent_is = refl; told_is = refl }
+
+pub shutdown_takes_no_message : rows.shutdown_takes_no_message
+unfolding after going drained run_from blocks_from lost_from named_below passed_below given next_place gone_again gone_first confirmation confirmed settled acknowledged after_t3 stopped
+shutdown_takes_no_message = refl
 
 pub shutdown_follows_confirmation : rows.shutdown_follows_confirmation
 unfolding after going drained run_from blocks_from lost_from named_below passed_below given next_place gone_again gone_first confirmation confirmed settled acknowledged after_t3 stopped

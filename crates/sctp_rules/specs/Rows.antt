@@ -156,6 +156,11 @@ cookie_is_acknowledged = Does acknowledges Established ((11 ∷ []) ∷ []) []
 abbrev pub acknowledgement_opens : Type 0
 acknowledgement_opens = Does opens_second Established [] (Up ∷ [])
 
+-- in a packet with another tag than its own a cookie opens nothing (§5.1.5)
+abbrev pub cookie_with_another_tag_is_dropped : Type 0
+cookie_with_another_tag_is_dropped =
+    Does (far (comes 3 (record (packet echoes) { tag = 21 })) answers.left) Closed [] []
+
 -- ---- no association is wanted, or there is none (§8.4)
 
 abbrev pub unwanted_init_is_dropped : Type 0
@@ -172,6 +177,11 @@ cookie_ack_out_of_the_blue = Does (near (comes 0 (of_chunk 7 CookieAckChunk)) ne
 
 abbrev pub shutdown_ack_out_of_the_blue : Type 0
 shutdown_ack_out_of_the_blue = Does (near (comes 0 (of_chunk 7 ShutdownAckChunk)) new) Closed ((14 ∷ []) ∷ []) []
+
+-- an INIT without a tag is dropped (§3.3.2)
+abbrev pub init_without_tag_is_dropped : Type 0
+init_without_tag_is_dropped =
+    Does (far (comes 1 (of_chunk 0 (InitChunk (init_of (record { tag = 0; first = 5 }) [])))) waits.left) Closed [] []
 
 -- ---- T1 (§5.1.6)
 
@@ -467,6 +477,11 @@ abbrev pub answer_ends_the_beat : Type 0
 answer_ends_the_beat =
     (near (comes 5350 (of_chunk 10 heartbeat_of_near)) beats.left).left.association.beat_due ≡ Some 10488
 
+-- but only to the last one (§8.3)
+abbrev pub late_answer_ends_no_beat : Type 0
+late_answer_ends_no_beat =
+    (near (comes 5650 (of_chunk 10 heartbeat_of_near)) beats_again.left).left.association.beat_due ≡ Some 6204
+
 abbrev pub unknown_chunk_is_reported : Type 0
 unknown_chunk_is_reported =
     Does (near (Flushes 5) (near (comes 5 (of_chunk 10 (UnknownChunk 192 0 []))) opens_second.left).left) Established
@@ -476,6 +491,26 @@ abbrev pub unknown_chunk_is_passed_over : Type 0
 unknown_chunk_is_passed_over =
     Does (near (Flushes 5) (near (comes 5 (of_chunk 10 (UnknownChunk 128 0 []))) opens_second.left).left) Established
     [] []
+
+-- the chunks behind an unknown one count or don't, by the upper two bits of its type (§3.2)
+abbrev pub before_heartbeat : ChunkValue → Done
+before_heartbeat chunk =
+    let p = record (of_chunk 10 chunk) { chunks = chunk ∷ HeartbeatChunk (1 ∷ []) ∷ [] } in
+    near (Flushes 5) (near (comes 5 p) opens_second.left).left
+
+abbrev pub unknown_chunk_ends_its_packet : Type 0
+unknown_chunk_ends_its_packet = Does (before_heartbeat (UnknownChunk 63 0 [])) Established [] []
+
+abbrev pub reported_chunk_ends_its_packet : Type 0
+reported_chunk_ends_its_packet = Does (before_heartbeat (UnknownChunk 127 0 [])) Established ((9 ∷ []) ∷ []) []
+
+abbrev pub chunks_behind_one_passed_over_count : Type 0
+chunks_behind_one_passed_over_count =
+    Does (before_heartbeat (UnknownChunk 128 0 [])) Established ((5 ∷ []) ∷ []) []
+
+abbrev pub chunks_behind_one_reported_count : Type 0
+chunks_behind_one_reported_count =
+    Does (before_heartbeat (UnknownChunk 192 0 [])) Established ((9 ∷ 5 ∷ []) ∷ []) []
 
 -- DATA without data
 abbrev pub empty_data : ChunkValue
@@ -503,6 +538,10 @@ shutdown_waits = near (ShutsDown 6) sends.left
 
 abbrev pub shutdown_is_pending : Type 0
 shutdown_is_pending = Does shutdown_waits ShutdownPending [] []
+
+-- and no message is taken meanwhile
+abbrev pub shutdown_takes_no_message : Type 0
+shutdown_takes_no_message = length (near (Sends given) shutdown_waits.left).left.association.sender.out ≡ 1
 
 abbrev pub shutdown_follows_confirmation : Type 0
 shutdown_follows_confirmation =
