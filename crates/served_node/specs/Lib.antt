@@ -1,4 +1,5 @@
 pub mod Listening
+pub mod Logging
 pub mod Naming
 pub mod Observers
 pub mod Progress
