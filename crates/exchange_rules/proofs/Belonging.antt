@@ -7,11 +7,11 @@ use Rattle.routes.proofs.Leaving.{IsOfSet, chosen_of_set, none_past}
 
 -- ---- the links of a set
 
-abbrev no_entry : LinkEntry
+abbrev pub no_entry : LinkEntry
 no_entry = record { name = []; set = 0; slc = 0 }
 
 -- a link that is there, of a set
-record IsLinkOf (links : List LinkEntry) (set link : ℕ) : Type 0 where
+pub record IsLinkOf (links : List LinkEntry) (set link : ℕ) : Type 0 where
   pub there : link < length links
   pub of_set : (slice_index_or links link no_entry).set ≡ set
 
@@ -19,7 +19,7 @@ only : (x l : ℕ) → Contains (x ∷ []) l → x ≡ l
 only x l (zero, h, e) = e
 only x l (suc k, h, e) = absurd (omega (arith, h))
 
-none : (l : ℕ) → Contains {X = ℕ} [] l → ⊥
+pub none : (l : ℕ) → Contains {X = ℕ} [] l → ⊥
 none l (k, h, e) = omega (arith, h)
 
 first-same : (a b : ℕ) (other : Bool) → (nat_eq a b && other) ≡ true → a ≡ b
@@ -35,7 +35,7 @@ with_code-of links set code (Some number) e l h =
     })
 with_code-of links set code None e l h = absurd (none l h)
 
-below-of : (links : List LinkEntry) (set limit : ℕ) (l : ℕ) → Contains (links_below limit links set) l → IsLinkOf links set l
+pub below-of : (links : List LinkEntry) (set limit : ℕ) (l : ℕ) → Contains (links_below limit links set) l → IsLinkOf links set l
 unfolding links_below
 below-of links set zero l h = absurd (none l h)
 below-of links set (suc code) l h =
@@ -51,7 +51,7 @@ record IsLinkIn (sets : ℕ) (links : List LinkEntry) (link : ℕ) : Type 0 wher
   pub there : link < length links
   pub set : (slice_index_or links link no_entry).set < sets
 
-length-sets : (sets : ℕ) (links : List LinkEntry) → length (first_sets sets links) ≡ sets
+pub length-sets : (sets : ℕ) (links : List LinkEntry) → length (first_sets sets links) ≡ sets
 unfolding first_sets
 length-sets zero links = refl
 length-sets (suc sets) links =

@@ -51,11 +51,11 @@ module _ (c : Configuration) where
   moved-onward q number e = filtered (λ m. not (is_management m)) (behind q (accepted_count q number)) (behind-onward q (accepted_count q number) e)
 
 -- what is accepted or sent stands where it stood
-accepted-all : (q : Queue) (carries : Bool) (answer : Result ℕ SeqFault) → (after_answer q carries answer).all ≡ q.all
+pub accepted-all : (q : Queue) (carries : Bool) (answer : Result ℕ SeqFault) → (after_answer q carries answer).all ≡ q.all
 accepted-all q carries (Ok count) = refl
 accepted-all q carries (Err fault) = refl
 
-sent-all : (q : Queue) (next : Option Sending) → (after_sending q next).all ≡ q.all
+pub sent-all : (q : Queue) (next : Option Sending) → (after_sending q next).all ≡ q.all
 sent-all q (Some next) = refl
 sent-all q None = refl
 

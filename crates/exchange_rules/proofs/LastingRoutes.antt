@@ -15,7 +15,7 @@ same : (n m : Node WholeQueues) → m.parts.told ≡ n.parts.told → m.parts.ro
 same n m e f = record { stay = λ h. subst (λ routes. AreOwnAllowed m.parts.told routes) (sym f) (subst (λ t. AreOwnAllowed t n.parts.routes) (sym e) h) }
 
 -- the points of sets are the same
-as-told : (t u : ToldTable) (n : Node WholeQueues) → u.adjacents ≡ t.adjacents → AreOwnAllowed t n.parts.routes → AreOwnAllowed u n.parts.routes
+pub as-told : (t u : ToldTable) (n : Node WholeQueues) → u.adjacents ≡ t.adjacents → AreOwnAllowed t n.parts.routes → AreOwnAllowed u n.parts.routes
 as-told t u n e h = record {
   each = λ set destination status is f.
       h.each set destination status (ap (λ (places : List (Option ℕ)). is_number destination (slice_index_or places set None)) (sym e) ∙ is) f;
@@ -56,7 +56,7 @@ routes-steps c = record {
 routes-all : (c : Configuration) → IsOfAll c Keeps
 routes-all c = all-of (routes-steps c) (λ n. same _ _ refl refl) (λ n. same _ _ refl refl)
 
-routes-first : (c : Configuration) → AreOwnAllowed (first_parts c).told (first_parts c).routes
+pub routes-first : (c : Configuration) → AreOwnAllowed (first_parts c).told (first_parts c).routes
 routes-first c =
     let none : DestinationEntry = record { point = 0; sets = []; joined = false } in
     record {

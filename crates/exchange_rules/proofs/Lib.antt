@@ -58,6 +58,7 @@ pub mod LastingLinks
 pub mod Answers
 pub mod LastingMessages
 pub mod LastingRoutes
+pub mod LoneRoutes
 pub mod WillEnding
 pub mod EndingProcedures
 pub mod EndingChangeovers

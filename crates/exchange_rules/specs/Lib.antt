@@ -40,6 +40,7 @@ pub mod TickingAlone
 pub mod Touching
 pub mod LastingMessages
 pub mod LastingRoutes
+pub mod LoneRoutes
 pub mod Receiving
 pub mod Conserving
 pub mod LawsOfMessages

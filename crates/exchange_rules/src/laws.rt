@@ -11,6 +11,7 @@ ghost use Rattle.exchange_rules.specs.TickingAlone.{ticks_end_holds_where_it_is_
 ghost use Rattle.exchange_rules.specs.Touching.{other_links_are_left, takes_leave_other_queues};
 ghost use Rattle.exchange_rules.specs.LastingMessages.{first_is_onward, messages_stay_onward};
 ghost use Rattle.exchange_rules.specs.LastingRoutes.{own_routes_stay_allowed};
+ghost use Rattle.exchange_rules.specs.LoneRoutes.{flows_stay_on_their_set, the_set_decides_its_flows};
 ghost use Rattle.exchange_rules.specs.Receiving.{received_is_counted, takes_receive_nothing, nothing_new_is_delivered};
 ghost use Rattle.exchange_rules.specs.LawsOfMessages.{user_messages_are_conserved, takes_leave_user_messages};
 ghost use Rattle.exchange_rules.specs.LawsOfMessages.{all_that_came_adds_up};
@@ -196,6 +197,15 @@ pub fn messages_for_this_point_are_never_queued()
 /// whatever is taken: what such a point says of itself changes nothing.
 pub fn routes_to_adjacent_points_stay_allowed()
     ensures { own_routes_stay_allowed }
+{}
+
+/// Where the links of one set lead to a point, and no other set leads there, that stays so whatever happens and whatever
+/// is taken, and whatever other neighbours the node has: the route to the point is allowed, its flows take links of the
+/// set, and the user messages for it that stand on links stand on those of the set (Q.704 §4.2). Which of its links a
+/// flow takes depends only on which of them are in service.
+pub fn flows_to_a_point_stay_on_its_only_set()
+    ensures stay { flows_stay_on_their_set }
+    ensures decided { the_set_decides_its_flows }
 {}
 
 /// What was received on a link rises by one exactly where a frame newly carries a message there, and by nothing else. A

@@ -10,9 +10,9 @@ pub use Rattle.pair_moves.specs.Laws.{sum_to, under_way, one_if, saying, OrdersA
 pub use Rattle.pair_moves.specs.Moves.{last_of, Move, Moves, NearMove, RunsLate}
 pub use Rattle.pair_moves.specs.Once.{user, EachOnce}
 pub use Rattle.pair_moves.specs.Order.{IsInOrder, join_to, of_flow, standing_on, IsGuarded, by_route, by_changeover, by_time, by_code}
-pub use Rattle.pair_moves.specs.Passing.{BecomeAt, with_message, Accepts, TakesOut, Keeps, HandsOver, MayGo, Places}
+pub use Rattle.pair_moves.specs.Passing.{BecomeAt, with_message, without_others, Accepts, TakesOut, Keeps, HandsOver, MayGo, Places, MixesOthers}
 pub use Rattle.pair_moves.specs.Returning.{MayOpen, opened_first, opened_second, with_service, opened_end, StaysOrIsHeld, OpensFirst, OpensSecond, Enters, Declares, WaitsForTime, Confirms, EndsHold, IgnoresConfirmation}
-pub use Rattle.pair_moves.specs.Sayings.{Saying, is_order, is_answer, is_untrue, is_declaration, is_confirmation, Order, Answer, is_user_message, is_of_flow, is_same_flow, Declaration, Confirmation, UserMessage}
+pub use Rattle.pair_moves.specs.Sayings.{Saying, is_order, is_answer, is_untrue, is_declaration, is_confirmation, Order, Answer, is_user_message, is_of_flow, is_same_flow, Declaration, Confirmation, UserMessage, Other, is_other}
 pub use Rattle.signalling_types.specs.Message.{Message, flow_of}
 pub use Rattle.signalling_types.specs.declared.limits.TheConstants.Limits.{WINDOW}
 pub use Rattle.signalling_types.specs.declared.point.Flow.{Flow}

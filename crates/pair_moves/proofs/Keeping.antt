@@ -8,6 +8,7 @@ use Rattle.pair_moves.proofs.First.{sound-first_pair, order-first_pair}
 use Rattle.pair_moves.proofs.Passed.{sound-accepts, sound-takes_out, sound-keeps, sound-places, sound-hands_over, sound-sends_status, sound-sends_message, sound-sends_empty, sound-hears_status, sound-takes_status, sound-doubles_status, sound-drops, sound-takes_empty, sound-takes_message}
 use Rattle.pair_moves.proofs.Failed.{sound-falls, sound-falls_with_order, sound-completes_by_order, sound-answers_order, sound-completes_by_answer, sound-ends_wait, sound-ignores_answer}
 use Rattle.pair_moves.proofs.Returned.{sound-opens_first, sound-opens_second, sound-enters, sound-declares, sound-waits, sound-confirms, sound-ends_hold, sound-ignores_confirmation, sound-runs_late}
+use Rattle.pair_moves.proofs.Mixed.{sound-mixes_others, order-mixes_others, back-mixes_others}
 use Rattle.pair_moves.proofs.OrderPassed as passed
 use Rattle.pair_moves.proofs.OrderPlaced as placed
 use Rattle.pair_moves.proofs.OrderFailed as failed
@@ -81,6 +82,8 @@ module _ (read : Message → Saying) where
       step p q _ m.after refl refl refl refl (sound-places read p q m) (λ f s. placed.order-places read f p q m s) (λ f s. placed.back-places read f p q m)
   near-kept p q (moves.hands_over m) =
       step p q _ m.after refl refl refl refl (sound-hands_over read p q m) (λ f s. passed.order-hands_over read f p q m) (λ f s. passed.back-hands_over read f p q m)
+  near-kept p q (moves.mixes_others m) =
+      step p q _ m.after refl refl refl refl (sound-mixes_others read p q m) (λ f s. order-mixes_others read p q m f) (λ f s. back-mixes_others read p q m f)
   near-kept p q (moves.sends_status m) =
       step p q _ m.after refl refl refl refl (sound-sends_status read p q m) (λ f s. passed.order-sends_status read f p q m) (λ f s. passed.back-sends_status read f p q m)
   near-kept p q (moves.sends_message m) =

@@ -17,6 +17,7 @@ pub mod Joins
 pub mod Ordered
 pub mod OrderSame
 pub mod OrderPassed
+pub mod Mixed
 pub mod OrderPlaced
 pub mod OrderFailed
 pub mod OrderReturned

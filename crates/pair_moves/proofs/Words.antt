@@ -1,6 +1,6 @@
 -- What single messages say: orders and answers that are true, and what else a message is not.
 use Rattle.pair_moves.proofs.Basics.{◌≡◌, ◌≢◌, ◌⊎◌, inl, inr, ℕ, Bool, true, false, not, ◌+◌, ◌≤◌, ◌||◌, ◌&&◌, List, [], ◌∷◌, count_by, nat_eq, refl, ap, sym, ◌∙◌, arith, eq-eqb, ne_eqb, nat_tests}
-use Rattle.pair_moves.proofs.Definitions.{Message, Saying, UserMessage, Order, Answer, Declaration, Confirmation, is_order, is_answer, is_untrue, is_user_message, Pair, turned, under_way, one_if, saying, user}
+use Rattle.pair_moves.proofs.Definitions.{Message, Saying, UserMessage, Order, Answer, Declaration, Confirmation, Other, is_order, is_answer, is_untrue, is_user_message, Pair, turned, under_way, one_if, saying, user}
 use Rattle.pair_moves.proofs.Counts.{count-one, count-first}
 use Rattle.pair_moves.proofs.Lines.{false_is_true, true_is_false}
 
@@ -12,6 +12,7 @@ only-user (Order link number) e = false_is_true e
 only-user (Answer link number) e = false_is_true e
 only-user (Declaration code) e = false_is_true e
 only-user (Confirmation code) e = false_is_true e
+only-user Other e = false_is_true e
 
 pub said : (read : Message → Saying) (m : Message) (s : Saying) → read m ≡ s → (test : Saying → Bool) →
     count_by (saying read test) (m ∷ []) ≡ one_if (test s)
@@ -102,6 +103,7 @@ untrue-more k up up' last last' u e (Answer link number) =
     no-more (nat_eq link k) up up' (nat_eq number last) (nat_eq number last') u (right-alike number last last' up e)
 untrue-more k up up' last last' u e (Declaration code) = omega arith
 untrue-more k up up' last last' u e (Confirmation code) = omega arith
+untrue-more k up up' last last' u e Other = omega arith
 
 one-of : (same b : Bool) → one_if (same && b) ≤ one_if same
 one-of true b = small b
@@ -114,6 +116,7 @@ untrue-any k up last (Order link number) = omega (arith, one-of (nat_eq link k) 
 untrue-any k up last (Answer link number) = omega (arith, one-of (nat_eq link k) (up || not (nat_eq number last)))
 untrue-any k up last (Declaration code) = omega arith
 untrue-any k up last (Confirmation code) = omega arith
+untrue-any k up last Other = omega arith
 
 -- nothing of a kind is under way, so what just arrived isn't of that kind
 none-there : (b : Bool) (n : ℕ) → n + one_if b ≡ 0 → b ≡ false

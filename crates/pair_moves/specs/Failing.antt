@@ -31,7 +31,7 @@ with_completion z awaited = record z {
 abbrev pub without_wait : Line → Line
 without_wait z = record z { near = record z.near { awaited = false } }
 
--- the user messages of a list, and the others
+-- the user messages of a list, and the others: the management of the two nodes, and all of which the laws don't speak
 abbrev pub users_of : (Message → Saying) → List Message → List Message
 users_of read ms = filter (λ m. is_user_message (read m)) ms
 

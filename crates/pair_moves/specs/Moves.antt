@@ -4,7 +4,7 @@ use Rattle.signalling_types.specs.Message.{Message}
 use Rattle.signalling_types.specs.declared.point.Flow.{Flow}
 use Rattle.pair_moves.specs.Sayings.{Saying}
 use Rattle.pair_moves.specs.Ends.{Procedure, Pair, turned}
-use Rattle.pair_moves.specs.Passing.{Accepts, TakesOut, Keeps, Places, HandsOver}
+use Rattle.pair_moves.specs.Passing.{Accepts, TakesOut, Keeps, Places, HandsOver, MixesOthers}
 use Rattle.pair_moves.specs.Carrying.{SendsStatus, SendsMessage, SendsEmpty, HearsStatus, TakesStatus, DoublesStatus, Drops}
 use Rattle.pair_moves.specs.Carrying.{TakesEmpty, TakesMessage}
 use Rattle.pair_moves.specs.Failing.{Falls, FallsWithOrder, CompletesByOrder, AnswersOrder}
@@ -29,6 +29,7 @@ module _ (read : Message → Saying) where
     keeps : Keeps read p q → NearMove p q
     places : Places read p q → NearMove p q
     hands_over : HandsOver read p q → NearMove p q
+    mixes_others : MixesOthers read p q → NearMove p q
     sends_status : SendsStatus read p q → NearMove p q
     sends_message : SendsMessage read p q → NearMove p q
     sends_empty : SendsEmpty read p q → NearMove p q

@@ -1,10 +1,10 @@
 -- Moves of the messages of a node: from its user parts, into Held and out of it, and onto a link.
 -- Each record says what one node, or one line, becomes; all else of the pair is as before.
-use Rattle.std.specs.Prelude.{◌≡◌, ◌≢◌, ℕ, true, false, ◌<◌, List, [], ◌∷◌, ◌++◌, filter, Some}
+use Rattle.std.specs.Prelude.{◌≡◌, ◌≢◌, ℕ, true, false, not, ◌<◌, List, [], ◌∷◌, ◌++◌, filter, Some}
 use Rattle.signalling_types.specs.Message.{Message, flow_of}
 use Rattle.signalling_types.specs.declared.point.Flow.{Flow}
 use Rattle.link.specs.Queue.{appended}
-use Rattle.pair_moves.specs.Sayings.{Saying, UserMessage, is_user_message, is_of_flow}
+use Rattle.pair_moves.specs.Sayings.{Saying, UserMessage, is_user_message, is_other, is_of_flow}
 use Rattle.pair_moves.specs.Ends.{Line, Procedure, Side, Pair}
 
 -- of the lines of a pair, that of one link becomes z, and the others are as before
@@ -23,6 +23,10 @@ pub record MayGo (read : Message → Saying) (s : Side) (flow : Flow) (link : �
   pub routed : s.route flow ≡ Some link
   pub unheld : (procedure : Procedure) → s.holds procedure flow ≡ false
   pub none_held : filter (is_of_flow read flow) s.held ≡ []
+
+-- a list without the messages that the laws don't speak of
+abbrev pub without_others : (Message → Saying) → List Message → List Message
+without_others read ms = filter (λ m. not (is_other (read m))) ms
 
 -- the first message that arrived says this
 pub record Hears (read : Message → Saying) (p : Pair) (saying : Saying) : Type 0 where
@@ -70,3 +74,14 @@ module _ (read : Message → Saying) (p q : Pair) where
     pub after : q ≡ record p {
       near = record p.near { arrived = heard.rest; received = p.near.received ++ heard.message ∷ [] };
     }
+
+  -- messages of which the laws don't speak come to a node from elsewhere, leave it, or change places; all others stay
+  -- as they are, in their order
+  pub record MixesOthers : Type 0 where
+    pub held : List Message
+    pub loose : List Message
+    pub arrived : List Message
+    pub held_stay : without_others read held ≡ without_others read p.near.held
+    pub loose_stay : without_others read loose ≡ without_others read p.near.loose
+    pub arrived_stay : without_others read arrived ≡ without_others read p.near.arrived
+    pub after : q ≡ record p { near = record p.near { held = held; loose = loose; arrived = arrived } }

@@ -4,7 +4,7 @@ use Rattle.signalling_types.specs.Message.{Message, flow_of}
 use Rattle.signalling_types.specs.declared.point.Flow.{Flow}
 
 pub data Saying : Type 0 where
-  -- nothing to the node: it is for a user part
+  -- nothing to the node: it is for a user part there
   UserMessage : Saying
   -- changeover order (XCO) about a link: the number of the last message that its sender accepted
   -- there
@@ -15,6 +15,18 @@ pub data Saying : Type 0 where
   Declaration : (code : ℕ) → Saying
   -- changeback acknowledgement (CBA) with a code
   Confirmation : (code : ℕ) → Saying
+  -- nothing to either of the two nodes that the links join, as nodes with these links: it is for another node, or
+  -- comes from one, or is management of another kind
+  Other : Saying
+
+-- whether a message is none of those that the laws speak of
+abbrev pub is_other : Saying → Bool
+is_other UserMessage = false
+is_other (Order link number) = false
+is_other (Answer link number) = false
+is_other (Declaration code) = false
+is_other (Confirmation code) = false
+is_other Other = true
 
 abbrev pub is_user_message : Saying → Bool
 is_user_message UserMessage = true
@@ -22,6 +34,7 @@ is_user_message (Order link number) = false
 is_user_message (Answer link number) = false
 is_user_message (Declaration code) = false
 is_user_message (Confirmation code) = false
+is_user_message Other = false
 
 abbrev pub is_order : ℕ → Saying → Bool
 is_order link UserMessage = false
@@ -29,6 +42,7 @@ is_order link (Order about number) = nat_eq about link
 is_order link (Answer about number) = false
 is_order link (Declaration code) = false
 is_order link (Confirmation code) = false
+is_order link Other = false
 
 abbrev pub is_answer : ℕ → Saying → Bool
 is_answer link UserMessage = false
@@ -36,6 +50,7 @@ is_answer link (Order about number) = false
 is_answer link (Answer about number) = nat_eq about link
 is_answer link (Declaration code) = false
 is_answer link (Confirmation code) = false
+is_answer link Other = false
 
 abbrev pub is_declaration : ℕ → Saying → Bool
 is_declaration code UserMessage = false
@@ -43,6 +58,7 @@ is_declaration code (Order link number) = false
 is_declaration code (Answer link number) = false
 is_declaration code (Declaration other) = nat_eq other code
 is_declaration code (Confirmation other) = false
+is_declaration code Other = false
 
 abbrev pub is_confirmation : ℕ → Saying → Bool
 is_confirmation code UserMessage = false
@@ -50,6 +66,7 @@ is_confirmation code (Order link number) = false
 is_confirmation code (Answer link number) = false
 is_confirmation code (Declaration other) = false
 is_confirmation code (Confirmation other) = nat_eq other code
+is_confirmation code Other = false
 
 -- an order or answer about a link is untrue where the link is up at its sender, or where it names
 -- another number than that of the last message accepted there
@@ -59,6 +76,7 @@ is_untrue link up last_accepted (Order about number) = nat_eq about link && (up 
 is_untrue link up last_accepted (Answer about number) = nat_eq about link && (up || not (nat_eq number last_accepted))
 is_untrue link up last_accepted (Declaration code) = false
 is_untrue link up last_accepted (Confirmation code) = false
+is_untrue link up last_accepted Other = false
 
 abbrev pub is_same_flow : Flow → Flow → Bool
 is_same_flow f g = nat_eq f.point g.point && nat_eq f.sls g.sls

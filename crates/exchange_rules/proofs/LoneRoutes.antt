@@ -1,0 +1,368 @@
+-- Where one set alone leads to a point, the route there stays allowed, and what is for it stands on links of that set.
+use Rattle.exchange_rules.proofs.Basics.{◌≡◌, ◌≢◌, ◌<◌, ◌≤◌, ◌⊎◌, inl, inr, ℕ, zero, suc, ◌+◌, ◌-◌, Bool, true, false, ◌&&◌, ◌||◌, not, cond, List, [], ◌∷◌, ◌++◌, length, map, nat_eq, get_or, slice_set, refl, ap, sym, subst, ◌∙◌, arith, if◌then◌else◌, find, slice_index_or, Option, Some, None, option_map, option_and_then, Contains, list_any, position, ⊎_elim, cases_eq, cases_lt, eq-eqb, eqb-true, get_or_past, get_or-set_same, get_or-set_other, get_or-map, length-set, append-nil, get_or_append_left, get_or-append_right, Contains-append_right, position-Some}
+use Rattle.exchange_rules.proofs.Definitions.{Message, dpc_of, flow_of, is_management, Configuration, LinkEntry, SetEntry, DestinationEntry, destination_place, Queue, first_queue, emptied, appended, Route, RouteStatus, Allowed, first_route, first_routes, first_sets, Facts, chosen_link, ToldTable, is_number, is_own_point, Parts, Node, facts, link_of, queue_on, declaration, test_answer, entry_of, peer_of, ChangebackDeclaration, set_of, carries, WholeQueues, queue_at, whole, first_state}
+use Rattle.std.proofs.lemmas.List.Folds.{list_any-append}
+use Rattle.std.proofs.lemmas.List.Sorted.{Contains-permutation, IsPermutation-sym}
+use Rattle.std.proofs.lemmas.List.{get_or-map as get_or-map_inside}
+use Rattle.std.proofs.lemmas.List.Concat.{flat_map-cons}
+use Rattle.std.specs.Prelude.{unwrap_or}
+use Rattle.link.specs.Queue as queue
+use Rattle.link.specs.Queue.{accept_answer, to_send}
+use Rattle.routes.specs.declared.link_group.Member.{Member}
+use Rattle.routes.specs.declared.route.RouteStatus.TheVariants.{Restricted}
+use Rattle.routes.specs.Preference.{members_of, preference, serves, is_in_service, has_link}
+use Rattle.node_links.specs.Link.{Link}
+use Rattle.node_links.specs.LinkState.{down_link}
+use Rattle.node_links.specs.LinkState.{is_in_service as is_link_in_service}
+use Rattle.routes.specs.Facts.{set_at}
+use Rattle.routes.specs.Members.{links_of}
+use Rattle.routes.specs.Chosen.{is_open, allowed_or, Choice, choice_among, members, sets_of, taken_by, link_by}
+use Rattle.routes.proofs.Preference.{preference-permutation}
+use Rattle.route_management.specs.Told.{adjacent_place}
+use Rattle.exchange_rules.specs.LoneRoutes.{LeadsAlone, is_user_to, GoesBySet, flows_stay_on_their_set, the_set_decides_its_flows}
+use Rattle.exchange_rules.proofs.Belonging.{IsLinkOf, below-of, none, length-sets}
+use Rattle.exchange_rules.proofs.LastingMessages.{accepted-all, sent-all}
+use Rattle.exchange_rules.proofs.LastingRoutes.{as-told, routes-first}
+use Rattle.exchange_rules.proofs.Lists.{each-replicate}
+use Rattle.exchange_rules.proofs.OwnManagement.{made-management, answer-management}
+use Rattle.exchange_rules.proofs.Steps.{IsOfSteps, AreOwnAllowed, any_status, ways_of}
+use Rattle.exchange_rules.proofs.Asked.{any, IsOfAll, all-of, asked-all}
+
+-- ---- the links of a set
+
+last-exact : (links : List LinkEntry) (sets place l : ℕ) → Contains (slice_index_or (links_of links sets ∷ []) place []) l → IsLinkOf links (sets + place) l
+last-exact links sets zero l h = subst (λ (k : ℕ). IsLinkOf links k l) (let same : sets ≡ sets + zero = omega arith in same) (below-of links sets 16 l h)
+last-exact links sets (suc place) l h = absurd (none l (subst (λ (xs : List ℕ). Contains xs l) (get_or_past (links_of links sets ∷ []) (suc place) [] (omega arith)) h))
+
+set-exact : (links : List LinkEntry) (sets set l : ℕ) → Contains (slice_index_or (first_sets sets links) set []) l → IsLinkOf links set l
+unfolding first_sets
+set-exact links zero set l h = absurd (none l (subst (λ (xs : List ℕ). Contains xs l) (get_or_past [] set [] (omega arith)) h))
+set-exact links (suc sets) set l h =
+    ⊎_elim
+    (λ (e : set < sets). set-exact links sets set l
+    (subst (λ (xs : List ℕ). Contains xs l) (get_or_append_left (first_sets sets links) (links_of links sets ∷ []) [] set (omega (arith, e, length-sets sets links))) h))
+    (λ (e : sets ≤ set). subst (λ (k : ℕ). IsLinkOf links k l) (let same : sets + (set - sets) ≡ set = omega (arith, e) in same)
+    (last-exact links sets (set - sets) l
+    (subst (λ (xs : List ℕ). Contains xs l) (get_or-append_right (first_sets sets links) (links_of links sets ∷ []) sets set [] (length-sets sets links) e) h)))
+    (cases_lt set sets)
+
+-- ---- the link of a flow, where one route leads to its destination
+
+same-some : {A : Type 0} (x y : A) → Some x ≡ Some y → x ≡ y
+same-some x y e = cc
+
+found-in : {A : Type 0} (p : A → Bool) (xs : List A) (x : A) → find p xs ≡ Some x → Contains xs x
+found-in p [] x e = absurd cc
+found-in {A = A} p (y ∷ ys) x e = by (p y) (found-in p ys x) e
+  where
+    by : (b : Bool) → (find p ys ≡ Some x → Contains ys x) → cond b (Some y) (find p ys) ≡ Some x → Contains (y ∷ ys) x
+    by true rest f = (0, omega arith, same-some y x f)
+    by false rest f = Contains-append_right (y ∷ []) ys x (rest f)
+
+member-in : (set : ℕ) (links : List ℕ) (m : Member) → Contains (members_of set links) m → Contains links m.link
+member-in set [] m (k, h, e) = absurd (omega (arith, h))
+member-in set (l ∷ ls) m (zero, h, e) = (0, omega arith, ap (λ (x : Member). x.link) e)
+member-in set (l ∷ ls) m (suc k, h, e) = Contains-append_right (l ∷ []) ls m.link (member-in set ls m (k, omega (arith, h), e))
+
+abbrev no_link : Option ℕ
+no_link = None
+
+-- no route, or this one
+abbrev IsAtMost : Route → List Route → Type 0
+IsAtMost r group = (group ≡ []) ⊎ (group ≡ r ∷ [])
+
+module _ (f : Facts) (r : Route) where
+  group-of : IsAtMost r (choice_among f (r ∷ [])).group
+  unfolding choice_among
+  group-of = by (is_open f Allowed r) (is_open f Restricted r)
+    where
+      by : (b d : Bool) → IsAtMost r (allowed_or (unwrap_or (cond (b || false) (Some (r ∷ [])) None) []) (unwrap_or (cond (d || false) (Some (r ∷ [])) None) [])).group
+      by true d = inr refl
+      by false true = inr refl
+      by false false = inl refl
+
+  members-one : members f (r ∷ []) ≡ members_of r.set (set_at f r.set)
+  members-one = flat_map-cons (λ (route : Route). members_of route.set (set_at f route.set)) r [] ∙ append-nil (members_of r.set (set_at f r.set))
+
+  linked-in : (p : Member → Bool) (sls link : ℕ) (group : List Route) → IsAtMost r group
+      → option_map (λ (m : Member). m.link) (find p (preference sls (members f group))) ≡ Some link → Contains (set_at f r.set) link
+  linked-in p sls link group (inl e) h =
+      let no : no_link ≡ Some link = ap (λ (g : List Route). option_map (λ (m : Member). m.link) (find p (preference sls (members f g)))) (sym e) ∙ h in absurd cc
+  linked-in p sls link group (inr e) h =
+      by (find p (preference sls (members f group))) refl h
+    where
+      by : (o : Option Member) → find p (preference sls (members f group)) ≡ o → option_map (λ (m : Member). m.link) o ≡ Some link → Contains (set_at f r.set) link
+      by None i k = absurd cc
+      by (Some m) i k =
+          subst (Contains (set_at f r.set)) (same-some m.link link k)
+          (member-in r.set (set_at f r.set) m
+          (subst (λ (ms : List Member). Contains ms m) (ap (members f) e ∙ members-one)
+          (Contains-permutation (preference sls (members f group)) (members f group) m
+          (IsPermutation-sym (members f group) (preference sls (members f group)) (preference-permutation sls (members f group)))
+          (found-in p (preference sls (members f group)) m i))))
+
+  chosen-in : (sls link : ℕ) → link_by f (choice_among f (r ∷ [])) sls ≡ Some link → Contains (set_at f r.set) link
+  unfolding link_by
+  chosen-in sls link e =
+      let c : Choice = choice_among f (r ∷ []) in
+      linked-in (serves f.in_service (sets_of (taken_by f c))) sls link c.group group-of e
+
+lone-chosen : (c : Configuration) (p : Parts) (set destination sls link : ℕ) → slice_index_or p.routes destination [] ≡ first_route set ∷ []
+    → chosen_link (facts c p) destination sls ≡ Some link → set_of c link ≡ set
+lone-chosen c p set destination sls link route e =
+    (set-exact c.links (length c.sets) set link
+    (chosen-in (facts c p) (first_route set) sls link (ap (λ (rs : List Route). link_by (facts c p) (choice_among (facts c p) rs) sls) (sym route) ∙ e))).of_set
+
+-- ---- two nodes in which the links of the set are in service alike
+
+find-alike : {A : Type 0} (p q : A → Bool) (xs : List A) → ((x : A) → Contains xs x → p x ≡ q x) → find p xs ≡ find q xs
+find-alike p q [] h = refl
+find-alike {A = A} p q (x ∷ xs) h =
+    ap (λ (b : Bool). cond b (Some x) (find p xs)) (h x (0, omega arith, refl))
+    ∙ ap (λ (o : Option A). cond (q x) (Some x) o) (find-alike p q xs (λ y i. h y (Contains-append_right (x ∷ []) xs y i)))
+
+has-alike : (s t : List Bool) (xs : List ℕ) → ((l : ℕ) → Contains xs l → is_in_service s l ≡ is_in_service t l) → has_link s xs ≡ has_link t xs
+has-alike s t [] h = refl
+has-alike s t (x ∷ xs) h =
+    ap (λ (b : Bool). b || has_link s xs) (h x (0, omega arith, refl))
+    ∙ ap (λ (b : Bool). is_in_service t x || b) (has-alike s t xs (λ y i. h y (Contains-append_right (x ∷ []) xs y i)))
+
+-- the choice of one route that is allowed, where its set has a link in service, and where it has none
+abbrev choice_if : Route → Bool → Choice
+choice_if r b =
+    allowed_or (unwrap_or (cond (b || false) (Some (r ∷ [])) None) []) (unwrap_or (cond (false || false) (Some (r ∷ [])) None) [])
+
+choice-is : (f : Facts) (set : ℕ) → choice_among f (first_route set ∷ []) ≡ choice_if (first_route set) (has_link f.in_service (set_at f set))
+unfolding choice_among
+choice-is f set = refl
+
+module _ (f g : Facts) (set : ℕ) (same : f.sets ≡ g.sets) (alike : (l : ℕ) → Contains (set_at f set) l → is_in_service f.in_service l ≡ is_in_service g.in_service l) where
+  find-same : (sets : List ℕ) (sls : ℕ) → find (serves f.in_service sets) (preference sls (members_of set (set_at f set))) ≡ find (serves g.in_service sets) (preference sls (members_of set (set_at f set)))
+  find-same sets sls =
+      let all : List Member = members_of set (set_at f set) in
+      find-alike (serves f.in_service sets) (serves g.in_service sets) (preference sls all)
+      (λ m i. ap (λ (b : Bool). b && list_any (λ s. nat_eq s m.set) sets)
+      (alike m.link (member-in set (set_at f set) m (Contains-permutation (preference sls all) all m (IsPermutation-sym all (preference sls all) (preference-permutation sls all)) i))))
+
+  has-same : has_link f.in_service (set_at f set) ≡ has_link g.in_service (set_at g set)
+  has-same = has-alike f.in_service g.in_service (set_at f set) alike ∙ ap (λ (sets : List (List ℕ)). has_link g.in_service (slice_index_or sets set [])) same
+
+  members-same : members f (first_route set ∷ []) ≡ members g (first_route set ∷ [])
+  members-same = ap (λ (sets : List (List ℕ)). members (record f { sets = sets }) (first_route set ∷ [])) same
+
+  link-by : (b : Bool) (sls : ℕ) → has_link f.in_service (set_at f set) ≡ b → has_link g.in_service (set_at g set) ≡ b
+      → link_by f (choice_if (first_route set) b) sls ≡ link_by g (choice_if (first_route set) b) sls
+  unfolding link_by
+  link-by false sls e h = refl
+  link-by true sls e h =
+      ap (λ (b : Bool). option_map (λ (m : Member). m.link) (find (serves f.in_service (sets_of (cond b (first_route set ∷ []) []))) (preference sls (members f (first_route set ∷ []))))) e
+      ∙ ap (λ (ms : List Member). option_map (λ (m : Member). m.link) (find (serves f.in_service (set ∷ [])) (preference sls ms))) (members-one f (first_route set))
+      ∙ ap (option_map (λ (m : Member). m.link)) (find-same (set ∷ []) sls)
+      ∙ ap (λ (ms : List Member). option_map (λ (m : Member). m.link) (find (serves g.in_service (set ∷ [])) (preference sls ms))) (sym (members-one f (first_route set)) ∙ members-same)
+      ∙ ap (λ (b : Bool). option_map (λ (m : Member). m.link) (find (serves g.in_service (sets_of (cond b (first_route set ∷ []) []))) (preference sls (members g (first_route set ∷ []))))) (sym h)
+
+  links-same : (sls : ℕ) → link_by f (choice_among f (first_route set ∷ [])) sls ≡ link_by g (choice_among g (first_route set ∷ [])) sls
+  links-same sls =
+      ap (λ (c : Choice). link_by f c sls) (choice-is f set)
+      ∙ link-by (has_link f.in_service (set_at f set)) sls refl (sym has-same)
+      ∙ ap (λ (b : Bool). link_by g (choice_if (first_route set) b) sls) has-same
+      ∙ ap (λ (c : Choice). link_by g c sls) (sym (choice-is g set))
+
+pub set-decides : the_set_decides_its_flows
+set-decides c p q set destination sls e h alike =
+    ap (λ (rs : List Route). link_by (facts c p) (choice_among (facts c p) rs) sls) e
+    ∙ links-same (facts c p) (facts c q) set refl
+    (λ l i. get_or-map (λ (x : Link). is_link_in_service x.alignment) p.links l down_link
+    ∙ alike l (set-exact c.links (length c.sets) set l i).of_set
+    ∙ sym (get_or-map (λ (x : Link). is_link_in_service x.alignment) q.links l down_link)) sls
+    ∙ ap (λ (rs : List Route). link_by (facts c q) (choice_among (facts c q) rs) sls) (sym h)
+
+-- ---- the route
+
+own-status : (r : Route) (set : ℕ) → r.set ≡ set
+    → ((status : RouteStatus) → option_map (λ (x : Route). x.status) (if nat_eq r.set set then Some r else None) ≡ Some status → status ≡ Allowed) → r.status ≡ Allowed
+own-status r set e h = h r.status (ap (λ (b : Bool). option_map (λ (x : Route). x.status) (if b then Some r else None)) (eq-eqb r.set set e))
+
+lone-row : (rs : List Route) (set : ℕ) → map any_status rs ≡ first_route set ∷ []
+    → ((status : RouteStatus) → option_map (λ (x : Route). x.status) (find (λ (r : Route). nat_eq r.set set) rs) ≡ Some status → status ≡ Allowed) → rs ≡ first_route set ∷ []
+lone-row [] set e h = absurd cc
+lone-row (r ∷ []) set e h =
+    let way : any_status r ≡ first_route set = cc in
+    ap (λ (x : Route). record x { status = r.status } ∷ []) way
+    ∙ ap (λ (status : RouteStatus). record (first_route set) { status = status } ∷ []) (own-status r set (ap (λ (x : Route). x.set) way) h)
+lone-row (r ∷ x ∷ rs) set e h = absurd cc
+
+-- ---- a queue of which one is replaced
+
+set-or-same : (qs : List Queue) (i j : ℕ) (q : Queue) → ((get_or (slice_set qs i q) j first_queue ≡ q) × (j ≡ i)) ⊎ (get_or (slice_set qs i q) j first_queue ≡ get_or qs j first_queue)
+set-or-same qs i j q =
+    ⊎_elim
+    (λ (e : j ≡ i). subst (λ (k : ℕ). ((get_or (slice_set qs i q) k first_queue ≡ q) × (k ≡ i)) ⊎ (get_or (slice_set qs i q) k first_queue ≡ get_or qs k first_queue)) (sym e)
+    (⊎_elim
+    (λ (there : i < length qs). inl (get_or-set_same qs i q first_queue there, refl))
+    (λ (past : length qs ≤ i). inr (get_or_past (slice_set qs i q) i first_queue (omega (arith, past, length-set qs i q)) ∙ sym (get_or_past qs i first_queue past)))
+    (cases_lt i (length qs))))
+    (λ (d : j ≢ i). inr (get_or-set_other qs i j q first_queue d))
+    (cases_eq j i)
+
+or-none : (a b : Bool) → a ≡ false → b ≡ false → (a || b) ≡ false
+or-none true b e f = absurd cc
+or-none false b e f = f
+
+not-user : (kind to : Bool) → kind ≡ true → (not kind && to) ≡ false
+not-user true to e = refl
+not-user false to e = absurd cc
+
+-- ---- steps
+
+module _ (c : Configuration) (set point destination : ℕ) (leads : LeadsAlone c set point destination) where
+  -- no user message for the point
+  abbrev None_for : List Message → Type 0
+  None_for ms = list_any (is_user_to point) ms ≡ false
+
+  record IsLone (n : Node WholeQueues) : Type 0 where
+    pub ways : ways_of n.parts.routes ≡ ways_of (map first_routes c.destinations)
+    pub adjacents : n.parts.told.adjacents ≡ map (adjacent_place c.destinations) c.sets
+    pub own : AreOwnAllowed n.parts.told n.parts.routes
+    pub queues : (link : ℕ) → set_of c link ≢ set → None_for (queue_at n.queues link).all
+
+  own-point : (t : ToldTable) → t.adjacents ≡ map (adjacent_place c.destinations) c.sets → is_own_point t set destination ≡ true
+  own-point t e =
+      let none : SetEntry = record { name = []; adjacent = 0 } in
+      let found : (set < length c.sets) × (nat_eq point (slice_index_or c.sets set none).adjacent ≡ true)
+      × ((k : ℕ) → k < set → nat_eq point (slice_index_or c.sets k none).adjacent ≡ false) = position-Some _ c.sets set none leads.adjacent in
+      let same : point ≡ (slice_index_or c.sets set none).adjacent = eqb-true point (slice_index_or c.sets set none).adjacent found.1 in
+      ap (λ (places : List (Option ℕ)). is_number destination (slice_index_or places set None)) e
+      ∙ ap (is_number destination)
+      (place-at found.0 ∙ ap (λ (p : ℕ). position (λ (d : DestinationEntry). nat_eq p d.point) c.destinations) (sym same) ∙ leads.place)
+      ∙ eq-eqb destination destination refl
+    where
+      place-at : set < length c.sets → slice_index_or (map (adjacent_place c.destinations) c.sets) set None ≡ adjacent_place c.destinations (slice_index_or c.sets set (record { name = []; adjacent = 0 }))
+      place-at there = get_or-map_inside (adjacent_place c.destinations) c.sets set (record { name = []; adjacent = 0 }) None there
+
+  way : (n : Node WholeQueues) → IsLone n → map any_status (slice_index_or n.parts.routes destination []) ≡ first_route set ∷ []
+  way n h =
+      let none : DestinationEntry = record { point = 0; sets = []; joined = false } in
+      sym (get_or-map (map any_status) n.parts.routes destination []) ∙ ap (λ (ways : List (List Route)). slice_index_or ways destination []) h.ways
+      ∙ get_or-map (map any_status) (map first_routes c.destinations) destination []
+      ∙ ap (map any_status) (get_or-map first_routes c.destinations destination none)
+      ∙ ap (λ (sets : List ℕ). map any_status (first_routes (record (slice_index_or c.destinations destination none) { sets = sets }))) leads.only
+
+  route : (n : Node WholeQueues) → IsLone n → slice_index_or n.parts.routes destination [] ≡ first_route set ∷ []
+  route n h = lone-row (slice_index_or n.parts.routes destination []) set (way n h) (λ status e. h.own.each set destination status (own-point n.parts.told h.adjacents) e)
+
+  links : (n : Node WholeQueues) → IsLone n → (sls link : ℕ) → chosen_link (facts c n.parts) destination sls ≡ Some link → set_of c link ≡ set
+  links n h sls link e = lone-chosen c n.parts set destination sls link (route n h) e
+
+  -- ---- what stays
+
+  record Stays (n m : Node WholeQueues) : Type 0 where
+    pub stay : IsLone n → IsLone m
+
+  same-lone : (n m : Node WholeQueues) → m.parts.routes ≡ n.parts.routes → m.parts.told.adjacents ≡ n.parts.told.adjacents → m.queues.links ≡ n.queues.links → Stays n m
+  same-lone n m e f g = record {
+    stay = λ h. record {
+      ways = ap ways_of e ∙ h.ways;
+      adjacents = f ∙ h.adjacents;
+      own = as-told n.parts.told m.parts.told m f (subst (AreOwnAllowed n.parts.told) (sym e) h.own);
+      queues = λ link away. ap (λ (qs : List Queue). list_any (is_user_to point) (queue_at (record n.queues { links = qs }) link).all) g ∙ h.queues link away;
+    };
+  }
+
+  -- the queue of one link changes
+  queue-lone : (n m : Node WholeQueues) (at : ℕ) (q : Queue) → m.parts.routes ≡ n.parts.routes → m.parts.told ≡ n.parts.told → m.queues.links ≡ slice_set n.queues.links at q
+      → (IsLone n → set_of c at ≢ set → None_for q.all) → Stays n m
+  queue-lone n m at q e f g is = record {
+    stay = λ h. record {
+      ways = ap ways_of e ∙ h.ways;
+      adjacents = ap (λ (t : ToldTable). t.adjacents) f ∙ h.adjacents;
+      own = subst (λ (t : ToldTable). AreOwnAllowed t m.parts.routes) (sym f) (subst (AreOwnAllowed n.parts.told) (sym e) h.own);
+      queues = λ link away.
+          ap (λ (qs : List Queue). list_any (is_user_to point) (queue_at (record n.queues { links = qs }) link).all) g
+          ∙ ⊎_elim
+          (λ (here : (get_or (slice_set n.queues.links at q) link first_queue ≡ q) × (link ≡ at)).
+          ap (λ (x : Queue). list_any (is_user_to point) x.all) here.0 ∙ is h (λ its. away (ap (set_of c) here.1 ∙ its)))
+          (λ (same : get_or (slice_set n.queues.links at q) link first_queue ≡ get_or n.queues.links link first_queue).
+          ap (λ (x : Queue). list_any (is_user_to point) x.all) same ∙ h.queues link away)
+          (set-or-same n.queues.links at link q);
+    };
+  }
+
+  more : (ms : List Message) (m : Message) → None_for ms → is_user_to point m ≡ false → None_for (ms ++ m ∷ [])
+  more ms m e f =
+      list_any-append (is_user_to point) ms (m ∷ [])
+      ∙ or-none (list_any (is_user_to point) ms) (is_user_to point m || false) e (or-none (is_user_to point m) false f refl)
+
+  queued : (at : ℕ) (m : Message) (n : Node WholeQueues) → (IsLone n → set_of c at ≢ set → is_user_to point m ≡ false) → Stays n (queue_on whole c at m n)
+  queued at m n other =
+      queue-lone n _ at (appended (queue_at n.queues at) m) refl refl refl (λ h away. more (queue_at n.queues at).all m (h.queues at away) (other h away))
+
+  made : (m : Message) → is_management m ≡ true → is_user_to point m ≡ false
+  made m e = not-user (is_management m) (nat_eq (dpc_of m) point) e
+
+  -- a user message for the point goes by a link of the set
+  goes : (n : Node WholeQueues) (m : Message) (link : ℕ) → link_of c n.parts (flow_of m) ≡ Some link → IsLone n → set_of c link ≢ set → is_user_to point m ≡ false
+  goes n m link e h away = by (is_management m) (nat_eq (dpc_of m) point) refl
+    where
+      by : (kind to : Bool) → nat_eq (dpc_of m) point ≡ to → (not kind && to) ≡ false
+      by true to i = refl
+      by false false i = refl
+      by false true i =
+          absurd (away (links n h (flow_of m).sls link
+          (ap (λ (place : Option ℕ). option_and_then (λ p. chosen_link (facts c n.parts) p (flow_of m).sls) place)
+          (sym (ap (destination_place c) (eqb-true (dpc_of m) point i) ∙ leads.place)) ∙ e)))
+
+  lone-steps : IsOfSteps c any any Stays
+  lone-steps = record {
+    none = λ n. same-lone n n refl refl refl;
+    both = λ n m o e f. record { stay = λ h. f.stay (e.stay h) };
+    routed = λ link m n e. queued link m n (goes n m link e);
+    declared = λ link other code n e f. queued other (declaration c link code) n (λ h away. made (declaration c link code) (made-management c (peer_of c link) (ChangebackDeclaration (entry_of c link).slc code)));
+    tested = λ link at test n e f. queued link (test_answer c at test) n (λ h away. made (test_answer c at test) (answer-management c at test));
+    held = λ m n e. same-lone n _ refl refl refl;
+    taken_out = λ n. same-lone n _ refl refl refl;
+    noted = λ notice n e. same-lone n _ refl refl refl;
+    lost = λ n. same-lone n _ refl refl refl;
+    late = λ n. same-lone n _ refl refl refl;
+    timed = λ r n e. same-lone n _ refl refl refl;
+    holding = λ h n e. same-lone n _ refl refl refl;
+    coded = λ set code awaited n. same-lone n _ refl refl refl;
+    rerouted = λ routes n e. record { stay = λ h. record { ways = e.ways ∙ h.ways; adjacents = h.adjacents; own = e.own h.own; queues = h.queues } };
+    told = λ t n e. same-lone n _ refl e.adjacents refl;
+    titled = λ rows n. same-lone n _ refl refl refl;
+    failed = λ link why st n e f. same-lone n _ refl refl refl;
+    dropped = λ link why n e. same-lone n _ refl refl refl;
+    completed = λ link number st n e f. queue-lone n _ link (emptied (queue_at n.queues link)) refl refl refl (λ h away. refl);
+    answered = λ link st n e f. same-lone n _ refl refl refl;
+    linked = λ link x n e. same-lone n _ refl refl refl;
+    parted = λ link n e. same-lone n _ refl refl refl;
+    opened = λ link n own e f g. queue-lone n _ link first_queue refl refl refl (λ h away. refl);
+    stepped = λ link input step n own e. same-lone n _ refl refl refl;
+    busied = λ link n own e f. same-lone n _ refl refl refl;
+    resumed = λ link n own e f. same-lone n _ refl refl refl;
+    accepted = λ link d confirmed n own e f.
+        let q : Queue = queue_at n.queues link in
+        queue-lone n _ link (queue.accepted q d.fsn d.bsn (carries d)) refl refl refl
+        (λ h away. ap (list_any (is_user_to point)) (accepted-all q (carries d) (accept_answer q d.fsn d.bsn (carries d))) ∙ h.queues link away);
+    sent = λ link next n own e.
+        let q : Queue = queue_at n.queues link in
+        queue-lone n _ link (queue.sent_one q c.window) refl refl refl (λ h away. ap (list_any (is_user_to point)) (sent-all q (to_send q c.window)) ∙ h.queues link away);
+  }
+
+  lone-all : IsOfAll c Stays
+  lone-all = all-of lone-steps (λ n. same-lone n _ refl refl refl) (λ n. same-lone n _ refl refl refl)
+
+  lone-first : IsLone (first_state c).node
+  lone-first = record {
+    ways = refl;
+    adjacents = refl;
+    own = routes-first c;
+    queues = λ link away. each-replicate (λ (q : Queue). list_any (is_user_to point) q.all ≡ false) (length c.links) link first_queue refl;
+  }
+
+  goes-by : (n : Node WholeQueues) → IsLone n → GoesBySet c set point destination n
+  goes-by n h = record { route = route n h; links = links n h; queues = h.queues }
+
+pub flows-stay : flows_stay_on_their_set
+flows-stay c asked set point destination leads =
+    goes-by c set point destination leads _ ((asked-all (lone-all c set point destination leads) asked (first_state c) refl).stay (lone-first c set point destination leads))
