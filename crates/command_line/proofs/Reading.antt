@@ -4,6 +4,7 @@ use Rattle.std.specs.Prelude.{◌≢◌, Box, Result, Ok, Err, IfOk, IfErr, opti
 use Rattle.std.specs.Global.{Global}
 use Rattle.std.specs.List.{list_all}
 use Rattle.std.specs.Str.{bytes_eq}
+use Rattle.std.proofs.lemmas.Bool.{not-true}
 use Rattle.std.proofs.lemmas.Slice.Eq.{bytes_eq-Decides}
 use Rattle.clap.specs.Words.{App, HasMatchesOf, Row, Shape, Text, built, first_of, new_app, new_rule, with_rule, subcommand_of, fault_of, is_simple, is_simple_and_free, kind_of, subcommand_name_of, subcommand_rows, subcommand_rows_of}
 use Rattle.clap.specs.Kinds.{FailsBy, HasKind, Kinds, or_else}
@@ -97,18 +98,10 @@ lab-command = is_command _ _ (λ words. sym (walk_stopped rules names (walk_from
 -- ---- the words behind it
 
 plain-first : (x : ℕ) → not (nat_eq x 45) ≡ true → nat_eq x 45 ≡ false
-plain-first x e = flipped (nat_eq x 45) e
-  where
-    flipped : (b : Bool) → not b ≡ true → b ≡ false
-    flipped true e = sym e
-    flipped false e = refl
+plain-first x e = not-true (nat_eq x 45) e
 
 not-nil : (k : ErrorKind) (ks kinds : Kinds) → kinds ≡ k ∷ ks → kinds ≡ [] → ⊥
-not-nil k ks kinds e none = true≢false (ap is_nil (sym none ∙ e))
-  where
-    is_nil : Kinds → Bool
-    is_nil [] = true
-    is_nil (k ∷ ks) = false
+not-nil k ks kinds e none = let gone = sym none ∙ e in absurd cc
 
 no-words : Verdict []
 unfolding clap_on_literals

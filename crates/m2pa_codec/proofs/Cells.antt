@@ -1,5 +1,5 @@
 -- A text of at least sixteen octets, octet by octet.
-use Rattle.std.proofs.Common.{◌≡◌, ℕ, ◌≤◌, List, [], ◌∷◌, length, drop, refl, arith}
+use Rattle.std.proofs.Common.{◌≡◌, ℕ, ◌≤◌, List, ◌∷◌, length, drop, refl, arith}
 use Rattle.std.specs.Prelude.{slice_index}
 
 pub cells : (t : List ℕ) → 16 ≤ length t
@@ -8,19 +8,4 @@ pub cells : (t : List ℕ) → 16 ≤ length t
     ∷ slice_index t 8 ∷ slice_index t 9 ∷ slice_index t 10 ∷ slice_index t 11
     ∷ slice_index t 12 ∷ slice_index t 13 ∷ slice_index t 14 ∷ slice_index t 15 ∷ drop 16 t
 cells (a ∷ b ∷ c ∷ d ∷ e ∷ f ∷ g ∷ h ∷ i ∷ j ∷ k ∷ l ∷ m ∷ n ∷ o ∷ p ∷ t) _ = refl
-cells [] x = absurd (omega (arith, x))
-cells (a ∷ []) x = absurd (omega (arith, x))
-cells (a ∷ b ∷ []) x = absurd (omega (arith, x))
-cells (a ∷ b ∷ c ∷ []) x = absurd (omega (arith, x))
-cells (a ∷ b ∷ c ∷ d ∷ []) x = absurd (omega (arith, x))
-cells (a ∷ b ∷ c ∷ d ∷ e ∷ []) x = absurd (omega (arith, x))
-cells (a ∷ b ∷ c ∷ d ∷ e ∷ f ∷ []) x = absurd (omega (arith, x))
-cells (a ∷ b ∷ c ∷ d ∷ e ∷ f ∷ g ∷ []) x = absurd (omega (arith, x))
-cells (a ∷ b ∷ c ∷ d ∷ e ∷ f ∷ g ∷ h ∷ []) x = absurd (omega (arith, x))
-cells (a ∷ b ∷ c ∷ d ∷ e ∷ f ∷ g ∷ h ∷ i ∷ []) x = absurd (omega (arith, x))
-cells (a ∷ b ∷ c ∷ d ∷ e ∷ f ∷ g ∷ h ∷ i ∷ j ∷ []) x = absurd (omega (arith, x))
-cells (a ∷ b ∷ c ∷ d ∷ e ∷ f ∷ g ∷ h ∷ i ∷ j ∷ k ∷ []) x = absurd (omega (arith, x))
-cells (a ∷ b ∷ c ∷ d ∷ e ∷ f ∷ g ∷ h ∷ i ∷ j ∷ k ∷ l ∷ []) x = absurd (omega (arith, x))
-cells (a ∷ b ∷ c ∷ d ∷ e ∷ f ∷ g ∷ h ∷ i ∷ j ∷ k ∷ l ∷ m ∷ []) x = absurd (omega (arith, x))
-cells (a ∷ b ∷ c ∷ d ∷ e ∷ f ∷ g ∷ h ∷ i ∷ j ∷ k ∷ l ∷ m ∷ n ∷ []) x = absurd (omega (arith, x))
-cells (a ∷ b ∷ c ∷ d ∷ e ∷ f ∷ g ∷ h ∷ i ∷ j ∷ k ∷ l ∷ m ∷ n ∷ o ∷ []) x = absurd (omega (arith, x))
+cells y x = absurd (omega (arith, x))

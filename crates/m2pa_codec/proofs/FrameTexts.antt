@@ -165,12 +165,12 @@ pub read_frame-err : (text : List ℕ) (fault : FrameFault) → read_frame text 
 read_frame-err text fault e = unless-err (fault_of text) (value_in text) fault e
 
 -- what is read is a frame
-pub read_frame-is_frame : (text : List ℕ) (value : FrameValue) → AreOctets text → read_frame text ≡ Ok value → IsFrame text value
-read_frame-is_frame text value fits e = subst (IsFrame text) (read_frame-ok text value e).1 (value_in-frame text fits (read_frame-ok text value e).0)
+pub read_frame_is_frame : (text : List ℕ) (value : FrameValue) → AreOctets text → read_frame text ≡ Ok value → IsFrame text value
+read_frame_is_frame text value fits e = subst (IsFrame text) (read_frame-ok text value e).1 (value_in-frame text fits (read_frame-ok text value e).0)
 
 -- the same, of what the code answers
 pub is_frame_read : (text : List ℕ) (result : Result Frame FrameFault) → AreOctets text → Answers result (read_frame text) → IfOk result (λ frame. IsFrame text (value_of frame))
-is_frame_read text (Ok frame) fits e = read_frame-is_frame text (value_of frame) fits e
+is_frame_read text (Ok frame) fits e = read_frame_is_frame text (value_of frame) fits e
 is_frame_read text (Err fault) fits e = tt
 
 -- ---- a frame is read
@@ -192,20 +192,20 @@ read_frame-status spare len before_bsn bsn before_fsn fsn status filler l s b f 
     let number = from_be_bytes-to_be_bytes_4 (status_number status) (number-fits status) in
     rw (from_be_bytes-to_be_bytes_4 len s, number, told, number_of-three_octets bsn b, number_of-three_octets fsn f) (grind (arith, nat_tests, l))
 
-pub is_frame-read_frame : (text : List ℕ) (value : FrameValue) → IsFrame text value → read_frame text ≡ Ok value
-is_frame-read_frame text (EmptyFrame bsn fsn) h =
+pub is_frame_read_frame : (text : List ℕ) (value : FrameValue) → IsFrame text value → read_frame text ≡ Ok value
+is_frame_read_frame text (EmptyFrame bsn fsn) h =
     subst (λ (t : List ℕ). read_frame t ≡ Ok (EmptyFrame bsn fsn)) (sym h.parts) (read_frame-empty h.spare (length text) h.before_bsn bsn h.before_fsn fsn (ap length h.parts) h.bsn_fits h.fsn_fits)
-is_frame-read_frame text (MessageFrame bsn fsn sio sif) (priority, h) =
+is_frame_read_frame text (MessageFrame bsn fsn sio sif) (priority, h) =
     let len : length text ≡ 18 + length sif = ap length h.parts ∙ grind arith in
     subst (λ (t : List ℕ). read_frame t ≡ Ok (MessageFrame bsn fsn sio sif)) (sym h.parts) (read_frame-message h.spare (length text) h.before_bsn bsn h.before_fsn fsn priority sio sif len h.length_fits h.bsn_fits h.fsn_fits)
-is_frame-read_frame text (StatusFrame bsn fsn status) (filler, h) =
+is_frame_read_frame text (StatusFrame bsn fsn status) (filler, h) =
     let len : length text ≡ 20 + length filler = ap length h.parts ∙ grind arith in
     subst (λ (t : List ℕ). read_frame t ≡ Ok (StatusFrame bsn fsn status)) (sym h.parts) (read_frame-status h.spare (length text) h.before_bsn bsn h.before_fsn fsn status filler len h.length_fits h.bsn_fits h.fsn_fits)
 
 -- the same, of what the code answers
 pub only_frame : (text : List ℕ) (result : Result Frame FrameFault) (value : FrameValue) → Answers result (read_frame text) → IsFrame text value → IsOkAnd result (λ frame. value_of frame ≡ value)
-only_frame text (Ok frame) value e h = let read = is_frame-read_frame text value h in cc
-only_frame text (Err fault) value e h = let read = is_frame-read_frame text value h in absurd cc
+only_frame text (Ok frame) value e h = let read = is_frame_read_frame text value h in cc
+only_frame text (Err fault) value e h = let read = is_frame_read_frame text value h in absurd cc
 
 pub first_fault_read : (text : List ℕ) (result : Result Frame FrameFault) → Answers result (read_frame text) → IfErr result (λ fault. fault_of text ≡ Some fault)
 first_fault_read text (Ok frame) e = tt
@@ -220,7 +220,7 @@ field-fits text (MessageFrame bsn fsn sio sif) (priority, h) =
 field-fits text (StatusFrame bsn fsn status) h = omega arith
 
 pub field_read : (text : List ℕ) (result : Result Frame FrameFault) → AreOctets text → Answers result (read_frame text) → IfOk result (λ frame. length (sif_of (value_of frame)) ≤ length text)
-field_read text (Ok frame) fits e = field-fits text (value_of frame) (read_frame-is_frame text (value_of frame) fits e)
+field_read text (Ok frame) fits e = field-fits text (value_of frame) (read_frame_is_frame text (value_of frame) fits e)
 field_read text (Err fault) fits e = tt
 
 -- ---- the text that is written
@@ -237,4 +237,4 @@ spelled-is_frame (StatusFrame bsn fsn status) h =
 
 -- what is written reads back
 pub read_frame-spelled : (value : FrameValue) → IsSayable value → read_frame (spelled value) ≡ Ok value
-read_frame-spelled value h = is_frame-read_frame (spelled value) value (spelled-is_frame value h)
+read_frame-spelled value h = is_frame_read_frame (spelled value) value (spelled-is_frame value h)

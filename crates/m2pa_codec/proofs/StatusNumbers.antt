@@ -2,20 +2,13 @@
 use Rattle.std.proofs.Common.{◌≡◌, ℕ, ◌<◌, ◌^◌, Some, refl, arith}
 use Rattle.std.proofs.lemmas.Bool.Decides.{nat_tests}
 use Rattle.m2pa_codec.specs.declared.status.LinkStatus.{LinkStatus}
-use Rattle.m2pa_codec.specs.declared.status.LinkStatus.TheVariants.{Alignment, ProvingNormal, ProvingEmergency, Ready, ProcessorOutage, ProcessorRecovered, Busy, BusyEnded, OutOfService}
+use Rattle.m2pa_codec.specs.declared.status.LinkStatus.TheVariants.{Alignment}
 use Rattle.m2pa_codec.specs.Statuses.{status_number, status_of}
 
 pub status_of-number : (s : LinkStatus) → status_of (status_number s) ≡ Some s
 unfolding status_of
 status_of-number Alignment = refl
-status_of-number ProvingNormal = refl
-status_of-number ProvingEmergency = refl
-status_of-number Ready = refl
-status_of-number ProcessorOutage = refl
-status_of-number ProcessorRecovered = refl
-status_of-number Busy = refl
-status_of-number BusyEnded = refl
-status_of-number OutOfService = refl
+status_of-number s = refl
 
 pub number-status_of : (n : ℕ) (s : LinkStatus) → status_of n ≡ Some s → n ≡ status_number s
 unfolding status_of
@@ -23,11 +16,4 @@ number-status_of n s e = grind (arith, nat_tests, e)
 
 pub number-fits : (s : LinkStatus) → status_number s < 2 ^ 32
 number-fits Alignment = omega arith
-number-fits ProvingNormal = omega arith
-number-fits ProvingEmergency = omega arith
-number-fits Ready = omega arith
-number-fits ProcessorOutage = omega arith
-number-fits ProcessorRecovered = omega arith
-number-fits Busy = omega arith
-number-fits BusyEnded = omega arith
-number-fits OutOfService = omega arith
+number-fits s = omega arith

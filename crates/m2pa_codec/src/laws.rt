@@ -13,6 +13,7 @@ pub fn no_frame_begins_another()
 {}
 
 /// Octets are a frame that says a value exactly where reading gives that value.
+#[tactic(auto, using(crate::proofs::FrameTexts::is_frame_read_frame, crate::proofs::FrameTexts::read_frame_is_frame))]
 pub fn frames_are_what_is_read()
     ensures { (text : List ℕ) (v : FrameValue) → AreOctets text
         → IsFrame text v ↔ (read_frame text ≡ Ok v) }

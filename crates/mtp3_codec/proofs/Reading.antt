@@ -5,18 +5,10 @@ use Rattle.mtp3_codec.specs.Label.{IsLabel, label_at, label_in}
 use Rattle.mtp3_codec.specs.declared.label.Label.{Label}
 use Rattle.mtp3_codec.proofs.Labels.{label-back, label_in-back}
 use Rattle.mtp3_codec.specs.declared.management.Management.{Management}
-use Rattle.mtp3_codec.specs.declared.management.Management.TheVariants.{ExtendedChangeoverOrder}
-use Rattle.mtp3_codec.specs.declared.management.Management.TheVariants.{ExtendedChangeoverAcknowledgement}
-use Rattle.mtp3_codec.specs.declared.management.Management.TheVariants.{ChangebackDeclaration}
-use Rattle.mtp3_codec.specs.declared.management.Management.TheVariants.{ChangebackAcknowledgement}
-use Rattle.mtp3_codec.specs.declared.management.Management.TheVariants.{EmergencyChangeoverOrder}
-use Rattle.mtp3_codec.specs.declared.management.Management.TheVariants.{EmergencyChangeoverAcknowledgement}
-use Rattle.mtp3_codec.specs.declared.management.Management.TheVariants.{TransferProhibited}
-use Rattle.mtp3_codec.specs.declared.management.Management.TheVariants.{TransferRestricted}
-use Rattle.mtp3_codec.specs.declared.management.Management.TheVariants.{TransferAllowed}
-use Rattle.mtp3_codec.specs.declared.management.Management.TheVariants.{RouteSetTestProhibited}
+use Rattle.mtp3_codec.specs.declared.management.Management.TheVariants.{ExtendedChangeoverOrder, ExtendedChangeoverAcknowledgement, ChangebackDeclaration}
+use Rattle.mtp3_codec.specs.declared.management.Management.TheVariants.{ChangebackAcknowledgement, EmergencyChangeoverOrder, EmergencyChangeoverAcknowledgement}
+use Rattle.mtp3_codec.specs.declared.management.Management.TheVariants.{TransferProhibited, TransferRestricted, TransferAllowed, RouteSetTestProhibited}
 use Rattle.mtp3_codec.specs.declared.management.Management.TheVariants.{RouteSetTestRestricted}
-use Rattle.mtp3_codec.specs.declared.management.Management.TheVariants.{TrafficRestartAllowed}
 use Rattle.mtp3_codec.specs.Fields.{number_in, number_octets, point_in, point_octets}
 use Rattle.mtp3_codec.specs.Headings.{management_heading}
 use Rattle.mtp3_codec.specs.Management.{IsManagement, field_octets, link_code_of, management_octets, message_in, message_of, read_management, with_field}
@@ -34,40 +26,21 @@ code-fits (ChangebackDeclaration slc code) h = h.0
 code-fits (ChangebackAcknowledgement slc code) h = h.0
 code-fits (EmergencyChangeoverOrder slc) h = h
 code-fits (EmergencyChangeoverAcknowledgement slc) h = h
-code-fits (TransferProhibited point) h = omega arith
-code-fits (TransferRestricted point) h = omega arith
-code-fits (TransferAllowed point) h = omega arith
-code-fits (RouteSetTestProhibited point) h = omega arith
-code-fits (RouteSetTestRestricted point) h = omega arith
-code-fits TrafficRestartAllowed h = omega arith
+code-fits m h = omega arith
 
 fields-back : (m : Management) → IsManagement m → message_of (management_heading m) (link_code_of m) (field_octets m) ≡ Ok m
 fields-back (ExtendedChangeoverOrder slc number) h = ap (with_field (ExtendedChangeoverOrder slc)) (number-back number h.1)
 fields-back (ExtendedChangeoverAcknowledgement slc number) h = ap (with_field (ExtendedChangeoverAcknowledgement slc)) (number-back number h.1)
-fields-back (ChangebackDeclaration slc code) h = refl
-fields-back (ChangebackAcknowledgement slc code) h = refl
-fields-back (EmergencyChangeoverOrder slc) h = refl
-fields-back (EmergencyChangeoverAcknowledgement slc) h = refl
 fields-back (TransferProhibited point) h = ap (with_field TransferProhibited) (point-back point h)
 fields-back (TransferRestricted point) h = ap (with_field TransferRestricted) (point-back point h)
 fields-back (TransferAllowed point) h = ap (with_field TransferAllowed) (point-back point h)
 fields-back (RouteSetTestProhibited point) h = ap (with_field RouteSetTestProhibited) (point-back point h)
 fields-back (RouteSetTestRestricted point) h = ap (with_field RouteSetTestRestricted) (point-back point h)
-fields-back TrafficRestartAllowed h = refl
+fields-back m h = refl
 
 fields-fit : (m : Management) → length (field_octets m) ≤ 3
 fields-fit (ExtendedChangeoverOrder slc number) = omega arith
-fields-fit (ExtendedChangeoverAcknowledgement slc number) = omega arith
-fields-fit (ChangebackDeclaration slc code) = omega arith
-fields-fit (ChangebackAcknowledgement slc code) = omega arith
-fields-fit (EmergencyChangeoverOrder slc) = omega arith
-fields-fit (EmergencyChangeoverAcknowledgement slc) = omega arith
-fields-fit (TransferProhibited point) = omega arith
-fields-fit (TransferRestricted point) = omega arith
-fields-fit (TransferAllowed point) = omega arith
-fields-fit (RouteSetTestProhibited point) = omega arith
-fields-fit (RouteSetTestRestricted point) = omega arith
-fields-fit TrafficRestartAllowed = omega arith
+fields-fit m = omega arith
 
 -- a message, and the two points that it goes from and to, are within their ranges
 module _ (dpc opc : ℕ) (m : Management) where

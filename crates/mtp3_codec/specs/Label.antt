@@ -1,6 +1,5 @@
 -- The routing label: where a message goes, where it comes from, and how it chooses its link (Q.704 §2.2).
-use Rattle.std.specs.Prelude.{ℕ, ◌+◌, ◌*◌, ◌/◌, ◌%◌, ◌^◌, ◌<◌, List, [], ◌∷◌, Option, Some, None, length, nat_lt}
-use Rattle.std.specs.Prelude.{if◌then◌else◌}
+use Rattle.std.specs.Prelude.{ℕ, ◌+◌, ◌*◌, ◌/◌, ◌%◌, ◌^◌, ◌<◌, List, [], ◌∷◌, Option, Some, None, length, nat_lt, if◌then◌else◌}
 use Rattle.signalling_types.specs.Message.{label_number}
 use Rattle.mtp3_codec.specs.declared.label.Label.{Label}
 

@@ -4,16 +4,10 @@ use Rattle.mtp3_codec.specs.Label.{label_at, label_octets}
 use Rattle.mtp3_codec.specs.declared.fault.MgmtFault.{MgmtFault}
 use Rattle.mtp3_codec.specs.declared.fault.MgmtFault.TheVariants.{Short, NotInProfile}
 use Rattle.mtp3_codec.specs.declared.management.Management.{Management}
-use Rattle.mtp3_codec.specs.declared.management.Management.TheVariants.{ExtendedChangeoverOrder}
-use Rattle.mtp3_codec.specs.declared.management.Management.TheVariants.{ExtendedChangeoverAcknowledgement}
-use Rattle.mtp3_codec.specs.declared.management.Management.TheVariants.{ChangebackDeclaration}
-use Rattle.mtp3_codec.specs.declared.management.Management.TheVariants.{ChangebackAcknowledgement}
-use Rattle.mtp3_codec.specs.declared.management.Management.TheVariants.{EmergencyChangeoverOrder}
-use Rattle.mtp3_codec.specs.declared.management.Management.TheVariants.{EmergencyChangeoverAcknowledgement}
-use Rattle.mtp3_codec.specs.declared.management.Management.TheVariants.{TransferProhibited, TransferRestricted}
-use Rattle.mtp3_codec.specs.declared.management.Management.TheVariants.{TransferAllowed}
-use Rattle.mtp3_codec.specs.declared.management.Management.TheVariants.{RouteSetTestProhibited, RouteSetTestRestricted}
-use Rattle.mtp3_codec.specs.declared.management.Management.TheVariants.{TrafficRestartAllowed}
+use Rattle.mtp3_codec.specs.declared.management.Management.TheVariants.{ExtendedChangeoverOrder, ExtendedChangeoverAcknowledgement, ChangebackDeclaration}
+use Rattle.mtp3_codec.specs.declared.management.Management.TheVariants.{ChangebackAcknowledgement, EmergencyChangeoverOrder, EmergencyChangeoverAcknowledgement}
+use Rattle.mtp3_codec.specs.declared.management.Management.TheVariants.{TransferProhibited, TransferRestricted, TransferAllowed}
+use Rattle.mtp3_codec.specs.declared.management.Management.TheVariants.{RouteSetTestProhibited, RouteSetTestRestricted, TrafficRestartAllowed}
 use Rattle.mtp3_codec.specs.Fields.{number_in, number_octets, changeback_code_in, point_in, point_octets}
 use Rattle.mtp3_codec.specs.Headings.{heading, management_heading}
 

@@ -3,8 +3,7 @@
 ghost use Rattle.std.specs.Prelude.{◌≡◌, ◌≤◌, ◌<◌, ◌^◌, ℕ, Ok, Some, length, take};
 ghost use Rattle.mtp3_codec.specs.Label.{label_in};
 ghost use Rattle.mtp3_codec.specs.Headings.{management_heading};
-ghost use Rattle.mtp3_codec.specs.Management.{link_code_of, management_octets, message_of, read_management};
-ghost use Rattle.mtp3_codec.specs.Management.{IsManagement};
+ghost use Rattle.mtp3_codec.specs.Management.{link_code_of, management_octets, message_of, read_management, IsManagement};
 ghost use Rattle.mtp3_codec.specs.declared.management.Management.{Management};
 
 use crate::Label;

@@ -8,6 +8,7 @@ ghost use Rattle.node_links.specs.LinkState.{is_in_service};
 ghost use Rattle.node_links.specs.Network.{Network, facts_of, link_in, with_state};
 
 /// The law that the link of a flow is in service. The call does nothing.
+#[tactic(auto, using(crate::proofs::Chosen::chosen_serving))]
 pub fn the_link_of_a_flow_is_in_service()
     ensures { (n : Network) (destination selection link : ℕ)
         → chosen_link (facts_of n) destination selection ≡ Some link
@@ -16,6 +17,7 @@ pub fn the_link_of_a_flow_is_in_service()
 
 /// The law that a link out of service may change as it likes: with that link taken out, the routing facts are what they
 /// were. The call does nothing.
+#[tactic(auto, using(crate::proofs::Serving::serving_without))]
 pub fn a_link_out_of_service_as_before()
     ensures { (n : Network) (link : ℕ) (state : Link)
         → is_in_service (link_in n.links link).alignment ≡ false
@@ -23,6 +25,7 @@ pub fn a_link_out_of_service_as_before()
 {}
 
 /// The law that a link which stays in service, or out of it, changes no route. The call does nothing.
+#[tactic(auto, using(crate::proofs::Serving::facts_alike))]
 pub fn a_link_that_stays_changes_no_route()
     ensures { (n : Network) (link : ℕ) (state : Link)
         → is_in_service state.alignment ≡ is_in_service (link_in n.links link).alignment

@@ -1,5 +1,5 @@
 -- A flow has a link exactly where messages to its destination take a set.
-use Rattle.routes.proofs.Basics.{◌≡◌, ℕ, suc, Bool, true, false, ◌&&◌, ◌||◌, nat_eq, nat_lt, cond, List, [], ◌∷◌, length, refl, ap, ◌∙◌, arith, is_some, list_any, filter, flat_map-cons, list_any-append, nat_tests, Decides-eqb, Member, has_link, is_in_service, members_of, serves, Route, RouteStatus, Facts, set_at, routes_to, Choice, choice_among, is_open, taken_by, sets_of, members, link_by, chosen_link, chosen_sets}
+use Rattle.routes.proofs.Basics.{◌≡◌, ℕ, suc, Bool, true, false, ◌&&◌, ◌||◌, nat_eq, nat_lt, cond, List, [], ◌∷◌, length, refl, ap, ◌∙◌, arith, is_some, list_any, filter, flat_map-cons, list_any-append, nat_tests, Decides-eqb, Member, has_link, is_in_service, members_of, serves, Route, RouteStatus, Facts, set_at, routes_to, Choice, choice_among, is_open, taken_by, sets_of, members, link_by, chosen_link, chosen_sets, and_from, and_parts, or_left, or_right}
 use Rattle.routes.proofs.MembersInService.{some_serves}
 
 -- whether a set is one of these
@@ -19,22 +19,6 @@ set_serves in_service sets set [] = refl
 set_serves in_service sets set (l ∷ ls) =
     ap (λ (b : Bool). (is_in_service in_service l && is_one sets set) || b) (set_serves in_service sets set ls)
     ∙ set_out (is_in_service in_service l) (has_link in_service ls) (is_one sets set)
-
-and_right : (a b : Bool) → (a && b) ≡ true → b ≡ true
-and_right true b e = e
-and_right false b e = absurd cc
-
-both : (a b : Bool) → a ≡ true → b ≡ true → (a && b) ≡ true
-both true b e k = k
-both false b e k = absurd cc
-
-or_left : (a b : Bool) → a ≡ true → (a || b) ≡ true
-or_left true b e = refl
-or_left false b e = absurd cc
-
-or_right : (a b : Bool) → b ≡ true → (a || b) ≡ true
-or_right true b e = refl
-or_right false b e = e
 
 module _ (f : Facts) (status : RouteStatus) where
   -- the sets of those of these routes that are open
@@ -58,7 +42,7 @@ module _ (f : Facts) (status : RouteStatus) where
         | true ↦ λ up some.
             first_serves (r.set ∷ open_sets rs) r rs
             ∙ or_left (has_link f.in_service (set_at f r.set) && is_one (r.set ∷ open_sets rs) r.set) _
-            (both (has_link f.in_service (set_at f r.set)) (is_one (r.set ∷ open_sets rs) r.set) (and_right _ (has_link f.in_service (set_at f r.set)) up)
+            (and_from (has_link f.in_service (set_at f r.set)) (is_one (r.set ∷ open_sets rs) r.set) (and_parts _ (has_link f.in_service (set_at f r.set)) up).1
             (or_left (nat_eq r.set r.set) _ ((Decides-eqb r.set r.set).1 refl)))
         | false ↦ λ down some.
             first_serves (open_sets rs) r rs

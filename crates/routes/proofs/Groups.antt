@@ -1,13 +1,5 @@
 -- The groups of some routes: what holds of no route holds of none in a group.
-use Rattle.routes.proofs.Basics.{◌≡◌, Bool, true, false, ◌||◌, cond, List, [], ◌∷◌, find, refl, Some, unwrap_or, if◌then◌else◌, list_any, Route, alone, groups_of, allowed_or}
-
-pub neither_left : (a b : Bool) → (a || b) ≡ false → a ≡ false
-neither_left true b e = absurd cc
-neither_left false b e = refl
-
-pub neither_right : (a b : Bool) → (a || b) ≡ false → b ≡ false
-neither_right true b e = absurd cc
-neither_right false b e = e
+use Rattle.routes.proofs.Basics.{◌≡◌, Bool, true, false, ◌||◌, cond, List, [], ◌∷◌, find, refl, Some, unwrap_or, if◌then◌else◌, list_any, Route, alone, groups_of, allowed_or, or_parts}
 
 joined_or : (x y u v : Bool) → u ≡ v → ((x || (y || false)) || u) ≡ (x || (y || v))
 joined_or true y u v e = refl
@@ -37,8 +29,8 @@ module _ (p : Route → Bool) where
   found_apart q [] e = refl
   found_apart q (g ∷ gs) e =
       elim (q g) as (λ b. list_any p (unwrap_or (cond b (Some g) (find q gs)) []) ≡ false) [
-        | true ↦ neither_left (list_any p g) _ e
-        | false ↦ found_apart q gs (neither_right (list_any p g) _ e)
+        | true ↦ (or_parts (list_any p g) _ e).0
+        | false ↦ found_apart q gs (or_parts (list_any p g) _ e).1
       ]
 
   pub either_apart : (allowed restricted : List Route) → list_any p allowed ≡ false → list_any p restricted ≡ false

@@ -1,25 +1,9 @@
 -- A link that leaves service takes its own flows with it, and no other; and a flow that has a link without it has one with it.
-use Rattle.routes.proofs.Basics.{◌≡◌, ◌≢◌, ◌<◌, ◌≤◌, ◌⊎◌, ℕ, zero, suc, Bool, true, false, ◌&&◌, ◌||◌, ◌==◌, cond, List, [], ◌∷◌, ◌++◌, find, length, nat_eq, refl, ap, sym, subst, ◌∙◌, inl, inr, arith, Option, Some, None, Contains, is_some, slice_set, unwrap_or, list_any, filter, option_map, ⊎_elim, cases_lt, cases_eq, eqb-true, get_or_past, get_or-set_same, get_or-set_other, length-set, flat_map-cons, Contains-append_right, Contains-append_cases, Contains-permutation, IsPermutation-sym, same_Some, Member, is_in_service, has_link, members_of, preference, serves, Route, RouteStatus, Allowed, Restricted, Facts, set_at, routes_to, with_link, status_number, is_open, groups_of, open_group, Choice, allowed_or, choice_among, taken_by, sets_of, members, link_by, chosen_link}
-use Rattle.routes.proofs.Preference.{preference-permutation}
+use Rattle.routes.proofs.Basics.{◌≡◌, ◌≢◌, ◌<◌, ◌≤◌, ◌⊎◌, ℕ, zero, suc, Bool, true, false, ◌||◌, ◌==◌, cond, List, [], ◌∷◌, ◌++◌, find, length, nat_eq, refl, ap, sym, subst, ◌∙◌, inl, inr, arith, Option, Some, None, Contains, is_some, slice_set, unwrap_or, list_any, filter, option_map, ⊎_elim, cases_lt, cases_eq, eqb-true, get_or_past, get_or-set_same, get_or-set_other, length-set, flat_map-cons, Contains-append_right, Contains-append_cases, Contains-permutation, IsPermutation-sym, same_Some, Member, is_in_service, has_link, members_of, preference, serves, Route, RouteStatus, Allowed, Restricted, Facts, set_at, routes_to, with_link, status_number, is_open, groups_of, open_group, Choice, allowed_or, choice_among, taken_by, sets_of, members, link_by, chosen_link, and_from, and_parts, list_any_at, or_right}
+use Rattle.routes.proofs.Preference.{preference_permutes}
 use Rattle.routes.proofs.MembersInService.{some_serves}
 use Rattle.routes.proofs.Choosing.{served}
 use Rattle.routes.proofs.Lone.{found_open}
-
-or_true : (b : Bool) → (b || true) ≡ true
-or_true true = refl
-or_true false = refl
-
-both : (a b : Bool) → a ≡ true → b ≡ true → (a && b) ≡ true
-both true b e k = k
-both false b e k = absurd cc
-
-left_of : (a b : Bool) → (a && b) ≡ true → a ≡ true
-left_of true b e = refl
-left_of false b e = absurd cc
-
-right_of : (a b : Bool) → (a && b) ≡ true → b ≡ true
-right_of true b e = e
-right_of false b e = absurd cc
 
 -- ---- an element that passes a stricter test too
 
@@ -38,21 +22,13 @@ found_stricter {A = A} p q more (x ∷ xs) m e up = by (p x) (q x) refl refl (λ
         absurd cc
     by false false i j rest f = rest f
 
-found_in : {A : Type 0} (p : A → Bool) (xs : List A) (m : A) → find p xs ≡ Some m → Contains xs m
+found_in : {A : Type 0} (p : A → Bool) (xs : List A) (m : A) → find p xs ≡ Some m → Contains xs m × (p m ≡ true)
 found_in p [] m e = absurd cc
-found_in {A = A} p (x ∷ xs) m e = by (p x) (found_in p xs m) e
+found_in {A = A} p (x ∷ xs) m e = by (p x) refl (found_in p xs m) e
   where
-    by : (b : Bool) → (find p xs ≡ Some m → Contains xs m) → cond b (Some x) (find p xs) ≡ Some m → Contains (x ∷ xs) m
-    by true rest f = (0, omega arith, same_Some x m f)
-    by false rest f = Contains-append_right (x ∷ []) xs m (rest f)
-
-found_passes : {A : Type 0} (p : A → Bool) (xs : List A) (m : A) → find p xs ≡ Some m → p m ≡ true
-found_passes p [] m e = absurd cc
-found_passes {A = A} p (x ∷ xs) m e = by (p x) refl (found_passes p xs m) e
-  where
-    by : (b : Bool) → p x ≡ b → (find p xs ≡ Some m → p m ≡ true) → cond b (Some x) (find p xs) ≡ Some m → p m ≡ true
-    by true i rest f = ap p (sym (same_Some x m f)) ∙ i
-    by false i rest f = rest f
+    by : (b : Bool) → p x ≡ b → (find p xs ≡ Some m → Contains xs m × (p m ≡ true)) → cond b (Some x) (find p xs) ≡ Some m → Contains (x ∷ xs) m × (p m ≡ true)
+    by true i rest f = let same = same_Some x m f in ((0, omega arith, same), ap p (sym same) ∙ i)
+    by false i rest f = (Contains-append_right (x ∷ []) xs m (rest f).0, (rest f).1)
 
 -- ---- the links of a group are links of its sets
 
@@ -94,8 +70,8 @@ in_group : (f : Facts) (c : Choice) (selection link : ℕ) (t : IsTaken f c sele
 in_group f c selection link t =
     member_in f c.group t.member
     (Contains-permutation (preference selection (members f c.group)) (members f c.group) t.member
-    (IsPermutation-sym (members f c.group) (preference selection (members f c.group)) (preference-permutation selection (members f c.group)))
-    (found_in (serves f.in_service (sets_of (taken_by f c))) (preference selection (members f c.group)) t.member t.found))
+    (IsPermutation-sym (members f c.group) (preference selection (members f c.group)) (preference_permutes selection (members f c.group)))
+    (found_in (serves f.in_service (sets_of (taken_by f c))) (preference selection (members f c.group)) t.member t.found).0)
 
 -- the link of a flow is one of a set
 pub record IsOfSet (f : Facts) (link : ℕ) : Type 0 where
@@ -138,21 +114,14 @@ serves_more serving link other e =
 
 either_more : (a b d e : Bool) → (a ≡ true → b ≡ true) → (d ≡ true → e ≡ true) → (a || d) ≡ true → (b || e) ≡ true
 either_more true b d e f g h = ap (λ (b : Bool). b || e) (f refl)
-either_more false b d e f g h = ap (λ (e : Bool). b || e) (g h) ∙ or_true b
+either_more false b d e f g h = ap (λ (e : Bool). b || e) (g h) ∙ or_right b true refl
 
-has_more : (serving : List Bool) (link : ℕ) (xs : List ℕ) → has_link (slice_set serving link false) xs ≡ true → has_link serving xs ≡ true
-has_more serving link [] e = e
-has_more serving link (x ∷ xs) e =
-    either_more (is_in_service (slice_set serving link false) x) (is_in_service serving x)
-    (has_link (slice_set serving link false) xs) (has_link serving xs)
-    (serves_more serving link x) (has_more serving link xs) e
+any_more : {A : Type 0} (p q : A → Bool) → ((x : A) → p x ≡ true → q x ≡ true) → (xs : List A) → list_any p xs ≡ true → list_any q xs ≡ true
+any_more p q more [] e = e
+any_more p q more (x ∷ xs) e = either_more (p x) (q x) (list_any p xs) (list_any q xs) (more x) (any_more p q more xs) e
 
 has_from : (serving : List Bool) (xs : List ℕ) (l : ℕ) → Contains xs l → is_in_service serving l ≡ true → has_link serving xs ≡ true
-has_from serving [] l (k, h, e) up = absurd (omega (arith, h))
-has_from serving (x ∷ xs) l (zero, h, e) up =
-    ap (λ (b : Bool). b || has_link serving xs) (ap (λ (x : ℕ). is_in_service serving x) e ∙ up)
-has_from serving (x ∷ xs) l (suc k, h, e) up =
-    ap (λ (b : Bool). is_in_service serving x || b) (has_from serving xs l (k, omega (arith, h), e) up) ∙ or_true (is_in_service serving x)
+has_from serving xs l (k, h, e) up = list_any_at (λ (x : ℕ). is_in_service serving x) xs k l h (ap (λ (x : ℕ). is_in_service serving x) e ∙ up)
 
 module _ (f : Facts) (link : ℕ) where
   abbrev left_out : Facts
@@ -161,14 +130,8 @@ module _ (f : Facts) (link : ℕ) where
   -- what is open without the link is open with it
   open_more : (status : RouteStatus) (r : Route) → is_open left_out status r ≡ true → is_open f status r ≡ true
   open_more status r e =
-      both (status_number r.status == status_number status) (has_link f.in_service (set_at f r.set)) (left_of _ (has_link left_out.in_service (set_at f r.set)) e)
-      (has_more f.in_service link (set_at f r.set) (right_of (status_number r.status == status_number status) _ e))
-
-  any_more : (status : RouteStatus) (routes : List Route) → list_any (is_open left_out status) routes ≡ true → list_any (is_open f status) routes ≡ true
-  any_more status [] e = e
-  any_more status (r ∷ rs) e =
-      either_more (is_open left_out status r) (is_open f status r) (list_any (is_open left_out status) rs) (list_any (is_open f status) rs)
-      (open_more status r) (any_more status rs) e
+      and_from (status_number r.status == status_number status) (has_link f.in_service (set_at f r.set)) (and_parts _ (has_link left_out.in_service (set_at f r.set)) e).0
+      (any_more (is_in_service left_out.in_service) (is_in_service f.in_service) (serves_more f.in_service link) (set_at f r.set) (and_parts (status_number r.status == status_number status) _ e).1)
 
   -- a set that has a link in service without it, and is taken with it, is taken without it
   record IsKept (status : RouteStatus) (group : List Route) (set : ℕ) : Type 0 where
@@ -177,9 +140,9 @@ module _ (f : Facts) (link : ℕ) where
 
   behind : (status : RouteStatus) (r : Route) (rs : List Route) (set : ℕ) → IsKept status rs set → IsKept status (r ∷ rs) set
   behind status r rs set h = record {
-    opened = ap (λ (b : Bool). is_open left_out status r || b) h.opened ∙ or_true (is_open left_out status r);
+    opened = ap (λ (b : Bool). is_open left_out status r || b) h.opened ∙ or_right (is_open left_out status r) true refl;
     listed = elim (is_open left_out status r) as (λ b. list_any (λ s. nat_eq s set) (sets_of (cond b (r ∷ filter (is_open left_out status) rs) (filter (is_open left_out status) rs))) ≡ true) [
-      | true ↦ ap (λ (b : Bool). nat_eq r.set set || b) h.listed ∙ or_true (nat_eq r.set set)
+      | true ↦ ap (λ (b : Bool). nat_eq r.set set || b) h.listed ∙ or_right (nat_eq r.set set) true refl
       | false ↦ h.listed
     ];
   }
@@ -188,7 +151,7 @@ module _ (f : Facts) (link : ℕ) where
       → has_link left_out.in_service (set_at f set) ≡ true → IsKept status (r ∷ rs) set
   in_front status r rs set up same serves_still =
       let still : is_open left_out status r ≡ true =
-      both (status_number r.status == status_number status) (has_link left_out.in_service (set_at f r.set)) (left_of _ (has_link f.in_service (set_at f r.set)) up)
+      and_from (status_number r.status == status_number status) (has_link left_out.in_service (set_at f r.set)) (and_parts _ (has_link f.in_service (set_at f r.set)) up).0
       (ap (λ (n : ℕ). has_link left_out.in_service (set_at f n)) (eqb-true r.set set same) ∙ serves_still) in
       record {
         opened = ap (λ (b : Bool). b || list_any (is_open left_out status) rs) still;
@@ -225,14 +188,14 @@ module _ (f : Facts) (link : ℕ) where
       by true false i j rest k =
           let never : false ≡ true = sym j ∙ open_more status r i in
           absurd cc
-      by false true i j rest k = ap (λ (b : Bool). nat_eq r.set set || b) (rest k) ∙ or_true (nat_eq r.set set)
+      by false true i j rest k = ap (λ (b : Bool). nat_eq r.set set || b) (rest k) ∙ or_right (nat_eq r.set set) true refl
       by false false i j rest k = rest k
 
   serves_less : (c : Choice) (m : Member) → serves left_out.in_service (sets_of (taken_by left_out c)) m ≡ true → serves f.in_service (sets_of (taken_by f c)) m ≡ true
   serves_less c m e =
-      both (is_in_service f.in_service m.link) (list_any (λ s. nat_eq s m.set) (sets_of (taken_by f c)))
-      (serves_more f.in_service link m.link (left_of (is_in_service left_out.in_service m.link) _ e))
-      (listed_more c.status c.group m.set (right_of (is_in_service left_out.in_service m.link) _ e))
+      and_from (is_in_service f.in_service m.link) (list_any (λ s. nat_eq s m.set) (sets_of (taken_by f c)))
+      (serves_more f.in_service link m.link (and_parts (is_in_service left_out.in_service m.link) _ e).0)
+      (listed_more c.status c.group m.set (and_parts (is_in_service left_out.in_service m.link) _ e).1)
 
   -- a flow by another link keeps it by the same choice, which stays open
   record IsLeft (c : Choice) (selection now : ℕ) : Type 0 where
@@ -245,19 +208,19 @@ module _ (f : Facts) (link : ℕ) where
       let t : IsTaken f c selection now = taken f c selection now e in
       let m : Member = t.member in
       let up : serves f.in_service (sets_of (taken_by f c)) m ≡ true =
-      found_passes (serves f.in_service (sets_of (taken_by f c))) (preference selection (members f c.group)) m t.found in
+      (found_in (serves f.in_service (sets_of (taken_by f c))) (preference selection (members f c.group)) m t.found).1 in
       let other : m.link ≢ link = λ same. d (sym t.is ∙ same) in
       let serving : is_in_service left_out.in_service m.link ≡ true =
-      others f.in_service link m.link other ∙ left_of (is_in_service f.in_service m.link) _ up in
+      others f.in_service link m.link other ∙ (and_parts (is_in_service f.in_service m.link) _ up).0 in
       let kept : IsKept c.status c.group m.set =
       still_listed c.status c.group m.set (has_from left_out.in_service (set_at f m.set) m.link (in_group f c selection now t) serving)
-      (right_of (is_in_service f.in_service m.link) _ up) in
+      (and_parts (is_in_service f.in_service m.link) _ up).1 in
       record {
         opened = kept.opened;
         goes = ap (λ (o : Option Member). option_map (λ (x : Member). x.link) o)
             (found_stricter (serves f.in_service (sets_of (taken_by f c))) (serves left_out.in_service (sets_of (taken_by left_out c)))
             (serves_less c) (preference selection (members f c.group)) m t.found
-            (both (is_in_service left_out.in_service m.link) (list_any (λ s. nat_eq s m.set) (sets_of (taken_by left_out c))) serving kept.listed))
+            (and_from (is_in_service left_out.in_service m.link) (list_any (λ s. nat_eq s m.set) (sets_of (taken_by left_out c))) serving kept.listed))
             ∙ ap Some t.is;
       }
 
@@ -277,7 +240,7 @@ module _ (f : Facts) (link : ℕ) where
           let never : false ≡ true = sym j ∙ ap (list_any (is_open left_out status)) k ∙ up in
           absurd cc
       by false true i j more k =
-          let never : false ≡ true = sym i ∙ any_more status g j in
+          let never : false ≡ true = sym i ∙ any_more (is_open left_out status) (is_open f status) (open_more status) g j in
           absurd cc
       by false false i j more k = more k
 
@@ -294,7 +257,7 @@ module _ (f : Facts) (link : ℕ) where
           let never : true ≡ false = sym i ∙ ap (list_any (is_open f status)) k in
           absurd cc
       by false true i j more k =
-          let never : false ≡ true = sym i ∙ any_more status g j in
+          let never : false ≡ true = sym i ∙ any_more (is_open left_out status) (is_open f status) (open_more status) g j in
           absurd cc
       by false false i j more k = more k
 

@@ -1,10 +1,6 @@
 -- The link that a flow takes is in service and of a set that messages take, and there is one where its group has such a link.
-use Rattle.routes.proofs.Basics.{◌≡◌, ℕ, Bool, true, false, ◌&&◌, cond, List, [], ◌∷◌, refl, ap, ◌∙◌, sym, list_any-IsPermutation, list_any, option_map, Some, find, is_some, ◌||◌, Member, preference, is_in_service, serves, first_serving}
-use Rattle.routes.proofs.Preference.{preference-permutation}
-
-left_true : (a b : Bool) → (a && b) ≡ true → a ≡ true
-left_true true b e = refl
-left_true false b e = absurd cc
+use Rattle.routes.proofs.Basics.{◌≡◌, ℕ, Bool, true, false, cond, List, [], ◌∷◌, refl, ap, ◌∙◌, sym, list_any-IsPermutation, list_any, option_map, Some, find, is_some, ◌||◌, Member, preference, is_in_service, serves, first_serving, and_parts}
+use Rattle.routes.proofs.Preference.{preference_permutes}
 
 found : (in_service : List Bool) (sets : List ℕ) (group : List Member) (link : ℕ)
     → option_map (λ (m : Member). m.link) (find (serves in_service sets) group) ≡ Some link → is_in_service in_service link ≡ true
@@ -14,7 +10,7 @@ found in_service sets (x ∷ xs) link e =
     → option_map (λ (m : Member). m.link) (cond b (Some x) (find (serves in_service sets) xs)) ≡ Some link → is_in_service in_service link ≡ true) [
       | true ↦ λ up is.
           let same : x.link ≡ link = cc in
-          ap (λ n. is_in_service in_service n) (sym same) ∙ left_true (is_in_service in_service x.link) _ up
+          ap (λ n. is_in_service in_service n) (sym same) ∙ (and_parts (is_in_service in_service x.link) _ up).0
       | false ↦ λ down is. found in_service sets xs link is
     ] refl e
 
@@ -34,4 +30,4 @@ pub some_serves : (selection : ℕ) (in_service : List Bool) (sets : List ℕ) (
     → is_some (first_serving selection in_service sets group) ≡ list_any (serves in_service sets) group
 some_serves selection in_service sets group =
     some_found (λ (m : Member). m.link) (serves in_service sets) (preference selection group)
-    ∙ sym (list_any-IsPermutation (serves in_service sets) group (preference selection group) (preference-permutation selection group))
+    ∙ sym (list_any-IsPermutation (serves in_service sets) group (preference selection group) (preference_permutes selection group))

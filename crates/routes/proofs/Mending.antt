@@ -1,8 +1,8 @@
 -- A table that is mended where a link or a set changed is the table of what is known then.
-use Rattle.routes.proofs.Basics.{◌≡◌, ◌<◌, ◌||◌, ◌&&◌, ◌==◌, ℕ, Bool, true, false, cond, List, [], ◌∷◌, ◌++◌, map, drop, length, refl, ap, sym, ◌∙◌, arith, find, get_or-map, eqb-false, get_or-set_other, length-map, take_all, drop_all, append-nil, flat_map-cons, list_any-append, list_any-IsPermutation, list_any, filter, range_with_len, Option, Some, nat_eq, slice_index_or, slice_set, unwrap_or, if◌then◌else◌, option_map, has_member, Member, preference, first_serving, has_link, is_in_service, members_of, serves, Route, RouteStatus, Allowed, Restricted, Facts, set_at, routes_to, with_link, with_status_over, status_number, is_open, groups_of, open_group, Choice, allowed_or, choice_among, taken_by, sets_of, members, leads_by, with_statuses_reset, SELECTIONS, links_of_group, links_by, links_among, table_of, mended_below, goes_by_link, goes_by_set}
+use Rattle.routes.proofs.Basics.{◌≡◌, ◌<◌, ◌||◌, ◌&&◌, ◌==◌, ℕ, Bool, true, false, cond, List, [], ◌∷◌, ◌++◌, map, drop, length, refl, ap, sym, ◌∙◌, arith, find, get_or-map, eqb-false, get_or-set_other, length-map, take_all, drop_all, append-nil, flat_map-cons, list_any-append, list_any-IsPermutation, list_any, filter, range_with_len, Option, Some, nat_eq, slice_index_or, slice_set, unwrap_or, if◌then◌else◌, option_map, has_member, Member, preference, first_serving, has_link, is_in_service, members_of, serves, Route, RouteStatus, Allowed, Restricted, Facts, set_at, routes_to, with_link, with_status_over, status_number, is_open, groups_of, open_group, Choice, allowed_or, choice_among, taken_by, sets_of, members, leads_by, with_statuses_reset, SELECTIONS, links_of_group, links_by, links_among, table_of, mended_below, goes_by_link, goes_by_set, or_parts}
 use Rattle.std.proofs.lemmas.List.{get_or-map as get_or-map-within}
-use Rattle.routes.proofs.Preference.{preference-permutation}
-use Rattle.routes.proofs.Groups.{neither_left, neither_right, any_group, found_apart, either_apart}
+use Rattle.routes.proofs.Preference.{preference_permutes}
+use Rattle.routes.proofs.Groups.{any_group, found_apart, either_apart}
 use Rattle.routes.proofs.Compiling.{below_is, same_links}
 
 -- ---- a group without the link that changes
@@ -17,8 +17,8 @@ module _ (in_service : List Bool) (link : ℕ) (up : Bool) where
   any_alike : (links : List ℕ) → has_member link links ≡ false → has_link in_service links ≡ has_link after links
   any_alike [] e = refl
   any_alike (l ∷ links) e =
-      ap (λ (b : Bool). b || has_link in_service links) (member_alike l (neither_left (nat_eq l link) _ e))
-      ∙ ap (λ (b : Bool). is_in_service after l || b) (any_alike links (neither_right (nat_eq l link) _ e))
+      ap (λ (b : Bool). b || has_link in_service links) (member_alike l (or_parts (nat_eq l link) _ e).0)
+      ∙ ap (λ (b : Bool). is_in_service after l || b) (any_alike links (or_parts (nat_eq l link) _ e).1)
 
   module _ (sets : List ℕ) where
     found_alike : (group : List Member) → list_any (λ m. nat_eq m.link link) group ≡ false
@@ -26,15 +26,15 @@ module _ (in_service : List Bool) (link : ℕ) (up : Bool) where
     found_alike [] e = refl
     found_alike (m ∷ ms) e =
         ap (λ (b : Bool). cond (b && list_any (λ s. nat_eq s m.set) sets) (Some m) (find (serves in_service sets) ms))
-        (member_alike m.link (neither_left (nat_eq m.link link) _ e))
-        ∙ ap (λ (o : Option Member). cond (serves after sets m) (Some m) o) (found_alike ms (neither_right (nat_eq m.link link) _ e))
+        (member_alike m.link (or_parts (nat_eq m.link link) _ e).0)
+        ∙ ap (λ (o : Option Member). cond (serves after sets m) (Some m) o) (found_alike ms (or_parts (nat_eq m.link link) _ e).1)
 
     first_alike : (group : List Member) → list_any (λ m. nat_eq m.link link) group ≡ false → (selection : ℕ)
         → first_serving selection in_service sets group ≡ first_serving selection after sets group
     first_alike group e selection =
         ap (λ (o : Option Member). option_map (λ (m : Member). m.link) o)
         (found_alike (preference selection group)
-        (sym (list_any-IsPermutation (λ (m : Member). nat_eq m.link link) group (preference selection group) (preference-permutation selection group)) ∙ e))
+        (sym (list_any-IsPermutation (λ (m : Member). nat_eq m.link link) group (preference selection group) (preference_permutes selection group)) ∙ e))
 
     all_alike : (group : List Member) → list_any (λ m. nat_eq m.link link) group ≡ false
         → links_of_group in_service sets group ≡ links_of_group after sets group
@@ -59,18 +59,18 @@ module _ (f : Facts) (link : ℕ) (up : Bool) where
       → list_any (is_open f status) routes ≡ list_any (is_open changed status) routes
   some_alike status [] e = refl
   some_alike status (r ∷ rs) e =
-      ap (λ (b : Bool). b || list_any (is_open f status) rs) (one_alike status r (neither_left (goes r) _ e))
-      ∙ ap (λ (b : Bool). is_open changed status r || b) (some_alike status rs (neither_right (goes r) _ e))
+      ap (λ (b : Bool). b || list_any (is_open f status) rs) (one_alike status r (or_parts (goes r) _ e).0)
+      ∙ ap (λ (b : Bool). is_open changed status r || b) (some_alike status rs (or_parts (goes r) _ e).1)
 
   group_alike : (status : RouteStatus) (groups : List (List Route)) → list_any (list_any goes) groups ≡ false
       → open_group f status groups ≡ open_group changed status groups
   group_alike status [] e = refl
   group_alike status (g ∷ gs) e =
-      ap (λ (b : Bool). unwrap_or (cond b (Some g) (find (list_any (is_open f status)) gs)) []) (some_alike status g (neither_left (list_any goes g) _ e))
+      ap (λ (b : Bool). unwrap_or (cond b (Some g) (find (list_any (is_open f status)) gs)) []) (some_alike status g (or_parts (list_any goes g) _ e).0)
       ∙ elim (list_any (is_open changed status) g) as (λ b. unwrap_or (cond b (Some g) (find (list_any (is_open f status)) gs)) []
       ≡ unwrap_or (cond b (Some g) (find (list_any (is_open changed status)) gs)) []) [
         | true ↦ refl
-        | false ↦ group_alike status gs (neither_right (list_any goes g) _ e)
+        | false ↦ group_alike status gs (or_parts (list_any goes g) _ e).1
       ]
 
   choice_alike : (routes : List Route) → list_any goes routes ≡ false → choice_among f routes ≡ choice_among changed routes
@@ -92,8 +92,8 @@ module _ (f : Facts) (link : ℕ) (up : Bool) where
       → filter (is_open f status) routes ≡ filter (is_open changed status) routes
   taken_alike status [] e = refl
   taken_alike status (r ∷ rs) e =
-      ap (λ (b : Bool). cond b (r ∷ filter (is_open f status) rs) (filter (is_open f status) rs)) (one_alike status r (neither_left (goes r) _ e))
-      ∙ ap (λ (xs : List Route). cond (is_open changed status r) (r ∷ xs) xs) (taken_alike status rs (neither_right (goes r) _ e))
+      ap (λ (b : Bool). cond b (r ∷ filter (is_open f status) rs) (filter (is_open f status) rs)) (one_alike status r (or_parts (goes r) _ e).0)
+      ∙ ap (λ (xs : List Route). cond (is_open changed status r) (r ∷ xs) xs) (taken_alike status rs (or_parts (goes r) _ e).1)
 
   set_without : (set : ℕ) (links : List ℕ) → list_any (λ (m : Member). nat_eq m.link link) (members_of set links) ≡ has_member link links
   set_without set [] = refl
@@ -147,9 +147,9 @@ as_before set (r ∷ rs) e =
     → (leads_by set (if b then record r { status = Allowed } else r) || goes_by_set set (map (with_status_over set Allowed) rs)) ≡ false
     → r ∷ rs ≡ (if b then record r { status = Allowed } else r) ∷ map (with_status_over set Allowed) rs) [
       | true ↦ λ same none.
-          let apart : nat_eq r.set set ≡ false = neither_left (nat_eq r.set set) _ none in
+          let apart : nat_eq r.set set ≡ false = (or_parts (nat_eq r.set set) _ none).0 in
           absurd cc
-      | false ↦ λ apart none. ap (λ (xs : List Route). r ∷ xs) (as_before set rs (neither_right (nat_eq r.set set) _ none))
+      | false ↦ λ apart none. ap (λ (xs : List Route). r ∷ xs) (as_before set rs (or_parts (nat_eq r.set set) _ none).1)
     ] refl e
 
 pub compiled_by_set : (f : Facts) (set : ℕ)

@@ -16,5 +16,5 @@ order-permutation {A = A} (suc n) selection (first ∷ rest) e =
     let taken = IsPermutation-remove links at x within same in
     IsPermutation-trans links (x ∷ remove links at) _ taken (IsPermutation-cons x (remove links at) _ (order-permutation n (selection / suc n) (remove links at) left))
 
-pub preference-permutation : {A : Type 0} (selection : ℕ) (links : List A) → IsPermutation links (preference selection links)
-preference-permutation selection links = order-permutation (length links) selection links refl
+pub preference_permutes : {A : Type 0} (selection : ℕ) (links : List A) → IsPermutation links (preference selection links)
+preference_permutes selection links = order-permutation (length links) selection links refl

@@ -1,9 +1,5 @@
 -- While no link of a set is in service, its statuses don't matter.
-use Rattle.routes.proofs.Basics.{◌≡◌, ℕ, Bool, true, false, cond, List, [], ◌∷◌, ◌&&◌, ◌==◌, ◌||◌, map, find, refl, ap, sym, ◌∙◌, Some, nat_eq, unwrap_or, if◌then◌else◌, list_any, filter, flat_map, get_or-map, eqb-true, flat_map-map, Member, has_link, members_of, first_serving, Route, RouteStatus, Allowed, Restricted, Facts, set_at, routes_to, with_status_over, status_number, is_open, alone, groups_of, open_group, Choice, allowed_or, choice_among, taken_by, sets_of, members, link_by, chosen_routes, chosen_link, with_statuses_reset}
-
-closed : (a b : Bool) → b ≡ false → (a && b) ≡ false
-closed true b e = e
-closed false b e = refl
+use Rattle.routes.proofs.Basics.{◌≡◌, ℕ, Bool, true, false, cond, List, [], ◌∷◌, ◌==◌, ◌||◌, map, find, refl, ap, sym, ◌∙◌, Some, nat_eq, unwrap_or, if◌then◌else◌, list_any, filter, flat_map, get_or-map, eqb-true, flat_map-map, Member, has_link, members_of, first_serving, Route, RouteStatus, Allowed, Restricted, Facts, set_at, routes_to, with_status_over, status_number, is_open, alone, groups_of, open_group, Choice, allowed_or, choice_among, taken_by, sets_of, members, link_by, chosen_routes, chosen_link, with_statuses_reset, and_right}
 
 module _ (f : Facts) (set : ℕ) (down : has_link f.in_service (set_at f set) ≡ false) where
   -- a route that is allowed if it goes by the set
@@ -19,7 +15,7 @@ module _ (f : Facts) (set : ℕ) (down : has_link f.in_service (set_at f set) �
   -- a route by a set without a link in service isn't open, whatever its status
   is_closed : (status old : RouteStatus) (r : Route) → nat_eq r.set set ≡ true → is_open f status (record r { status = old }) ≡ false
   is_closed status old r same =
-      closed (status_number old == status_number status) _ (ap (λ n. has_link f.in_service (set_at f n)) (eqb-true r.set set same) ∙ down)
+      and_right (status_number old == status_number status) _ (ap (λ n. has_link f.in_service (set_at f n)) (eqb-true r.set set same) ∙ down)
 
   open_again : (status : RouteStatus) (r : Route) → is_open f status (again r) ≡ is_open f status r
   open_again status r =

@@ -1,6 +1,5 @@
 -- Which sets and which link a flow takes (Q.704 §4.2).
-use Rattle.std.specs.Prelude.{ℕ, Bool, ◌&&◌, ◌==◌, List, [], ◌∷◌, Option, Some, None, codes, find, map, unwrap_or}
-use Rattle.std.specs.Prelude.{if◌then◌else◌}
+use Rattle.std.specs.Prelude.{ℕ, Bool, ◌&&◌, ◌==◌, List, [], ◌∷◌, Option, Some, None, codes, find, map, unwrap_or, if◌then◌else◌}
 use Rattle.std.specs.List.{list_any, filter, flat_map}
 use Rattle.routes.specs.declared.link_group.Member.{Member}
 use Rattle.routes.specs.Preference.{has_link, members_of, first_serving}

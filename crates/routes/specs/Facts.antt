@@ -1,6 +1,5 @@
 -- What is known of routes (Q.704 §3).
-use Rattle.std.specs.Prelude.{ℕ, zero, suc, Bool, false, List, [], ◌∷◌, ◌++◌, length, map, replicate}
-use Rattle.std.specs.Prelude.{nat_eq, slice_index_or, slice_set, if◌then◌else◌}
+use Rattle.std.specs.Prelude.{ℕ, zero, suc, Bool, false, List, [], ◌∷◌, ◌++◌, length, map, replicate, nat_eq, slice_index_or, slice_set, if◌then◌else◌}
 use Rattle.settings_rows.specs.Configuration.{LinkEntry, DestinationEntry}
 use Rattle.routes.specs.Members.{links_of}
 use Rattle.routes.specs.declared.route.Route.{Route}

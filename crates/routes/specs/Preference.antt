@@ -1,6 +1,5 @@
 -- In which order a flow tries the links of a group: those of one set, or of two that are joined (own).
-use Rattle.std.specs.Prelude.{ℕ, zero, suc, ◌/◌, ◌%◌, Bool, ◌&&◌, false, List, [], ◌∷◌, Option}
-use Rattle.std.specs.Prelude.{length, find, map, nat_eq, slice_get, slice_index_or}
+use Rattle.std.specs.Prelude.{ℕ, zero, suc, ◌/◌, ◌%◌, Bool, ◌&&◌, false, List, [], ◌∷◌, Option, length, find, map, nat_eq, slice_get, slice_index_or}
 use Rattle.std.specs.List.{remove, list_any}
 use Rattle.std.specs.Option.{option_map}
 use Rattle.routes.specs.declared.link_group.Member.{Member}

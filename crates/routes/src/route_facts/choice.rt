@@ -4,8 +4,7 @@ ghost use Rattle.std.specs.Prelude.{◌≡◌, ◌≤◌, ◌+◌, ◌++◌, len
 ghost use Rattle.std.specs.List.{filter, list_any};
 ghost use Rattle.routes.specs.Preference.{members_of};
 ghost use Rattle.routes.specs.Facts.{routes_to, set_at};
-ghost use Rattle.routes.specs.Chosen.{alone, chosen_link, chosen_routes, chosen_sets};
-ghost use Rattle.routes.specs.Chosen.{first_size, groups_of, is_open};
+ghost use Rattle.routes.specs.Chosen.{alone, chosen_link, chosen_routes, chosen_sets, first_size, groups_of, is_open};
 ghost use Rattle.routes.specs.Chosen.{choice_among, lone_set, members, open_group, sets_of};
 ghost use Rattle.routes.specs.Table.{links_among};
 
