@@ -1,5 +1,5 @@
 use Rattle.std.proofs.Common.{◌∙◌, arith}
-use Rattle.served_node.proofs.Telling.{ended, written}
+use Rattle.served_node.proofs.Written.{ended, written}
 use Rattle.served_node.proofs.log.Log.tell.Goals as goal
 
 pub returns-clause-line : goal.returns-clause-line
