@@ -4,6 +4,7 @@ pub mod Entries
 pub mod Indexing
 pub mod Adjacent
 pub mod Rows
+pub mod Codes
 pub mod WellNumbers
 pub mod WellSets
 pub mod WellLinks

@@ -8,4 +8,5 @@ pub mod Well
 pub mod Readings
 pub mod Kept
 pub mod Facing
+pub mod Sharing
 pub mod Naming

@@ -11,6 +11,7 @@ mod numbers;
 pub mod points;
 mod sets;
 pub mod settings;
+mod sharing;
 mod timers;
 mod titles;
 
