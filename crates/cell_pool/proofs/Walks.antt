@@ -6,9 +6,8 @@ use Rattle.cell_pool.proofs.Reading.{unused-apart}
 -- a list with one more element, read elsewhere
 pub get_or-push_other : {A : Type 0} (xs : List A) (v : A) (i : ℕ) (d : A) → i ≢ length xs → get_or (xs ++ v ∷ []) i d ≡ get_or xs i d
 get_or-push_other [] v zero d h = absurd (h refl)
-get_or-push_other [] v (suc i) d h = refl
-get_or-push_other (x ∷ xs) v zero d h = refl
 get_or-push_other (x ∷ xs) v (suc i) d h = get_or-push_other xs v i d (λ e. h (ap (λ (k : ℕ). suc k) e))
+get_or-push_other y v z d h = refl
 
 -- what is read at a place of a list, whatever is read past its end
 pub read-is : {A : Type 0} (xs : List A) (i : ℕ) (x d : A) → i < length xs → x ≡ get_or xs i x → x ≡ get_or xs i d
@@ -86,10 +85,9 @@ walk-take next (suc k) m f =
 
 -- the next one of a walk is the one that a cell names
 pub walk-next : (next : List ℕ) (n i f : ℕ) → suc i < n → get_or (walk next n f) (suc i) 0 ≡ get_or next (get_or (walk next n f) i 0) 0
-walk-next next zero i f h = absurd (omega (arith, h))
-walk-next next (suc zero) i f h = absurd (omega (arith, h))
 walk-next next (suc (suc n)) zero f h = refl
 walk-next next (suc (suc n)) (suc i) f h = walk-next next (suc n) i (get_or next f 0) (omega (arith, h))
+walk-next next x i f h = absurd (omega (arith, h))
 
 -- the first cell of a walk, and the rest
 pub walk-first : (next : List ℕ) (n f : ℕ) → 1 ≤ n → walk next n f ≡ f ∷ walk next (n - 1) (get_or next f 0)

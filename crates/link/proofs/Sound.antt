@@ -1,5 +1,6 @@
 -- Each word leaves a queue a queue.
 use Rattle.link.proofs.Basics.{◌≡◌, ℕ, Bool, true, false, ◌-◌, ◌<◌, ◌≤◌, length, nat_lt, nat_le, slice_get, arith, refl, Option, Some, None, Result, Ok, Err, nat_eq, subst, if◌then◌else◌, common_steps, nat_tests, slice_get_within, Message, WINDOW, SeqFault, steps_between, next_number, Queue, IsQueue, confirmation, count_confirmed, forward_number, numbered, first_queue, expected, accept_answer, after_answer, accepted, after_sending, sent_one, appended, emptied}
+use Rattle.std.proofs.lemmas.Bool.{ltb-true}
 use Rattle.link.proofs.Kept.{kept-newly_confirmed}
 
 pub sound-first : (w : ℕ) → w ≤ WINDOW → IsQueue w first_queue
@@ -44,11 +45,8 @@ sound-one {w} q true number (Some m) h within inside =
 sound-one q true number None h within inside = h
 sound-one q false number o h within inside = h
 
-below-window : (outstanding window : ℕ) → nat_lt outstanding window ≡ true → outstanding < window
-below-window outstanding window e = grind (arith, nat_tests)
-
 pub sound-sent_one : (q : Queue) (window : ℕ) → IsQueue window q → IsQueue window (sent_one q window)
 sound-sent_one q window h =
     sound-one q (nat_lt (q.sent - q.confirmed) window) (forward_number q q.sent) (slice_get q.all q.sent) h
-    (below-window (q.sent - q.confirmed) window)
+    (ltb-true (q.sent - q.confirmed) window)
     (slice_get_within q.all q.sent)

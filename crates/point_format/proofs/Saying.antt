@@ -2,6 +2,7 @@
 use Rattle.std.proofs.Common.{◌≡◌, ◌<◌, ◌⊎◌, ◌||◌, ℕ, zero, suc, Bool, true, false, cond, Option, None, Some, List, [], ◌∷◌, ◌++◌, ◌/◌, ◌%◌, refl, sym, subst, arith, inl, inr, decimal}
 use Rattle.std.specs.Option.{IfSome}
 use Rattle.std.specs.Str.{bytes_eq, IsAscii, IsUtf8}
+use Rattle.std.proofs.lemmas.Bool.{or_cases}
 use Rattle.std.proofs.lemmas.Str.{IsUtf8-from_ascii}
 use Rattle.std.proofs.lemmas.Fmt.{IsAscii-decimal}
 use Rattle.std.specs.Cmp.Lexicographic.{bytes_decides}
@@ -10,14 +11,10 @@ use Rattle.std.proofs.lemmas.Str.Ascii.{IsAscii-cons, IsAscii-nil}
 use Rattle.point_format.specs.declared.point.PointFormat.{PointFormat}
 use Rattle.point_format.specs.declared.point.PointFormat.TheVariants.{Plain, ThreeEightThree}
 
-one-of : (a b : Bool) → (a || b) ≡ true → (a ≡ true) ⊎ (b ≡ true)
-one-of true b e = inl refl
-one-of false b e = inr e
-
 said : (format : PointFormat) (text : List ℕ) (point : ℕ) → says_point format text point ≡ true → IsPointText format text point
 said Plain text point e = (bytes_decides text (decimal point)).0 e
 said ThreeEightThree text point e =
-    elim (one-of (bytes_eq text (in_three_parts point)) (bytes_eq text (decimal point)) e) [
+    elim (or_cases (bytes_eq text (in_three_parts point)) (bytes_eq text (decimal point)) e) [
       | inl f ↦ inl ((bytes_decides text (in_three_parts point)).0 f)
       | inr f ↦ inr ((bytes_decides text (decimal point)).0 f)
     ]

@@ -1,5 +1,5 @@
 -- The first row that doesn't come before a key is of that key, or none is.
-use Rattle.sccp_relay.proofs.Basics.{false_from_ne_true, ◌≡◌, ℕ, zero, suc, ◌<◌, ◌≤◌, Bool, true, false, List, [], ◌∷◌, length, get_or, refl, sym, ap, subst, ◌∙◌, inl, inr, arith, and_parts, cases_eq, cases_lt, eqb-true, eq-eqb, get_or_default, list_any_at, list_any_none, list_any, is_lt, nat_cmp, ordering_then, slice_cmp, Ordering, Less, Equal, Greater, TitleKey, TitleEntry, IsOrdered, place_of, row_place, place_order, is_before, has_key}
+use Rattle.sccp_relay.proofs.Basics.{both_ways, false_from_ne_true, ◌≡◌, ℕ, zero, suc, ◌<◌, ◌≤◌, Bool, true, false, List, [], ◌∷◌, length, get_or, refl, sym, ap, subst, ◌∙◌, inl, inr, arith, and_parts, cases_eq, cases_lt, eqb-true, eq-eqb, get_or_default, list_any_at, list_any_none, list_any, is_lt, nat_cmp, ordering_then, slice_cmp, Ordering, Less, Equal, TitleKey, TitleEntry, IsOrdered, place_of, row_place, place_order, is_before, has_key}
 use Rattle.sccp_relay.proofs.RowOrder.{Splits, each-at}
 
 record Key (key : TitleKey) (row : TitleEntry) : Type 0 where
@@ -37,9 +37,8 @@ record Ties (x y : ℕ) (a b : Ordering) : Type 0 where
   pub below : b ≡ Less
 
 tied : (x y : ℕ) (a b : Ordering) (o : Ordering) → nat_cmp x y ≡ o → is_lt (ordering_then o a) ≡ false → ordering_then o b ≡ Less → Ties x y a b
-tied x y a b Less e f g = absurd cc
 tied x y a b Equal e f g = record { same = grind (arith, e); above = f; below = g }
-tied x y a b Greater e f g = absurd cc
+tied x y a b o e f g = absurd cc
 
 between-parts : (t p n t' p' n' : ℕ) (ds ds' : List ℕ) → is_lt (place_order (t' ∷ p' ∷ n' ∷ ds') (t ∷ p ∷ n ∷ [])) ≡ false
     → place_order (t' ∷ p' ∷ n' ∷ ds') (t ∷ p ∷ n ∷ ds) ≡ Less → (t' ≡ t) × (p' ≡ p) × (n' ≡ n)
@@ -66,15 +65,11 @@ far (row ∷ rows) i zero d h lt le = absurd (omega (arith, lt))
 far (row ∷ rows) zero (suc k) d h lt le = each-at _ rows h.0 k d (omega (arith, le))
 far (row ∷ rows) (suc i) (suc k) d h lt le = far rows i k d h.1 (omega (arith, lt)) (omega (arith, le))
 
-clash : (t : Bool) → t ≡ true → t ≡ false → ⊥
-clash true e f = cc
-clash false e f = cc
-
 not-early : (key : TitleKey) (rows : List TitleEntry) (at k : ℕ) (d : TitleEntry) → Splits (place_of key []) rows at → Key key (get_or rows k d) → at ≤ k
 not-early key rows at k d split s =
     elim (cases_lt k at) [
       | inr late ↦ late
-      | inl early ↦ absurd (clash _ (split.0 k d (omega arith) early) (not-before key (get_or rows k d) s))
+      | inl early ↦ absurd (both_ways _ (not-before key (get_or rows k d) s) (split.0 k d (omega arith) early))
     ]
 
 none-of : (key : TitleKey) (rows : List TitleEntry) → ((k : ℕ) (d : TitleEntry) → k < length rows → Key key (get_or rows k d) → ⊥) → list_any (has_key key) rows ≡ false
@@ -87,11 +82,11 @@ none-there : (key : TitleKey) (rows : List TitleEntry) (at k : ℕ) (d : TitleEn
     → has_key key (get_or rows at d) ≡ false → Key key (get_or rows k d) → ⊥
 none-there key rows at k d h split lt le other_key s =
     elim (cases_eq at k) [
-      | inl here ↦ clash _ (key-true key (get_or rows at d) (rw here s)) other_key
+      | inl here ↦ both_ways _ other_key (key-true key (get_or rows at d) (rw here s))
       | inr other ↦
           let early = not-early key rows at k d split s in
           let row = between key (get_or rows at d) (get_or rows k d) (split.1 at d (omega arith) lt) s (far rows at k d h (omega (arith, early, other)) le) in
-          clash _ (key-true key (get_or rows at d) row) other_key
+          both_ways _ other_key (key-true key (get_or rows at d) row)
     ]
 
 any-if : (key : TitleKey) (rows : List TitleEntry) (at : ℕ) (row : TitleEntry) (t : Bool) → IsOrdered rows → Splits (place_of key []) rows at → at < length rows

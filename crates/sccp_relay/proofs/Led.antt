@@ -82,8 +82,7 @@ seen_from-of sender a = seen_from sender a.national a.routing a.point a.ssn a.ti
 
 ssn-fits : (row : TitleRoute) (ssn : Option ℕ) → IsRoute row → IfSome ssn (λ s. s < 2 ^ 8) → IfSome (ssn_by row ssn) (λ s. s < 2 ^ 8)
 ssn-fits (route.Title None) ssn h f = f
-ssn-fits (route.Title (Some n)) ssn h f = h.1
-ssn-fits (route.Ssn n) ssn h f = h.1
+ssn-fits row ssn h f = h.1
 
 translated-fits : (row : TitleEntry) (a : AddressValue) → IsRow row → IsAddressValue a → IsAddressValue (translated row a)
 translated-fits row a r h = record { title_indicator = h.title_indicator; point = tt; ssn = ssn-fits row.route a.ssn r.route h.ssn }

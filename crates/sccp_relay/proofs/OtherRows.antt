@@ -39,15 +39,13 @@ split Equal rows f = absurd (f refl)
 split Greater rows f = refl
 
 not_eq : (o : Ordering) → o ≢ Equal → is_eq o ≡ false
-not_eq Less f = refl
 not_eq Equal f = absurd (f refl)
-not_eq Greater f = refl
+not_eq o f = refl
 
 -- an order that is its own reverse is that of equals
 alone : (o : Ordering) → ordering_reverse o ≡ o → o ≡ Equal
-alone Less e = absurd cc
 alone Equal e = refl
-alone Greater e = absurd cc
+alone o e = absurd cc
 
 itself : (place : List ℕ) → place_order place place ≡ Equal
 itself place = alone (place_order place place) (sym (total.antisymm place place))

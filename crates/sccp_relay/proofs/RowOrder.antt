@@ -11,8 +11,7 @@ reversed a b o e = total.antisymm b a ∙ ap ordering_reverse e
 
 less-is_lt : (o : Ordering) → is_lt o ≡ true → o ≡ Less
 less-is_lt Less e = refl
-less-is_lt Equal e = absurd cc
-less-is_lt Greater e = absurd cc
+less-is_lt o e = absurd cc
 
 -- what comes behind a place that stands at another or behind it, comes behind that
 less-then : (a b c : List ℕ) → place_order a b ≡ Less → place_order b c ≡ Less → place_order a c ≡ Less
@@ -134,14 +133,12 @@ abbrev pub Splits : List ℕ → List TitleEntry → ℕ → Type 0
 Splits place rows i = IsPartitionPoint (λ row. is_before place row ≡ true) (λ row. is_before place row ≡ false) rows i
 
 pub equal-is_eq : (o : Ordering) → is_eq o ≡ true → o ≡ Equal
-equal-is_eq Less e = absurd cc
 equal-is_eq Equal e = refl
-equal-is_eq Greater e = absurd cc
+equal-is_eq o e = absurd cc
 
 pub greater-neither : (o : Ordering) → is_lt o ≡ false → is_eq o ≡ false → o ≡ Greater
-greater-neither Less e f = absurd cc
-greater-neither Equal e f = absurd cc
 greater-neither Greater e f = refl
+greater-neither o e f = absurd cc
 
 pub stands-at : (place : List ℕ) (rows : List TitleEntry) (i : ℕ) (row : TitleEntry) → IsOrdered rows → Splits place rows i → i < length rows
     → row ≡ get_or rows i row → is_eq (place_order (row_place row) place) ≡ true → StandsAt rows place i
@@ -209,9 +206,8 @@ ordered-between (x ∷ xs) ys row h k b c =
     (all-append _ xs (row ∷ ys) h.0 (b.0, before-behind (row_place row) x ys b.0 c), ordered-between xs ys row h.1 k b.1 c)
 
 is_gt-greater : (o : Ordering) → is_gt o ≡ true → o ≡ Greater
-is_gt-greater Less e = absurd cc
-is_gt-greater Equal e = absurd cc
 is_gt-greater Greater e = refl
+is_gt-greater o e = absurd cc
 
 pub ordered-with_row : (row : TitleEntry) (rows : List TitleEntry) → IsOrdered rows → IsOrdered (with_row row rows)
 ordered-with_row row rows h =

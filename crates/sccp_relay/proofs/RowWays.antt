@@ -92,16 +92,16 @@ way-leads (first ∷ rows) (suc k) row lt e n =
 
 -- ---- a row more
 
-with-if : (s t : Bool) (a b : ℕ) (x y : Option ℕ) → (s ≡ true → t ≡ false) → (s ≡ false → x ≡ cond t (Some b) y) → cond s (Some a) x ≡ cond t (Some b) (cond s (Some a) y)
-with-if true t a b x y f g = rw (f refl) refl
-with-if false t a b x y f g = g refl
+with-if : (s t : Bool) (a : ℕ) (o x y : Option ℕ) → (s ≡ true → t ≡ false) → (s ≡ false → x ≡ cond t o y) → cond s (Some a) x ≡ cond t o (cond s (Some a) y)
+with-if true t a o x y f g = rw (f refl) refl
+with-if false t a o x y f g = g refl
 
 pub leads-between : (front back : List TitleEntry) (row : TitleEntry) → leads_of front (way_of row) ≡ None
     → leads_of (front ++ row ∷ back) ≡ with_value (leads_of (front ++ back)) (way_of row) (lead_of row)
 leads-between [] back row e = refl
 leads-between (first ∷ front) back row e = λ i. λ way.
     let parts = none-parts (bytes_eq (way_of row) (way_of first)) (lead_of first) (leads_of front (way_of row)) e in
-    with-if (bytes_eq way (way_of first)) (bytes_eq way (way_of row)) (lead_of first) (lead_of row) (leads_of (front ++ row ∷ back) way) (leads_of (front ++ back) way)
+    with-if (bytes_eq way (way_of first)) (bytes_eq way (way_of row)) (lead_of first) (Some (lead_of row)) (leads_of (front ++ row ∷ back) way) (leads_of (front ++ back) way)
     (λ yes. unequal way (way_of row) (λ same.
     let here = equal (way_of row) (way_of first) (sym same ∙ (bytes_decides way (way_of first)).0 yes) in
     let other = parts.0 in cc))
@@ -130,10 +130,6 @@ first-gone : (t : Bool) (a : ℕ) (x : Option ℕ) → (t ≡ true → x ≡ Non
 first-gone true a x f = f refl
 first-gone false a x f = refl
 
-later-gone : (s t : Bool) (a : ℕ) (x y : Option ℕ) → (s ≡ true → t ≡ false) → (s ≡ false → x ≡ cond t None y) → cond s (Some a) x ≡ cond t None (cond s (Some a) y)
-later-gone true t a x y f g = rw (f refl) refl
-later-gone false t a x y f g = g refl
-
 pub leads-removed : (rows : List TitleEntry) (i : ℕ) (row : TitleEntry) → IsOrdered rows → i < length rows → get_or rows i row ≡ row
     → leads_of (remove rows i) ≡ without (leads_of rows) (way_of row)
 leads-removed [] i row h lt e = absurd (omega (arith, lt))
@@ -145,7 +141,7 @@ leads-removed (first ∷ rows) zero row h lt e = λ j. λ way.
 leads-removed (first ∷ rows) (suc i) row h lt e = λ j. λ way.
     let less : place_order (row_place first) (row_place row) ≡ Less =
     subst (λ (r : TitleEntry). place_order (row_place first) (row_place r) ≡ Less) e (each-at _ rows h.0 i row (omega (arith, lt))) in
-    later-gone (bytes_eq way (way_of first)) (bytes_eq way (way_of row)) (lead_of first) (leads_of (remove rows i) way) (leads_of rows way)
+    with-if (bytes_eq way (way_of first)) (bytes_eq way (way_of row)) (lead_of first) None (leads_of (remove rows i) way) (leads_of rows way)
     (λ yes. unequal way (way_of row) (λ same. ways-apart first row less (sym ((bytes_decides way (way_of first)).0 yes) ∙ same)))
     (λ no. ap (λ (map : List ℕ → Option ℕ). map way) (leads-removed rows i row h.1 (omega (arith, lt)) e)) j
 

@@ -11,9 +11,8 @@ blank (suc n) (suc e) = blank n e
 
 pub child-append : (nodes : List Node) (k e : ℕ) → child (nodes ++ bare ∷ []) k e ≡ child nodes k e
 child-append [] zero e = ap (λ (id : NodeId). id.number) (blank 16 e)
-child-append [] (suc k) e = refl
-child-append (n ∷ nodes) zero e = refl
 child-append (n ∷ nodes) (suc k) e = child-append nodes k e
+child-append x y e = refl
 
 pub value-append : (nodes : List Node) (k : ℕ) → value (nodes ++ bare ∷ []) k ≡ value nodes k
 value-append [] zero = refl

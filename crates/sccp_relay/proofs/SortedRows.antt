@@ -102,8 +102,7 @@ same-rows (x ∷ xs) (y ∷ ys) h k v w =
 
 eq-reverse : (o : Ordering) → is_eq (ordering_reverse o) ≡ is_eq o
 eq-reverse Less = refl
-eq-reverse Equal = refl
-eq-reverse Greater = refl
+eq-reverse o = refl
 
 eq-turned : (a b : List ℕ) → is_eq (place_order a b) ≡ is_eq (place_order b a)
 eq-turned a b = ap is_eq (total.antisymm a b) ∙ eq-reverse (place_order b a)

@@ -1,6 +1,5 @@
 -- A trie as nodes in a row: what stands at each, and where each digit leads from it.
-use Rattle.std.specs.Prelude.{◌≡◌, ◌≢◌, ℕ, ◌<◌, List, [], ◌∷◌, ◌++◌, if◌then◌else◌, nat_eq, length, replicate}
-use Rattle.std.specs.Prelude.{slice_index_or, slice_set, Option, Some, None}
+use Rattle.std.specs.Prelude.{◌≡◌, ◌≢◌, ℕ, ◌<◌, List, [], ◌∷◌, ◌++◌, if◌then◌else◌, nat_eq, length, replicate, slice_index_or, slice_set, Option, Some, None}
 use Rattle.sccp_relay.specs.Digits.{DigitMap}
 use Rattle.sccp_relay.specs.declared.node.Node.{Node}
 use Rattle.sccp_relay.specs.declared.node.NodeId.{NodeId}

@@ -1,8 +1,7 @@
 -- The message that returns one that was refused: a UDTS (Q.714 §4.2).
 use Rattle.std.specs.Prelude.{ℕ, ◌/◌, if◌then◌else◌, nat_eq, List, drop, Option, Some, None, unwrap_or, Result, Ok, Err}
 use Rattle.signalling_types.specs.declared.cause.Cause.{Cause}
-use Rattle.signalling_types.specs.declared.cause.Cause.TheVariants.{UnknownDestination, NoRoute, NoNature, NoDigits}
-use Rattle.signalling_types.specs.declared.cause.Cause.TheVariants.{Unequipped, TooLong}
+use Rattle.signalling_types.specs.declared.cause.Cause.TheVariants.{UnknownDestination, NoRoute, NoNature, NoDigits, Unequipped, TooLong}
 use Rattle.settings_rows.specs.Configuration.{TitleEntry}
 use Rattle.mtp3_codec.specs.declared.label.Label.{Label}
 use Rattle.mtp3_codec.specs.Label.{label_at}

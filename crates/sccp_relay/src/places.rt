@@ -1,11 +1,9 @@
 //! Where rows stand in their order.
 
 ghost use Rattle.std.specs.Prelude.{◌≡◌, ◌≤◌, ◌<◌, ◌^◌, [], length, true, false, IfOk, IfErr};
-ghost use Rattle.std.specs.List.{list_any};
-ghost use Rattle.std.specs.List.{IsDistinct};
+ghost use Rattle.std.specs.List.{list_any, IsDistinct};
 ghost use Rattle.std.specs.List.Sorted.{IsPartitionPoint};
-ghost use Rattle.sccp_relay.specs.Rows.{IsOrdered, place_of, row_place, place_order, is_before};
-ghost use Rattle.sccp_relay.specs.Rows.{key_of, is_same_place, table_of};
+ghost use Rattle.sccp_relay.specs.Rows.{IsOrdered, place_of, row_place, place_order, is_before, key_of, is_same_place, table_of};
 ghost use Rattle.sccp_relay.specs.Places.{StandsAt, FitsAt};
 ghost use Rattle.sccp_relay.specs.Translation.{has_key};
 

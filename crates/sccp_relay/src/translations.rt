@@ -1,13 +1,11 @@
 //! A table of translation rows.
 
-ghost use Rattle.std.specs.Prelude.{◌≡◌, ◌≤◌, ◌↔◌, [], length, slice_get, IsTrue, Some, None, Err, IsOk, IfOk};
-ghost use Rattle.std.specs.Prelude.{IfErr, OnOk, OnErr, IsOkUnless, if◌then◌else◌};
+ghost use Rattle.std.specs.Prelude.{◌≡◌, ◌≤◌, ◌↔◌, [], length, slice_get, IsTrue, Some, None, Err, IsOk, IfOk, IfErr, OnOk, OnErr, IsOkUnless, if◌then◌else◌};
 ghost use Rattle.std.specs.List.{IsDistinct, insert};
 ghost use Rattle.std.specs.Result.{is_ok};
 ghost use Rattle.sccp_relay.specs.Digits.{with_value};
 ghost use Rattle.sccp_relay.specs.Nodes.{stored};
-ghost use Rattle.sccp_relay.specs.Rows.{IsOrdered, place_of, has_row, with_row, without_row, add_refusal};
-ghost use Rattle.sccp_relay.specs.Rows.{is_same_place, table_of};
+ghost use Rattle.sccp_relay.specs.Rows.{IsOrdered, place_of, has_row, with_row, without_row, add_refusal, is_same_place, table_of};
 ghost use Rattle.sccp_relay.specs.Translation.{translation, IsTranslation};
 ghost use Rattle.sccp_relay.specs.Ways.{IsRow, way_of, lead_of};
 

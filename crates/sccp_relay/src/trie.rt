@@ -1,7 +1,6 @@
 //! Values by lists of digits.
 
-ghost use Rattle.std.specs.Prelude.{◌≡◌, ◌+◌, ◌^◌, ◌<◌, ◌≤◌, All, length, Some, None, Err, IsSome, OnOk, OnErr};
-ghost use Rattle.std.specs.Prelude.{IfSome, IsOkUnless};
+ghost use Rattle.std.specs.Prelude.{◌≡◌, ◌+◌, ◌^◌, ◌<◌, ◌≤◌, All, length, Some, None, Err, IsSome, OnOk, OnErr, IfSome, IsOkUnless};
 ghost use Rattle.std.specs.Vec.{vec_len, vec_capacity};
 ghost use Rattle.sccp_relay.specs.Digits.{nothing, with_value, without, behind, longest, found_at};
 ghost use Rattle.sccp_relay.specs.Nodes.{IsTree, KeepsWays, child, node_of, reached, root, stored, stored_from};

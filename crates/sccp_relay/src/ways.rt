@@ -4,8 +4,7 @@ ghost use Rattle.std.specs.Prelude.{◌≡◌, ◌%◌, ◌^◌, ◌<◌, All, I
 ghost use Rattle.sccp_relay.specs.Digits.{with_value};
 ghost use Rattle.sccp_relay.specs.Nodes.{stored};
 ghost use Rattle.settings_rows.specs.Titles.{HasTitleRanges};
-ghost use Rattle.sccp_relay.specs.Ways.{IsRow, IsRoute, IsSsn, key_digits, way_of, lead_of, route_number, ssn_number};
-ghost use Rattle.sccp_relay.specs.Ways.{route_of, row_led, leads_of};
+ghost use Rattle.sccp_relay.specs.Ways.{IsRow, IsRoute, IsSsn, key_digits, way_of, lead_of, route_number, ssn_number, route_of, row_led, leads_of};
 
 use crate::places::key_of;
 use crate::{Trie, TrieFault};

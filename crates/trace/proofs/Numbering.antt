@@ -5,6 +5,7 @@ use Rattle.std.proofs.Math.Nat.{mod-add-mod}
 use Rattle.std.proofs.Math.Bool.{and-true}
 use Rattle.std.proofs.lemmas.List.{get_or-set_same, get_or-set_other, get_or-replicate}
 use Rattle.std.proofs.lemmas.List.Sums.{sum_by_push}
+use Rattle.std.proofs.lemmas.Bool.{and_right}
 use Rattle.std.proofs.lemmas.Bool.Decides.{eqb_tells}
 use Rattle.std.specs.Prelude.{cond, count_by, slice_index, slice_set}
 use Rattle.trace.specs.declared.direction.Direction.{Direction}
@@ -57,15 +58,11 @@ passed-there seen link other direction itself at way =
     ∙ ap (λ (t : Bool). (link == other) && t) itself ∙ and-true (link == other)
 
 -- one of the other direction doesn't
-and-none : (b : Bool) → (b && false) ≡ false
-and-none true = refl
-and-none false = refl
-
 passed-elsewhere : (seen : Seen) (other : ℕ) (direction its : Direction) → is_same its direction ≡ false →
     seen.direction ≡ its → passed_on other direction seen ≡ false
 passed-elsewhere seen other direction its apart way =
     ap (λ (d : Direction). (seen.link == other) && is_same d direction) way
-    ∙ ap (λ (t : Bool). (seen.link == other) && t) apart ∙ and-none (seen.link == other)
+    ∙ ap (λ (t : Bool). (seen.link == other) && t) apart ∙ and_right (seen.link == other) false refl
 
 -- the number behind one frame more
 numbered : (other : ℕ) (direction : Direction) (frames : List Seen) (seen : Seen) (b : Bool) →
