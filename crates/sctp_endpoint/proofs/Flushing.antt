@@ -10,7 +10,7 @@ use Rattle.sctp_rules.specs.Sending.{closed, data_of, acknowledgement, is_acknow
 use Rattle.sctp_bundling.specs.Replies.{size_of}
 use Rattle.sctp_endpoint.specs.Endpoints.{Endpoint, Does}
 use Rattle.sctp_bundling.specs.Watching.{Sent, Puts}
-use Rattle.sctp_bundling.specs.Bundling.{Draft, bundle, draft_of, IsBundled, Adds}
+use Rattle.sctp_bundling.specs.Bundling.{Bundle, Draft, bundle, draft_of, IsBundled, Adds}
 use Rattle.sctp_bundling.specs.Ways.{Way, packet_on}
 use Rattle.sctp_endpoint.specs.Flushing.{way_of_peer}
 use Rattle.sctp_bundling.proofs.Giving.{given-put}

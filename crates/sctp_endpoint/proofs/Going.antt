@@ -3,7 +3,7 @@ use Rattle.std.proofs.Common.{◌≡◌, ℕ, suc, ◌+◌, ◌-◌, ◌<◌, �
 use Rattle.std.specs.Prelude.{nat_lt, is_some, if◌then◌else◌}
 use Rattle.std.proofs.lemmas.Bool.{ltb-false}
 use Rattle.std.proofs.lemmas.List.{length-set, get_or-set_same}
-use Rattle.sctp_codec.specs.Packets.{ChunkValue, DataChunk}
+use Rattle.sctp_codec.specs.Packets.{ChunkValue, DataValue, DataChunk}
 use Rattle.sctp_sending.specs.Cells.{given_as}
 use Rattle.sctp_sending.specs.Outgoing as out
 use Rattle.sctp_sending.specs.Outgoing.{Outgoing, outgoing_at, tsn_at, gone_out, new_outgoing, no_message}
