@@ -3,10 +3,10 @@ use Rattle.std.proofs.Common.{◌≡◌, Bool, true, false, List, refl, ap, subs
 use Rattle.std.specs.Prelude.{if◌then◌else◌}
 use Rattle.sctp_rules.specs.State.{Told, State, Done, silent, behind, followed_by}
 use Rattle.sctp_rules.specs.Packets.{Handled}
-use Rattle.sctp_endpoint.specs.Watching.{Sent}
+use Rattle.sctp_bundling.specs.Watching.{Sent}
 use Rattle.sctp_endpoint.specs.Endpoints.{Endpoint, Does}
 use Rattle.sctp_endpoint.specs.Draining.{and_on}
-use Rattle.sctp_endpoint.proofs.Hearing.{given-behind, given-none}
+use Rattle.sctp_bundling.proofs.Giving.{given-behind, given-none}
 
 -- a rule that asks for the endpoint that the first one left
 pub then-does : {W : Type 0} (has : W → List Sent → List Told → Type 0) (w v u : W) (e f g : Endpoint) (first : Done) (rule : Endpoint → Done)

@@ -10,7 +10,7 @@ use Rattle.sctp_rules.specs.Shutdown.{heard_shutdown_complete}
 use Rattle.sctp_rules.specs.Packets.{Handled, has_tag, has_peer_tag, while_there, heard_chunk, heard_chunks, from_source, heard_by_tag, looked_at}
 use Rattle.sctp_endpoint.specs.Dispatching.{counts_behind, heard_echo}
 use Rattle.sctp_endpoint.specs.Draining.{and_on}
-use Rattle.sctp_endpoint.specs.Watching.{Sent}
+use Rattle.sctp_bundling.specs.Watching.{Sent}
 use Rattle.sctp_endpoint.specs.Endpoints.{Endpoint, Does, secrets_of}
 use Rattle.sctp_endpoint.proofs.Chained.{then-does, if-on}
 use Rattle.sctp_endpoint.proofs.Draining.{if-true, if-false}

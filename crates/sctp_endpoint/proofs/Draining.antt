@@ -1,7 +1,7 @@
 -- What chunks tell, one after another: all are consumed first, or what each tells goes out before the next is consumed.
-use Rattle.std.proofs.Common.{◌≡◌, ◌<◌, ◌≤◌, ◌+◌, ◌-◌, arith, ℕ, zero, suc, Bool, true, false, List, [], ◌∷◌, ◌++◌, Option, Some, None, refl, sym, ap, subst, ◌∙◌}
+use Rattle.std.proofs.Common.{◌≡◌, ◌<◌, ◌≤◌, ◌+◌, ◌-◌, arith, ℕ, zero, suc, Bool, true, false, List, [], ◌∷◌, ◌++◌, map, Option, Some, None, refl, sym, ap, subst, ◌∙◌}
 use Rattle.std.specs.Prelude.{not, if◌then◌else◌}
-use Rattle.std.proofs.lemmas.List.{append-nil}
+use Rattle.std.proofs.lemmas.List.{append_assoc, append-nil}
 use Rattle.sctp_receiving.specs.Consuming.{Told, Nothing, Tells, NoStream, Violates}
 use Rattle.sctp_receiving.specs.Pieces.{Piece}
 use Rattle.sctp_receiving.specs.Receiver.{Receiver, Step, Steps, and_then, drained, is_violation, next_held, take_next, taken_next, hear, received}
@@ -11,14 +11,14 @@ use Rattle.std.specs.Prelude.{is_some}
 use Rattle.sctp_rules.specs.Settings.{Settings}
 use Rattle.sctp_rules.specs.State.{Association, State, Datagram, Done, silent, followed_by, with_association}
 use Rattle.sctp_rules.specs.State as state
-use Rattle.sctp_rules.specs.Ending.{has_place}
-use Rattle.sctp_rules.specs.Data.{no_stream, told_one, told_each, after_data}
+use Rattle.sctp_rules.specs.Ending.{has_place, answered}
+use Rattle.sctp_rules.specs.Data.{no_stream, violated, told_one, told_each, after_data}
 use Rattle.sctp_rules.specs.Packets.{Handled}
-use Rattle.sctp_endpoint.specs.Watching.{Sent}
+use Rattle.sctp_bundling.specs.Watching.{Sent, sent_as, Tells as IsTold, Gives}
 use Rattle.sctp_endpoint.specs.Endpoints.{Endpoint, Does}
-use Rattle.sctp_endpoint.proofs.Hearing.{given-none}
+use Rattle.sctp_bundling.proofs.Giving.{given-none}
 use Rattle.sctp_endpoint.proofs.Chained.{then-does, if-on}
-use Rattle.sctp_endpoint.specs.Draining.{told_step, heard_piece, told_next, and_on, told_held}
+use Rattle.sctp_endpoint.specs.Draining.{messages_of, answered_by, told_step, heard_piece, told_next, and_on, told_held}
 
 -- the same state, with this receiver
 abbrev with_receiver : Receiver → State → State
@@ -214,3 +214,40 @@ data-stops has w v e due f tsn p is d stops =
     let k : Does has w v was f (and_on (heard_piece e.settings tsn p was.state) (λ left. told_held e.settings 256 left)) =
     rw (if-on (heard_piece e.settings tsn p was.state) (λ left. told_held e.settings 256 left) false off) first in
     rw (data-told e.settings tsn p e.state) (record { gives = k.gives; left_is = k.left_is })
+
+-- ---- what a chunk tells goes out by two calls
+
+heard-then : {W : Type 0} (has : W → List Sent → List state.Told → Type 0) (w v u : W) (events : List state.Told) (d : Done)
+    → IsTold has w v events → Gives has v u d → Gives has w u (record d { told = events ++ d.told })
+heard-then has w v u events d h g = record {
+  more = λ sent told is.
+      subst (λ (ts : List state.Told). has u (sent ++ map sent_as d.sent) ts) (append_assoc told events d.told) (g.more sent (told ++ events) (h.more sent told is));
+}
+
+told-both : {W : Type 0} (has : W → List Sent → List state.Told → Type 0) (w v u : W) (e f : Endpoint) (told : Told)
+    → IsTold has w v (messages_of told) → Does has v u e f (answered_by e.settings told e.state) → Does has w u e f (told_one e.settings told e.state)
+told-both has w v u e f Nothing h d = record { gives = heard-then has w v u [] (silent e.state) h d.gives; left_is = d.left_is }
+told-both has w v u e f (Tells message) h d = record { gives = heard-then has w v u (state.Heard message ∷ []) (silent e.state) h d.gives; left_is = d.left_is }
+told-both has w v u e f (NoStream stream) h d = record { gives = heard-then has w v u [] (silent (answered (no_stream stream) e.state)) h d.gives; left_is = d.left_is }
+told-both has w v u e f (Violates violation) h d = record { gives = heard-then has w v u [] (violated e.settings violation e.state) h d.gives; left_is = d.left_is }
+
+pub step-does : {W : Type 0} (has : W → List Sent → List state.Told → Type 0) (w v u : W) (e mid f : Endpoint) (step : Step) (told : Told) (r : Receiver)
+    → mid ≡ record e { state = with_receiver r e.state } → r ≡ step.left → told ≡ step.told
+    → IsTold has w v (messages_of told) → Does has v u mid f (answered_by mid.settings told mid.state) → Does has w u e f (told_step e.settings step e.state).does
+step-does has w v u e mid f step told r is left same h d =
+    let there = is ∙ ap (λ (x : Receiver). record e { state = with_receiver x e.state }) left in
+    let heard = subst (λ (x : Told). IsTold has w v (messages_of x)) same h in
+    let done = subst (λ (x : Told). Does has v u mid f (answered_by mid.settings x mid.state)) same d in
+    let k : Does has v u (record e { state = with_receiver step.left e.state }) f (answered_by e.settings step.told (with_receiver step.left e.state)) =
+    subst (λ (x : Endpoint). Does has v u x f (answered_by x.settings step.told x.state)) there done in
+    let b = told-both has w v u (record e { state = with_receiver step.left e.state }) f step.told heard k in
+    record { gives = b.gives; left_is = b.left_is }
+
+-- a chunk that was held
+pub is-held : (held : Bool) (told next : Told) → Some told ≡ (if held then Some next else None) → (held ≡ true) × (told ≡ next)
+is-held true told next e = (refl, cc)
+is-held false told next e = absurd (cc)
+
+pub next-does : {W : Type 0} (has : W → List Sent → List state.Told → Type 0) (w u : W) (e f : Endpoint) → is_some (next_held e.state.association.receiver) ≡ true
+    → Does has w u e f (told_step e.settings (take_next e.state.association.receiver) e.state).does → Does has w u e f (told_next e.settings e.state).does
+next-does has w u e f held d = rw held d

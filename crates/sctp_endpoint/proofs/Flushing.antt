@@ -3,37 +3,27 @@ use Rattle.std.proofs.Common.{◌≡◌, ℕ, ◌≤◌, Bool, true, false, List
 use Rattle.std.specs.Prelude.{sum_by, if◌then◌else◌}
 use Rattle.std.proofs.lemmas.List.{append_assoc}
 use Rattle.sctp_codec.specs.Packets.{ChunkValue}
-use Rattle.sctp_sending.specs.Sending.{Sending}
 use Rattle.sctp_rules.specs.State.{Association, Told, with_association}
 use Rattle.sctp_rules.specs.Data.{sacked, takes_sack}
 use Rattle.sctp_rules.specs.Confirming.{all_gone}
 use Rattle.sctp_rules.specs.Sending.{closed, data_of, acknowledgement, is_acknowledging, with_acknowledged, with_data_sent, t2_in, due_chunks, packets_of, flush}
-use Rattle.sctp_endpoint.specs.Replies.{size_of}
+use Rattle.sctp_bundling.specs.Replies.{size_of}
 use Rattle.sctp_endpoint.specs.Endpoints.{Endpoint, Does}
-use Rattle.sctp_endpoint.specs.Watching.{Sent, Puts}
-use Rattle.sctp_endpoint.specs.Bundling.{Bundle, Way, way_of, bundle, draft_of, packet_on, IsBundled, Bundles}
-use Rattle.sctp_endpoint.proofs.Hearing.{given-put}
-use Rattle.sctp_endpoint.proofs.Bundling.{bundles-then, bundles-none, puts-more, bundled-is, bundle-front}
+use Rattle.sctp_bundling.specs.Watching.{Sent, Puts}
+use Rattle.sctp_bundling.specs.Bundling.{Bundle, Draft, bundle, draft_of, IsBundled, Adds}
+use Rattle.sctp_bundling.specs.Ways.{Way, packet_on}
+use Rattle.sctp_endpoint.specs.Flushing.{way_of_peer}
+use Rattle.sctp_bundling.proofs.Giving.{given-put}
+use Rattle.sctp_bundling.proofs.Bundling.{adds-then, adds-none, puts-more, bundled-is, bundle-front}
 
--- where packets go stays
-way-acknowledged : (b : Bool) (e : Endpoint) (t : Option ℕ)
-    → way_of (record e { state = with_association e.state (if b then record (sacked e.state.association) { t2 = t } else e.state.association) }) ≡ way_of e
-way-acknowledged true e t = refl
-way-acknowledged false e t = refl
-
-way-sent : (b : Bool) (e : Endpoint) (s : Sending)
-    → way_of (record e { state = with_association e.state (if b then record e.state.association { sender = s } else e.state.association) }) ≡ way_of e
-way-sent true e s = refl
-way-sent false e s = refl
-
--- and so does what DATA there is
+-- what DATA there is stays
 data-acknowledged : (b : Bool) (now : ℕ) (a : Association) (t : Option ℕ) → data_of now (if b then record (sacked a) { t2 = t } else a) ≡ data_of now a
 data-acknowledged true now a t = refl
 data-acknowledged false now a t = refl
 
-pub data-none : {W : Type 0} (has : W → List Sent → List Told → Type 0) (w : Way) (before : W) (old : List ℕ) (now : ℕ) (a : Association) → takes_sack a.phase ≡ false
-    → Bundles has w before before old old (data_of now a)
-data-none has w before old now a not = rw not (bundles-none has w before old)
+pub data-none : {W : Type 0} (has : W → List Sent → List Told → Type 0) (before : W) (d : Draft) (now : ℕ) (a : Association) → takes_sack a.phase ≡ false
+    → Adds has before before d d (data_of now a)
+data-none has before d now a not = rw not (adds-none has before d)
 
 packets-are : (now : ℕ) (a : Association) → sum_by size_of a.control ≤ 1024
     → (bundle a.control (acknowledgement a ++ data_of now a)).full ++ closed (bundle a.control (acknowledgement a ++ data_of now a)).waiting ≡ packets_of (due_chunks now a)
@@ -42,25 +32,24 @@ packets-are now a few =
     let front : bundle [] (a.control ++ rest) ≡ bundle a.control rest = bundle-front [] a.control rest (omega (arith, few)) in
     sym (ap packets_of (append_assoc a.control (acknowledgement a) (data_of now a)) ∙ bundled-is [] (a.control ++ rest) 12 refl ∙ ap (λ (b : Bundle). b.full ++ closed b.waiting) front)
 
-pub flushed-does : {W : Type 0} (has : W → List Sent → List Told → Type 0) (e f g h : Endpoint) (now : ℕ) (w0 w1 w2 w3 : W) (t1 t2 t3 : List ℕ) → sum_by size_of e.state.association.control ≤ 1024
-    → t1 ≡ draft_of (way_of e) e.state.association.control
-    → Bundles has (way_of e) w0 w1 t1 t2 (acknowledgement e.state.association) → f ≡ record e { state = with_association e.state (with_acknowledged now e.state.association) }
-    → Bundles has (way_of f) w1 w2 t2 t3 (data_of now f.state.association) → g ≡ record f { state = with_association f.state (with_data_sent now f.state.association) }
-    → ((waiting : List ChunkValue) → t3 ≡ draft_of (way_of g) waiting → Puts has w2 w3 (map (packet_on (way_of g)) (closed waiting)))
+pub flushed-does : {W : Type 0} (has : W → List Sent → List Told → Type 0) (e f g h : Endpoint) (now : ℕ) (w0 w1 w2 w3 : W) (d1 d2 d3 : Draft) → sum_by size_of e.state.association.control ≤ 1024
+    → d1.way ≡ way_of_peer e → d1.text ≡ draft_of (way_of_peer e) e.state.association.control
+    → Adds has w0 w1 d1 d2 (acknowledgement e.state.association) → f ≡ record e { state = with_association e.state (with_acknowledged now e.state.association) }
+    → Adds has w1 w2 d2 d3 (data_of now f.state.association) → g ≡ record f { state = with_association f.state (with_data_sent now f.state.association) }
+    → ((waiting : List ChunkValue) → d3.text ≡ draft_of d3.way waiting → Puts has w2 w3 (map (packet_on d3.way) (closed waiting)))
     → h ≡ record g { state = with_association g.state (record g.state.association { control = [] }) } → Does has w0 w3 e h (flush e.settings now e.state)
-flushed-does has e f g h now w0 w1 w2 w3 t1 t2 t3 few front acknowledged f_is messages g_is rest h_is =
+flushed-does has e f g h now w0 w1 w2 w3 d1 d2 d3 few begun front acknowledged f_is messages g_is rest h_is =
     let a = e.state.association in
-    let w = way_of e in
-    let f_way : way_of f ≡ w = ap way_of f_is ∙ way-acknowledged (is_acknowledging a) e (t2_in a.phase now a) in
-    let g_way : way_of g ≡ w = ap way_of g_is ∙ way-sent (takes_sack f.state.association.phase) f (all_gone now f.state.association.sender).left ∙ f_way in
+    let w = way_of_peer e in
     let f_data : data_of now f.state.association ≡ data_of now a = ap (λ (x : Endpoint). data_of now x.state.association) f_is ∙ data-acknowledged (is_acknowledging a) now a (t2_in a.phase now a) in
-    let sent_data : Bundles has w w1 w2 t2 t3 (data_of now a) =
-    subst (λ (xs : List ChunkValue). Bundles has w w1 w2 t2 t3 xs) f_data (subst (λ (x : Way). Bundles has x w1 w2 t2 t3 (data_of now f.state.association)) f_way messages) in
-    let both = bundles-then has w w0 w1 w2 t1 t2 t3 (acknowledgement a) (data_of now a) acknowledged sent_data in
+    let sent_data : Adds has w1 w2 d2 d3 (data_of now a) = subst (λ (xs : List ChunkValue). Adds has w1 w2 d2 d3 xs) f_data messages in
+    let both = adds-then has w0 w1 w2 d1 d2 d3 (acknowledgement a) (data_of now a) acknowledged sent_data in
     let b = bundle a.control (acknowledgement a ++ data_of now a) in
-    let i : IsBundled has w w0 w2 t3 b = both.bundled a.control front in
+    let i : IsBundled has w w0 w2 d3.text b =
+    subst (λ (x : Way). IsBundled has x w0 w2 d3.text b) begun (both.bundled a.control (front ∙ ap (λ (x : Way). draft_of x a.control) (sym begun))) in
+    let way : d3.way ≡ w = both.way_is ∙ begun in
     let last : Puts has w2 w3 (map (packet_on w) (closed b.waiting)) =
-    subst (λ (x : Way). Puts has w2 w3 (map (packet_on x) (closed b.waiting))) g_way (rest b.waiting (i.text_is ∙ ap (λ (x : Way). draft_of x b.waiting) (sym g_way))) in
+    subst (λ (x : Way). Puts has w2 w3 (map (packet_on x) (closed b.waiting))) way (rest b.waiting (i.text_is ∙ ap (λ (x : Way). draft_of x b.waiting) (sym way))) in
     record {
       gives = given-put has w0 w3 (flush e.settings now e.state) refl
           (subst (λ (ps : List (List ChunkValue)). Puts has w0 w3 (map (packet_on w) ps)) (packets-are now a few) (puts-more has w w0 w2 w3 b.full (closed b.waiting) i.full_out last));

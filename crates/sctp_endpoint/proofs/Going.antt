@@ -12,9 +12,10 @@ use Rattle.sctp_sending.specs.declared.message.Message.{Message}
 use Rattle.sctp_rules.specs.State.{Told}
 use Rattle.sctp_rules.specs.Confirming.{Gone, data_of, data_at, gone_from, going}
 use Rattle.sctp_endpoint.specs.Endpoints.{Endpoint}
-use Rattle.sctp_endpoint.specs.Watching.{Sent}
-use Rattle.sctp_endpoint.specs.Bundling.{Way, way_of, Bundles, next_chunks, with_sender}
-use Rattle.sctp_endpoint.proofs.Bundling.{bundles-then, bundles-none}
+use Rattle.sctp_bundling.specs.Watching.{Sent}
+use Rattle.sctp_bundling.specs.Bundling.{Draft, Adds, carried_as}
+use Rattle.sctp_endpoint.specs.Flushing.{next_chunks, with_sender}
+use Rattle.sctp_bundling.proofs.Bundling.{adds-then, adds-none}
 
 -- ---- one message
 
@@ -37,19 +38,6 @@ data-by false s place now e within next =
 -- it says what it said before
 pub gone-data : (s : Sending) (place now : ℕ) → place < length s.out → place ≤ s.went → data_at (gone s place now) place ≡ data_at s place
 gone-data s place now within next = data-by (nat_lt place s.went) s place now refl within next
-
-abbrev pub carried_as : (tsn sequence : ℕ) → out.Message → DataValue
-carried_as tsn sequence m = record {
-  immediate = false;
-  unordered = false;
-  begins = true;
-  ends = true;
-  tsn = tsn;
-  stream = m.stream;
-  sequence = sequence;
-  protocol = m.protocol;
-  octets = m.octets;
-}
 
 pub message-said : (s : Sending) (place tsn sequence : ℕ) (m : Message) → tsn ≡ tsn_at s.first place → sequence ≡ (outgoing_at s.out place).sequence → given_as m ≡ (outgoing_at s.out place).message
     → DataChunk (carried_as tsn sequence (given_as m)) ≡ DataChunk (data_at s place)
@@ -103,33 +91,30 @@ turn-left e f i now r l went is m =
     ap (λ (x : Endpoint). (going (257 - (i + 1)) now x.state.association.sender).left) m
     ∙ sym (ap (λ (g : Gone). g.left) (going-at i now s l) ∙ from-more-left (257 - (i + 1)) now s (next_place s) (sym is ∙ went))
 
-pub turn-bundled : {W : Type 0} (has : W → List Sent → List Told → Type 0) (first e f : Endpoint) (i now : ℕ) (r : Bool) (watch next last : W) (old mid new : List ℕ)
-    → i < 257 → r ≡ true → r ≡ is_some (next_place e.state.association.sender) → e ≡ with_sender first e.state.association.sender
+pub turn-added : {W : Type 0} (has : W → List Sent → List Told → Type 0) (e f : Endpoint) (i now : ℕ) (r : Bool) (watch next last : W) (old mid new : Draft)
+    → i < 257 → r ≡ true → r ≡ is_some (next_place e.state.association.sender)
     → f ≡ with_sender e (gone_next e.state.association.sender now (next_place e.state.association.sender))
-    → Bundles has (way_of e) watch next old mid (next_chunks e.state.association.sender (next_place e.state.association.sender))
-    → Bundles has (way_of first) next last mid new (map DataChunk (going (257 - (i + 1)) now f.state.association.sender).chunks)
-    → Bundles has (way_of first) watch last old new (map DataChunk (going (257 - i) now e.state.association.sender).chunks)
-turn-bundled has first e f i now r watch next last old mid new l went is k m b more =
+    → Adds has watch next old mid (next_chunks e.state.association.sender (next_place e.state.association.sender))
+    → Adds has next last mid new (map DataChunk (going (257 - (i + 1)) now f.state.association.sender).chunks)
+    → Adds has watch last old new (map DataChunk (going (257 - i) now e.state.association.sender).chunks)
+turn-added has e f i now r watch next last old mid new l went is m b more =
     let s = e.state.association.sender in
     let t : Sending = gone_next s now (next_place s) in
-    let here : Bundles has (way_of first) watch next old mid (next_chunks s (next_place s)) =
-    subst (λ (w : Way). Bundles has w watch next old mid (next_chunks s (next_place s))) (ap way_of k) b in
-    let rest : Bundles has (way_of first) next last mid new (map DataChunk (going (257 - (i + 1)) now t).chunks) =
-    subst (λ (x : Endpoint). Bundles has (way_of first) next last mid new (map DataChunk (going (257 - (i + 1)) now x.state.association.sender).chunks)) m more in
+    let rest : Adds has next last mid new (map DataChunk (going (257 - (i + 1)) now t).chunks) =
+    subst (λ (x : Endpoint). Adds has next last mid new (map DataChunk (going (257 - (i + 1)) now x.state.association.sender).chunks)) m more in
     let chunks = ap (λ (g : Gone). map DataChunk g.chunks) (going-at i now s l) ∙ from-more (257 - (i + 1)) now s (next_place s) (sym is ∙ went) in
-    subst (λ (xs : List ChunkValue). Bundles has (way_of first) watch last old new xs) (sym chunks)
-    (bundles-then has (way_of first) watch next last old mid new (next_chunks s (next_place s)) (map DataChunk (going (257 - (i + 1)) now t).chunks) here rest)
+    subst (λ (xs : List ChunkValue). Adds has watch last old new xs) (sym chunks)
+    (adds-then has watch next last old mid new (next_chunks s (next_place s)) (map DataChunk (going (257 - (i + 1)) now t).chunks) b rest)
 
 -- no message may go out
-pub stop-bundled : {W : Type 0} (has : W → List Sent → List Told → Type 0) (first e : Endpoint) (i now : ℕ) (r : Bool) (watch next : W) (old new : List ℕ)
-    → i < 257 → r ≡ false → r ≡ is_some (next_place e.state.association.sender) → e ≡ with_sender first e.state.association.sender
-    → Bundles has (way_of e) watch next old new (next_chunks e.state.association.sender (next_place e.state.association.sender))
-    → Bundles has (way_of first) watch next old new (map DataChunk (going (257 - i) now e.state.association.sender).chunks)
-stop-bundled has first e i now r watch next old new l stays is k b =
+pub stop-added : {W : Type 0} (has : W → List Sent → List Told → Type 0) (e : Endpoint) (i now : ℕ) (r : Bool) (watch next : W) (old new : Draft)
+    → i < 257 → r ≡ false → r ≡ is_some (next_place e.state.association.sender)
+    → Adds has watch next old new (next_chunks e.state.association.sender (next_place e.state.association.sender))
+    → Adds has watch next old new (map DataChunk (going (257 - i) now e.state.association.sender).chunks)
+stop-added has e i now r watch next old new l stays is b =
     let s = e.state.association.sender in
     let chunks = ap (λ (g : Gone). map DataChunk g.chunks) (going-at i now s l) ∙ from-none (257 - (i + 1)) now s (next_place s) (sym is ∙ stays) in
-    subst (λ (xs : List ChunkValue). Bundles has (way_of first) watch next old new xs) (sym chunks)
-    (subst (λ (w : Way). Bundles has w watch next old new (next_chunks s (next_place s))) (ap way_of k) b)
+    subst (λ (xs : List ChunkValue). Adds has watch next old new xs) (sym chunks) b
 
 pub stop-left : (first e f : Endpoint) (i now : ℕ) (r : Bool) (last : Sending) → i < 257 → r ≡ false → r ≡ is_some (next_place e.state.association.sender) → e ≡ with_sender first e.state.association.sender
     → f ≡ with_sender e (gone_next e.state.association.sender now (next_place e.state.association.sender)) → (going (257 - i) now e.state.association.sender).left ≡ last → f ≡ with_sender first last
@@ -145,9 +130,9 @@ over i now s m =
     let none : 257 - i ≡ 0 = omega (arith, m) in
     ap (λ (n : ℕ). going n now s) none
 
-pub over-bundled : {W : Type 0} (has : W → List Sent → List Told → Type 0) (w : Way) (watch : W) (old : List ℕ) (i now : ℕ) (s : Sending) → 257 ≤ i
-    → Bundles has w watch watch old old (map DataChunk (going (257 - i) now s).chunks)
-over-bundled has w watch old i now s m = rw (over i now s m) (bundles-none has w watch old)
+pub over-added : {W : Type 0} (has : W → List Sent → List Told → Type 0) (watch : W) (d : Draft) (i now : ℕ) (s : Sending) → 257 ≤ i
+    → Adds has watch watch d d (map DataChunk (going (257 - i) now s).chunks)
+over-added has watch d i now s m = rw (over i now s m) (adds-none has watch d)
 
 pub over-left : (first e : Endpoint) (i now : ℕ) (last : Sending) → 257 ≤ i → e ≡ with_sender first e.state.association.sender → (going (257 - i) now e.state.association.sender).left ≡ last → e ≡ with_sender first last
 over-left first e i now last m k is_last =

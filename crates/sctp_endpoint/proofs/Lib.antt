@@ -1,16 +1,13 @@
-pub mod Rows
 pub mod Draws
 pub mod Keyed
 pub mod Answering
 pub mod Hearing
-pub mod Complaining
 pub mod Draining
 pub mod Chained
 pub mod Growing
 pub mod Counting
 pub mod Dispatching
-pub mod Bundling
-pub mod Sacks
+pub mod Acknowledging
 pub mod Going
 pub mod Flushing
 pub mod Ticking

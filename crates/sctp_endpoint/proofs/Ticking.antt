@@ -11,9 +11,9 @@ use Rattle.sctp_rules.specs.Ending.{aborted, ended, violation}
 use Rattle.sctp_rules.specs.Opening.{tried_again, trying_with}
 use Rattle.sctp_rules.specs.Timers.{is_due, unanswered, retry, tick_t1, tick_t5, tick_t2, t2_out, tick_t3, t3_out, tick_beat, beating, ticked}
 use Rattle.sctp_sending.specs.RoundTrips.{backed_off}
-use Rattle.sctp_endpoint.specs.Watching.{Sent}
+use Rattle.sctp_bundling.specs.Watching.{Sent}
 use Rattle.sctp_endpoint.specs.Endpoints.{Endpoint, Does, secrets_of}
-use Rattle.sctp_endpoint.specs.Replies.{size_of}
+use Rattle.sctp_bundling.specs.Replies.{size_of}
 use Rattle.sctp_endpoint.proofs.Chained.{then-does}
 
 -- a timer makes the generation grow by one at most, and draws no number

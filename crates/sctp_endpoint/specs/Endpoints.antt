@@ -3,7 +3,7 @@ use Rattle.std.specs.Prelude.{◌≡◌, ℕ, List}
 use Rattle.sctp_rules.specs.Settings.{Settings, Secrets}
 use Rattle.sctp_rules.specs.State.{State, Done, Told}
 use Rattle.sctp_ends.specs.Keyed.{keyed}
-use Rattle.sctp_endpoint.specs.Watching.{Sent, Gives}
+use Rattle.sctp_bundling.specs.Watching.{Sent, Gives}
 
 pub record Endpoint : Type 0 where
   pub settings : Settings

@@ -7,9 +7,9 @@ use Rattle.sctp_endpoint.specs.declared.endpoint.Endpoint.TheInside.{Inside}
 use Rattle.sctp_endpoint.specs.declared.peer.Attempt.{Attempt}
 use Rattle.sctp_endpoint.specs.declared.peer.Beat.{Beat}
 use Rattle.sctp_endpoint.specs.declared.peer.Peer.{Peer}
-use Rattle.sctp_endpoint.specs.Settings.{settings_of, address_of}
+use Rattle.sctp_bundling.specs.Settings.{settings_of, address_of}
 use Rattle.sctp_endpoint.specs.Endpoints.{Endpoint}
-use Rattle.sctp_endpoint.specs.Replies.{size_of}
+use Rattle.sctp_bundling.specs.Replies.{size_of}
 
 abbrev pub peer_of : Peer → rules.Peer
 peer_of p = record { first = p.first; window = p.window }

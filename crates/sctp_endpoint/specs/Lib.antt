@@ -1,13 +1,8 @@
-pub mod Settings
-pub mod Replies
-pub mod ChunkRows
-pub mod Written
-pub mod Watching
 pub mod Endpoints
 pub mod Drawn
 pub mod Beginning
 pub mod Hearing
-pub mod Bundling
+pub mod Flushing
 pub mod Arriving
 pub mod Draining
 pub mod Dispatching

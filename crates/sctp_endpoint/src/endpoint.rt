@@ -2,7 +2,7 @@
 
 ghost use Rattle.std.specs.Prelude.{◌≡◌, ◌≤◌, ◌^◌, IfOk};
 ghost use Rattle.sctp_rules.specs.State.{first_state, no_association, with_association};
-ghost use Rattle.sctp_endpoint.specs.Settings.{settings_of};
+ghost use Rattle.sctp_bundling.specs.Settings.{settings_of};
 
 mod aborts;
 mod answering;
@@ -32,12 +32,11 @@ mod ties;
 mod timing;
 mod unknown;
 
-use crate::address::Address;
 use crate::beginnings::Beginnings;
-use crate::chunks::Chunks;
 use crate::peer::{Attempt, Beat, Peer};
-use crate::settings::Settings;
+use sctp_bundling::{Address, Chunks, Settings};
 use sctp_receiving::Receiver;
+use sctp_receiving::limits::MESSAGE_OCTETS;
 use sctp_rules::Phase;
 use sctp_sending::Sender;
 use std::alloc::{AllocError, Global};
@@ -75,6 +74,8 @@ pub struct Endpoint {
     control: Chunks,
     sender: Sender,
     receiver: Receiver,
+    /// The octets of a message that was put together of several chunks.
+    message: [u8; MESSAGE_OCTETS],
     is_sack_due: bool,
     tried: Chunks,
     attempt: Option<Attempt>,
@@ -133,6 +134,7 @@ impl Endpoint {
             control: Chunks::new(),
             sender: Sender::new(alloc, settings.bounds)?,
             receiver: Receiver::new(alloc, NO_STREAMS, 0)?,
+            message: [0; MESSAGE_OCTETS],
             is_sack_due: false,
             tried: Chunks::new(),
             attempt: None,

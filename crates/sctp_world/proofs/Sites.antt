@@ -8,7 +8,7 @@ use Rattle.sctp_sending.specs.Outgoing as outgoing
 use Rattle.sctp_rules.specs.Sending.{may_send, send}
 use Rattle.sctp_rules.specs.Endpoint.{Sends, after}
 use Rattle.sctp_ends.specs.Told.{opened_by, with_last, text_given}
-use Rattle.sctp_endpoint.specs.Watching.{Sent, sent_as, Gives}
+use Rattle.sctp_bundling.specs.Watching.{Sent, sent_as, Gives}
 use Rattle.sctp_endpoint.specs.Endpoints.{Endpoint, Does}
 use Rattle.sctp_world.specs.Kept.{KeptLog, HasAll, KeptSite, Keeps, kept_happened, with_done, is_up_at}
 

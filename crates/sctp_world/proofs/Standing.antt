@@ -19,11 +19,11 @@ use Rattle.sctp_world.specs.declared.step.End.{End}
 use Rattle.sctp_world.specs.declared.step.End.TheVariants.{Near, Far}
 use Rattle.sctp_ends.proofs.Keyed.{keyed-good}
 use Rattle.sctp_ends.proofs.World.{were-given, have-the-laws}
-use Rattle.sctp_endpoint.specs.ChunkRows.{packet_text}
-use Rattle.sctp_endpoint.specs.Watching.{Sent, sent_as}
+use Rattle.sctp_bundling.specs.ChunkRows.{packet_text}
+use Rattle.sctp_bundling.specs.Watching.{Sent, sent_as}
 use Rattle.sctp_endpoint.specs.Endpoints.{secrets_of}
 use Rattle.sctp_sending.specs.Cells.{given_as}
-use Rattle.sctp_endpoint.specs.Settings.{address_of}
+use Rattle.sctp_bundling.specs.Settings.{address_of}
 use Rattle.sctp_endpoint.specs.Dispatching.{heard_datagram}
 use Rattle.sctp_world.specs.declared.step.Doing.{Doing}
 use Rattle.sctp_world.specs.declared.step.Doing.TheVariants.{Open, Send, Abort, ShutDown, Tick, Flush, Hear}

@@ -4,7 +4,7 @@ use Rattle.sctp_codec.specs.Reading.{read_packet}
 use Rattle.sctp_sending.specs.Cells.{given_as}
 use Rattle.sctp_rules.specs.Endpoint.{Opens, Sends, Aborts, ShutsDown, Ticked, Flushes}
 use Rattle.sctp_ends.specs.Worlds as worlds
-use Rattle.sctp_endpoint.specs.Settings.{address_of}
+use Rattle.sctp_bundling.specs.Settings.{address_of}
 use Rattle.sctp_endpoint.specs.Endpoints.{secrets_of}
 use Rattle.sctp_endpoint.specs.Dispatching.{heard_datagram}
 use Rattle.sctp_world.specs.declared.step.Doing.{Doing}

@@ -6,7 +6,7 @@ use Rattle.sctp_receiving.specs.Pieces as pieces
 use Rattle.sctp_rules.specs.State.{Told, Up, Heard, Down, Failed, Done, first_state}
 use Rattle.sctp_rules.specs.Endpoint.{Happening, after}
 use Rattle.sctp_ends.specs.Told.{opened_by, given_by}
-use Rattle.sctp_endpoint.specs.Watching.{Sent, sent_as}
+use Rattle.sctp_bundling.specs.Watching.{Sent, sent_as}
 use Rattle.sctp_endpoint.specs.Endpoints.{Endpoint, secrets_of}
 use Rattle.sctp_world.specs.declared.step.End.{End}
 use Rattle.sctp_world.specs.declared.step.End.TheVariants.{Near, Far}

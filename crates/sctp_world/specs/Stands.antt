@@ -4,8 +4,8 @@ use Rattle.std.specs.List.{Contains}
 use Rattle.sctp_rules.specs.WrittenPackets.{HasPorts, Fits}
 use Rattle.sctp_moves.specs.Numbers.{modulus, window}
 use Rattle.sctp_ends.specs.Worlds.{Emitted, Site, World, Make, Step, at_near, at_far, new_world, last_world, messages_at}
-use Rattle.sctp_endpoint.specs.ChunkRows.{packet_text}
-use Rattle.sctp_endpoint.specs.Watching.{Sent}
+use Rattle.sctp_bundling.specs.ChunkRows.{packet_text}
+use Rattle.sctp_bundling.specs.Watching.{Sent}
 use Rattle.sctp_endpoint.specs.Endpoints.{secrets_of}
 use Rattle.sctp_world.specs.Kept.{KeptSite, KeptWorld}
 

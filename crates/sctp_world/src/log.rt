@@ -1,8 +1,8 @@
 //! All that an endpoint ever put out and told.
 
 ghost use Rattle.std.specs.Prelude.{◌≡◌, [], ◌∷◌, ◌++◌, true, false, IfOk, OnOk};
-ghost use Rattle.sctp_endpoint.specs.Settings.{address_of};
-ghost use Rattle.sctp_endpoint.specs.Watching.{told_of};
+ghost use Rattle.sctp_bundling.specs.Settings.{address_of};
+ghost use Rattle.sctp_bundling.specs.Watching.{told_of};
 ghost use Rattle.sctp_world.specs.Kept.{told_by_entry, HasAll};
 
 use crate::text::Text;
@@ -19,8 +19,8 @@ pub struct Datagram {
 }
 
 impl Model for Datagram {
-    ghost use Rattle.sctp_endpoint.specs.Settings.{address_of};
-    ghost use Rattle.sctp_endpoint.specs.Watching.{Sent};
+    ghost use Rattle.sctp_bundling.specs.Settings.{address_of};
+    ghost use Rattle.sctp_bundling.specs.Watching.{Sent};
 
     ghost Value = { Sent };
 

@@ -6,7 +6,7 @@ ghost use Rattle.sctp_sending.specs.Cells.{given_as};
 ghost use Rattle.sctp_rules.specs.Sending.{may_send};
 ghost use Rattle.sctp_rules.specs.Endpoint.{Opens, Ticked, Sends, Aborts, ShutsDown, Flushes};
 ghost use Rattle.sctp_ends.specs.Told.{opened_by, with_last, text_given};
-ghost use Rattle.sctp_endpoint.specs.Settings.{settings_of, address_of};
+ghost use Rattle.sctp_bundling.specs.Settings.{settings_of, address_of};
 ghost use Rattle.sctp_endpoint.specs.Endpoints.{secrets_of};
 ghost use Rattle.sctp_endpoint.specs.Dispatching.{heard_datagram};
 ghost use Rattle.sctp_world.specs.Kept.{Keeps, kept_happened, with_done, is_up_at, first_kept, octets_at};

@@ -5,7 +5,7 @@ ghost use Rattle.sctp_rules.specs.WrittenPackets.{HasPorts};
 ghost use Rattle.sctp_ends.specs.Worlds as worlds;
 ghost use Rattle.sctp_ends.specs.Theorems.{Delivers, AreAssociated};
 ghost use Rattle.sctp_ends.specs.Told.{told_by};
-ghost use Rattle.sctp_endpoint.specs.Settings.{settings_of};
+ghost use Rattle.sctp_bundling.specs.Settings.{settings_of};
 ghost use Rattle.sctp_world.specs.Kept.{Keeps, first_kept, kept_at, other_kept, is_whole};
 ghost use Rattle.sctp_world.specs.Doing.{is_done, kept_did, HasNumbers, MayCome, site_at, other_site};
 ghost use Rattle.sctp_world.specs.Stands.{StandsFor, GoesOn, make_of, first_of};

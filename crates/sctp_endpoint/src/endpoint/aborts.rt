@@ -4,12 +4,11 @@ ghost use Rattle.std.specs.Prelude.{◌≡◌, ◌<◌, ◌≤◌, ◌^◌, ◌-
 ghost use Rattle.sctp_codec.specs.Packets.{AbortChunk};
 ghost use Rattle.sctp_rules.specs.Ending.{ended_alone};
 ghost use Rattle.sctp_rules.specs.Packets.{has_tag, heard_abort, loss_by_abort};
-ghost use Rattle.sctp_endpoint.specs.Replies.{last_of, size_of_last};
+ghost use Rattle.sctp_bundling.specs.Replies.{last_of, size_of_last};
 ghost use Rattle.sctp_endpoint.specs.Endpoints.{Does};
 
 use crate::endpoint::Endpoint;
-use crate::reply::Reply;
-use crate::watch::Watch;
+use sctp_bundling::{Reply, Watch};
 use sctp_rules::{Loss, Phase};
 
 impl Endpoint {

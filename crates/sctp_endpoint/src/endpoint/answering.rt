@@ -17,16 +17,14 @@ ghost use Rattle.sctp_rules.specs.Opening.{
 };
 ghost use Rattle.sctp_rules.specs.State.{put};
 ghost use Rattle.sctp_rules.specs.Ending.{abort_for};
-ghost use Rattle.sctp_endpoint.specs.Settings.{address_of};
-ghost use Rattle.sctp_endpoint.specs.Watching.{Gives};
+ghost use Rattle.sctp_bundling.specs.Settings.{address_of};
+ghost use Rattle.sctp_bundling.specs.Watching.{Gives};
 ghost use Rattle.sctp_endpoint.specs.Endpoints.{Does, secrets_of};
 
-use crate::address::Address;
 use crate::endpoint::Endpoint;
 use crate::endpoint::opening::offer;
-use crate::packets::{blank, write_init_answer};
-use crate::reply::Reply;
-use crate::watch::Watch;
+use sctp_bundling::packets::put_init_answer;
+use sctp_bundling::{Address, Reply, Watch};
 use sctp_codec::{Cause, Init, host_name};
 use sctp_cookie::Cookie;
 use sctp_rules::Phase;
@@ -192,16 +190,8 @@ impl Endpoint {
             .cookie_for(init, tag, first_tsn, now)
             .sign(&self.cookie_key);
         let offer = offer(tag, first_tsn);
-        let mut out = blank();
-        let end = write_init_answer(
-            &mut out,
-            &self.settings,
-            init.offer.tag,
-            &offer,
-            &cookie,
-            init.parameters,
-        );
-        watch.send(&out[..end], source);
+        let way = self.way(source, init.offer.tag);
+        put_init_answer(&way, &offer, &cookie, init.parameters, watch);
     }
 
     /// The cookie that an INIT is answered with.

@@ -4,12 +4,12 @@ ghost use Rattle.std.specs.Prelude.{◌≡◌, ◌+◌, ◌*◌, ◌/◌, ◌≤
 ghost use Rattle.sctp_codec.specs.Packets.{HeartbeatAckChunk};
 ghost use Rattle.sctp_rules.specs.Ending.{answered};
 ghost use Rattle.sctp_rules.specs.Data.{heard_heartbeat, heard_heartbeat_ack, beat_answered};
-ghost use Rattle.sctp_endpoint.specs.Replies.{size_of};
+ghost use Rattle.sctp_bundling.specs.Replies.{size_of};
 
 use crate::endpoint::Endpoint;
 use crate::endpoint::ties::is_there;
 use crate::peer::Beat;
-use crate::reply::Reply;
+use sctp_bundling::Reply;
 use sctp_codec::heartbeat_information;
 use sctp_rules::limits::CONTROL_OCTETS;
 

@@ -1,11 +1,12 @@
 //! COOKIE ECHO that comes (RFC 9260 §5.1.5, §5.2.4).
 
-ghost use Rattle.std.specs.Prelude.{◌≡◌, ◌<◌, ◌≤◌, ◌^◌, ◌-◌};
-ghost use Rattle.sctp_rules.specs.State.{followed_by};
+ghost use Rattle.std.specs.Prelude.{◌≡◌, ◌<◌, ◌≤◌, ◌^◌, ◌-◌, if◌then◌else◌};
+ghost use Rattle.sctp_rules.specs.State.{followed_by, silent};
 ghost use Rattle.sctp_rules.specs.Ending.{ended};
 ghost use Rattle.sctp_rules.specs.declared.loss.Loss.TheVariants.{Restart};
 ghost use Rattle.sctp_rules.specs.Opening.{
   opened_by,
+  stops,
   acknowledged_again,
   stale,
   refused_in_shutdown,
@@ -16,17 +17,15 @@ ghost use Rattle.sctp_rules.specs.Opening.{
   heard_cookie_echo,
 };
 ghost use Rattle.sctp_ends.specs.Keyed.{opened_under};
-ghost use Rattle.sctp_endpoint.specs.Settings.{address_of};
-ghost use Rattle.sctp_endpoint.specs.Watching.{Gives};
+ghost use Rattle.sctp_bundling.specs.Settings.{address_of};
+ghost use Rattle.sctp_bundling.specs.Watching.{Gives};
 ghost use Rattle.sctp_endpoint.specs.Endpoints.{Does, secrets_of};
 ghost use Rattle.sctp_endpoint.specs.Hearing.{heard_another, heard_in_time};
 
-use crate::address::Address;
 use crate::endpoint::Endpoint;
 use crate::endpoint::ties::staleness;
 use crate::peer::{Names, Peer};
-use crate::reply::Reply;
-use crate::watch::Watch;
+use sctp_bundling::{Address, Reply, Watch};
 use sctp_codec::Cause;
 use sctp_cookie::Cookie;
 use sctp_rules::{Loss, Phase};
@@ -158,29 +157,11 @@ impl Endpoint {
             self.old.state).goes_on }
     {
         match self.phase {
-            Phase::Closed => {
-                if self.is_wanted {
-                    self.open_by(source, cookie, now, watch);
-                    true
-                } else {
-                    false
-                }
-            }
-            Phase::CookieWait => {
-                if self.is_own(cookie) {
-                    self.open_by(source, cookie, now, watch);
-                    true
-                } else {
-                    false
-                }
-            }
+            Phase::Closed => self.open_if(self.is_wanted, source, cookie, now, watch),
+            Phase::CookieWait => self.open_if(self.is_own(cookie), source, cookie, now, watch),
             Phase::CookieEchoed => {
-                if self.is_own(cookie) && self.is_far(cookie) {
-                    self.open_by(source, cookie, now, watch);
-                    true
-                } else {
-                    false
-                }
+                let is_awaited = self.is_own(cookie) && self.is_far(cookie);
+                self.open_if(is_awaited, source, cookie, now, watch)
             }
             Phase::Established
             | Phase::ShutdownPending
@@ -190,6 +171,34 @@ impl Endpoint {
                 self.hear_other_cookie(source, cookie, watch);
                 false
             }
+        }
+    }
+
+    /// The association opens by a cookie, if it may; answers whether it did.
+    fn open_if<W: Watch>(
+        &mut self,
+        may_open: bool,
+        source: &Address,
+        cookie: &Cookie,
+        now: u64,
+        watch: &mut W,
+    ) -> bool
+        requires generation { self.old.state.generation < 2 ^ 64 - 1 }
+        requires now { now ≤ 2 ^ 63 }
+        ensures does { Does W.has watch.old watch.new self.old self.new
+            (if may_open
+            then opened_by self.old.settings now (address_of source.now) cookie.now self.old.state
+            else stops (silent self.old.state)).does }
+        ensures goes_on { result
+            ≡ (if may_open
+            then opened_by self.old.settings now (address_of source.now) cookie.now self.old.state
+            else stops (silent self.old.state)).goes_on }
+    {
+        if may_open {
+            self.open_by(source, cookie, now, watch);
+            true
+        } else {
+            false
         }
     }
 

@@ -5,16 +5,15 @@ ghost use Rattle.sctp_codec.specs.Values.{data_of};
 ghost use Rattle.sctp_receiving.specs.Reading.{lent, told_by};
 ghost use Rattle.sctp_receiving.specs.Pieces as pieces;
 ghost use Rattle.sctp_receiving.specs.Receiver.{received, is_violation};
-ghost use Rattle.sctp_rules.specs.Data.{takes_data, piece_of, no_stream, violated, told_one, after_data, heard_data};
+ghost use Rattle.sctp_rules.specs.Data.{takes_data, piece_of, no_stream, violated, after_data, heard_data};
 ghost use Rattle.sctp_rules.specs.Ending.{answered};
 ghost use Rattle.sctp_rules.specs.State.{Heard};
 ghost use Rattle.sctp_endpoint.specs.Endpoints.{Does};
-ghost use Rattle.sctp_endpoint.specs.Watching.{Tells};
-ghost use Rattle.sctp_endpoint.specs.Draining.{told_next, told_held, heard_piece};
+ghost use Rattle.sctp_bundling.specs.Watching.{Tells};
+ghost use Rattle.sctp_endpoint.specs.Draining.{answered_by, messages_of, told_next, told_held, heard_piece};
 
 use crate::endpoint::Endpoint;
-use crate::reply::Reply;
-use crate::watch::{Event, Watch};
+use sctp_bundling::{Event, Reply, Watch};
 use sctp_codec::{Cause, Data};
 use sctp_receiving::limits::{CHUNKS, MESSAGE_OCTETS};
 use sctp_receiving::{Piece, Told, Violation};
@@ -69,20 +68,14 @@ impl Endpoint {
             (received self.old.state.association.receiver carried.now.tsn (piece_of (data_of carried.now)))
             self.old.state) }
     {
-        let mut buffer = [0; MESSAGE_OCTETS];
         self.is_sack_due = true;
-        if self.take_piece(carried, &mut buffer, watch) {
-            self.take_held(&mut buffer, watch);
+        if self.take_piece(carried, watch) {
+            self.take_held(watch);
         }
     }
 
     /// A chunk goes to the receiver, and what it tells to the user; answers whether the association goes on.
-    fn take_piece<W: Watch>(
-        &mut self,
-        carried: &Data<'_>,
-        buffer: &mut MessageBuffer,
-        watch: &mut W,
-    ) -> bool
+    fn take_piece<W: Watch>(&mut self, carried: &Data<'_>, watch: &mut W) -> bool
         requires { self.old.state.generation < 2 ^ 64 - 1 }
         ensures does { Does W.has watch.old watch.new self.old self.new
             (heard_piece self.old.settings carried.now.tsn (piece_of (data_of carried.now)) self.old.state).does }
@@ -98,19 +91,20 @@ impl Endpoint {
             unordered: carried.unordered,
             octets: carried.octets,
         };
-        let told = self.receiver.hear(carried.tsn, piece, buffer);
-        self.tell(told, piece, buffer, watch);
+        let told = self.receiver.hear(carried.tsn, piece, &mut self.message);
+        tell_user(told, piece, &self.message, watch);
+        self.answer(told, watch);
         !is_violation(told)
     }
 
     /// The chunks that were held behind one that was consumed are consumed, and what they tell goes to the user.
-    fn take_held<W: Watch>(&mut self, buffer: &mut MessageBuffer, watch: &mut W)
+    fn take_held<W: Watch>(&mut self, watch: &mut W)
         requires { self.old.state.generation < 2 ^ 64 - 1 }
         ensures { Does W.has watch.old watch.new self.old self.new
             (told_held self.old.settings CHUNKS self.old.state) }
     {
         'each_chunk: for _ in 0..CHUNKS {
-            if !self.take_next(buffer, watch) {
+            if !self.take_next(watch) {
                 return;
             }
         }
@@ -118,40 +112,32 @@ impl Endpoint {
 
     /// The next chunk is consumed, where it is held, and what it tells goes to the user; answers whether there may be
     /// another.
-    fn take_next<W: Watch>(&mut self, buffer: &mut MessageBuffer, watch: &mut W) -> bool
+    fn take_next<W: Watch>(&mut self, watch: &mut W) -> bool
         requires { self.old.state.generation < 2 ^ 64 - 1 }
         ensures does { Does W.has watch.old watch.new self.old self.new
             (told_next self.old.settings self.old.state).does }
         ensures goes_on { result ≡ (told_next self.old.settings self.old.state).goes_on }
     {
-        match self.receiver.take_next(buffer) {
+        match self.receiver.take_next(&mut self.message) {
             Some(told) => {
-                self.tell(told, NO_PIECE, buffer, watch);
+                tell_user(told, NO_PIECE, &self.message, watch);
+                self.answer(told, watch);
                 !is_violation(told)
             }
             None => false,
         }
     }
 
-    /// What a chunk tells: a message goes to the user, a stream that there isn't to the peer; a violation is the end.
-    fn tell<W: Watch>(
-        &mut self,
-        told: Told,
-        piece: Piece<'_>,
-        buffer: &MessageBuffer,
-        watch: &mut W,
-    )
+    /// What a chunk tells that isn't for the user: a stream that there isn't, to the peer; a violation is the end.
+    fn answer<W: Watch>(&mut self, told: Told, watch: &mut W)
         requires { self.old.state.generation < 2 ^ 64 - 1 }
-        ensures { Does W.has watch.old watch.new self.old self.new
-            (told_one self.old.settings (told_by (lent piece.entry) buffer.now told) self.old.state) }
+        ensures { (p : pieces.Piece) (buffer : List ℕ) → Does W.has watch.old watch.new self.old self.new
+            (answered_by self.old.settings (told_by p buffer told) self.old.state) }
     {
         match told {
             Told::Nothing => {}
-            Told::Whole => tell_message(piece.stream, piece.protocol, piece.octets, watch),
-            Told::Message(stream, protocol, count) => {
-                let end = count.min(MESSAGE_OCTETS);
-                tell_message(stream, protocol, &buffer[..end], watch);
-            }
+            Told::Whole => {}
+            Told::Message(_, _, _) => {}
             Told::NoStream(stream) => self.answer_no_stream(stream),
             Told::Violates(violation) => self.end_for(violation, watch),
         }
@@ -176,6 +162,22 @@ impl Endpoint {
             self.answer_no_stream(stream);
         }
         self.abort_violation(watch);
+    }
+}
+
+/// A message that a chunk tells goes to the user: the chunk's own octets, or those in the buffer.
+fn tell_user<W: Watch>(told: Told, piece: Piece<'_>, buffer: &MessageBuffer, watch: &mut W)
+    ensures { Tells W.has watch.old watch.new (messages_of (told_by (lent piece.entry) buffer.now told)) }
+{
+    match told {
+        Told::Nothing => {}
+        Told::Whole => tell_message(piece.stream, piece.protocol, piece.octets, watch),
+        Told::Message(stream, protocol, count) => {
+            let end = count.min(MESSAGE_OCTETS);
+            tell_message(stream, protocol, &buffer[..end], watch);
+        }
+        Told::NoStream(_) => {}
+        Told::Violates(_) => {}
     }
 }
 

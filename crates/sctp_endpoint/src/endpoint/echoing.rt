@@ -2,14 +2,13 @@
 
 ghost use Rattle.std.specs.Prelude.{◌≡◌, ◌<◌, ◌≤◌, ◌^◌, ◌-◌};
 ghost use Rattle.sctp_rules.specs.Opening.{opened, heard_cookie_ack};
-ghost use Rattle.sctp_endpoint.specs.Settings.{address_of};
+ghost use Rattle.sctp_bundling.specs.Settings.{address_of};
 ghost use Rattle.sctp_endpoint.specs.Inside.{peer_of};
 ghost use Rattle.sctp_endpoint.specs.Endpoints.{Does};
 
-use crate::address::Address;
 use crate::endpoint::Endpoint;
 use crate::peer::{Names, Peer};
-use crate::watch::{Event, Watch};
+use sctp_bundling::{Address, Event, Watch};
 use sctp_rules::Phase;
 use sctp_rules::limits::STREAMS;
 

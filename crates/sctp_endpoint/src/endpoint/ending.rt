@@ -3,30 +3,39 @@
 ghost use Rattle.std.specs.Prelude.{◌≡◌, ◌<◌, ◌≤◌, ◌^◌, ◌-◌, ◌++◌, [], ◌∷◌};
 ghost use Rattle.sctp_rules.specs.State.{put};
 ghost use Rattle.sctp_rules.specs.Ending.{ended, ended_with, aborted, abort, told_of_end, last_words, has_peer};
-ghost use Rattle.sctp_endpoint.specs.Settings.{address_of};
-ghost use Rattle.sctp_endpoint.specs.Replies.{chunk_of, size_of, last_of, size_of_last};
-ghost use Rattle.sctp_endpoint.specs.Watching.{Gives, Puts, Tells};
+ghost use Rattle.sctp_bundling.specs.Settings.{address_of};
+ghost use Rattle.sctp_bundling.specs.Replies.{chunk_of, size_of, last_of, size_of_last};
+ghost use Rattle.sctp_bundling.specs.Watching.{Gives, Puts, Tells};
+ghost use Rattle.sctp_bundling.specs.Ways.{way_of};
+ghost use Rattle.sctp_endpoint.specs.Flushing.{way_to};
 ghost use Rattle.sctp_endpoint.specs.Endpoints.{Does};
 
-use crate::address::Address;
-use crate::chunks::Chunks;
 use crate::endpoint::Endpoint;
-use crate::packets::{blank, write_packet};
-use crate::reply::Reply;
-use crate::watch::{Event, Watch};
+use sctp_bundling::packets::put_packet;
+use sctp_bundling::{Address, Chunks, Event, Reply, Watch, Way};
 use sctp_codec::Cause;
 use sctp_rules::{Loss, Phase};
 
 impl Endpoint {
+    /// Where packets go to an address, with a tag.
+    pub(super) fn way(&self, to: &Address, tag: u32) -> Way
+        ensures { way_of result ≡ way_to self.now.settings (address_of to.now) tag }
+    {
+        Way {
+            source: self.settings.own_port,
+            destination: self.settings.far_port,
+            tag,
+            to: *to,
+        }
+    }
+
     /// A packet with one chunk goes out at once.
     pub(super) fn put<W: Watch>(&self, to: &Address, tag: u32, chunk: &Reply<'_>, watch: &mut W)
         requires { size_of (chunk_of chunk.now) ≤ 1188 }
         ensures { Gives W.has watch.old watch.new
             (put self.now.settings (address_of to.now) tag (chunk_of chunk.now ∷ []) self.now.state) }
     {
-        let mut out = blank();
-        let end = write_packet(&mut out, &self.settings, tag, &[], Some(chunk));
-        watch.send(&out[..end], to);
+        put_packet(&self.way(to, tag), &[], Some(chunk), watch);
     }
 
     /// A packet with these chunks goes out at once.
@@ -34,9 +43,7 @@ impl Endpoint {
         ensures { Gives W.has watch.old watch.new
             (put self.now.settings (address_of to.now) tag chunks.now self.now.state) }
     {
-        let mut out = blank();
-        let end = write_packet(&mut out, &self.settings, tag, chunks.octets(), None);
-        watch.send(&out[..end], to);
+        put_packet(&self.way(to, tag), chunks.octets(), None, watch);
     }
 
     /// The user ends the association, the try of one, or the wish for one.
@@ -71,15 +78,8 @@ impl Endpoint {
         if !has_peer(self.phase) || (self.control.size() == 0 && last.is_none()) {
             return;
         }
-        let mut out = blank();
-        let end = write_packet(
-            &mut out,
-            &self.settings,
-            self.far_tag,
-            self.control.octets(),
-            last,
-        );
-        watch.send(&out[..end], &self.address);
+        let way = self.way(&self.address, self.far_tag);
+        put_packet(&way, self.control.octets(), last, watch);
     }
 
     /// The user is told that it ended, if it was up or wanted.

@@ -9,7 +9,7 @@ ghost use Rattle.sctp_endpoint.specs.Dispatching.{counts_behind};
 
 use crate::endpoint::Endpoint;
 use crate::endpoint::unknown::is_skipped;
-use crate::watch::Watch;
+use sctp_bundling::Watch;
 use sctp_codec::Chunk;
 use sctp_rules::Phase;
 

@@ -14,16 +14,14 @@ ghost use Rattle.sctp_rules.specs.Packets.{
   heard_all,
   heard,
 };
-ghost use Rattle.sctp_endpoint.specs.Settings.{address_of};
+ghost use Rattle.sctp_bundling.specs.Settings.{address_of};
 ghost use Rattle.sctp_endpoint.specs.Endpoints.{Does, secrets_of};
 ghost use Rattle.sctp_endpoint.specs.Dispatching.{heard_datagram, heard_echo};
 
-use crate::address::Address;
 use crate::endpoint::Endpoint;
 use crate::endpoint::handling::{has_peer_tag, is_closed};
 use crate::endpoint::out_of_the_blue::{INIT, is_unanswered};
-use crate::reply::Reply;
-use crate::watch::Watch;
+use sctp_bundling::{Address, Reply, Watch};
 use sctp_codec::{Chunk, Chunks, Packet};
 use sctp_rules::Phase;
 

@@ -10,12 +10,10 @@ ghost use Rattle.sctp_rules.specs.declared.loss.Loss.TheVariants.{BadInitAck};
 ghost use Rattle.sctp_endpoint.specs.Beginning.{echoed_or_refused, with_peer};
 ghost use Rattle.sctp_endpoint.specs.Endpoints.{Does};
 
-use crate::chunks::Chunks;
 use crate::endpoint::Endpoint;
 use crate::endpoint::answering::has_few_streams;
 use crate::peer::{Attempt, Peer};
-use crate::reply::Reply;
-use crate::watch::Watch;
+use sctp_bundling::{Chunks, Reply, Watch};
 use sctp_codec::{Cause, Init, cookie, host_name};
 use sctp_rules::limits::COOKIE_OCTETS;
 use sctp_rules::{Loss, Phase};

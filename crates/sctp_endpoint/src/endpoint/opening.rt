@@ -4,18 +4,15 @@ ghost use Rattle.std.specs.Prelude.{◌≡◌, ◌<◌, ◌≤◌, ◌^◌, ◌+
 ghost use Rattle.sctp_cookie.specs.Tags.{next_tag};
 ghost use Rattle.sctp_rules.specs.State.{put};
 ghost use Rattle.sctp_rules.specs.Opening.{opening, may_open, begun, begun_anew, trying_with, tag_of_try};
-ghost use Rattle.sctp_endpoint.specs.Settings.{address_of};
-ghost use Rattle.sctp_endpoint.specs.Watching.{Gives};
+ghost use Rattle.sctp_bundling.specs.Settings.{address_of};
+ghost use Rattle.sctp_bundling.specs.Watching.{Gives};
 ghost use Rattle.sctp_endpoint.specs.Endpoints.{Does, secrets_of};
 ghost use Rattle.sctp_ends.specs.Keyed.{drawing_after};
 ghost use Rattle.sctp_endpoint.specs.Beginning.{begun_by, in_try, with_try};
 
-use crate::address::Address;
-use crate::chunks::Chunks;
 use crate::endpoint::Endpoint;
 use crate::peer::Attempt;
-use crate::reply::Reply;
-use crate::watch::Watch;
+use sctp_bundling::{Address, Chunks, Reply, Watch};
 use sctp_codec::Offer;
 use sctp_receiving::limits::WINDOW;
 use sctp_rules::limits::STREAMS;

@@ -5,13 +5,11 @@ ghost use Rattle.std.specs.List.{list_any};
 ghost use Rattle.sctp_codec.specs.Values.{chunk_value, chunks_of};
 ghost use Rattle.sctp_rules.specs.State.{put};
 ghost use Rattle.sctp_rules.specs.Packets.{is_quiet, is_quiet_first, answer_to};
-ghost use Rattle.sctp_endpoint.specs.Settings.{address_of};
-ghost use Rattle.sctp_endpoint.specs.Watching.{Gives};
+ghost use Rattle.sctp_bundling.specs.Settings.{address_of};
+ghost use Rattle.sctp_bundling.specs.Watching.{Gives};
 
-use crate::address::Address;
 use crate::endpoint::Endpoint;
-use crate::reply::Reply;
-use crate::watch::Watch;
+use sctp_bundling::{Address, Reply, Watch};
 use sctp_codec::{Chunk, Chunks};
 
 /// The type of INIT.

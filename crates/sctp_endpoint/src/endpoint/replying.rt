@@ -6,7 +6,7 @@ ghost use Rattle.sctp_rules.specs.State.{with_association};
 ghost use Rattle.sctp_rules.specs.Ending.{answered, with_answer_first};
 
 use crate::endpoint::Endpoint;
-use crate::reply::Reply;
+use sctp_bundling::Reply;
 use sctp_rules::limits::CONTROL_OCTETS;
 
 /// Octets of a COOKIE ACK chunk.

@@ -9,7 +9,7 @@ ghost use Rattle.sctp_endpoint.specs.Endpoints.{Does, secrets_of};
 
 use crate::endpoint::Endpoint;
 use crate::peer::Attempt;
-use crate::watch::Watch;
+use sctp_bundling::Watch;
 use sctp_codec::{Items, has_stale_cookie};
 use sctp_rules::{Loss, Phase};
 

@@ -8,7 +8,7 @@ ghost use Rattle.sctp_endpoint.specs.Endpoints.{Does};
 ghost use Rattle.sctp_endpoint.specs.Arriving.{noted_sack};
 
 use crate::endpoint::Endpoint;
-use crate::watch::Watch;
+use sctp_bundling::Watch;
 use sctp_codec::Sack;
 use sctp_rules::Phase;
 use sctp_rules::limits::SHUT_WINDOW;

@@ -24,8 +24,7 @@ ghost use Rattle.sctp_endpoint.specs.Endpoints.{Does};
 
 use crate::endpoint::Endpoint;
 use crate::endpoint::sacks::takes_sack;
-use crate::reply::Reply;
-use crate::watch::{Event, Watch};
+use sctp_bundling::{Event, Reply, Watch};
 use sctp_codec::Cause;
 use sctp_rules::limits::CONTROL_OCTETS;
 use sctp_rules::{Loss, Phase};

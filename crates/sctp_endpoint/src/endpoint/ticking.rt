@@ -6,7 +6,7 @@ ghost use Rattle.sctp_rules.specs.Shutdown.{shutdown};
 ghost use Rattle.sctp_endpoint.specs.Endpoints.{Does, secrets_of};
 
 use crate::endpoint::Endpoint;
-use crate::watch::Watch;
+use sctp_bundling::Watch;
 use sctp_rules::Phase;
 
 impl Endpoint {

@@ -9,8 +9,7 @@ ghost use Rattle.sctp_endpoint.specs.Endpoints.{Does};
 
 use crate::endpoint::Endpoint;
 use crate::endpoint::shutting::{SHUTDOWN_ACK_OCTETS, SHUTDOWN_OCTETS};
-use crate::reply::Reply;
-use crate::watch::Watch;
+use sctp_bundling::{Reply, Watch};
 use sctp_codec::Cause;
 use sctp_rules::limits::CONTROL_OCTETS;
 use sctp_rules::{Loss, Phase};

@@ -5,10 +5,10 @@ ghost use Rattle.sctp_codec.specs.Packets.{ErrorChunk};
 ghost use Rattle.sctp_codec.specs.Parameters.{UnrecognizedChunk, cause_item};
 ghost use Rattle.sctp_rules.specs.Ending.{answered};
 ghost use Rattle.sctp_rules.specs.Packets.{is_reported, is_skipped, heard_unknown};
-ghost use Rattle.sctp_endpoint.specs.Replies.{size_of};
+ghost use Rattle.sctp_bundling.specs.Replies.{size_of};
 
 use crate::endpoint::Endpoint;
-use crate::reply::Reply;
+use sctp_bundling::Reply;
 use sctp_codec::Cause;
 use sctp_rules::limits::CONTROL_OCTETS;
 

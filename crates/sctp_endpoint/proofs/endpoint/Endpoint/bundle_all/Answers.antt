@@ -1,29 +1,26 @@
-use Rattle.std.proofs.Common.{take, ◌∙◌, arith}
+use Rattle.std.proofs.Common.{◌∙◌, arith}
 use Rattle.sctp_sending.specs.Sending.{gone_next, next_place}
 use Rattle.sctp_rules.specs.Confirming.{all_gone}
-use Rattle.sctp_endpoint.specs.Bundling.{way_of}
-use Rattle.sctp_endpoint.proofs.Going.{turn-kept, turn-left, turn-bundled, stop-bundled, stop-left, over-bundled, over-left}
+use Rattle.sctp_endpoint.proofs.Going.{turn-kept, turn-left, turn-added, stop-added, stop-left, over-added, over-left}
 use Rattle.sctp_endpoint.proofs.endpoint.Endpoint.bundle_all.Goals as goal
 
 pub loop-preserved : goal.loop-preserved
 loop-preserved g c =
     let s = c.loop.self.state.association.sender in
     record {
-      front = c.bundle_next.ensures.front;
-      room = c.bundle_next.ensures.room;
       kept = turn-kept c.args.self.now c.loop.self c.bundle_next.new.self (gone_next s c.args.now (next_place s)) c.loop.invariant.kept c.bundle_next.ensures.left;
       left = turn-left c.loop.self c.bundle_next.new.self c.loop.counter c.args.now c.bundle_next.result c.loop-test.true c.if-not-bundle_next.false c.bundle_next.ensures.goes_on c.bundle_next.ensures.left ∙ c.loop.invariant.left;
-      bundled = λ last text more.
-          c.loop.invariant.bundled last text
-          (turn-bundled g.W.Watch.has c.args.self.now c.loop.self c.bundle_next.new.self c.loop.counter c.args.now c.bundle_next.result c.loop.watch c.bundle_next.new.watch last (take c.loop.at c.loop.out)
-          (take c.bundle_next.new.end c.bundle_next.new.out) text c.loop-test.true c.if-not-bundle_next.false c.bundle_next.ensures.goes_on c.loop.invariant.kept c.bundle_next.ensures.left c.bundle_next.ensures.bundled more);
+      bundled = λ last d more.
+          c.loop.invariant.bundled last d
+          (turn-added g.W.Watch.has c.loop.self c.bundle_next.new.self c.loop.counter c.args.now c.bundle_next.result c.loop.watch c.bundle_next.new.watch last c.loop.draft c.bundle_next.new.draft d
+          c.loop-test.true c.if-not-bundle_next.false c.bundle_next.ensures.goes_on c.bundle_next.ensures.left c.bundle_next.ensures.bundled more);
     }
 
 pub returns-then-not-bundle_next-clause-bundled : goal.returns-then-not-bundle_next-clause-bundled
 returns-then-not-bundle_next-clause-bundled g c =
-    c.loop.invariant.bundled c.bundle_next.new.watch (take c.bundle_next.new.end c.bundle_next.new.out)
-    (stop-bundled g.W.Watch.has c.args.self.now c.loop.self c.loop.counter c.args.now c.bundle_next.result c.loop.watch c.bundle_next.new.watch (take c.loop.at c.loop.out) (take c.bundle_next.new.end c.bundle_next.new.out)
-    c.loop-test.true c.if-not-bundle_next.true c.bundle_next.ensures.goes_on c.loop.invariant.kept c.bundle_next.ensures.bundled)
+    c.loop.invariant.bundled c.bundle_next.new.watch c.bundle_next.new.draft
+    (stop-added g.W.Watch.has c.loop.self c.loop.counter c.args.now c.bundle_next.result c.loop.watch c.bundle_next.new.watch c.loop.draft c.bundle_next.new.draft
+    c.loop-test.true c.if-not-bundle_next.true c.bundle_next.ensures.goes_on c.bundle_next.ensures.bundled)
 
 pub returns-then-not-bundle_next-clause-left : goal.returns-then-not-bundle_next-clause-left
 returns-then-not-bundle_next-clause-left g c =
@@ -32,8 +29,8 @@ returns-then-not-bundle_next-clause-left g c =
 
 pub returns-clause-bundled : goal.returns-clause-bundled
 returns-clause-bundled g c =
-    c.loop.invariant.bundled c.loop.watch (take c.loop.at c.loop.out)
-    (over-bundled g.W.Watch.has (way_of c.args.self.now) c.loop.watch (take c.loop.at c.loop.out) c.loop.counter c.args.now c.loop.self.state.association.sender (omega (arith, c.loop-test.false)))
+    c.loop.invariant.bundled c.loop.watch c.loop.draft
+    (over-added g.W.Watch.has c.loop.watch c.loop.draft c.loop.counter c.args.now c.loop.self.state.association.sender (omega (arith, c.loop-test.false)))
 
 pub returns-clause-left : goal.returns-clause-left
 returns-clause-left g c =

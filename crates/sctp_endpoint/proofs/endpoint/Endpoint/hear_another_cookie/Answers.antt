@@ -1,5 +1,5 @@
 use Rattle.std.proofs.Common.{◌<◌, ◌-◌, arith}
-use Rattle.sctp_endpoint.specs.Settings.{address_of}
+use Rattle.sctp_bundling.specs.Settings.{address_of}
 use Rattle.sctp_endpoint.proofs.Hearing.{stale-late}
 use Rattle.sctp_endpoint.proofs.endpoint.Endpoint.hear_another_cookie.Goals as goal
 

@@ -1,6 +1,6 @@
 use Rattle.std.proofs.Common.{sym, ◌∙◌}
 use Rattle.sctp_codec.specs.Values.{chunks_of}
-use Rattle.sctp_endpoint.specs.Settings.{address_of}
+use Rattle.sctp_bundling.specs.Settings.{address_of}
 use Rattle.sctp_endpoint.proofs.Dispatching.{echo-goes}
 use Rattle.sctp_endpoint.proofs.endpoint.Endpoint.hear_echo.Goals as goal
 

@@ -1,6 +1,6 @@
 use Rattle.std.proofs.Common.{sym, ap, ◌∙◌, arith}
 use Rattle.sctp_codec.specs.Values.{chunk_value, chunks_of}
-use Rattle.sctp_endpoint.specs.Settings.{address_of}
+use Rattle.sctp_bundling.specs.Settings.{address_of}
 use Rattle.sctp_endpoint.specs.Endpoints.{Endpoint, secrets_of}
 use Rattle.sctp_endpoint.proofs.Growing.{chunk-grows}
 use Rattle.sctp_endpoint.proofs.Dispatching.{chunk-goes, source-stays}

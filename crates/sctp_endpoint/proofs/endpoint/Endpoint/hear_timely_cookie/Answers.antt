@@ -1,7 +1,7 @@
 use Rattle.std.proofs.Common.{nat_eq, sym, ap, ◌∙◌}
 use Rattle.std.proofs.lemmas.Bool.{ne_eqb}
 use Rattle.sctp_endpoint.specs.Endpoints.{Endpoint}
-use Rattle.sctp_endpoint.specs.Settings.{address_of}
+use Rattle.sctp_bundling.specs.Settings.{address_of}
 use Rattle.sctp_endpoint.proofs.Hearing.{stale-in-time}
 use Rattle.sctp_endpoint.proofs.endpoint.Endpoint.hear_timely_cookie.Goals as goal
 

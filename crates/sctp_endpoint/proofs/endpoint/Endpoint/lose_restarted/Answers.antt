@@ -1,4 +1,4 @@
-use Rattle.sctp_endpoint.specs.Settings.{address_of}
+use Rattle.sctp_bundling.specs.Settings.{address_of}
 use Rattle.sctp_endpoint.proofs.Hearing.{lost-restarted}
 use Rattle.sctp_endpoint.proofs.endpoint.Endpoint.lose_restarted.Goals as goal
 

@@ -1,6 +1,6 @@
 use Rattle.std.proofs.Common.{ap, length, reverse}
 use Rattle.sctp_codec.specs.Reading.{read_packet}
-use Rattle.sctp_endpoint.specs.Settings.{address_of}
+use Rattle.sctp_bundling.specs.Settings.{address_of}
 use Rattle.sctp_endpoint.specs.Dispatching.{heard_datagram}
 use Rattle.sctp_endpoint.specs.Endpoints.{secrets_of}
 use Rattle.sctp_world.specs.Kept.{KeptSite}

@@ -1,4 +1,4 @@
-use Rattle.sctp_endpoint.specs.Settings.{settings_of}
+use Rattle.sctp_bundling.specs.Settings.{settings_of}
 use Rattle.sctp_world.proofs.Standing.{first-stands}
 use Rattle.sctp_world.proofs.world.World.new.Goals as goal
 

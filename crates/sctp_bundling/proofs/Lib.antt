@@ -1,0 +1,5 @@
+pub mod Rows
+pub mod Giving
+pub mod Complaining
+pub mod Bundling
+pub mod Sacks

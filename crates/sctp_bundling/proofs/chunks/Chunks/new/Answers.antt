@@ -1,0 +1,11 @@
+use Rattle.std.proofs.Common.{[], refl, arith}
+use Rattle.sctp_bundling.proofs.Rows.{are_none}
+use Rattle.sctp_bundling.proofs.chunks.Chunks.new.Goals as goal
+
+pub invariant_of-result : goal.invariant_of-result
+invariant_of-result c =
+    let none = are_none [] refl in
+    record { fits = omega arith; text = none.text; chunks = none.all }
+
+pub returns : goal.returns
+returns c = (are_none [] refl).read

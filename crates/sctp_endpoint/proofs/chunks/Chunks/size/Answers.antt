@@ -1,8 +1,0 @@
-use Rattle.std.proofs.Common.{arith}
-use Rattle.sctp_endpoint.proofs.Rows.{are_long}
-use Rattle.sctp_endpoint.specs.Written.{chunks_in}
-use Rattle.sctp_endpoint.proofs.chunks.Chunks.size.Goals as goal
-
-pub returns-clause-size : goal.returns-clause-size
-returns-clause-size c =
-    rw (← c.self.view_is) (are_long c.self.inside.octets c.self.inside.end (chunks_in c.self.inside) (omega (arith, c.self.told, c.self.invariant.fits)) c.self.invariant.text)

@@ -1,4 +1,0 @@
-use Rattle.sctp_endpoint.proofs.reply.Reply.write.Goals as goal
-
-pub returns-in-Init-clause-text : goal.returns-in-Init-clause-text
-returns-in-Init-clause-text c = rw c.in-Init.is c.write_init.ensures.text
