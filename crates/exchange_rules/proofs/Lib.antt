@@ -85,6 +85,7 @@ pub mod Giving
 pub mod Fates
 pub mod NamedLinks
 pub mod FacingNodes
+pub mod SharingNodes
 pub mod MadeManagement
 pub mod HeardManagement
 pub mod CarriedMessages

@@ -19,7 +19,8 @@ use Rattle.routes.specs.Members.{links_of}
 use Rattle.routes.specs.Chosen.{is_open, allowed_or, Choice, choice_among, members, sets_of, taken_by, link_by}
 use Rattle.routes.proofs.Preference.{preference-permutation}
 use Rattle.route_management.specs.Told.{adjacent_place}
-use Rattle.exchange_rules.specs.LoneRoutes.{LeadsAlone, is_user_to, GoesBySet, flows_stay_on_their_set, the_set_decides_its_flows}
+use Rattle.settings.specs.Sharing.{sets_to, LeadsAlone}
+use Rattle.exchange_rules.specs.LoneRoutes.{is_user_to, GoesBySet, flows_stay_on_their_set, the_set_decides_its_flows}
 use Rattle.exchange_rules.proofs.Belonging.{IsLinkOf, below-of, none, length-sets}
 use Rattle.exchange_rules.proofs.LastingMessages.{accepted-all, sent-all}
 use Rattle.exchange_rules.proofs.LastingRoutes.{as-told, routes-first}
@@ -215,7 +216,7 @@ not-user false to e = absurd cc
 
 -- ---- steps
 
-module _ (c : Configuration) (set point destination : ℕ) (leads : LeadsAlone c set point destination) where
+module _ (c : Configuration) (set point destination : ℕ) (leads : LeadsAlone c point set) (place : destination_place c point ≡ Some destination) where
   -- no user message for the point
   abbrev None_for : List Message → Type 0
   None_for ms = list_any (is_user_to point) ms ≡ false
@@ -234,7 +235,7 @@ module _ (c : Configuration) (set point destination : ℕ) (leads : LeadsAlone c
       let same : point ≡ (slice_index_or c.sets set none).adjacent = eqb-true point (slice_index_or c.sets set none).adjacent found.1 in
       ap (λ (places : List (Option ℕ)). is_number destination (slice_index_or places set None)) e
       ∙ ap (is_number destination)
-      (place-at found.0 ∙ ap (λ (p : ℕ). position (λ (d : DestinationEntry). nat_eq p d.point) c.destinations) (sym same) ∙ leads.place)
+      (place-at found.0 ∙ ap (λ (p : ℕ). position (λ (d : DestinationEntry). nat_eq p d.point) c.destinations) (sym same) ∙ place)
       ∙ eq-eqb destination destination refl
     where
       place-at : set < length c.sets → slice_index_or (map (adjacent_place c.destinations) c.sets) set None ≡ adjacent_place c.destinations (slice_index_or c.sets set (record { name = []; adjacent = 0 }))
@@ -246,7 +247,7 @@ module _ (c : Configuration) (set point destination : ℕ) (leads : LeadsAlone c
       sym (get_or-map (map any_status) n.parts.routes destination []) ∙ ap (λ (ways : List (List Route)). slice_index_or ways destination []) h.ways
       ∙ get_or-map (map any_status) (map first_routes c.destinations) destination []
       ∙ ap (map any_status) (get_or-map first_routes c.destinations destination none)
-      ∙ ap (λ (sets : List ℕ). map any_status (first_routes (record (slice_index_or c.destinations destination none) { sets = sets }))) leads.only
+      ∙ ap (λ (sets : List ℕ). map any_status (first_routes (record (slice_index_or c.destinations destination none) { sets = sets }))) (ap (sets_to c) (sym place) ∙ leads.only)
 
   route : (n : Node WholeQueues) → IsLone n → slice_index_or n.parts.routes destination [] ≡ first_route set ∷ []
   route n h = lone-row (slice_index_or n.parts.routes destination []) set (way n h) (λ status e. h.own.each set destination status (own-point n.parts.told h.adjacents) e)
@@ -310,7 +311,7 @@ module _ (c : Configuration) (set point destination : ℕ) (leads : LeadsAlone c
       by false true i =
           absurd (away (links n h (flow_of m).sls link
           (ap (λ (place : Option ℕ). option_and_then (λ p. chosen_link (facts c n.parts) p (flow_of m).sls) place)
-          (sym (ap (destination_place c) (eqb-true (dpc_of m) point i) ∙ leads.place)) ∙ e)))
+          (sym (ap (destination_place c) (eqb-true (dpc_of m) point i) ∙ place)) ∙ e)))
 
   lone-steps : IsOfSteps c any any Stays
   lone-steps = record {
@@ -364,5 +365,6 @@ module _ (c : Configuration) (set point destination : ℕ) (leads : LeadsAlone c
   goes-by n h = record { route = route n h; links = links n h; queues = h.queues }
 
 pub flows-stay : flows_stay_on_their_set
-flows-stay c asked set point destination leads =
-    goes-by c set point destination leads _ ((asked-all (lone-all c set point destination leads) asked (first_state c) refl).stay (lone-first c set point destination leads))
+flows-stay c asked set point destination leads place =
+    goes-by c set point destination leads place _
+    ((asked-all (lone-all c set point destination leads place) asked (first_state c) refl).stay (lone-first c set point destination leads place))

@@ -3,7 +3,8 @@ use Rattle.std.specs.Prelude.{◌≡◌, ◌≢◌, ◌&&◌, ℕ, Bool, false, 
 use Rattle.std.specs.List.{list_any}
 use Rattle.signalling_types.specs.Message.{Message, dpc_of, is_management}
 use Rattle.settings_rows.specs.Configuration.{Configuration}
-use Rattle.settings.specs.Readings.{destination_place, set_place}
+use Rattle.settings.specs.Readings.{destination_place}
+use Rattle.settings.specs.Sharing.{LeadsAlone}
 use Rattle.routes.specs.Facts.{first_route}
 use Rattle.routes.specs.Chosen.{chosen_link}
 use Rattle.exchange_rules.specs.Happening.{Asking}
@@ -14,17 +15,6 @@ use Rattle.exchange_rules.specs.Routing.{facts}
 use Rattle.exchange_rules.specs.Queues.{WholeQueues, queue_at}
 use Rattle.exchange_rules.specs.Lasting.{after_each}
 use Rattle.exchange_rules.specs.First.{first_state}
-
--- the sets that lead to a destination, the preferred one first
-abbrev pub sets_to : Configuration → (destination : ℕ) → List ℕ
-sets_to c destination =
-    (slice_index_or c.destinations destination (record { point = 0; sets = []; joined = false })).sets
-
--- the links of a set lead to a point, and no other set leads there
-pub record LeadsAlone (c : Configuration) (set point destination : ℕ) : Type 0 where
-  pub adjacent : set_place c point ≡ Some set
-  pub place : destination_place c point ≡ Some destination
-  pub only : sets_to c destination ≡ set ∷ []
 
 -- whether a message is a user message for a point
 abbrev pub is_user_to : (point : ℕ) → Message → Bool
@@ -40,7 +30,8 @@ pub record GoesBySet (c : Configuration) (set point destination : ℕ) (node : N
 -- so it is in each state that comes of the first
 abbrev pub flows_stay_on_their_set : Type 0
 flows_stay_on_their_set =
-    (c : Configuration) (asked : List Asking) (set point destination : ℕ) → LeadsAlone c set point destination →
+    (c : Configuration) (asked : List Asking) (set point destination : ℕ) → LeadsAlone c point set →
+    destination_place c point ≡ Some destination →
     GoesBySet c set point destination (after_each asked (first_state c)).node
 
 -- which link of the set a flow takes depends on those of its links that are in service, and on nothing else

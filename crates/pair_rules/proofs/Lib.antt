@@ -41,6 +41,7 @@ pub mod Promised
 pub mod CarriedTexts
 pub mod SaidWords
 pub mod MadeWords
+pub mod ToldLinks
 pub mod FourLaws
 pub mod Awaited
 pub mod HeldFlows

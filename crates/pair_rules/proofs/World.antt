@@ -41,8 +41,8 @@ abbrev pub link_of_code : List LinkEntry → (slc : ℕ) → Option ℕ
 link_of_code links slc = position (λ (l : LinkEntry). nat_eq l.slc slc) links
 
 abbrev pub said_by : Saying → (ℕ → Saying) → Option ℕ → Saying
-said_by other says (Some link) = says link
-said_by other says None = other
+said_by if_none says (Some link) = says link
+said_by if_none says None = if_none
 
 -- what no peer of ours says
 abbrev pub unsaid : Saying

@@ -4,4 +4,5 @@ pub mod Laws
 pub mod Awaiting
 pub mod Deliveries
 pub mod Accepting
+pub mod Sharing
 pub mod OneEndFirst

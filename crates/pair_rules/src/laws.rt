@@ -12,6 +12,7 @@ ghost use Rattle.pair_rules.specs.Awaiting.{nothing_is_awaited_in_vain, nothing_
 ghost use Rattle.pair_rules.specs.Deliveries.{deliveries_tell};
 ghost use Rattle.pair_rules.specs.Accepting.{accepted_goes_to_far};
 ghost use Rattle.pair_rules.specs.OneEndFirst.{ComesOnce};
+ghost use Rattle.pair_rules.specs.Sharing.{links_are_told_by_their_codes};
 
 /// "Exactly once", in both directions. While neither exchange may have lost a message, as many user
 /// messages of any kind were accepted at one end as the other end received and as wait between
@@ -43,6 +44,14 @@ pub fn frames_carry_what_was_not_received()
 /// kind says the link and the number that it was made with to the node that it faces (Q.704 §15.4).
 pub fn orders_and_answers_say_their_word()
     ensures { words_are_read }
+{}
+
+/// Between two nodes that share a link set, whatever neighbours each has besides, a link has one code at both ends: by
+/// the other's point and that code each node finds its own end. An order to change over that a node makes about a link
+/// of the set, and its answer to one, say the far end of that link to the node there, and the number that they were
+/// made with (Q.704 §15.2, §15.4).
+pub fn links_are_told_by_their_codes()
+    ensures { links_are_told_by_their_codes }
 {}
 
 /// Law (ii). Where an end wants a link to open, and it may open at the other too or the end may
