@@ -222,8 +222,7 @@ impl Endpoint {
         self.acknowledge_cookie();
     }
 
-    /// A cookie that isn't that of the association came: where it is one of a peer that has begun anew, the association
-    /// is lost (case A).
+    /// Another cookie came: where it is one of a peer that has begun anew, the association is lost (case A).
     fn hear_other_cookie<W: Watch>(&mut self, source: &Address, cookie: &Cookie, watch: &mut W)
         requires { self.old.state.generation < 2 ^ 64 - 1 }
         ensures { Does W.has watch.old watch.new self.old self.new
@@ -265,8 +264,7 @@ impl Endpoint {
         self.tell_stale(source, 1, cookie, watch);
     }
 
-    /// In SHUTDOWN-ACK-SENT the association stays: SHUTDOWN ACK goes out again, and the peer is told by ERROR where the
-    /// cookie came from.
+    /// In SHUTDOWN-ACK-SENT the association stays: SHUTDOWN ACK goes out again, and ERROR where the cookie came from.
     fn refuse_in_shutdown<W: Watch>(&self, source: &Address, cookie: &Cookie, watch: &mut W)
         ensures { Gives W.has watch.old watch.new
             (refused_in_shutdown self.now.settings (address_of source.now) cookie.now self.now.state) }
