@@ -1,0 +1,30 @@
+-- What holds of an abstract gate, whatever exchange it stands beside.
+use Rattle.std.specs.Prelude.{◌≡◌, ℕ, true}
+use Rattle.m2pa_codec.specs.Frames.{FrameValue, EmptyFrame, MessageFrame, StatusFrame, spelled}
+use Rattle.exchange_rules.specs.State.{QueueKind, State}
+use Rattle.exchange_rules.specs.Exchange.{wants_of}
+use Rattle.exchange_rules.specs.declared.wants.Wants.TheVariants.{Nothing, Open}
+use Rattle.sctp_gate.specs.Gates.{Gate, is_lasting, settled, stream_of}
+
+-- ---- the endpoint does what the link wants
+
+-- where an association is up the link asks for nothing, and one is wanted only where the link wants to open
+pub record Agrees {Q : Type 0} (g : Gate) (s : State Q) : Type 0 where
+  pub up : g.standing.is_up ≡ true → wants_of s g.link ≡ Nothing
+  pub seeking : g.standing.is_seeking ≡ true → wants_of s g.link ≡ Open
+
+-- so it is behind each settling; and each datagram and each tick ends with one
+abbrev pub settling_agrees : {Q : Type 0} → QueueKind Q → Type 0
+settling_agrees {Q = Q} q =
+    (now : ℕ) (g : Gate) (s : State Q) → is_lasting now g.endpoint ≡ true →
+    Agrees (settled q now g s).gate (settled q now g s).exchange
+
+-- ---- streams
+
+abbrev pub stream_for : FrameValue → ℕ
+stream_for (EmptyFrame bsn fsn) = 1
+stream_for (MessageFrame bsn fsn sio sif) = 1
+stream_for (StatusFrame bsn fsn status) = 0
+
+abbrev pub frames_have_their_streams : Type 0
+frames_have_their_streams = (frame : FrameValue) → stream_of (spelled frame) ≡ stream_for frame
