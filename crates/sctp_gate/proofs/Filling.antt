@@ -4,7 +4,7 @@ use Rattle.std.specs.Prelude.{if◌then◌else◌}
 use Rattle.std.specs.Option.{option_map}
 use Rattle.m2pa_codec.specs.Frames.{FrameValue, spelled}
 use Rattle.sctp_rules.specs.Sending.{has_room}
-use Rattle.sctp_endpoint.specs.Watching.{Sent}
+use Rattle.sctp_bundling.specs.Watching.{Sent}
 use Rattle.exchange_rules.specs.Exchange.{taken}
 use Rattle.exchange.specs.KeptQueues.{KeptQueues, kept}
 use Rattle.exchange.specs.Stands.{Kept}

@@ -3,7 +3,7 @@ use Rattle.std.proofs.Common.{◌≡◌, ◌∙◌, Bool, true, false, List, [],
 use Rattle.std.proofs.lemmas.List.{map-append}
 use Rattle.std.specs.Prelude.{map, if◌then◌else◌}
 use Rattle.sctp_rules.specs.State.{Told}
-use Rattle.sctp_endpoint.specs.Watching.{Sent, sent_as}
+use Rattle.sctp_bundling.specs.Watching.{Sent, sent_as}
 use Rattle.exchange.specs.KeptQueues.{KeptQueues, kept}
 use Rattle.exchange.specs.Stands.{Kept}
 use Rattle.sctp_gate.specs.Standing.{stands_by}

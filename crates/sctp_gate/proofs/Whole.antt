@@ -14,7 +14,7 @@ use Rattle.sctp_rules.specs.Sending.{has_room, flush}
 use Rattle.sctp_rules.specs.Timers.{ticked}
 use Rattle.sctp_endpoint.specs.Dispatching.{heard_datagram}
 use Rattle.sctp_endpoint.specs.Endpoints.{Endpoint, secrets_of}
-use Rattle.sctp_endpoint.specs.Watching.{Sent, sent_as}
+use Rattle.sctp_bundling.specs.Watching.{Sent, sent_as}
 use Rattle.exchange_rules.specs.Happening.{CameUp, WentDown, FrameCame}
 use Rattle.exchange_rules.specs.Exchange.{wants_of, taken}
 use Rattle.exchange_rules.specs.Queues.{WholeQueues, whole}

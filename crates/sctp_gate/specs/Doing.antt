@@ -8,7 +8,7 @@ use Rattle.sctp_rules.specs.Sending.{flush}
 use Rattle.sctp_rules.specs.Timers.{ticked}
 use Rattle.sctp_endpoint.specs.Dispatching.{heard_datagram}
 use Rattle.sctp_endpoint.specs.Endpoints.{Endpoint, secrets_of}
-use Rattle.sctp_endpoint.specs.Settings.{address_of}
+use Rattle.sctp_bundling.specs.Settings.{address_of}
 use Rattle.sctp_gate.specs.declared.doing.Doing.{Doing}
 use Rattle.sctp_gate.specs.declared.doing.Doing.TheVariants.{Hear, Tick, Open, Abort, Flush}
 

@@ -1,7 +1,7 @@
 -- What a call of the code makes of a watch, a gate and an exchange: that of the abstract gate.
 use Rattle.std.specs.Prelude.{◌≡◌, ℕ, List, ◌++◌, map}
 use Rattle.sctp_rules.specs.State.{Told}
-use Rattle.sctp_endpoint.specs.Watching.{Sent, sent_as}
+use Rattle.sctp_bundling.specs.Watching.{Sent, sent_as}
 use Rattle.exchange_rules.specs.Queues.{WholeQueues}
 use Rattle.exchange.specs.KeptQueues.{KeptQueues, kept}
 use Rattle.exchange.specs.Stands.{Kept, StandsFor}

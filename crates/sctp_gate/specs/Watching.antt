@@ -3,7 +3,7 @@ use Rattle.std.specs.Prelude.{ℕ, List, ◌++◌}
 use Rattle.signalling_types.specs.declared.outcome.Outcome.{Outcome}
 use Rattle.sctp_receiving.specs.Pieces.{Message}
 use Rattle.sctp_rules.specs.declared.loss.Loss.{Loss}
-use Rattle.sctp_endpoint.specs.Watching.{Sent}
+use Rattle.sctp_bundling.specs.Watching.{Sent}
 
 pub data Sight : Type 0 where
   -- the association came up

@@ -1,7 +1,7 @@
 //! What hands in what an endpoint tells, while the endpoint does something.
 
 ghost use Rattle.std.specs.Prelude.{◌≡◌, ◌<◌, ◌≤◌, ◌^◌, ℕ, List, map};
-ghost use Rattle.sctp_endpoint.specs.Watching.{Sent, sent_as};
+ghost use Rattle.sctp_bundling.specs.Watching.{Sent, sent_as};
 ghost use Rattle.sctp_gate.specs.Doing.{done_by};
 ghost use Rattle.exchange.specs.KeptQueues.{kept};
 ghost use Rattle.sctp_gate.specs.Handing.{after_told, sights_of};

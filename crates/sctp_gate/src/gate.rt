@@ -3,7 +3,7 @@
 ghost use Rattle.std.specs.Prelude.{◌≡◌, ◌≤◌, ◌<◌, ◌^◌, IfOk};
 ghost use Rattle.sctp_codec.specs.Reading.{read_packet};
 ghost use Rattle.sctp_rules.specs.State.{first_state};
-ghost use Rattle.sctp_endpoint.specs.Settings.{settings_of, address_of};
+ghost use Rattle.sctp_bundling.specs.Settings.{settings_of, address_of};
 ghost use Rattle.exchange.specs.KeptQueues.{kept};
 ghost use Rattle.exchange.specs.Stands.{StandsFor};
 ghost use Rattle.exchange_rules.specs.Queues.{whole};

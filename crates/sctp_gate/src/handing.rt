@@ -3,7 +3,7 @@
 ghost use Rattle.std.specs.Prelude.{◌≡◌, [], ◌∷◌};
 ghost use Rattle.exchange.specs.KeptQueues.{kept};
 ghost use Rattle.sctp_rules.specs.State.{Heard};
-ghost use Rattle.sctp_endpoint.specs.Watching.{told_of, message_of};
+ghost use Rattle.sctp_bundling.specs.Watching.{told_of, message_of};
 ghost use Rattle.sctp_gate.specs.Watching.{Gives};
 ghost use Rattle.sctp_gate.specs.Handing.{after_one, sight_of};
 

@@ -1,7 +1,7 @@
 //! Where a link stands with its association, by what its endpoint told.
 
 ghost use Rattle.std.specs.Prelude.{◌≡◌};
-ghost use Rattle.sctp_endpoint.specs.Watching.{told_of};
+ghost use Rattle.sctp_bundling.specs.Watching.{told_of};
 ghost use Rattle.sctp_gate.specs.Standing.{first_standing, idle, seeking, stands_by};
 
 use sctp_endpoint::Event;

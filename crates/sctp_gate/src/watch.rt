@@ -1,8 +1,8 @@
 //! What takes the datagrams of a gate, and sees what passes it.
 
 ghost use Rattle.std.specs.Prelude.{List, [], ◌∷◌};
-ghost use Rattle.sctp_endpoint.specs.Settings.{address_of};
-ghost use Rattle.sctp_endpoint.specs.Watching.{Sent, message_of};
+ghost use Rattle.sctp_bundling.specs.Settings.{address_of};
+ghost use Rattle.sctp_bundling.specs.Watching.{Sent, message_of};
 ghost use Rattle.sctp_gate.specs.Watching.{Sight, Rose, CameIn, Dropped, Fell, Failed, WentOut, Gives};
 
 use sctp_endpoint::Address;
