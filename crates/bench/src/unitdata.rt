@@ -1,7 +1,7 @@
 //! UDTs whose called address is routed by title.
 
 ghost use Rattle.std.specs.Prelude.{◌≡◌, ◌+◌, ◌/◌, ◌≤◌, length};
-ghost use Rattle.sccp_codec.specs.Addresses.{address_octets};
+ghost use Rattle.sccp_codec.specs.Messages.{address_octets};
 ghost use Rattle.sccp_codec.specs.Values.{address_of};
 
 use crate::draft::{INTERNATIONAL, adjacent, own};

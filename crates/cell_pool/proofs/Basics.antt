@@ -14,5 +14,4 @@ pub use Rattle.cell_pool.specs.Moves.{all_behind, put_behind, list_at, put_befor
 pub use Rattle.cell_pool.specs.Numbering.{uses, ring_at, SharesOut}
 pub use Rattle.cell_pool.specs.Stored.{Stored}
 pub use Rattle.cell_pool.specs.Turns.{cut_at, is_picked, turned}
-pub use Rattle.signalling_types.specs.Lent.{lent}
-pub use Rattle.signalling_types.specs.Message.{Message, is_management}
+pub use Rattle.signalling_types.specs.Message.{lent, Message, is_management}

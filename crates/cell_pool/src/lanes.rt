@@ -1,10 +1,8 @@
 //! What every store of messages does.
 
-ghost use Rattle.std.specs.Prelude.{◌≡◌, ◌≢◌, ℕ, ◌<◌, ◌≤◌, List, None, Some, length, drop, count_by, IfErr, OnOk, is_ok, slice_get};
-ghost use Rattle.std.specs.Prelude.{if◌then◌else◌};
+ghost use Rattle.std.specs.Prelude.{◌≡◌, ◌≢◌, ℕ, ◌<◌, ◌≤◌, List, None, Some, length, drop, count_by, IfErr, OnOk, is_ok, slice_get, if◌then◌else◌};
 ghost use Rattle.std.specs.Option.{option_copied};
-ghost use Rattle.signalling_types.specs.Message.{Message};
-ghost use Rattle.signalling_types.specs.Lent.{lent};
+ghost use Rattle.signalling_types.specs.Message.{Message, lent};
 ghost use Rattle.signalling_types.specs.declared.limits.TheConstants.Limits;
 ghost use Rattle.cell_pool.specs.Lanes.{lane_at, is_user_picked, managements, push_refusal, pushed, dropped};
 ghost use Rattle.cell_pool.specs.Moves.{first_behind, all_behind, all_before, picked_behind, picked_before};

@@ -1,9 +1,8 @@
 //! Numbered lists of messages, each message in a cell that names the next one of its list.
 
-ghost use Rattle.std.specs.Prelude.{◌≡◌, ◌≢◌, ◌^◌, ◌<◌, ◌≤◌, [], ◌∷◌, ◌++◌, length, replicate, sum_by, slice_get, IfOk};
-ghost use Rattle.std.specs.Prelude.{vec_capacity, count_by, drop, if◌then◌else◌};
+ghost use Rattle.std.specs.Prelude.{◌≡◌, ◌≢◌, ◌^◌, ◌<◌, ◌≤◌, [], ◌∷◌, ◌++◌, length, replicate, sum_by, slice_get, IfOk, vec_capacity, count_by, drop, if◌then◌else◌};
 ghost use Rattle.std.specs.Option.{option_copied};
-ghost use Rattle.signalling_types.specs.Lent.{lent};
+ghost use Rattle.signalling_types.specs.Message.{lent};
 ghost use Rattle.cell_pool.specs.Lanes.{lane_at, is_user_picked, pushed, dropped};
 ghost use Rattle.cell_pool.specs.Moves.{first_behind, all_behind};
 ghost use Rattle.cell_pool.specs.Turns.{cut_at};

@@ -27,8 +27,7 @@ pub use Rattle.flow_hold.specs.Holds.{Hold, HoldSet, by_numbers, holds, may_hold
 pub use Rattle.flow_hold.specs.declared.procedure.Procedure.{Procedure}
 pub use Rattle.flow_hold.specs.declared.procedure.Procedure.TheVariants.{Reroute}
 pub use Rattle.node_links.specs.FormerLink.{former_link}
-pub use Rattle.node_links.specs.Network.{Network, facts_of}
+pub use Rattle.node_links.specs.NodeLinks.{Network, facts_of}
 pub use Rattle.routes.proofs.Lone.{lone_alike}
-pub use Rattle.routes.specs.Chosen.{chosen_link, lone_set}
-pub use Rattle.routes.specs.Facts.{Facts, with_link}
+pub use Rattle.routes.specs.Routes.{chosen_link, lone_set, Facts, with_link}
 pub use Rattle.signalling_types.specs.declared.limits.TheConstants.Limits.{LINKS, SELECTIONS, SETS}

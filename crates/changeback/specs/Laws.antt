@@ -1,7 +1,6 @@
 -- What holds of the flows that a link takes over, and of those that are rerouted.
 use Rattle.std.specs.Prelude.{◌≡◌, ◌≢◌, ℕ, ◌<◌, true, List, All, Contains, length, slice_index_or, Option, Some, None}
-use Rattle.routes.specs.Facts.{Facts}
-use Rattle.routes.specs.Chosen.{chosen_link}
+use Rattle.routes.specs.Routes.{Facts, chosen_link}
 use Rattle.flow_hold.specs.declared.procedure.Procedure.{Procedure}
 use Rattle.flow_hold.specs.declared.procedure.Procedure.TheVariants.{Reroute}
 use Rattle.signalling_types.specs.declared.limits.TheConstants.Limits.{SELECTIONS}

@@ -1,8 +1,7 @@
 -- The flows to a destination that change their link as a route to it gets a status, and what holds them (Q.704 §8).
 use Rattle.std.specs.Prelude.{ℕ, Bool, false, not, nat_eq, List, [], ◌∷◌, Option, Some, None, slice_index_or}
 use Rattle.std.specs.List.{filter, range_with_len}
-use Rattle.routes.specs.Facts.{Facts}
-use Rattle.routes.specs.Chosen.{chosen_link}
+use Rattle.routes.specs.Routes.{Facts, chosen_link}
 use Rattle.flow_hold.specs.declared.procedure.Procedure.TheVariants.{Reroute}
 use Rattle.signalling_types.specs.declared.limits.TheConstants.Limits.{SELECTIONS}
 use Rattle.flow_hold.specs.Holds.{HoldSet, with_hold}

@@ -1,9 +1,7 @@
 -- The flows that a link takes over when it enters service (Q.704 §6.2), and what holds them (Q.704 §6.3, §6.4).
-use Rattle.std.specs.Prelude.{ℕ, zero, suc, Bool, List, [], ◌∷◌, ◌++◌, false, length, nat_eq, slice_index_or}
-use Rattle.std.specs.Prelude.{Option, Some, None}
+use Rattle.std.specs.Prelude.{ℕ, zero, suc, Bool, List, [], ◌∷◌, ◌++◌, false, length, nat_eq, slice_index_or, Option, Some, None}
 use Rattle.std.specs.List.{list_any}
-use Rattle.routes.specs.Facts.{Facts}
-use Rattle.routes.specs.Chosen.{chosen_link}
+use Rattle.routes.specs.Routes.{Facts, chosen_link}
 use Rattle.flow_hold.specs.declared.procedure.Procedure.{Procedure}
 use Rattle.signalling_types.specs.declared.limits.TheConstants.Limits.{SELECTIONS}
 use Rattle.flow_hold.specs.Holds.{HoldSet, with_hold}

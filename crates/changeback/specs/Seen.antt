@@ -1,11 +1,9 @@
 -- Pairs of link sets that were looked at: the set alone by which messages to a destination went before, and the set
 -- alone by which they go now.
-use Rattle.std.specs.Prelude.{◌≡◌, ℕ, ◌+◌, ◌*◌, ◌&&◌, Bool, true, false, List, Option, Some, None, length}
-use Rattle.std.specs.Prelude.{replicate, nat_lt, if◌then◌else◌, slice_index_or, slice_set}
+use Rattle.std.specs.Prelude.{◌≡◌, ℕ, ◌+◌, ◌*◌, ◌&&◌, Bool, true, false, List, Option, Some, None, length, replicate, nat_lt, if◌then◌else◌, slice_index_or, slice_set}
 use Rattle.signalling_types.specs.declared.limits.TheConstants.Limits.{SETS, SELECTIONS}
-use Rattle.routes.specs.Facts.{with_link}
-use Rattle.routes.specs.Chosen.{lone_set}
-use Rattle.node_links.specs.Network.{Network, facts_of}
+use Rattle.routes.specs.Routes.{with_link, lone_set}
+use Rattle.node_links.specs.NodeLinks.{Network, facts_of}
 use Rattle.changeback.specs.Return.{changes_of, gives_up}
 use Rattle.changeback.specs.declared.set_pairs.SetPairs.TheInside.{Inside}
 

@@ -1,9 +1,8 @@
 //! Controlled rerouting: the flows that a status of a route moves from one link to another.
 
 ghost use Rattle.std.specs.Prelude.{◌≡◌, ℕ, ◌<◌, [], ◌∷◌, None, length, nat_lt, slice_index_or, if◌then◌else◌};
-ghost use Rattle.routes.specs.Chosen.{chosen_link};
-ghost use Rattle.node_links.specs.Network.{facts_of};
-ghost use Rattle.node_links.specs.Statuses.{with_route_status};
+ghost use Rattle.routes.specs.Routes.{chosen_link};
+ghost use Rattle.node_links.specs.NodeLinks.{facts_of, with_route_status};
 ghost use Rattle.signalling_types.specs.declared.limits.TheConstants.Limits.{SELECTIONS};
 ghost use Rattle.changeback.specs.Rerouting.{is_other_link, rerouted, moved_from, held_for};
 

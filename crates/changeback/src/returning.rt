@@ -1,12 +1,11 @@
 //! The flows that a link takes over when it enters service.
 
 ghost use Rattle.std.specs.Prelude.{◌≡◌, ℕ, ◌<◌, ◌≤◌, ◌||◌, false, length, slice_index_or, IfSome, if◌then◌else◌};
-ghost use Rattle.routes.specs.Facts.{with_link};
+ghost use Rattle.routes.specs.Routes.{with_link};
 ghost use Rattle.signalling_types.specs.declared.limits.TheConstants.Limits.{SELECTIONS};
 ghost use Rattle.flow_hold.specs.Holds.{HoldSet};
-ghost use Rattle.node_links.specs.Network.{facts_of};
-ghost use Rattle.changeback.specs.Return.{former_link_of, change_from, changes_of, returned};
-ghost use Rattle.changeback.specs.Return.{comes_from, gives_up, held_by};
+ghost use Rattle.node_links.specs.NodeLinks.{facts_of};
+ghost use Rattle.changeback.specs.Return.{former_link_of, change_from, changes_of, returned, comes_from, gives_up, held_by};
 ghost use Rattle.changeback.specs.Seen.{IsSeen, is_seen, with_seen};
 
 use crate::set_pairs::SetPairs;

@@ -8,7 +8,7 @@ pub use Rattle.std.specs.Prelude.{filter}
 pub use Rattle.cell_pool.proofs.Moving.{left-before}
 pub use Rattle.cell_pool.specs.Lanes.{dropped, lane_at}
 pub use Rattle.cell_pool.specs.Moves.{list_at, put_before}
-pub use Rattle.changeover.specs.Completion.{accepted_count, behind, doubted, held_after, in_doubt, managements_of, queued_anew, users_of}
+pub use Rattle.changeover.specs.Changeover.{accepted_count, behind, doubted, held_after, in_doubt, managements_of, queued_anew, users_of}
 pub use Rattle.changeover.specs.Failure.{beginning, begins_with, kept_beginning}
 pub use Rattle.changeover.specs.Kept.{kept_accepted_count, kept_behind, kept_completes_alike, kept_done, kept_done_with, kept_doubted, kept_in_doubt}
 pub use Rattle.changeover.specs.Lanes.{spliced, splicing_completes}

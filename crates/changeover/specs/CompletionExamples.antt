@@ -2,7 +2,7 @@
 use Rattle.std.specs.Prelude.{◌≡◌, ℕ, ◌-◌, ◌^◌, [], ◌∷◌, ◌++◌, take, drop, Option, Some, None}
 use Rattle.signalling_types.specs.Message.{Message}
 use Rattle.link.specs.Queue.{Queue, IsQueue}
-use Rattle.changeover.specs.Completion.{users_of, moved, lost}
+use Rattle.changeover.specs.Changeover.{users_of, moved, lost}
 use Rattle.changeover.specs.Laws.{confirmed_in_the_end}
 
 -- a user message

@@ -1,5 +1,5 @@
 -- How the standing of a changeover is kept.
-use Rattle.changeover.specs.Standing.{Standing}
+use Rattle.changeover.specs.Changeover.{Standing}
 use Rattle.changeover.specs.declared.standing.Progress.TheInside.{Inside}
 
 abbrev pub standing_in : Inside → Standing

@@ -5,7 +5,7 @@ use Rattle.signalling_types.specs.Message.{Message}
 use Rattle.link.specs.Counts.{Counts, kept_newly_confirmed}
 use Rattle.link.specs.Keeps.{Keeps}
 use Rattle.link.specs.Queue.{Queue}
-use Rattle.changeover.specs.Completion.{users_of, managements_of, moved, queued_anew, lost}
+use Rattle.changeover.specs.Changeover.{users_of, managements_of, moved, queued_anew, lost}
 
 -- how many of the kept messages the peer accepted
 abbrev pub kept_accepted_count : Counts → Option ℕ → Option ℕ

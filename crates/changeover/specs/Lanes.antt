@@ -3,7 +3,7 @@ use Rattle.std.specs.Prelude.{◌≡◌, ◌≢◌, ℕ, ◌<◌, List, ◌++◌
 use Rattle.signalling_types.specs.Message.{Message, is_management}
 use Rattle.cell_pool.specs.Lanes.{lane_at, dropped}
 use Rattle.cell_pool.specs.Moves.{picked_before}
-use Rattle.changeover.specs.Completion.{users_of, managements_of}
+use Rattle.changeover.specs.Changeover.{users_of, managements_of}
 
 -- the lists when the first messages of one were dropped and its user messages went before all of another
 abbrev pub spliced : List (List Message) → (lane count held : ℕ) → List (List Message)

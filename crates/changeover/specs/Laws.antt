@@ -1,8 +1,7 @@
 -- What holds of a completion.
-use Rattle.std.specs.Prelude.{◌≡◌, ℕ, ◌-◌, [], ◌++◌, take, drop}
-use Rattle.std.specs.Prelude.{Option, Some, None}
+use Rattle.std.specs.Prelude.{◌≡◌, ℕ, ◌-◌, [], ◌++◌, take, drop, Option, Some, None}
 use Rattle.link.specs.Queue.{Queue, IsQueue, Names}
-use Rattle.changeover.specs.Completion.{users_of, accepted_count, moved, lost}
+use Rattle.changeover.specs.Changeover.{users_of, accepted_count, moved, lost}
 
 -- how many messages are confirmed in the end
 abbrev pub count_in_the_end : Queue → Option ℕ → ℕ

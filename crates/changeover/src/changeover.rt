@@ -5,9 +5,7 @@ ghost use Rattle.signalling_types.specs.Message.{Message};
 ghost use Rattle.link.specs.Queue.{Queue};
 ghost use Rattle.link.specs.Keeps.{Keeps};
 ghost use Rattle.changeover.specs.Failure.{beginning, kept_beginning};
-ghost use Rattle.changeover.specs.Standing.{no_changeover, standing_at, with_standing, may_restart, failed};
-ghost use Rattle.changeover.specs.Standing.{begun_by_peer, completed, acknowledged, expired};
-ghost use Rattle.changeover.specs.Standing.{completed_by_acknowledgement};
+ghost use Rattle.changeover.specs.Changeover.{no_changeover, standing_at, with_standing, may_restart, failed, begun_by_peer, completed, acknowledged, expired, completed_by_acknowledgement};
 
 use crate::beginning::Beginning;
 use crate::standing::Progress;
@@ -27,7 +25,7 @@ pub struct Changeover {
 
 impl Model for Changeover {
     ghost use Rattle.std.specs.Prelude.{List};
-    ghost use Rattle.changeover.specs.Standing.{Standing};
+    ghost use Rattle.changeover.specs.Changeover.{Standing};
 
     ghost Value = { List Standing };
 

@@ -6,7 +6,7 @@ ghost use Rattle.cell_pool.specs.Lanes.{lane_at};
 ghost use Rattle.link.specs.Queue.{Queue};
 ghost use Rattle.link.specs.Counts.{kept_emptied};
 ghost use Rattle.link.specs.Keeps.{Keeps};
-ghost use Rattle.changeover.specs.Completion.{accepted_count, doubted, held_after, queued_anew};
+ghost use Rattle.changeover.specs.Changeover.{accepted_count, doubted, held_after, queued_anew};
 ghost use Rattle.changeover.specs.Kept.{kept_accepted_count, kept_done_with, kept_doubted};
 ghost use Rattle.changeover.specs.Lanes.{spliced};
 

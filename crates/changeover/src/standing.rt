@@ -1,7 +1,7 @@
 //! How far the changeover of one link is.
 
 ghost use Rattle.std.specs.Prelude.{◌≡◌};
-ghost use Rattle.changeover.specs.Standing.{no_changeover, may_restart, failed, begun_by_peer, completed, acknowledged};
+ghost use Rattle.changeover.specs.Changeover.{no_changeover, may_restart, failed, begun_by_peer, completed, acknowledged};
 
 use std::marker::Model;
 
@@ -13,7 +13,7 @@ pub(crate) struct Progress {
 }
 
 impl Model for Progress {
-    ghost use Rattle.changeover.specs.Standing.{Standing};
+    ghost use Rattle.changeover.specs.Changeover.{Standing};
 
     ghost Value = { Standing };
 

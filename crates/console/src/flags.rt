@@ -1,8 +1,8 @@
 //! The text of the flags.
 
 ghost use Rattle.std.specs.Prelude.{◌≡◌, ◌+◌, ◌≤◌, length};
-ghost use Rattle.exchange_rules.specs.Sound.{Abstract};
-ghost use Rattle.exchange.specs.Stands.{StandsFor};
+ghost use Rattle.exchange_rules.specs.First.{Abstract};
+ghost use Rattle.exchange.specs.Calls.{StandsFor};
 ghost use Rattle.console.specs.Texts.{Shows, flag_line, flag_text};
 
 use crate::line::{LINE_OCTETS, push_number};

@@ -1,8 +1,8 @@
 //! The text of the links.
 
 ghost use Rattle.std.specs.Prelude.{◌≡◌, ◌≤◌, length};
-ghost use Rattle.exchange_rules.specs.Sound.{Abstract};
-ghost use Rattle.exchange.specs.Stands.{StandsFor};
+ghost use Rattle.exchange_rules.specs.First.{Abstract};
+ghost use Rattle.exchange.specs.Calls.{StandsFor};
 ghost use Rattle.exchange.specs.KeptQueues.{kept};
 ghost use Rattle.exchange_rules.specs.Queues.{whole};
 ghost use Rattle.console.specs.Texts.{Shows, link_line, link_text};

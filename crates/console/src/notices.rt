@@ -1,10 +1,9 @@
 //! The text of the notices.
 
 ghost use Rattle.std.specs.Prelude.{◌≡◌, ◌≤◌, length};
-ghost use Rattle.exchange_rules.specs.Sound.{Abstract};
-ghost use Rattle.exchange.specs.Stands.{StandsFor};
-ghost use Rattle.console.specs.Texts.{Shows, notice_line, notice_text, refused_text, frame_text, failed_text};
-ghost use Rattle.console.specs.Texts.{lost_text, unsent_text, expired_text, late_link_text, late_code_text};
+ghost use Rattle.exchange_rules.specs.First.{Abstract};
+ghost use Rattle.exchange.specs.Calls.{StandsFor};
+ghost use Rattle.console.specs.Texts.{Shows, notice_line, notice_text, refused_text, frame_text, failed_text, lost_text, unsent_text, expired_text, late_link_text, late_code_text};
 
 use crate::line::{LINE_OCTETS, push_cause, push_number, push_point};
 use crate::names::link_name;

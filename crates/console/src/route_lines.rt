@@ -1,8 +1,8 @@
 //! The text of the routes.
 
 ghost use Rattle.std.specs.Prelude.{◌≡◌, ◌+◌, ◌≤◌, ◌++◌, length};
-ghost use Rattle.exchange_rules.specs.Sound.{Abstract};
-ghost use Rattle.exchange.specs.Stands.{StandsFor};
+ghost use Rattle.exchange_rules.specs.First.{Abstract};
+ghost use Rattle.exchange.specs.Calls.{StandsFor};
 ghost use Rattle.console.specs.Texts.{Shows, route_line, route_text, sets_text};
 
 use crate::line::{LINE_OCTETS, push_point};

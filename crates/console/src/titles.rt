@@ -1,8 +1,8 @@
 //! The text of the translation rows.
 
 ghost use Rattle.std.specs.Prelude.{◌≡◌, ◌+◌, ◌≤◌, ◌<◌, ◌^◌, ◌++◌, [], ◌∷◌, length, map, All};
-ghost use Rattle.exchange_rules.specs.Sound.{Abstract};
-ghost use Rattle.exchange.specs.Stands.{StandsFor};
+ghost use Rattle.exchange_rules.specs.First.{Abstract};
+ghost use Rattle.exchange.specs.Calls.{StandsFor};
 ghost use Rattle.console.specs.Texts.{Shows, title_line, title_text, digit_octet, way_text, title_way_text};
 
 use crate::line::{LINE_OCTETS, push_point, push_small};

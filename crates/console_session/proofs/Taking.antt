@@ -3,7 +3,7 @@ use Rattle.std.proofs.Common.{◌≡◌, ◌≢◌, ℕ, ◌+◌, ◌-◌, ◌<�
 use Rattle.std.proofs.Math.Seq.{take-suc, get_or-append_seam}
 use Rattle.std.proofs.lemmas.Bool.{cases_lt}
 use Rattle.std.proofs.lemmas.List.{length-take, length-take-le, length-append, take-take, take_all, take_at, get_or-take, get_or_append_left}
-use Rattle.exchange.specs.Stands.{Kept}
+use Rattle.exchange.specs.Calls.{Kept}
 use Rattle.console_session.specs.Clients.{ClientState, EndsNoLine, IsOneLine, without_return}
 use Rattle.console_session.specs.WholeLines.{DoesLine}
 use Rattle.served_link.specs.declared.row.LinkCounters.{LinkCounters}

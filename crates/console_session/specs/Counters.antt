@@ -1,6 +1,6 @@
 -- The counters of all links, as a client is shown them.
 use Rattle.std.specs.Prelude.{ℕ, zero, suc, List, [], ◌++◌, codes, length, slice_get, Option, Some, None}
-use Rattle.exchange.specs.Stands.{Kept}
+use Rattle.exchange.specs.Calls.{Kept}
 use Rattle.console.specs.Names.{name_in}
 use Rattle.served_link.specs.Counting.{value_of}
 use Rattle.served_link.specs.Lines.{counter_line}

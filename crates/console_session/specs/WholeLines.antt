@@ -1,11 +1,10 @@
 -- What a whole line of a client does.
 use Rattle.std.specs.Prelude.{◌≡◌, ℕ, ◌⊎◌, Bool, true, false, List, ◌++◌, take, Some, Result, Ok, Err}
-use Rattle.exchange.specs.Stands.{Kept}
+use Rattle.exchange.specs.Calls.{Kept}
 use Rattle.script.specs.Asking.{Asked}
 use Rattle.script.specs.Streams.{Output, counted}
 use Rattle.script.specs.declared.sink.WriteFailed.{WriteFailed}
-use Rattle.console_session.specs.Lines.{Heard, heard, HearsNothing, HearsScript, HearsCounters, HearsHelp, HearsUsers}
-use Rattle.console_session.specs.Lines.{HearsNotices, HearsFrames, HearsStop, HearsNoLine}
+use Rattle.console_session.specs.Lines.{Heard, heard, HearsNothing, HearsScript, HearsCounters, HearsHelp, HearsUsers, HearsNotices, HearsFrames, HearsStop, HearsNoLine}
 use Rattle.console_session.specs.Answers.{Waiting, IsAnswered}
 use Rattle.console_session.specs.Clients.{ClientState, begun, OnlyOutboxChanges, told_of}
 use Rattle.console_session.specs.Counters.{counters_text}

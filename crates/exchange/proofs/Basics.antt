@@ -20,7 +20,7 @@ pub use Rattle.changeover.proofs.Finishing.{behind-done}
 pub use Rattle.changeover.proofs.Keeping.{alike, counted-some}
 pub use Rattle.changeover.specs.Kept.{kept_accepted_count, kept_done_with, kept_doubted, kept_in_doubt, kept_lost, kept_queued_anew}
 pub use Rattle.changeover.specs.Lanes.{spliced}
-pub use Rattle.exchange.specs.Calls.{asked, asked_each, happened, is_memory_refused}
+pub use Rattle.exchange.specs.Calls.{asked, asked_each, happened, is_memory_refused, Kept, StandsFor, kept_of, kept_queues_of}
 pub use Rattle.exchange.specs.Carried.{carrying}
 pub use Rattle.exchange.specs.Counting.{behind_number, kept_behind_number}
 pub use Rattle.exchange.specs.Draining.{Fate, GoesTo, IsDropped, anew, drained, fate_on, first_gone, gone, gone_by, lose_first, lose_one, lose_users, onward, onward_by, placed, placed_each, spliced_queues, without_first}
@@ -31,7 +31,6 @@ pub use Rattle.exchange.specs.Pending.{OwesNone, OwesNoneBefore, OwesNoneBetween
 pub use Rattle.exchange.specs.Relaying.{handled_or_refused}
 pub use Rattle.exchange.specs.Room.{HasRoom, kept_in}
 pub use Rattle.exchange.specs.Runs.{after_call, after_calls, answer_to_call, answers_to}
-pub use Rattle.exchange.specs.Stands.{Kept, StandsFor, kept_of, kept_queues_of}
 pub use Rattle.exchange.specs.Suspending.{with_flow, with_flow_to, with_message, with_messages}
 unfoldable pub use Rattle.exchange.specs.Suspending.{with_destinations, with_selections}
 pub use Rattle.exchange.specs.TakingOver.{declare, holder, take_over}
@@ -58,10 +57,10 @@ unfoldable pub use Rattle.exchange_rules.specs.ChangingBack.{take_back_each}
 pub use Rattle.exchange_rules.specs.ChangingOver.{with_losses}
 pub use Rattle.exchange_rules.specs.Exchange.{Ends, after, frame_to_take, outcome_of, taken, wants_of}
 unfoldable pub use Rattle.exchange_rules.specs.Exchange.{apply}
-pub use Rattle.exchange_rules.specs.Made.{unsent}
+pub use Rattle.exchange_rules.specs.Telling.{unsent}
 pub use Rattle.exchange_rules.specs.Routing.{first_network_of}
 pub use Rattle.exchange_rules.specs.State.{State}
-pub use Rattle.exchange_rules.specs.Statuses.{act_by}
+pub use Rattle.exchange_rules.specs.Frames.{act_by}
 unfoldable pub use Rattle.exchange_rules.specs.Telling.{tell_owed}
 pub use Rattle.exchange_rules.specs.declared.wants.Wants.{Wants}
 pub use Rattle.flow_hold.proofs.Adding.{Adds, added_flows, adds-alike, adds-more, adds-none, adds-one}
@@ -72,24 +71,20 @@ pub use Rattle.link.specs.Counts.{Counts, counts_of, kept_after_answer, kept_emp
 pub use Rattle.link.specs.Queue.{named_count}
 pub use Rattle.link.specs.declared.alignment.Alignment.TheVariants.{Aligned, AlignedReady, Down, InService, NotAligned, Proving}
 pub use Rattle.node_links.proofs.Serving.{facts_alike}
-pub use Rattle.node_links.specs.LinkState.{after_action}
-pub use Rattle.node_links.specs.Network.{Network, facts_of, link_in, serving, with_state}
-pub use Rattle.node_links.specs.Statuses.{with_route_status}
+pub use Rattle.node_links.specs.NodeLinks.{after_action, Network, facts_of, link_in, serving, with_state, with_route_status}
 pub use Rattle.route_management.proofs.Listing.{still}
 pub use Rattle.route_management.proofs.Owing.{after_status, none_owed, once, owed_by}
 pub use Rattle.route_management.proofs.Settled.{nothing_is_listed, owes_nothing_from_none}
 pub use Rattle.route_management.proofs.Shape.{row_by_shape, rows_by_shape}
 pub use Rattle.route_management.proofs.Walking.{later_stay_owed, next_is_not_owed, next_is_owed, next_set, others_stay_owed, owed_are_to, unreached_is_owed_nothing}
 pub use Rattle.route_management.specs.Marks.{is_marked}
-pub use Rattle.route_management.specs.Owed.{owed_by_sets, owed_from, owed_to}
-pub use Rattle.route_management.specs.Told.{first_told}
+pub use Rattle.route_management.specs.Told.{owed_by_sets, owed_from, owed_to, first_told}
 pub use Rattle.route_management.specs.Updates.{Updates, first_updates, has_all_from, is_any, is_from, is_within, with_all, with_destination, with_mark, with_none, without_before}
 pub use Rattle.route_management.specs.declared.updates.Extent.{Extent}
 pub use Rattle.route_management.specs.declared.updates.Extent.TheVariants.{From, Marked, Nothing}
-pub use Rattle.routes.specs.Facts.{with_link, with_status}
-pub use Rattle.routes.specs.Preference.{has_link}
+pub use Rattle.routes.specs.Routes.{with_link, with_status, has_link}
 pub use Rattle.sccp_relay.specs.Rows.{add_refusal, table_of, with_row}
-pub use Rattle.signalling_types.specs.Lent.{lent}
+pub use Rattle.signalling_types.specs.Message.{lent}
 pub use Rattle.signalling_types.specs.declared.cause.Cause.TheVariants.{NoMemory}
 pub use Rattle.signalling_types.specs.declared.limits.TheConstants.Limits.{LINKS}
 pub use Rattle.timers.specs.Timers.{none_running}

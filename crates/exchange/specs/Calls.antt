@@ -1,9 +1,15 @@
--- What the events and the calls of the code tell of, with what was answered: that says whether memory was refused.
-use Rattle.std.specs.Prelude.{Bool, true, false, List, [], ◌∷◌}
+-- What an exchange keeps of an abstract state, and when it stands for one.
+use Rattle.std.specs.Prelude.{◌≡◌, ◌∷◌, map, Bool, true, false, List, []}
+use Rattle.link.specs.Queue.{unconfirmed}
+use Rattle.link.specs.Counts.{counts_of}
+use Rattle.exchange_rules.specs.State.{State, keep, Happening, CameUp, WentDown, FrameCame, Ticked, Submitted, Activated, Deactivated, TitleAdded, TitleRemoved, Asking, Happens, Takes, AsksWants}
+use Rattle.exchange_rules.specs.Queues.{WholeQueues}
+use Rattle.exchange.specs.KeptQueues.{KeptQueues}
+use Rattle.exchange_rules.specs.First.{Abstract, IsSound}
 use Rattle.signalling_types.specs.declared.cause.Cause.TheVariants.{NoMemory}
 use Rattle.signalling_types.specs.declared.outcome.Outcome.{Outcome}
 use Rattle.signalling_types.specs.declared.outcome.Outcome.TheVariants.{Refused, Handled}
-use Rattle.signalling_types.specs.Lent.{lent}
+use Rattle.signalling_types.specs.Message.{lent}
 use Rattle.exchange.specs.declared.event.Answer.{Answer}
 use Rattle.exchange.specs.declared.event.Answer.TheVariants as answer
 use Rattle.exchange.specs.declared.event.Event.{Event}
@@ -12,9 +18,22 @@ use Rattle.exchange.specs.declared.event.Order.{Order}
 use Rattle.exchange.specs.declared.event.Order.TheVariants.{Activate, Deactivate, AddTitle, RemoveTitle}
 use Rattle.exchange.specs.declared.event.Call.{Call}
 use Rattle.exchange.specs.declared.event.Call.TheVariants as call
-use Rattle.exchange_rules.specs.Happening.{Happening, CameUp, WentDown, FrameCame, Ticked, Submitted}
-use Rattle.exchange_rules.specs.Happening.{Activated, Deactivated, TitleAdded, TitleRemoved}
-use Rattle.exchange_rules.specs.Happening.{Asking, Happens, Takes, AsksWants}
+
+-- what the code keeps
+abbrev pub Kept : Type 0
+Kept = State KeptQueues
+
+abbrev pub kept_queues_of : WholeQueues → KeptQueues
+kept_queues_of qs = record { lanes = qs.held ∷ map unconfirmed qs.links; counts = map counts_of qs.links }
+
+abbrev pub kept_of : Abstract → Kept
+kept_of a = record { settings = a.settings; node = keep kept_queues_of a.node }
+
+pub record StandsFor (k : Kept) (a : Abstract) : Type 0 where
+  pub sound : IsSound a
+  pub kept : k ≡ kept_of a
+
+-- ---- What the events and the calls of the code tell of, with what was answered: that says whether memory was refused.
 
 -- whether memory was refused
 abbrev pub is_memory_refused : Outcome → Bool

@@ -1,6 +1,5 @@
 -- Messages that leave a list of the code one after the other, and those of a list that are lost.
-use Rattle.std.specs.Prelude.{ℕ, Bool, true, false, List, [], ◌∷◌, take, Option, Some, None, slice_get, slice_set}
-use Rattle.std.specs.Prelude.{if◌then◌else◌}
+use Rattle.std.specs.Prelude.{ℕ, Bool, true, false, List, [], ◌∷◌, take, Option, Some, None, slice_get, slice_set, if◌then◌else◌}
 use Rattle.signalling_types.specs.Message.{Message, flow_of, is_management}
 use Rattle.settings_rows.specs.Configuration.{Configuration}
 use Rattle.signalling_types.specs.declared.cause.Cause.TheVariants.{LostUnconfirmed, NoRoute}
@@ -11,9 +10,8 @@ use Rattle.changeover.specs.Kept.{kept_done_with}
 use Rattle.changeover.specs.Lanes.{spliced}
 use Rattle.exchange_rules.specs.State.{Parts, Node, with_parts}
 use Rattle.exchange.specs.KeptQueues.{KeptQueues, held_lane, lane_of, counts_at}
-use Rattle.exchange_rules.specs.Routing.{link_of}
-use Rattle.exchange_rules.specs.Holding.{waits}
-use Rattle.exchange_rules.specs.Made.{unsent}
+use Rattle.exchange_rules.specs.Routing.{link_of, waits}
+use Rattle.exchange_rules.specs.Telling.{unsent}
 use Rattle.exchange_rules.specs.ChangingOver.{lose}
 
 -- a message goes to the end of a list, or is dropped, which changes the parts

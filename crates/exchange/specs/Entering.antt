@@ -1,14 +1,12 @@
 -- A link that entered service, by what is known then: with the link taken out again, all is as it was before.
 use Rattle.std.specs.Prelude.{ℕ, Bool, false, not}
 use Rattle.settings_rows.specs.Configuration.{Configuration}
-use Rattle.routes.specs.Preference.{has_link}
-use Rattle.routes.specs.Facts.{Facts, set_at, with_link}
+use Rattle.routes.specs.Routes.{has_link, Facts, set_at, with_link}
 use Rattle.exchange_rules.specs.State.{QueueKind, Parts, Node, with_parts}
-use Rattle.exchange_rules.specs.Routing.{facts}
-use Rattle.exchange_rules.specs.Points.{set_of}
+use Rattle.exchange_rules.specs.Routing.{facts, set_of}
 use Rattle.link.specs.declared.action.Action.{Action}
 use Rattle.link.specs.declared.action.Action.TheVariants as act
-use Rattle.exchange_rules.specs.Statuses.{begun_anew_if, step_on}
+use Rattle.exchange_rules.specs.Frames.{begun_anew_if, step_on}
 use Rattle.exchange_rules.specs.ChangingBack.{change_back}
 
 -- whether no link of a set is in service

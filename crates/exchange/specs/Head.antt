@@ -3,7 +3,7 @@ use Rattle.std.specs.Prelude.{ℕ, Option, Some, None, if◌then◌else◌}
 use Rattle.signalling_types.specs.Message.{Message, is_management}
 use Rattle.settings_rows.specs.Configuration.{Configuration}
 use Rattle.settings.specs.Readings.{destination_place}
-use Rattle.mtp3_codec.specs.Label.{label_at}
+use Rattle.mtp3_codec.specs.Headings.{label_at}
 use Rattle.flow_hold.specs.Holds.{HoldSet}
 use Rattle.exchange.specs.declared.exchange.head.Head.{Head}
 use Rattle.exchange_rules.specs.State.{State, with_node, with_parts}

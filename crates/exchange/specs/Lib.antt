@@ -1,10 +1,9 @@
-pub mod Calls
 pub mod KeptQueues
+pub mod Calls
 pub mod Pending
 pub mod Carried
 pub mod Entering
 pub mod Telling
-pub mod Stands
 pub mod Runs
 pub mod Room
 pub mod Taking

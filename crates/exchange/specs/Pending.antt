@@ -1,9 +1,8 @@
 -- Which updates for adjacent points may be pending.
 use Rattle.std.specs.Prelude.{◌≡◌, ◌≤◌, ◌<◌, ◌+◌, ℕ, Option, None, Some, false, length}
-use Rattle.routes.specs.Facts.{Facts}
+use Rattle.routes.specs.Routes.{Facts}
 use Rattle.route_management.specs.Updates.{Updates, may_be_pending}
-use Rattle.route_management.specs.Told.{ToldTable}
-use Rattle.route_management.specs.Owed.{owed_at}
+use Rattle.route_management.specs.Told.{ToldTable, owed_at}
 
 -- no adjacent point is owed anything
 abbrev pub OwesNone : Facts → ToldTable → Type 0

@@ -2,12 +2,11 @@
 use Rattle.signalling_types.specs.declared.limits.TheConstants.Limits.{LINKS, NOTICES}
 use Rattle.std.specs.Prelude.{◌≡◌, ◌≤◌, ◌+◌, ◌||◌, true, length, replicate, vec_len}
 use Rattle.cell_pool.specs.Lanes.{lane_at}
-use Rattle.node_links.specs.Network.{facts_of}
+use Rattle.node_links.specs.NodeLinks.{facts_of}
 use Rattle.route_management.specs.Told.{shape_of}
-use Rattle.exchange_rules.specs.Holding.{all_wait}
+use Rattle.exchange_rules.specs.Routing.{all_wait, sets_in}
 use Rattle.exchange_rules.specs.State.{State}
 use Rattle.exchange_rules.specs.Places.{HasHoldsFor, HasCodes}
-use Rattle.exchange_rules.specs.Routing.{sets_in}
 use Rattle.exchange.specs.KeptQueues.{KeptQueues, held_lane}
 use Rattle.exchange.specs.Pending.{OwesNoneBut}
 use Rattle.exchange.specs.declared.exchange.Exchange.TheInside.{Inside}

@@ -4,8 +4,7 @@ use Rattle.std.specs.Option.{option_map}
 use Rattle.m2pa_codec.specs.Frames.{spelled}
 use Rattle.exchange.specs.declared.event.Answer.{Answer}
 use Rattle.exchange.specs.declared.event.Answer.TheVariants.{Stepped, Taken, Wanted}
-use Rattle.exchange_rules.specs.State.{State, QueueKind}
-use Rattle.exchange_rules.specs.Happening.{Asking, Happens, Takes, AsksWants}
+use Rattle.exchange_rules.specs.State.{State, QueueKind, Asking, Happens, Takes, AsksWants}
 use Rattle.exchange_rules.specs.Exchange.{outcome_of, after, frame_to_take, taken, wants_of}
 
 -- the answer to one call, and the state after it

@@ -1,8 +1,7 @@
 -- What a call of take writes, and what goes out of it by kind.
 use Rattle.std.specs.Prelude.{◌≡◌, ℕ, false, List, length, take, Option, Some, None}
 use Rattle.m2pa_codec.specs.Frames.{FrameValue, spelled}
-use Rattle.exchange_rules.specs.State.{State, with_node}
-use Rattle.exchange_rules.specs.Links.{link_at}
+use Rattle.exchange_rules.specs.State.{State, with_node, link_at}
 use Rattle.exchange.specs.KeptQueues.{KeptQueues, kept}
 use Rattle.exchange_rules.specs.Sending.{Outgoing, message_first, if_owed, frame_from, next_message, after_sending}
 

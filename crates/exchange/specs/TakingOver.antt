@@ -1,10 +1,9 @@
 -- How the code takes flows back: it begins the hold of each link that loses some and notes by which procedure, and then
 -- walks all flows once.
-use Rattle.std.specs.Prelude.{ℕ, zero, suc, Bool, List, length, replicate, Option, Some, None}
-use Rattle.std.specs.Prelude.{if◌then◌else◌, slice_set}
+use Rattle.std.specs.Prelude.{ℕ, zero, suc, Bool, List, length, replicate, Option, Some, None, if◌then◌else◌, slice_set}
 use Rattle.settings_rows.specs.Configuration.{Configuration}
 use Rattle.signalling_types.specs.declared.limits.TheConstants.Limits.{LINKS}
-use Rattle.routes.specs.Facts.{Facts}
+use Rattle.routes.specs.Routes.{Facts}
 use Rattle.flow_hold.specs.declared.procedure.Procedure.{Procedure}
 use Rattle.changeback.specs.Return.{FlowChange, returned, gives_up, held_by}
 use Rattle.exchange_rules.specs.State.{QueueKind, Node, with_parts}

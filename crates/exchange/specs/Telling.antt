@@ -1,9 +1,9 @@
 -- One adjacent point is told of one destination, or of all.
 use Rattle.std.specs.Prelude.{ℕ, Option, Some, None}
 use Rattle.settings_rows.specs.Configuration.{Configuration}
-use Rattle.routes.specs.Facts.{Facts}
+use Rattle.routes.specs.Routes.{Facts}
 use Rattle.routes.specs.declared.route.RouteStatus.{RouteStatus}
-use Rattle.route_management.specs.Owed.{owed_at, owed_to}
+use Rattle.route_management.specs.Told.{owed_at, owed_to}
 use Rattle.exchange_rules.specs.State.{QueueKind, Node, State, with_node}
 use Rattle.exchange_rules.specs.Routing.{facts}
 use Rattle.exchange_rules.specs.Telling.{tell_if, tell_each}

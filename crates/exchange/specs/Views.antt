@@ -1,21 +1,19 @@
 -- What an exchange shows of its links and its routes.
-use Rattle.std.specs.Prelude.{ℕ, Bool, ◌&&◌, List, [], ◌∷◌, Option, Some, None, codes, length, slice_get}
-use Rattle.std.specs.Prelude.{if◌then◌else◌}
+use Rattle.std.specs.Prelude.{ℕ, Bool, ◌&&◌, List, [], ◌∷◌, Option, Some, None, codes, length, slice_get, if◌then◌else◌}
 use Rattle.std.specs.Option.{option_map}
 use Rattle.link.specs.declared.alignment.Alignment.{Alignment}
 use Rattle.link.specs.declared.alignment.Alignment.TheVariants as alignment
 use Rattle.routes.specs.declared.route.Route.{Route}
 use Rattle.routes.specs.declared.route.RouteStatus.{RouteStatus}
 use Rattle.routes.specs.declared.route.RouteStatus.TheVariants.{Prohibited}
-use Rattle.routes.specs.Chosen.{chosen_routes, sets_of}
+use Rattle.routes.specs.Routes.{chosen_routes, sets_of}
 use Rattle.exchange.specs.declared.view.LinkStanding.{LinkStanding}
 use Rattle.exchange.specs.declared.view.LinkStanding.TheVariants as standing
 use Rattle.exchange.specs.declared.view.LinkView.{LinkView}
 use Rattle.exchange.specs.declared.view.RouteView.{RouteView}
-use Rattle.exchange_rules.specs.State.{QueueKind, Node, State}
-use Rattle.changeover.specs.Standing.{may_restart}
-use Rattle.exchange_rules.specs.Failing.{changeover_of}
-use Rattle.exchange_rules.specs.Links.{is_link, link_at, down}
+use Rattle.exchange_rules.specs.State.{QueueKind, Node, State, is_link, link_at, down}
+use Rattle.changeover.specs.Changeover.{may_restart}
+use Rattle.exchange_rules.specs.ChangingOver.{changeover_of}
 use Rattle.exchange_rules.specs.Routing.{facts}
 
 -- where a link stands; what it remembers in Proving isn't shown

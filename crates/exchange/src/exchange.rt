@@ -4,12 +4,11 @@ ghost use Rattle.std.specs.Prelude.{◌≡◌, ◌≤◌, IfSome};
 ghost use Rattle.exchange_rules.specs.State.{State};
 ghost use Rattle.exchange.specs.KeptQueues.{KeptQueues, kept};
 ghost use Rattle.exchange_rules.specs.Queues.{whole};
-ghost use Rattle.exchange.specs.Calls.{happened};
+ghost use Rattle.exchange.specs.Calls.{happened, StandsFor};
 ghost use Rattle.exchange_rules.specs.Exchange.{Ends, outcome_of, after, frame_to_take, taken};
 ghost use Rattle.exchange_rules.specs.Exchange as rule;
 ghost use Rattle.exchange.specs.Taking.{Writes};
-ghost use Rattle.exchange_rules.specs.Sound.{Abstract};
-ghost use Rattle.exchange.specs.Stands.{StandsFor};
+ghost use Rattle.exchange_rules.specs.First.{Abstract};
 
 mod arrival;
 mod boot;

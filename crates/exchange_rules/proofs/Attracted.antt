@@ -3,10 +3,10 @@ use Rattle.exchange_rules.proofs.Basics.{◌≡◌, ◌≢◌, ℕ, Bool, true, 
 use Rattle.exchange_rules.proofs.Definitions.{Allowed, Facts, with_status_over, chosen_link, Configuration, Transition, is_held, reset_shape, Parts, Node, with_parts, in_service, link_at, WholeQueues, whole, facts, change_back, set_of, enters, begun_anew_if, step_on, return_if, advance, HasPlacesFor, entries_hold_changed_flows}
 use Rattle.std.specs.Prelude.{Some, map}
 use Rattle.std.proofs.lemmas.Option.{same_Some}
-use Rattle.routes.specs.Facts.{with_link}
+use Rattle.routes.specs.Routes.{with_link}
 use Rattle.routes.proofs.Leaving.{goes_or_stays}
-use Rattle.node_links.specs.LinkState as state
-use Rattle.exchange_rules.specs.Failing as failing
+use Rattle.node_links.specs.NodeLinks as state
+use Rattle.exchange_rules.specs.ChangingOver as failing
 use Rattle.exchange_rules.proofs.Entering.{known_links}
 use Rattle.exchange_rules.proofs.TakenPairs.{IsAlike, take_back_each-alike}
 use Rattle.exchange_rules.proofs.TakenBack.{taken_flows_held}

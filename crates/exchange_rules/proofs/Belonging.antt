@@ -2,7 +2,7 @@
 use Rattle.exchange_rules.proofs.Basics.{◌≡◌, ◌<◌, ◌≤◌, ℕ, zero, suc, ◌-◌, Bool, true, ◌&&◌, List, [], ◌∷◌, length, nat_eq, refl, ◌∙◌, subst, arith, inl, inr, Contains, position, slice_index_or, option_to_list, ⊎_elim, cases_lt, nat_tests, get_or_past, get_or_append_left, get_or-append_right, length-append, Contains-append_cases, position-Some}
 use Rattle.exchange_rules.proofs.Definitions.{Configuration, LinkEntry, Facts, first_sets, chosen_link, Parts, facts, set_of}
 use Rattle.std.specs.Prelude.{Option, Some, None}
-use Rattle.routes.specs.Members.{has_code, links_below, links_of}
+use Rattle.routes.specs.Routes.{has_code, links_below, links_of}
 use Rattle.routes.proofs.Leaving.{IsOfSet, chosen_of_set, none_past}
 
 -- ---- the links of a set

@@ -6,11 +6,10 @@ use Rattle.exchange_rules.proofs.Tallies.{no-user-behind, queue-same}
 use Rattle.link.specs.declared.action.Action.TheVariants as act
 use Rattle.signalling_types.specs.declared.cause.Cause.TheVariants as causes
 use Rattle.signalling_types.specs.declared.notice.FrameFault.TheVariants as faults
-use Rattle.route_management.specs.Hearing as hearing
+use Rattle.route_management.specs.Told as hearing
 use Rattle.route_management.specs.declared.heard.Heard.TheVariants as hears
 use Rattle.signalling_types.specs.declared.notice.FailureReason.TheVariants as reasons
 use Rattle.m2pa_codec.specs.declared.status.LinkStatus.TheVariants as says
-use Rattle.route_management.specs.Told as told
 use Rattle.exchange_rules.specs.Telling as telling
 
 -- how many stand in a node
@@ -91,7 +90,7 @@ module _ (of : Message → Bool) (c : Configuration) where
   pub on_route_test-stand : (test : RouteTest) (route : Result (ℕ × ℕ) Outcome) (n : Node WholeQueues) → stands of (on_route_test whole c test route n).left ≡ stands of n
   on_route_test-stand test (Ok (set, destination)) n =
       let status : Option RouteStatus = hearing.answer_to_test (facts c n.parts) n.parts.told set destination test in
-      either_done-stand (told.is_own_point n.parts.told set destination) (answer Ignored n) (answer Handled (send_route_status whole c status set destination n)) (stands of n)
+      either_done-stand (hearing.is_own_point n.parts.told set destination) (answer Ignored n) (answer Handled (send_route_status whole c status set destination n)) (stands of n)
       refl (send_route_status-stand status set destination n)
   on_route_test-stand test (Err outcome) n = refl
 

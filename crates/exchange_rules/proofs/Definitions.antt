@@ -1,54 +1,36 @@
 -- Definitions that the proofs here are about, and lemmas of the crates below.
 pub use Rattle.changeback.specs.Codes.{Codes, codes_of, free_code, is_outstanding, with_code, no_codes}
-pub use Rattle.changeover.specs.Completion.{managements_of, accepted_count, behind, moved, in_doubt, lost, users_of}
-pub use Rattle.changeover.specs.Standing.{Standing, may_restart, completed, no_changeover, acknowledged, failed, begun_by_peer}
-pub use Rattle.exchange_rules.specs.Arrival.{is_destination, offer, transfer}
+pub use Rattle.changeover.specs.Changeover.{managements_of, accepted_count, behind, moved, in_doubt, lost, users_of, Standing, may_restart, completed, no_changeover, acknowledged, failed, begun_by_peer}
+pub use Rattle.exchange_rules.specs.Messages.{is_destination, offer, transfer, sccp, do_kind, do_test, test_answer, is_adjacent, local, manage, testing, do_acknowledgement, do_management, do_order, link_with_code, distribute, is_user, cause_of, link_in_set, whither_goes, deliver_to, submit, submit_to, deliver, own_of, in_place_of, send_udts, return_unitdata, add_title_unless, title_refusal, with_titles, on_unitdata, relay_by, return_outcome, return_refusal, add_title, remove_title}
 pub use Rattle.exchange_rules.specs.ChangingBack.{loses_flows, code_for, declare_by, hold_flows, change_back, code_in_use, declaration, freed, on_changeback_acknowledgement, if_room, procedure_by, with_flows_held, usable, take_back, changeback_acknowledgement, late_time, late_code, is_taken_back}
 unfoldable pub use Rattle.exchange_rules.specs.ChangingBack.{take_back_each}
-pub use Rattle.exchange_rules.specs.ChangingOver.{fail_by_order, send_each, complete_if, concluded, on_changeover_order, on_changeover_timer, with_changeover_acknowledged, with_expiry, judged, lifted_parts, lose, lose_each, changeover_acknowledgement, conclude, complete_by_order, acknowledge_changeover, on_changeover_acknowledgement}
+pub use Rattle.exchange_rules.specs.ChangingOver.{fail_by_order, send_each, complete_if, concluded, on_changeover_order, on_changeover_timer, with_changeover_acknowledged, with_expiry, judged, lifted_parts, lose, lose_each, changeover_acknowledgement, conclude, complete_by_order, acknowledge_changeover, on_changeover_acknowledgement, has_other, begin, begin_by_peer, change_over, changing, fail, fail_by_peer, make_unavailable, changeover_of, with_changeover, changeover_order, fail_link, without_tests_if_last, timed_changeover, is_of_flow, is_failed, suspended}
 pub use Rattle.exchange_rules.specs.Conserving.{gone_that, users_that, standing, Gone, both_gone, brought_by, brought_here, brought_in, brought_to, confirmed_at, confirmed_by, confirmed_in, confirmed_of, gone, gone_by, gone_by_message, gone_by_new, gone_by_release, gone_by_tick, gone_by_word, nothing_gone, taken_in, gone_by_answer, gone_by_completion, gone_by_expiry, gone_by_order, gone_by_timer, gone_by_timers, is_stranded, answered_in, relayed_in, returned_in, unitdata_in}
-pub use Rattle.exchange_rules.specs.Exchange.{handle_event, settled}
+pub use Rattle.exchange_rules.specs.Exchange.{handle_event, settled, release, go, go_by, go_each, go_on, with_timers, run_next, tick, run_due, run_times, run_timer}
 unfoldable pub use Rattle.exchange_rules.specs.Exchange.{apply}
-pub use Rattle.exchange_rules.specs.Failing.{has_other, begin, begin_by_peer, change_over, changing, fail, fail_by_peer, make_unavailable, changeover_of, with_changeover, changeover_order, fail_link, without_tests_if_last, timed_changeover}
-pub use Rattle.exchange_rules.specs.First.{first_state, counts_in, first_parts}
-pub use Rattle.exchange_rules.specs.Frames.{Carrying, empty_data, message_data, numbers, leave_aside, accept, act_by_data, carries, carry, handle_by, read, receive_data, owing, timed_parts, handle, receive_frame, receive, data_of}
-pub use Rattle.exchange_rules.specs.Happening.{Asking, AsksWants, Happens, Takes, Happening, Activated, CameUp, Deactivated, FrameCame, Submitted, Ticked, TitleAdded, TitleRemoved, WentDown}
-pub use Rattle.exchange_rules.specs.Holding.{is_held_at, is_flow_held, waits, all_wait, hold}
+pub use Rattle.exchange_rules.specs.First.{first_state, counts_in, first_parts, Abstract, AreQueues, IsSound}
+pub use Rattle.exchange_rules.specs.Frames.{Carrying, empty_data, message_data, numbers, leave_aside, accept, act_by_data, carries, carry, handle_by, read, receive_data, owing, timed_parts, handle, receive_frame, receive, data_of, enters, begun_anew_if, moved_on, return_if, advance, step_on, act_by_status, act_by_timer, on_link_status, run_out, serve_status, end_busy, step_by_status}
+pub use Rattle.exchange_rules.specs.State.{Asking, AsksWants, Happens, Takes, Happening, Activated, CameUp, Deactivated, FrameCame, Submitted, Ticked, TitleAdded, TitleRemoved, WentDown, in_service, link_at, is_link, down, links_with, with_link, noted, noted_all, note_refusal, note, flagged, flagged_late, note_outcome, Parts, Node, with_parts, refuse, Done, answer, QueueKind, keep, Noted, Found, lost_any, late_any, with_node}
+pub use Rattle.exchange_rules.specs.Routing.{is_held_at, is_flow_held, waits, all_wait, hold, set_of, adjacent_of, entry_of, peer_of, point_of, route_about, no_room, queue_on, facts, link_of, sets_in, goes_by, network_of}
 pub use Rattle.exchange_rules.specs.Lasting.{HasAllPlaces, after_asking, after_each, AreNoted, IsWithinLimits, new_notices_are_the_last, notices_made_are_counted, notices_keep_their_limits, losses_stay, lateness_stays, tells_of_loss, tells_of_lateness, AreFlagsRaised, notices_raise_flags, unreasonable_numbers_raise_it, HasTimersFor, places_at_first, places_stay}
 pub use Rattle.exchange_rules.specs.LastingLinks.{AreLinksSteady, IsSteady, is_l7_running, links_first_steady, links_stay_steady, l7_watches}
 pub use Rattle.exchange_rules.specs.Laws.{answered_by, answered, carried_message, accept_data, accept_frame, accept_text, GivesInService, declared_in_service, queued_anew_in_service, routed_in_service, settled_in_service, refusals_leave, queued_in_service, goes_on_by, completion_leaves_others, release_keeps_order, moved_before_held}
 pub use Rattle.exchange_rules.specs.LawsOfMessages.{all_brought, all_gone, all_that_came_adds_up, brought_by_asking, gone_by_asking, takes_leave_user_messages, user_messages_are_conserved, carried_messages_have_a_fate, has_fate, submissions_have_a_fate, completions_name_what_they_lose, naming, releases_name_what_they_lose}
 pub use Rattle.exchange_rules.specs.LawsOfReturns.{entries_hold_changed_flows, HasReturned, HasLost, IsChosen, IsReturn, flows_return_by_their_procedures, entries_are_returns, changed_flows_are_held, returns_keep_holds}
-pub use Rattle.exchange_rules.specs.Links.{in_service, link_at, is_link, down, links_with, with_link}
-pub use Rattle.exchange_rules.specs.Local.{sccp, do_kind, do_test, test_answer, is_adjacent, local, manage, testing, do_acknowledgement, do_management, do_order, link_with_code, distribute, is_user, cause_of, link_in_set}
-pub use Rattle.exchange_rules.specs.Made.{management_to, send, send_anew, send_routed, send_on, own_sio}
-pub use Rattle.exchange_rules.specs.Messages.{whither_goes, deliver_to, submit, submit_to, deliver}
-pub use Rattle.exchange_rules.specs.Noting.{noted, noted_all, note_refusal, note, flagged, flagged_late, note_outcome}
+pub use Rattle.exchange_rules.specs.Telling.{management_to, send, send_anew, send_routed, send_on, own_sio, told_below, is_all_told, answer_no_route, answered_parts, inhibited, is_inhibited, may_tell, on_route_test, prohibit, send_route_status, tell_each, tell_if, telling, told_parts, route_message, prohibit_if, answer_route_test, tell, timed_telling}
 pub use Rattle.exchange_rules.specs.Opening.{activate, association_down, deactivate, end_association, fail_if_up, set_active, may_open, open_link, begun, association_up, with_active, without_association}
 pub use Rattle.exchange_rules.specs.Places.{HasPlacesFor, HasHoldsFor, HasCodes}
-pub use Rattle.exchange_rules.specs.Points.{set_of, adjacent_of, entry_of, peer_of, point_of, route_about}
-pub use Rattle.exchange_rules.specs.Queueing.{no_room, queue_on}
 pub use Rattle.exchange_rules.specs.Queues.{WholeQueues, whole, queue_at, with_queue}
 pub use Rattle.exchange_rules.specs.Receiving.{new_by, new_at, new_of, new_message, new_in, received, received_is_counted, takes_receive_nothing, is_idle, nothing_new_is_delivered}
-pub use Rattle.exchange_rules.specs.Relaying.{own_of, in_place_of, send_udts, return_unitdata, add_title_unless, title_refusal, with_titles, on_unitdata, relay_by, return_outcome, return_refusal, add_title, remove_title}
-pub use Rattle.exchange_rules.specs.Releasing.{release, go, go_by, go_each, go_on}
 pub use Rattle.exchange_rules.specs.Rerouting.{apply_route_status, ask_again, ask_by, on_route_status, with_next_test, without_tests, with_status_heard, prohibited_test, restricted_test, rerouting_ended, with_set_reset, timed_status, forced, held_by_rerouting, controlled, rerouted_by, ask}
-pub use Rattle.exchange_rules.specs.Routing.{facts, link_of, sets_in, goes_by, network_of}
 pub use Rattle.exchange_rules.specs.Sending.{after_take, Acknowledges, Outgoing, SendsMessage, SendsNothing, SendsStatus, after_sending, goes_out, carried, frame_taken, without_owed, may_send, next_message, if_owed, message_first, status_first}
-pub use Rattle.exchange_rules.specs.Sound.{Abstract, AreQueues, IsSound}
-pub use Rattle.exchange_rules.specs.State.{Parts, Node, with_parts, refuse, Done, answer, QueueKind, keep, Noted, Found, lost_any, late_any, with_node}
-pub use Rattle.exchange_rules.specs.Statuses.{enters, begun_anew_if, moved_on, return_if, advance, step_on, act_by_status, act_by_timer, on_link_status, run_out, serve_status, end_busy, step_by_status}
-pub use Rattle.exchange_rules.specs.Suspending.{is_of_flow, is_failed, suspended}
-pub use Rattle.exchange_rules.specs.Telling.{told_below, is_all_told, answer_no_route, answered_parts, inhibited, is_inhibited, may_tell, on_route_test, prohibit, send_route_status, tell_each, tell_if, telling, told_parts, route_message, prohibit_if, answer_route_test, tell, timed_telling}
 unfoldable pub use Rattle.exchange_rules.specs.Telling.{tell_owed}
-pub use Rattle.exchange_rules.specs.Ticking.{with_timers, run_next, tick, run_due, run_times, run_timer}
 pub use Rattle.exchange_rules.specs.Timing.{without_timers, timer_name, ticks_of, without_timer, with_timer, without_timer_if, with_timer_if, timed, timed_sending, timed_confirming, timed_busy, timed_busy_ended}
 pub use Rattle.flow_hold.proofs.Flows.{flows_leave, IsSameNode, flows-same_node, flows_of_node, flows_add, some_passes}
 pub use Rattle.flow_hold.proofs.Holding.{hold_of_node, may_parts, holds_its_flow}
 pub use Rattle.flow_hold.proofs.Pairing.{first_of_node, lifted_of_node, held_by, none_at_first, may-alike}
-pub use Rattle.flow_hold.specs.Flows.{any_flow}
-unfoldable pub use Rattle.flow_hold.specs.Flows.{with_flows}
-pub use Rattle.flow_hold.specs.Holds.{HoldSet, is_held, holds, may_hold, no_holds, with_hold, lifted}
+pub use Rattle.flow_hold.specs.Holds.{any_flow, HoldSet, is_held, holds, may_hold, no_holds, with_hold, lifted}
+unfoldable pub use Rattle.flow_hold.specs.Holds.{with_flows}
 pub use Rattle.flow_hold.specs.Pairs.{IsAnyFlow}
 pub use Rattle.flow_hold.specs.declared.procedure.Procedure.{Procedure}
 pub use Rattle.flow_hold.specs.declared.procedure.Procedure.TheVariants.{Changeover, Code, Reroute, Time}
@@ -64,36 +46,28 @@ pub use Rattle.link.specs.declared.action.LinkTimer.{LinkTimer}
 pub use Rattle.link.specs.declared.action.Transition.{Transition}
 pub use Rattle.link.specs.declared.alignment.Alignment.{Alignment}
 pub use Rattle.link.specs.declared.fault.SeqFault.{SeqFault}
-pub use Rattle.m2pa_codec.specs.Frames.{FrameValue, EmptyFrame, MessageFrame, StatusFrame}
-pub use Rattle.m2pa_codec.specs.Reading.{read_frame}
+pub use Rattle.m2pa_codec.specs.Frames.{FrameValue, EmptyFrame, MessageFrame, StatusFrame, read_frame}
 pub use Rattle.m2pa_codec.specs.declared.status.LinkStatus.{LinkStatus}
-pub use Rattle.mtp3_codec.specs.Label.{label_at, label_octets}
-pub use Rattle.mtp3_codec.specs.LinkTests.{LinkTestValue, read_link_test}
-pub use Rattle.mtp3_codec.specs.Management.{read_management, IsManagement, link_code_of, field_octets}
+pub use Rattle.mtp3_codec.specs.Headings.{label_at, label_octets}
+pub use Rattle.mtp3_codec.specs.Management.{LinkTestValue, read_link_test, read_management, IsManagement, link_code_of, field_octets}
 pub use Rattle.mtp3_codec.specs.declared.discrimination.Discrimination.{Discrimination}
 pub use Rattle.mtp3_codec.specs.declared.fault.MgmtFault.{MgmtFault}
 pub use Rattle.mtp3_codec.specs.declared.link_test.TestKind.{TestKind}
 pub use Rattle.mtp3_codec.specs.declared.link_test.TestKind.TheVariants.{Acknowledgement, Test}
 pub use Rattle.mtp3_codec.specs.declared.management.Management.{Management}
 pub use Rattle.mtp3_codec.specs.declared.management.Management.TheVariants.{ChangebackDeclaration, ExtendedChangeoverOrder, RouteSetTestProhibited, RouteSetTestRestricted, ChangebackAcknowledgement, EmergencyChangeoverAcknowledgement, EmergencyChangeoverOrder, ExtendedChangeoverAcknowledgement, TrafficRestartAllowed, TransferAllowed, TransferProhibited, TransferRestricted}
-pub use Rattle.node_links.specs.Link.{Link}
-pub use Rattle.node_links.specs.LinkState.{is_down, is_in_service, stepped, down_link, after_failure, opened}
+pub use Rattle.node_links.specs.NodeLinks.{Link, is_down, is_in_service, stepped, down_link, after_failure, opened}
 pub use Rattle.route_management.proofs.Shape.{reset_shape, first_shape, told_shape}
-pub use Rattle.route_management.specs.Owed.{owes_nothing, Owed, owed, is_unlike, status_to_advertise, is_reachable, owed_at, all_told}
-pub use Rattle.route_management.specs.Told.{ToldTable, shape_of, is_number, is_own_point, told_at, row_of, with_told}
+pub use Rattle.route_management.specs.Told.{owes_nothing, Owed, owed, is_unlike, status_to_advertise, is_reachable, owed_at, all_told, ToldTable, shape_of, is_number, is_own_point, told_at, row_of, with_told}
 pub use Rattle.route_management.specs.declared.heard.Heard.{Heard}
 pub use Rattle.route_management.specs.declared.heard.RouteTest.{RouteTest}
-pub use Rattle.routes.specs.Chosen.{chosen_link}
-unfoldable pub use Rattle.routes.specs.Chosen.{choice_among, link_by}
-pub use Rattle.routes.specs.Facts.{Facts, set_at, routes_to, with_status_over, first_routes, first_route, with_second_joined}
-unfoldable pub use Rattle.routes.specs.Facts.{first_sets}
-pub use Rattle.routes.specs.Statuses.{status_of, with_statuses_reset, leads_by}
+pub use Rattle.routes.specs.Routes.{chosen_link, Facts, set_at, routes_to, with_status_over, first_routes, first_route, with_second_joined, status_of, with_statuses_reset, leads_by}
+unfoldable pub use Rattle.routes.specs.Routes.{choice_among, link_by, first_sets}
 pub use Rattle.routes.specs.declared.route.Route.{Route}
 pub use Rattle.routes.specs.declared.route.RouteStatus.{RouteStatus}
 pub use Rattle.routes.specs.declared.route.RouteStatus.TheVariants.{Allowed, Restricted, Prohibited}
 pub use Rattle.sccp_codec.specs.declared.title.TitleKey.{TitleKey}
-pub use Rattle.sccp_relay.specs.Relay.{RelayedValue, relay}
-pub use Rattle.sccp_relay.specs.Return.{returned}
+pub use Rattle.sccp_relay.specs.Relay.{RelayedValue, relay, returned}
 pub use Rattle.sccp_relay.specs.Rows.{has_row, place_of, without_row}
 pub use Rattle.settings.specs.Readings.{destination_place, set_place}
 pub use Rattle.settings.specs.Well.{IsWell, IsLink, is_same_code, is_same_point, is_set_to_same_point, IsDestination, IsSet, IsFarPoint}
@@ -110,8 +84,7 @@ pub use Rattle.signalling_types.specs.declared.outcome.Outcome.{Outcome}
 pub use Rattle.signalling_types.specs.declared.outcome.Outcome.TheVariants.{Handled, Ignored, Local, Queued, Held, Refused}
 pub use Rattle.timers.proofs.Dues.{counts-after, due-left, after-clear, after-none}
 pub use Rattle.timers.proofs.Maps.{left-none, left-set_other, left-clear_other, counts-set, counts-clear, left-clear, left-ticked, left-clear_set_other, counts-clear_set, left-set}
-pub use Rattle.timers.specs.Names.{key_of, is_same, has_name, is_of_set}
-pub use Rattle.timers.specs.Timers.{ticked, after_due, due_count, due_name, Running, is_due, no_tick_left, is_running, one_less}
+pub use Rattle.timers.specs.Timers.{key_of, is_same, has_name, is_of_set, ticked, after_due, due_count, due_name, Running, is_due, no_tick_left, is_running, one_less}
 unfoldable pub use Rattle.timers.specs.Timers.{set_timer, start_unless_running, clear_set, clear_timer}
 pub use Rattle.timers.specs.declared.name.NodeCounts.{NodeCounts}
 pub use Rattle.timers.specs.declared.name.TimerName.{TimerName}

@@ -1,7 +1,7 @@
 -- What was known of routes before a link entered service.
 use Rattle.exchange_rules.proofs.Basics.{◌≡◌, ℕ, Bool, true, false, List, refl, ap, ◌∙◌}
 use Rattle.exchange_rules.proofs.Definitions.{Configuration, Transition, Facts, with_statuses_reset, chosen_link, stepped, Parts, link_at, in_service, sets_in, facts, set_of, has_other, begun_anew_if, step_on}
-use Rattle.routes.specs.Facts.{with_link}
+use Rattle.routes.specs.Routes.{with_link}
 use Rattle.routes.proofs.Resetting.{reset_link}
 use Rattle.node_links.proofs.Serving.{serving_without}
 

@@ -6,7 +6,6 @@ use Rattle.std.specs.Prelude.{nat_lt, length, ◌&&◌, not}
 use Rattle.signalling_types.specs.declared.cause.Cause.TheVariants as causes
 use Rattle.route_management.specs.declared.heard.Heard.TheVariants as hears
 use Rattle.route_management.specs.Told as told
-use Rattle.route_management.specs.Hearing as hearing
 use Rattle.exchange_rules.specs.Telling as telling
 use Rattle.exchange_rules.proofs.Combining.{IsKeeping, KeepsNode, Keeps, changed, answered, parted, either, either_node, alike_node, behind_node}
 
@@ -81,7 +80,7 @@ module _ {P Q : Type 0} (p : QueueKind P) (q : QueueKind Q) (h : P → Q) (IsFit
 
   answer_route_test-kept : (test : RouteTest) (s d : ℕ) (n : Node P) → IsFit n.queues → Keeps h IsFit (answer_route_test q c test s d (keep h n)) (answer_route_test p c test s d n)
   answer_route_test-kept test s d n f =
-      let status : Option RouteStatus = hearing.answer_to_test (facts c n.parts) n.parts.told s d test in
+      let status : Option RouteStatus = told.answer_to_test (facts c n.parts) n.parts.told s d test in
       either (told.is_own_point n.parts.told s d) _ _ (answer Ignored n) (answer Handled (send_route_status p c status s d n))
       (parted _ n.parts n.queues f) (answered _ _ _ (send_route_status-kept status s d n f))
 
@@ -98,7 +97,7 @@ module _ {P Q : Type 0} (p : QueueKind P) (q : QueueKind Q) (h : P → Q) (IsFit
 
   pub on_route_status-kept : (status : RouteStatus) (route : Result (ℕ × ℕ) Outcome) (n : Node P) → IsFit n.queues
       → Keeps h IsFit (on_route_status q c status route (keep h n)) (on_route_status p c status route n)
-  on_route_status-kept status (Ok (s, d)) n f = apply_route_status-kept (hearing.heard (facts c n.parts) n.parts.told s d status) s d status n f
+  on_route_status-kept status (Ok (s, d)) n f = apply_route_status-kept (told.heard (facts c n.parts) n.parts.told s d status) s d status n f
   on_route_status-kept status (Err outcome) n f = parted _ n.parts n.queues f
 
   ask_by-kept : (status : Option RouteStatus) (s d : ℕ) (n : Node P) → IsFit n.queues → KeepsNode h IsFit (ask_by q c status s d (keep h n)) (ask_by p c status s d n)

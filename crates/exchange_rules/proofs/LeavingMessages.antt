@@ -6,8 +6,7 @@ use Rattle.signalling_types.specs.declared.point.Flow.{Flow}
 use Rattle.signalling_types.specs.declared.cause.Cause.TheVariants as causes
 use Rattle.route_management.specs.declared.heard.Heard.TheVariants as hears
 use Rattle.route_management.specs.declared.heard.RouteTest.TheVariants as tests
-use Rattle.route_management.specs.Hearing as hearing
-use Rattle.route_management.specs.Told as told
+use Rattle.route_management.specs.Told as hearing
 use Rattle.node_links.proofs.Chosen.{chosen_serving}
 use Rattle.mtp3_codec.specs.declared.discrimination.Discrimination.TheVariants as whither
 use Rattle.signalling_types.specs.declared.notice.FailureReason.TheVariants as reasons
@@ -85,7 +84,7 @@ module _ (c : Configuration) (n : Node WholeQueues) (by : Cause → Node WholeQu
   answer_route_test-leaves : (test : RouteTest) (set place : ℕ) → Leaves (answer_route_test whole c test set place n) by
   answer_route_test-leaves test set place =
       let answered : Node WholeQueues = send_route_status whole c (hearing.answer_to_test (facts c n.parts) n.parts.told set place test) set place n in
-      either (told.is_own_point n.parts.told set place) (answer Ignored n) (answer Handled answered) by (ignored n by) (handled answered by)
+      either (hearing.is_own_point n.parts.told set place) (answer Ignored n) (answer Handled answered) by (ignored n by) (handled answered by)
 
   on_route_test-leaves : (test : RouteTest) (set place : Option ℕ) → Leaves (on_route_test whole c test (route_about set place) n) by
   on_route_test-leaves test (Some set) (Some place) = answer_route_test-leaves test set place

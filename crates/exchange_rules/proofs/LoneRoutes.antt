@@ -10,13 +10,8 @@ use Rattle.link.specs.Queue as queue
 use Rattle.link.specs.Queue.{accept_answer, to_send}
 use Rattle.routes.specs.declared.link_group.Member.{Member}
 use Rattle.routes.specs.declared.route.RouteStatus.TheVariants.{Restricted}
-use Rattle.routes.specs.Preference.{members_of, preference, serves, is_in_service, has_link}
-use Rattle.node_links.specs.Link.{Link}
-use Rattle.node_links.specs.LinkState.{down_link}
-use Rattle.node_links.specs.LinkState.{is_in_service as is_link_in_service}
-use Rattle.routes.specs.Facts.{set_at}
-use Rattle.routes.specs.Members.{links_of}
-use Rattle.routes.specs.Chosen.{is_open, allowed_or, Choice, choice_among, members, sets_of, taken_by, link_by}
+use Rattle.routes.specs.Routes.{members_of, preference, serves, is_in_service, has_link, set_at, links_of, is_open, allowed_or, Choice, choice_among, members, sets_of, taken_by, link_by}
+use Rattle.node_links.specs.NodeLinks.{Link, down_link, is_in_service as is_link_in_service}
 use Rattle.routes.proofs.Preference.{preference-permutation}
 use Rattle.route_management.specs.Told.{adjacent_place}
 use Rattle.settings.specs.Sharing.{sets_to, LeadsAlone}

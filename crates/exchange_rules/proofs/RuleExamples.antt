@@ -1,7 +1,7 @@
 -- Laws of the exchange at nodes of one link, by computation.
 use Rattle.exchange_rules.proofs.Basics.{◌≡◌, Bool, true, false, refl, ap, sym, ◌∙◌, [], ◌∷◌, true≢false}
 use Rattle.exchange_rules.proofs.Definitions.{set_timer, Time, is_taken_back, choice_among, link_by, first_sets, Procedure, Changeover, with_flows, holds, is_held, flows_add, holds_its_flow, held_by, none_at_first, Node, WholeQueues, queue_at, whole, apply, tell_owed, go_by, facts, is_failed}
-use Rattle.routes.specs.Members.{links_below}
+use Rattle.routes.specs.Routes.{links_below}
 use Rattle.exchange_rules.specs.RuleExamples as examples
 use Rattle.exchange_rules.specs.RuleExamples.{settings, message, nothing_held, flow_held, node_with, the_routes}
 

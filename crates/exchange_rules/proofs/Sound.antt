@@ -3,14 +3,13 @@ use Rattle.exchange_rules.proofs.Basics.{◌≡◌, ◌+◌, ◌∷◌, ℕ, Boo
 use Rattle.exchange_rules.proofs.Definitions.{Queue, first_queue, unconfirmed, unconfirmed-sent_one, WholeQueues, queue_at, whole, Configuration, Facts, set_at, Link, is_in_service, network_of, facts, link_at, with_link, Outgoing, SendsStatus, SendsMessage, Acknowledges, SendsNothing, goes_out, without_owed, after_sending, after_take, release, told_below, is_all_told, Node, Happening, handle_event, apply, Abstract, first_state, ToldTable, is_own_point, told_at, is_unlike, status_to_advertise, is_reachable, owed_at, owes_nothing, all_wait}
 use Rattle.cell_pool.specs.Lanes.{managements_in}
 use Rattle.link.specs.Queue as queue
-use Rattle.exchange_rules.proofs.Lists.{map-set_alike, sum_by-map}
+use Rattle.exchange_rules.proofs.Lists.{map-set_alike, sum_by-map, each-replicate}
 use Rattle.std.specs.Prelude.{Some, None, nat_lt}
-use Rattle.routes.specs.Preference.{has_link}
+use Rattle.routes.specs.Routes.{has_link}
 use Rattle.node_links.proofs.Serving.{facts_alike, serving_none}
 use Rattle.route_management.proofs.Settled.{nothing_is_listed, owes_nothing_from_none}
 use Rattle.exchange_rules.proofs.Settling.{release-waits, tell_owed-waits}
 use Rattle.exchange_rules.proofs.Telling.{all_is_told}
-use Rattle.exchange_rules.proofs.Lists.{each-replicate}
 
 -- a message that goes out stands in its queue until it is confirmed
 pub managements-sent_one : (w : ℕ) (qs : WholeQueues) (l : ℕ) → whole.managements (whole.sent_one qs l w) ≡ whole.managements qs

@@ -6,7 +6,7 @@ use Rattle.signalling_types.specs.declared.notice.FailureReason.TheVariants as r
 use Rattle.m2pa_codec.specs.declared.status.LinkStatus.TheVariants as says
 use Rattle.link.specs.declared.action.Action.TheVariants as act
 use Rattle.timers.specs.declared.name.RouteTimer.TheVariants as of_set
-use Rattle.node_links.specs.Network.{link_in}
+use Rattle.node_links.specs.NodeLinks.{link_in}
 use Rattle.exchange_rules.proofs.TakenPairs.{take_back_each-alike}
 use Rattle.exchange_rules.proofs.Serving.{serves-in}
 use Rattle.exchange_rules.proofs.Steps.{IsOfRules, with_busy, without_busy, either-steps, either_done-steps}

@@ -8,7 +8,6 @@ use Rattle.timers.specs.declared.name.TimerName.TheVariants as name
 use Rattle.changeback.specs.Rerouting.{rerouted}
 use Rattle.route_management.specs.Told as told
 use Rattle.route_management.specs.declared.heard.Heard.TheVariants as hears
-use Rattle.route_management.specs.Hearing as hearing
 use Rattle.exchange_rules.proofs.Steps.{AreQuiet, IsOfSends, IsOfRules, either-steps, either_done-steps}
 use Rattle.exchange_rules.proofs.OwnRoutes.{rerouted-one}
 use Rattle.exchange_rules.proofs.SteppingTimers.{same-quiet, set-quiet, clear-quiet}
@@ -94,7 +93,7 @@ module _ {c : Configuration} {Own Counts : ℕ → Type 0} {R : Node WholeQueues
 
   pub on_route_test-steps : (test : RouteTest) (route : Result (ℕ × ℕ) Outcome) (n : Node WholeQueues) → R n (on_route_test whole c test route n).left
   on_route_test-steps test (Ok (set, destination)) n =
-      let status : Option RouteStatus = hearing.answer_to_test (facts c n.parts) n.parts.told set destination test in
+      let status : Option RouteStatus = told.answer_to_test (facts c n.parts) n.parts.told set destination test in
       either_done-steps s.sends (told.is_own_point n.parts.told set destination) n (answer Ignored n) (answer Handled (send_route_status whole c status set destination n))
       (s.sends.none n) (send_route_status-steps status set destination n)
   on_route_test-steps test (Err outcome) n = s.sends.none n
@@ -132,8 +131,8 @@ module _ {c : Configuration} {Own Counts : ℕ → Type 0} {R : Node WholeQueues
 
   pub on_route_status-steps : (status : RouteStatus) (route : Result (ℕ × ℕ) Outcome) (n : Node WholeQueues) → R n (on_route_status whole c status route n).left
   on_route_status-steps status (Ok (set, destination)) n =
-      apply_route_status-steps (hearing.heard (facts c n.parts) n.parts.told set destination status) set destination status n
-      (heard-away (told.is_own_point n.parts.told set destination) (hearing.heard_of (status_of (facts c n.parts) destination set) status))
+      apply_route_status-steps (told.heard (facts c n.parts) n.parts.told set destination status) set destination status n
+      (heard-away (told.is_own_point n.parts.told set destination) (told.heard_of (status_of (facts c n.parts) destination set) status))
   on_route_status-steps status (Err outcome) n = s.sends.none n
 
   -- ---- tests of our own

@@ -1,7 +1,6 @@
 -- Changeback (Q.704 §6, block TCBC): a link returns to service, and takes its flows back from the links that carried
 -- them meanwhile.
-use Rattle.std.specs.Prelude.{ℕ, zero, suc, Bool, true, false, not, ◌&&◌, nat_eq, length, Option, Some, None}
-use Rattle.std.specs.Prelude.{if◌then◌else◌}
+use Rattle.std.specs.Prelude.{ℕ, zero, suc, Bool, true, false, not, ◌&&◌, nat_eq, length, Option, Some, None, if◌then◌else◌}
 use Rattle.settings_rows.specs.Configuration.{Configuration}
 use Rattle.signalling_types.specs.Message.{Message}
 use Rattle.signalling_types.specs.declared.cause.Cause.{Cause}
@@ -9,23 +8,17 @@ use Rattle.signalling_types.specs.declared.outcome.Outcome.TheVariants.{Handled,
 use Rattle.signalling_types.specs.declared.notice.Notice.{Notice}
 use Rattle.signalling_types.specs.declared.notice.Notice.TheVariants as notices
 use Rattle.signalling_types.specs.declared.notice.LateTimer.TheVariants as late_timer
-use Rattle.mtp3_codec.specs.declared.management.Management.TheVariants.{ChangebackDeclaration}
-use Rattle.mtp3_codec.specs.declared.management.Management.TheVariants.{ChangebackAcknowledgement}
+use Rattle.mtp3_codec.specs.declared.management.Management.TheVariants.{ChangebackDeclaration, ChangebackAcknowledgement}
 use Rattle.timers.specs.declared.name.TimerName.TheVariants.{T3, T4}
 use Rattle.timers.specs.Timers.{set_timer, clear_timer}
-use Rattle.routes.specs.Facts.{Facts}
-use Rattle.routes.specs.Chosen.{chosen_link}
+use Rattle.routes.specs.Routes.{Facts, chosen_link}
 use Rattle.flow_hold.specs.declared.procedure.Procedure.{Procedure}
 use Rattle.flow_hold.specs.declared.procedure.Procedure.TheVariants.{Code, Time}
-use Rattle.flow_hold.specs.Holds.{lifted}
-use Rattle.flow_hold.specs.Flows.{any_flow, with_flows}
+use Rattle.flow_hold.specs.Holds.{lifted, any_flow, with_flows}
 use Rattle.changeback.specs.Codes.{free_code, is_outstanding, with_code}
-use Rattle.exchange_rules.specs.State.{unless◌then◌else◌, ◌▷◌, QueueKind, Parts, Node, Done, with_parts, answer}
-use Rattle.exchange_rules.specs.Noting.{note, flagged_late}
-use Rattle.exchange_rules.specs.Routing.{facts, goes_by}
-use Rattle.exchange_rules.specs.Queueing.{no_room, queue_on}
-use Rattle.exchange_rules.specs.Made.{management_to, send_routed}
-use Rattle.exchange_rules.specs.Points.{entry_of, set_of, peer_of}
+use Rattle.exchange_rules.specs.State.{unless◌then◌else◌, ◌▷◌, QueueKind, Parts, Node, Done, with_parts, answer, note, flagged_late}
+use Rattle.exchange_rules.specs.Routing.{facts, goes_by, no_room, queue_on, entry_of, set_of, peer_of}
+use Rattle.exchange_rules.specs.Telling.{management_to, send_routed}
 
 -- the declaration that a link is back, and what answers one
 abbrev pub declaration : Configuration → (link code : ℕ) → Message

@@ -1,54 +1,37 @@
 -- What user messages come in by an event, and what goes for good.
-use Rattle.std.specs.Prelude.{Bool, Err, List, None, Ok, Option, Result, Some, [], count_by, false, filter}
-use Rattle.std.specs.Prelude.{if◌then◌else◌, is_some, nat_eq, not, suc, sum_by, take, true, zero, ℕ}
-use Rattle.std.specs.Prelude.{◌&&◌, ◌++◌, ◌+◌, ◌-◌, ◌∷◌}
-use Rattle.changeover.specs.Completion.{accepted_count, users_of}
+use Rattle.std.specs.Prelude.{Bool, Err, List, None, Ok, Option, Result, Some, [], count_by, false, filter, if◌then◌else◌, is_some, nat_eq, not, suc, sum_by, take, true, zero, ℕ, ◌&&◌, ◌++◌, ◌+◌, ◌-◌, ◌∷◌}
+use Rattle.changeover.specs.Changeover.{accepted_count, users_of}
 use Rattle.changeover.specs.Laws.{count_in_the_end}
 use Rattle.link.specs.Table.{action_at}
 use Rattle.link.specs.declared.action.Action.{Action}
 use Rattle.link.specs.declared.action.Input.TheVariants.{UserData}
 use Rattle.link.specs.Queue.{Queue, count_confirmed, unconfirmed}
 use Rattle.link.specs.declared.fault.SeqFault.{SeqFault}
-use Rattle.m2pa_codec.specs.Frames.{FrameValue}
-use Rattle.m2pa_codec.specs.Reading.{read_frame}
+use Rattle.m2pa_codec.specs.Frames.{FrameValue, read_frame}
 use Rattle.mtp3_codec.specs.Management.{read_management}
 use Rattle.mtp3_codec.specs.declared.fault.MgmtFault.{MgmtFault}
 use Rattle.mtp3_codec.specs.declared.management.Management.{Management}
-use Rattle.mtp3_codec.specs.declared.management.Management.TheVariants.{EmergencyChangeoverAcknowledgement}
-use Rattle.mtp3_codec.specs.declared.management.Management.TheVariants.{EmergencyChangeoverOrder}
-use Rattle.mtp3_codec.specs.declared.management.Management.TheVariants.{ExtendedChangeoverAcknowledgement}
-use Rattle.mtp3_codec.specs.declared.management.Management.TheVariants.{ExtendedChangeoverOrder}
+use Rattle.mtp3_codec.specs.declared.management.Management.TheVariants.{EmergencyChangeoverAcknowledgement, EmergencyChangeoverOrder, ExtendedChangeoverAcknowledgement, ExtendedChangeoverOrder}
 use Rattle.mtp3_codec.specs.declared.discrimination.Discrimination.{Discrimination}
-use Rattle.sccp_relay.specs.Relay.{RelayedValue, relay}
-use Rattle.sccp_relay.specs.Return.{returned}
+use Rattle.sccp_relay.specs.Relay.{RelayedValue, relay, returned}
 use Rattle.settings_rows.specs.Configuration.{Configuration}
 use Rattle.signalling_types.specs.Message.{Message, flow_of, is_management, opc_of, service_indicator}
 use Rattle.signalling_types.specs.declared.notice.FrameFault.{FrameFault}
 use Rattle.signalling_types.specs.declared.outcome.Outcome.{Outcome}
-use Rattle.signalling_types.specs.declared.outcome.Outcome.TheVariants.{Handled, Held, Ignored, Local, Queued}
-use Rattle.signalling_types.specs.declared.outcome.Outcome.TheVariants.{Refused}
+use Rattle.signalling_types.specs.declared.outcome.Outcome.TheVariants.{Handled, Held, Ignored, Local, Queued, Refused}
 use Rattle.timers.specs.Timers.{after_due, due_count, due_name, ticked}
 use Rattle.timers.specs.declared.name.TimerName.{TimerName}
 use Rattle.timers.specs.declared.name.TimerName.TheVariants.{T1, T2}
-use Rattle.exchange_rules.specs.Arrival.{transfer}
-use Rattle.exchange_rules.specs.ChangingOver.{fail_by_order}
-use Rattle.exchange_rules.specs.Exchange.{handle_event, outcome_of}
-use Rattle.exchange_rules.specs.Failing.{changeover_of}
-use Rattle.exchange_rules.specs.Frames.{Carrying, data_of, numbers}
-use Rattle.exchange_rules.specs.Happening.{FrameCame, Happening, Submitted, Ticked}
-use Rattle.exchange_rules.specs.Holding.{waits}
+use Rattle.exchange_rules.specs.Messages.{transfer, is_adjacent, link_with_code, sccp, testing, whither_goes, in_place_of, own_of}
+use Rattle.exchange_rules.specs.ChangingOver.{fail_by_order, changeover_of}
+use Rattle.exchange_rules.specs.Exchange.{handle_event, outcome_of, run_next, with_timers}
+use Rattle.exchange_rules.specs.Frames.{Carrying, data_of, numbers, advance}
+use Rattle.exchange_rules.specs.State.{FrameCame, Happening, Submitted, Ticked, down, is_link, link_at, Node, Parts}
+use Rattle.exchange_rules.specs.Routing.{waits, link_of}
 use Rattle.exchange_rules.specs.Laws.{accept_text}
-use Rattle.exchange_rules.specs.Links.{down, is_link, link_at}
-use Rattle.exchange_rules.specs.Local.{is_adjacent, link_with_code, sccp, testing}
-use Rattle.exchange_rules.specs.Messages.{whither_goes}
 use Rattle.exchange_rules.specs.Queues.{WholeQueues, queue_at, whole}
 use Rattle.exchange_rules.specs.Receiving.{new_message}
-use Rattle.exchange_rules.specs.Relaying.{in_place_of, own_of}
-use Rattle.exchange_rules.specs.Routing.{link_of}
-use Rattle.exchange_rules.specs.Sound.{Abstract}
-use Rattle.exchange_rules.specs.State.{Node, Parts}
-use Rattle.exchange_rules.specs.Statuses.{advance}
-use Rattle.exchange_rules.specs.Ticking.{run_next, with_timers}
+use Rattle.exchange_rules.specs.First.{Abstract}
 use Rattle.link.specs.declared.action.Action.TheVariants as act
 use Rattle.sccp_relay.specs.Relay as relays
 use Rattle.mtp3_codec.specs.declared.discrimination.Discrimination.TheVariants as whither

@@ -1,20 +1,97 @@
--- The step of an exchange: what becomes of all that can happen, and the state after it.
-use Rattle.std.specs.Prelude.{◌≡◌, ℕ, Option}
+-- Release (Q.704 §5.4, §6.3, blocks TCOC and TCBC): at the end of each event the messages of Held whose flows have no
+-- hold any more go on.
+use Rattle.std.specs.Prelude.{ℕ, Bool, true, false, List, [], ◌∷◌, Option, Some, None, zero, suc, ◌≡◌}
+use Rattle.signalling_types.specs.Message.{Message, flow_of}
 use Rattle.settings_rows.specs.Configuration.{Configuration}
+use Rattle.signalling_types.specs.declared.cause.Cause.TheVariants.{NoRoute}
+use Rattle.exchange_rules.specs.State.{◌▷◌, QueueKind, Node, with_parts, Done, answer, State, with_node, Happening, CameUp, WentDown, FrameCame, Ticked, Submitted, Activated, Deactivated, TitleAdded, TitleRemoved}
+use Rattle.exchange_rules.specs.Routing.{link_of, queue_on, waits, hold}
+use Rattle.exchange_rules.specs.ChangingOver.{lose, on_changeover_timer}
+use Rattle.signalling_types.specs.declared.outcome.Outcome.TheVariants.{Handled}
+use Rattle.link.specs.declared.action.LinkTimer.TheVariants as timer
+use Rattle.timers.specs.declared.name.TimerName.{TimerName}
+use Rattle.timers.specs.declared.name.TimerName.TheVariants.{L1, L2, L3, L4, L6, L7, T1, T2, T3, T4, T6, T8, T10}
+use Rattle.timers.specs.Timers.{Running, ticked, due_name, due_count, after_due}
+use Rattle.signalling_types.specs.declared.notice.ChangeoverTimer.TheVariants as changeover
+use Rattle.exchange_rules.specs.Frames.{run_out, receive}
+use Rattle.exchange_rules.specs.ChangingBack.{late_time, late_code}
+use Rattle.exchange_rules.specs.Rerouting.{rerouting_ended, ask_again}
 use Rattle.signalling_types.specs.declared.outcome.Outcome.{Outcome}
 use Rattle.m2pa_codec.specs.Frames.{FrameValue}
-use Rattle.exchange_rules.specs.State.{◌▷◌, QueueKind, Node, State, Done, with_node}
-use Rattle.exchange_rules.specs.Happening.{Happening, CameUp, WentDown, FrameCame, Ticked, Submitted}
-use Rattle.exchange_rules.specs.Happening.{Activated, Deactivated, TitleAdded, TitleRemoved}
 use Rattle.exchange_rules.specs.declared.wants.Wants.{Wants}
 use Rattle.exchange_rules.specs.Opening.{association_up, association_down, activate, deactivate, wanted}
-use Rattle.exchange_rules.specs.Ticking.{tick}
-use Rattle.exchange_rules.specs.Frames.{receive}
-use Rattle.exchange_rules.specs.Messages.{submit}
-use Rattle.exchange_rules.specs.Relaying.{add_title, remove_title}
-use Rattle.exchange_rules.specs.Releasing.{release}
+use Rattle.exchange_rules.specs.Messages.{submit, add_title, remove_title}
 use Rattle.exchange_rules.specs.Telling.{tell_owed}
 use Rattle.exchange_rules.specs.Sending.{frame_taken, after_take}
+
+module _ {Q : Type 0} (q : QueueKind Q) (c : Configuration) where
+  -- a message goes to the end of its link's queue; where its flow has no link it is lost
+  abbrev pub go_on : Option ℕ → Message → Node Q → Node Q
+  go_on (Some link) m node = queue_on q c link m node
+  go_on None m node = with_parts node (lose NoRoute m node.parts)
+
+  -- a message that still waits stands in Held again
+  abbrev pub go_by : (is_waiting : Bool) → Message → Node Q → Node Q
+  go_by true m node = hold q m node
+  go_by false m node = go_on (link_of c node.parts (flow_of m)) m node
+
+  abbrev pub go : Message → Node Q → Node Q
+  go m node = go_by (waits c node.parts.holds m) m node
+
+  abbrev pub go_each : List Message → Node Q → Node Q
+  go_each [] node = node
+  go_each (m ∷ ms) node = node ▷ go m ▷ go_each ms
+
+  -- all messages are taken out of Held, and each goes where it is to go, in order
+  abbrev pub release : Node Q → Node Q
+  release node =
+      record node { queues = q.without_held node.queues } ▷ go_each (q.held node.queues)
+
+-- ---- A tick: all timers have one tick less, and those that are due run, in name order.
+
+-- the same node with other timers
+abbrev pub with_timers : {Q : Type 0} → Node Q → Running → Node Q
+with_timers node timers = with_parts node (record node.parts { timers = timers })
+
+module _ {Q : Type 0} (q : QueueKind Q) (c : Configuration) where
+  -- a timer runs; that T8 did is all that it is for
+  abbrev pub run_timer : TimerName → Node Q → Node Q
+  run_timer (L1 link) node = run_out q c link timer.L1 node
+  run_timer (L2 link) node = run_out q c link timer.L2 node
+  run_timer (L3 link) node = run_out q c link timer.L3 node
+  run_timer (L4 link) node = run_out q c link timer.L4 node
+  run_timer (L6 link) node = run_out q c link timer.L6 node
+  run_timer (L7 link) node = run_out q c link timer.L7 node
+  run_timer (T1 link) node = on_changeover_timer q c changeover.T1 link node
+  run_timer (T2 link) node = on_changeover_timer q c changeover.T2 link node
+  run_timer (T3 link) node = with_parts node (late_time link node.parts)
+  run_timer (T4 set code) node = with_parts node (late_code set code node.parts)
+  run_timer (T6 destination) node = with_parts node (rerouting_ended destination node.parts)
+  run_timer (T8 set destination) node = node
+  run_timer (T10 set destination) node = ask_again q c set destination node
+
+  abbrev pub run_due : Option TimerName → Node Q → Node Q
+  run_due None node = node
+  run_due (Some name) node = run_timer name node
+
+  -- the first timer that is due stops, and runs
+  abbrev pub run_next : Node Q → Node Q
+  run_next node =
+      run_due (due_name node.parts.timers) (with_timers node (after_due node.parts.timers))
+
+  -- as many times; once nothing is due, nothing runs
+  abbrev pub run_times : ℕ → Node Q → Node Q
+  run_times zero node = node
+  run_times (suc more) node = node ▷ run_next ▷ run_times more
+
+  -- as many run as are due when the tick begins, but for those that an earlier one stopped or set
+  abbrev pub run_all : Node Q → Node Q
+  run_all node = run_times (due_count node.parts.timers) node
+
+  abbrev pub tick : Node Q → Done Q
+  tick node = answer Handled (with_timers node (ticked node.parts.timers) ▷ run_all)
+
+-- ---- The step of an exchange: what becomes of all that can happen, and the state after it.
 
 -- each event has its rule
 abbrev pub handle_event : {Q : Type 0} → QueueKind Q → Configuration → Happening → Node Q → Done Q

@@ -1,18 +1,37 @@
--- The state that an exchange has once it is booted.
-use Rattle.std.specs.Prelude.{[], map, length, replicate}
+-- The abstract exchange's state, and what holds of it between two events.
+use Rattle.std.specs.Prelude.{◌≡◌, ℕ, true, [], map, length, replicate}
+use Rattle.link.specs.Queue.{IsQueue, first_queue}
+use Rattle.exchange_rules.specs.State.{State, Parts}
+use Rattle.exchange_rules.specs.Queues.{WholeQueues, queue_at, whole}
+use Rattle.exchange_rules.specs.Routing.{all_wait}
+use Rattle.exchange_rules.specs.Telling.{is_all_told}
 use Rattle.settings_rows.specs.Configuration.{Configuration}
 use Rattle.timers.specs.declared.name.NodeCounts.{NodeCounts}
 use Rattle.timers.specs.Timers.{none_running}
-use Rattle.link.specs.Queue.{first_queue}
-use Rattle.routes.specs.Facts.{first_routes}
-use Rattle.node_links.specs.LinkState.{down_link}
-use Rattle.changeover.specs.Standing.{no_changeover}
+use Rattle.routes.specs.Routes.{first_routes}
+use Rattle.node_links.specs.NodeLinks.{down_link}
+use Rattle.changeover.specs.Changeover.{no_changeover}
 use Rattle.changeback.specs.Codes.{no_codes}
 use Rattle.route_management.specs.Told.{first_told}
 use Rattle.flow_hold.specs.Holds.{no_holds}
 use Rattle.sccp_relay.specs.Rows.{table_of}
-use Rattle.exchange_rules.specs.State.{Parts}
-use Rattle.exchange_rules.specs.Sound.{Abstract}
+
+-- the abstract state: whole queues
+abbrev pub Abstract : Type 0
+Abstract = State WholeQueues
+
+-- each queue's counts are in order, and no more than the settings' window is sent and unconfirmed
+pub record AreQueues (window : ℕ) (qs : WholeQueues) : Type 0 where
+  pub each : (link : ℕ) → IsQueue window (queue_at qs link)
+
+-- the states that an exchange can stand for: between two events each message of Held has a hold, and adjacent points
+-- are owed only what finds no room
+pub record IsSound (a : Abstract) : Type 0 where
+  pub queues : AreQueues a.settings.window a.node.queues
+  pub waiting : all_wait a.settings a.node.parts.holds a.node.queues.held ≡ true
+  pub telling : is_all_told whole a.settings a.node ≡ true
+
+-- ---- The state that an exchange has once it is booted.
 
 -- how many links, sets and destinations the settings have
 abbrev pub counts_in : Configuration → NodeCounts

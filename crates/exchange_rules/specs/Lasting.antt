@@ -8,15 +8,12 @@ use Rattle.signalling_types.specs.declared.notice.Notice.TheVariants as notices
 use Rattle.signalling_types.specs.declared.notice.ChangeoverTimer.TheVariants as timer
 use Rattle.signalling_types.specs.declared.limits.TheConstants.Limits.{LINKS, NOTICES}
 use Rattle.timers.specs.Timers.{Running}
-use Rattle.exchange_rules.specs.Happening.{Asking, Happens, Takes, AsksWants}
-use Rattle.exchange_rules.specs.Noting.{made_since}
-use Rattle.exchange_rules.specs.State.{Noted, Parts, Node, lost_any, late_any}
+use Rattle.exchange_rules.specs.State.{Asking, Happens, Takes, AsksWants, made_since, Noted, Parts, Node, lost_any, late_any}
 use Rattle.exchange_rules.specs.ChangingOver.{complete_if}
 use Rattle.exchange_rules.specs.Queues.{WholeQueues, whole}
 use Rattle.exchange_rules.specs.Exchange.{after, taken}
 use Rattle.exchange_rules.specs.Places.{HasPlacesFor}
-use Rattle.exchange_rules.specs.Sound.{Abstract}
-use Rattle.exchange_rules.specs.First.{first_state}
+use Rattle.exchange_rules.specs.First.{Abstract, first_state}
 
 -- the state after an exchange was asked this
 abbrev pub after_asking : Asking → Abstract → Abstract

@@ -4,16 +4,14 @@ use Rattle.signalling_types.specs.declared.limits.TheConstants.Limits.{LINKS}
 use Rattle.settings_rows.specs.Configuration.{Configuration}
 use Rattle.timers.specs.declared.name.TimerName.TheVariants.{T1, T2, T3, T4, T6}
 use Rattle.timers.specs.Timers.{is_running}
-use Rattle.changeover.specs.Standing.{Standing}
+use Rattle.changeover.specs.Changeover.{Standing}
 use Rattle.flow_hold.specs.declared.procedure.Procedure.{Procedure}
 use Rattle.flow_hold.specs.declared.procedure.Procedure.TheVariants.{Changeover, Code, Time, Reroute}
 use Rattle.flow_hold.specs.Holds.{holds}
-use Rattle.exchange_rules.specs.Happening.{Asking}
-use Rattle.exchange_rules.specs.State.{Parts}
-use Rattle.exchange_rules.specs.Failing.{changeover_of}
+use Rattle.exchange_rules.specs.State.{Asking, Parts}
+use Rattle.exchange_rules.specs.ChangingOver.{changeover_of}
 use Rattle.exchange_rules.specs.Lasting.{after_each, HasAllPlaces}
-use Rattle.exchange_rules.specs.Sound.{Abstract}
-use Rattle.exchange_rules.specs.First.{first_state}
+use Rattle.exchange_rules.specs.First.{Abstract, first_state}
 
 -- what ends the holds of a procedure: a changeover that isn't complete yet; T4 of a code, T3 of a link that returned, or
 -- T6 of a destination, and that runs

@@ -5,18 +5,14 @@ use Rattle.signalling_types.specs.declared.limits.TheConstants.Limits.{LINKS, WI
 use Rattle.timers.specs.declared.name.TimerName.TheVariants.{L7}
 use Rattle.timers.specs.Timers.{is_running}
 use Rattle.link.specs.Queue.{Queue, IsQueue}
-use Rattle.node_links.specs.Link.{Link}
-use Rattle.node_links.specs.LinkState.{is_down, is_in_service}
-use Rattle.changeover.specs.Standing.{Standing}
-use Rattle.exchange_rules.specs.Happening.{Asking}
-use Rattle.exchange_rules.specs.State.{Node}
-use Rattle.exchange_rules.specs.Links.{link_at}
-use Rattle.exchange_rules.specs.Failing.{changeover_of}
+use Rattle.node_links.specs.NodeLinks.{Link, is_down, is_in_service}
+use Rattle.changeover.specs.Changeover.{Standing}
+use Rattle.exchange_rules.specs.State.{Asking, Node, link_at}
+use Rattle.exchange_rules.specs.ChangingOver.{changeover_of}
 use Rattle.exchange_rules.specs.Sending.{may_send}
 use Rattle.exchange_rules.specs.Queues.{WholeQueues, queue_at}
 use Rattle.exchange_rules.specs.Lasting.{after_each, HasAllPlaces}
-use Rattle.exchange_rules.specs.Sound.{Abstract}
-use Rattle.exchange_rules.specs.First.{first_state}
+use Rattle.exchange_rules.specs.First.{Abstract, first_state}
 
 -- what holds of a link, by its state, its changeover, its queue, and whether its L7 runs
 pub record IsSteady (window : ℕ) (l : Link) (s : Standing) (q : Queue) (l7_runs : Bool) : Type 0 where

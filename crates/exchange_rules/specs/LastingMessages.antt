@@ -4,11 +4,10 @@ use Rattle.std.specs.List.{list_all}
 use Rattle.signalling_types.specs.Message.{Message, dpc_of}
 use Rattle.settings_rows.specs.Configuration.{Configuration}
 use Rattle.settings.specs.Well.{IsWell}
-use Rattle.exchange_rules.specs.Happening.{Asking}
+use Rattle.exchange_rules.specs.State.{Asking}
 use Rattle.exchange_rules.specs.Queues.{WholeQueues, queue_at}
 use Rattle.exchange_rules.specs.Lasting.{after_each}
-use Rattle.exchange_rules.specs.Sound.{Abstract}
-use Rattle.exchange_rules.specs.First.{first_state}
+use Rattle.exchange_rules.specs.First.{Abstract, first_state}
 
 -- whether a message is for another point
 abbrev pub is_onward : Configuration → Message → Bool

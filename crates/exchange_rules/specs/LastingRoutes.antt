@@ -3,11 +3,10 @@ use Rattle.std.specs.Prelude.{◌≡◌, ℕ, true, List, Some}
 use Rattle.settings_rows.specs.Configuration.{Configuration}
 use Rattle.routes.specs.declared.route.RouteStatus.{RouteStatus}
 use Rattle.routes.specs.declared.route.RouteStatus.TheVariants.{Allowed}
-use Rattle.routes.specs.Statuses.{status_of}
+use Rattle.routes.specs.Routes.{status_of}
 use Rattle.route_management.specs.Told.{is_own_point}
 use Rattle.exchange_rules.specs.Routing.{facts}
-use Rattle.exchange_rules.specs.Happening.{Asking}
-use Rattle.exchange_rules.specs.State.{Parts}
+use Rattle.exchange_rules.specs.State.{Asking, Parts}
 use Rattle.exchange_rules.specs.First.{first_state}
 use Rattle.exchange_rules.specs.Lasting.{after_each}
 

@@ -1,46 +1,33 @@
 -- What the abstract exchange does whatever the event: laws.
 use Rattle.settings_rows.specs.Configuration.{Configuration}
-use Rattle.std.specs.Prelude.{◌≡◌, ◌≢◌, ◌<◌, ◌&&◌, ◌++◌, ℕ, Bool, true, not, nat_eq, length, filter}
-use Rattle.std.specs.Prelude.{Option, Some, None, Result, Ok, Err, if◌then◌else◌}
+use Rattle.std.specs.Prelude.{◌≡◌, ◌≢◌, ◌<◌, ◌&&◌, ◌++◌, ℕ, Bool, true, not, nat_eq, length, filter, Option, Some, None, Result, Ok, Err, if◌then◌else◌}
 use Rattle.signalling_types.specs.declared.cause.Cause.{Cause}
 use Rattle.signalling_types.specs.declared.cause.Cause.TheVariants.{NoRoute}
 use Rattle.signalling_types.specs.declared.notice.Notice.TheVariants as notices
 use Rattle.signalling_types.specs.declared.notice.FrameFault.{FrameFault}
 use Rattle.signalling_types.specs.declared.outcome.Outcome.TheVariants.{Queued, Refused}
-use Rattle.m2pa_codec.specs.Frames.{FrameValue}
-use Rattle.m2pa_codec.specs.Reading.{read_frame}
+use Rattle.m2pa_codec.specs.Frames.{FrameValue, read_frame}
 use Rattle.link.specs.declared.action.Action.{Action}
 use Rattle.link.specs.declared.action.Action.TheVariants as act
 use Rattle.link.specs.declared.action.Input.TheVariants.{UserData}
 use Rattle.link.specs.Table.{action_at}
 use Rattle.link.specs.Queue.{count_confirmed}
-use Rattle.exchange_rules.specs.State.{Parts, Node, with_node, with_parts}
-use Rattle.exchange_rules.specs.Links.{is_link, link_at, in_service}
-use Rattle.exchange_rules.specs.Noting.{note}
+use Rattle.exchange_rules.specs.State.{Parts, Node, with_node, with_parts, is_link, link_at, in_service, note, Happening, CameUp, WentDown, FrameCame, Ticked, Submitted, Activated, Deactivated, TitleAdded, TitleRemoved}
 use Rattle.link.specs.declared.action.Transition.{Transition}
 use Rattle.exchange_rules.specs.ChangingOver.{complete_if}
-use Rattle.exchange_rules.specs.Made.{send_routed}
-use Rattle.exchange_rules.specs.Statuses.{advance}
-use Rattle.exchange_rules.specs.Frames.{Carrying, numbers, accept, data_of}
-use Rattle.exchange_rules.specs.Happening.{Happening, CameUp, WentDown, FrameCame, Ticked, Submitted, Activated}
-use Rattle.exchange_rules.specs.Happening.{Deactivated, TitleAdded, TitleRemoved}
+use Rattle.exchange_rules.specs.Telling.{send_routed, is_all_told, answer_no_route, tell_owed}
+use Rattle.exchange_rules.specs.Frames.{advance, Carrying, numbers, accept, data_of}
 use Rattle.mtp3_codec.specs.declared.discrimination.Discrimination.{Discrimination}
 use Rattle.mtp3_codec.specs.declared.discrimination.Discrimination.TheVariants as whither
-use Rattle.exchange_rules.specs.Local.{sccp}
-use Rattle.exchange_rules.specs.Messages.{whither_goes}
-use Rattle.exchange_rules.specs.Relaying.{return_unitdata}
+use Rattle.exchange_rules.specs.Messages.{sccp, whither_goes, return_unitdata}
 use Rattle.std.specs.Option.{option_and_then}
 use Rattle.signalling_types.specs.Message.{Message, service_indicator, dpc_of, flow_of}
 use Rattle.settings.specs.Readings.{destination_place}
-use Rattle.changeover.specs.Completion.{moved}
-use Rattle.exchange_rules.specs.Routing.{link_of, goes_by}
-use Rattle.exchange_rules.specs.Holding.{waits}
-use Rattle.exchange_rules.specs.Releasing.{release}
-use Rattle.exchange_rules.specs.Telling.{is_all_told, answer_no_route, tell_owed}
+use Rattle.changeover.specs.Changeover.{moved}
+use Rattle.exchange_rules.specs.Routing.{link_of, goes_by, waits}
+use Rattle.exchange_rules.specs.Exchange.{release, outcome_of, after, frame_to_take, taken}
 use Rattle.exchange_rules.specs.Queues.{WholeQueues, queue_at, whole}
-use Rattle.exchange_rules.specs.Exchange.{outcome_of, after, frame_to_take, taken}
-use Rattle.exchange_rules.specs.Sound.{Abstract, IsSound}
-use Rattle.exchange_rules.specs.First.{first_state}
+use Rattle.exchange_rules.specs.First.{Abstract, IsSound, first_state}
 
 -- the node after User Data was accepted on a link in service
 abbrev pub accepted_here : ℕ → Carrying → Configuration → Node WholeQueues → Node WholeQueues

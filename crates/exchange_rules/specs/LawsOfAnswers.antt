@@ -5,10 +5,9 @@ use Rattle.signalling_types.specs.Message.{Message, flow_of}
 use Rattle.signalling_types.specs.declared.limits.TheConstants.Limits.{LINKS, WINDOW}
 use Rattle.signalling_types.specs.declared.outcome.Outcome.TheVariants.{Queued, Handled}
 use Rattle.exchange_rules.specs.declared.wants.Wants.TheVariants.{Open}
-use Rattle.exchange_rules.specs.Happening.{Asking, CameUp}
-use Rattle.exchange_rules.specs.State.{Node}
+use Rattle.exchange_rules.specs.State.{Asking, CameUp, Node}
 use Rattle.exchange_rules.specs.Routing.{link_of}
-use Rattle.exchange_rules.specs.Arrival.{transfer}
+use Rattle.exchange_rules.specs.Messages.{transfer}
 use Rattle.exchange_rules.specs.Queues.{WholeQueues, queue_at, whole}
 use Rattle.exchange_rules.specs.Exchange.{outcome_of, wants_of}
 use Rattle.exchange_rules.specs.First.{first_state}

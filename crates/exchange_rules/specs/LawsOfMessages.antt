@@ -1,7 +1,5 @@
 -- User messages are conserved: laws.
-use Rattle.std.specs.Prelude.{Bool, List, Option, Some, [], false}
-use Rattle.std.specs.Prelude.{length, map, true, ℕ}
-use Rattle.std.specs.Prelude.{◌++◌, ◌+◌, ◌∷◌, ◌≡◌, ◌≤◌}
+use Rattle.std.specs.Prelude.{Bool, List, Option, Some, [], false, length, map, true, ℕ, ◌++◌, ◌+◌, ◌∷◌, ◌≡◌, ◌≤◌}
 use Rattle.settings_rows.specs.Configuration.{Configuration}
 use Rattle.signalling_types.specs.Message.{Message, flow_of, is_management}
 use Rattle.signalling_types.specs.declared.cause.Cause.{Cause}
@@ -10,23 +8,16 @@ use Rattle.signalling_types.specs.declared.limits.TheConstants.Limits.{LINKS, WI
 use Rattle.signalling_types.specs.declared.notice.Notice.{Notice}
 use Rattle.signalling_types.specs.declared.notice.Notice.TheVariants as notices
 use Rattle.signalling_types.specs.declared.outcome.Outcome.{Outcome}
-use Rattle.signalling_types.specs.declared.outcome.Outcome.TheVariants.{Handled, Held, Ignored, Local, Queued}
-use Rattle.signalling_types.specs.declared.outcome.Outcome.TheVariants.{Refused}
+use Rattle.signalling_types.specs.declared.outcome.Outcome.TheVariants.{Handled, Held, Ignored, Local, Queued, Refused}
 use Rattle.exchange_rules.specs.ChangingOver.{complete_if}
-use Rattle.exchange_rules.specs.Exchange.{after, outcome_of, taken}
-use Rattle.exchange_rules.specs.First.{first_state}
-use Rattle.exchange_rules.specs.Happening.{Asking, AsksWants, Happens, Takes}
-use Rattle.exchange_rules.specs.Happening.{FrameCame, Happening, Submitted}
+use Rattle.exchange_rules.specs.Exchange.{after, outcome_of, taken, release}
+use Rattle.exchange_rules.specs.First.{first_state, Abstract}
+use Rattle.exchange_rules.specs.State.{Asking, AsksWants, Happens, Takes, FrameCame, Happening, Submitted, noted_all, Node}
 use Rattle.exchange_rules.specs.Lasting.{HasAllPlaces, after_asking, after_each}
 use Rattle.exchange_rules.specs.LastingLinks.{AreLinksSteady}
-use Rattle.exchange_rules.specs.Noting.{noted_all}
 use Rattle.exchange_rules.specs.Queues.{WholeQueues, whole}
 use Rattle.exchange_rules.specs.Receiving.{new_message}
-use Rattle.exchange_rules.specs.Releasing.{release}
-use Rattle.exchange_rules.specs.Sound.{Abstract}
-use Rattle.exchange_rules.specs.State.{Node}
-use Rattle.exchange_rules.specs.Conserving.{Gone, both_gone, brought_in, gone, gone_by_completion, gone_by_release}
-use Rattle.exchange_rules.specs.Conserving.{gone_that, nothing_gone, standing, users_that}
+use Rattle.exchange_rules.specs.Conserving.{Gone, both_gone, brought_in, gone, gone_by_completion, gone_by_release, gone_that, nothing_gone, standing, users_that}
 
 -- By any test, as many user messages as stood before an event, and as it brings, stand after it, were accepted by a
 -- peer, or are named as lost: none is doubled, and none is gone in another way

@@ -3,18 +3,16 @@ use Rattle.std.specs.Prelude.{◌≡◌, ◌≢◌, ◌<◌, ◌≤◌, ◌⊎�
 use Rattle.settings_rows.specs.Configuration.{Configuration}
 use Rattle.signalling_types.specs.declared.limits.TheConstants.Limits.{MANAGEMENT_MESSAGES, SELECTIONS}
 use Rattle.link.specs.declared.action.Transition.{Transition}
-use Rattle.routes.specs.Facts.{Facts}
-use Rattle.routes.specs.Chosen.{chosen_link}
+use Rattle.routes.specs.Routes.{Facts, chosen_link}
 use Rattle.flow_hold.specs.declared.procedure.Procedure.{Procedure}
 use Rattle.flow_hold.specs.declared.procedure.Procedure.TheVariants.{Code, Time}
 use Rattle.flow_hold.specs.Holds.{holds, is_held}
 use Rattle.changeback.specs.Codes.{free_code, is_outstanding}
 use Rattle.exchange_rules.specs.State.{Parts, Node, with_parts}
-use Rattle.exchange_rules.specs.Points.{set_of}
-use Rattle.exchange_rules.specs.Routing.{facts}
+use Rattle.exchange_rules.specs.Routing.{set_of, facts}
 use Rattle.exchange_rules.specs.Queues.{WholeQueues, queue_at, whole}
 use Rattle.exchange_rules.specs.ChangingBack.{declaration, take_back_each, change_back}
-use Rattle.exchange_rules.specs.Statuses.{enters, moved_on, advance}
+use Rattle.exchange_rules.specs.Frames.{enters, moved_on, advance}
 use Rattle.exchange_rules.specs.Places.{HasPlacesFor}
 use Rattle.exchange_rules.specs.Lasting.{HasAllPlaces}
 

@@ -5,13 +5,9 @@ use Rattle.signalling_types.specs.Message.{Message, dpc_of, is_management}
 use Rattle.settings_rows.specs.Configuration.{Configuration}
 use Rattle.settings.specs.Readings.{destination_place}
 use Rattle.settings.specs.Sharing.{LeadsAlone}
-use Rattle.routes.specs.Facts.{first_route}
-use Rattle.routes.specs.Chosen.{chosen_link}
-use Rattle.exchange_rules.specs.Happening.{Asking}
-use Rattle.exchange_rules.specs.State.{Parts, Node}
-use Rattle.exchange_rules.specs.Links.{in_service}
-use Rattle.exchange_rules.specs.Points.{set_of}
-use Rattle.exchange_rules.specs.Routing.{facts}
+use Rattle.routes.specs.Routes.{first_route, chosen_link}
+use Rattle.exchange_rules.specs.State.{Asking, Parts, Node, in_service}
+use Rattle.exchange_rules.specs.Routing.{set_of, facts}
 use Rattle.exchange_rules.specs.Queues.{WholeQueues, queue_at}
 use Rattle.exchange_rules.specs.Lasting.{after_each}
 use Rattle.exchange_rules.specs.First.{first_state}

@@ -1,16 +1,236 @@
--- Message discrimination (Q.704 §2.4, block HMDC): where a message goes, and what becomes of it.
-use Rattle.std.specs.Prelude.{ℕ, nat_lt, length, Some, None, if◌then◌else◌}
-use Rattle.signalling_types.specs.Message.{Message, is_management}
-use Rattle.settings_rows.specs.Configuration.{Configuration}
+-- Message routing (Q.704 §2.3, block HMRT): room, then Held where the flow has a hold, then a route, then the end of a
+-- queue.
+use Rattle.std.specs.Prelude.{ℕ, Bool, true, false, Option, Some, None, is_some, if◌then◌else◌, List, ◌&&◌, nat_eq, position, Result, Ok, Err, nat_lt, length}
+use Rattle.signalling_types.specs.Message.{Message, flow_of, dpc_of, service_indicator, opc_of, is_management}
+use Rattle.settings_rows.specs.Configuration.{Configuration, TitleEntry}
+use Rattle.settings.specs.Readings.{destination_place, set_place}
+use Rattle.signalling_types.specs.declared.cause.Cause.{Cause}
+use Rattle.signalling_types.specs.declared.cause.Cause.TheVariants.{UnknownDestination, NoRoute, NoSuchName, NoMemory, NotInProfile, NoUserPart, BadManagement, NotFromAdjacent, TooLong}
+use Rattle.signalling_types.specs.declared.outcome.Outcome.TheVariants.{Queued, Held, Local, Handled, Ignored, Refused}
+use Rattle.exchange_rules.specs.State.{unless◌then◌else◌, QueueKind, Node, Done, refuse, Parts, with_parts, answer, note_refusal}
+use Rattle.exchange_rules.specs.Routing.{link_of, waits, hold, no_room, queue_on, route_about}
+use Rattle.exchange_rules.specs.Telling.{answer_no_route, own_sio, send_on, on_route_test}
+use Rattle.std.specs.Option.{option_or, option_and_then}
+use Rattle.signalling_types.specs.declared.outcome.Outcome.{Outcome}
+use Rattle.sccp_codec.specs.declared.title.TitleKey.{TitleKey}
+use Rattle.sccp_relay.specs.Rows.{place_of, has_row, with_row, without_row, add_refusal}
+use Rattle.sccp_relay.specs.Relay.{OwnValue, RelayedValue, relay, returned}
+use Rattle.sccp_relay.specs.Relay as relays
+use Rattle.std.specs.List.{list_any}
+use Rattle.mtp3_codec.specs.declared.fault.MgmtFault.{MgmtFault}
+use Rattle.mtp3_codec.specs.declared.fault.MgmtFault.TheVariants as faults
+use Rattle.mtp3_codec.specs.declared.link_test.TestKind.{TestKind}
+use Rattle.mtp3_codec.specs.declared.link_test.TestKind.TheVariants.{Test, Acknowledgement}
+use Rattle.mtp3_codec.specs.declared.management.Management.{Management}
+use Rattle.mtp3_codec.specs.declared.management.Management.TheVariants.{TrafficRestartAllowed, ExtendedChangeoverOrder, ExtendedChangeoverAcknowledgement, EmergencyChangeoverOrder, EmergencyChangeoverAcknowledgement, ChangebackDeclaration, ChangebackAcknowledgement, TransferProhibited, TransferRestricted, TransferAllowed, RouteSetTestProhibited, RouteSetTestRestricted}
+use Rattle.mtp3_codec.specs.Management.{LinkTestValue, read_link_test, spelled, answer_to, read_management}
+use Rattle.routes.specs.declared.route.RouteStatus.TheVariants as status
+use Rattle.route_management.specs.declared.heard.RouteTest.TheVariants as test
+use Rattle.exchange_rules.specs.ChangingOver.{on_changeover_order, on_changeover_acknowledgement}
+use Rattle.exchange_rules.specs.ChangingBack.{on_changeback_declaration, on_changeback_acknowledgement}
+use Rattle.exchange_rules.specs.Rerouting.{on_route_status}
 use Rattle.signalling_types.specs.declared.limits.TheConstants.Limits.{SIF_OCTETS}
-use Rattle.signalling_types.specs.declared.cause.Cause.TheVariants.{NotInProfile, TooLong}
-use Rattle.mtp3_codec.specs.Discrimination.{discrimination}
+use Rattle.mtp3_codec.specs.Headings.{discrimination}
 use Rattle.mtp3_codec.specs.declared.discrimination.Discrimination.{Discrimination}
 use Rattle.mtp3_codec.specs.declared.discrimination.Discrimination.TheVariants as whither
-use Rattle.exchange_rules.specs.State.{QueueKind, Node, Done, refuse}
-use Rattle.exchange_rules.specs.Noting.{note_refusal}
-use Rattle.exchange_rules.specs.Arrival.{transfer}
-use Rattle.exchange_rules.specs.Local.{local, distribute}
+
+-- whether the settings have a destination of this point code
+abbrev pub is_destination : Configuration → ℕ → Bool
+is_destination c point = is_some (destination_place c point)
+
+module _ {Q : Type 0} (q : QueueKind Q) (c : Configuration) where
+  -- room first; then a message that waits stands at the end of Held; then the route, and the message stands at the end
+  -- of that link's queue. The sender of one that came by a link and finds no route is told so
+  abbrev pub offer : Option Cause → (is_waiting : Bool) → (link from : Option ℕ) → Message → Node Q → Done Q
+  offer (Some cause) is_waiting link from m node = refuse cause node
+  offer None true link from m node = record { outcome = Held; left = hold q m node }
+  offer None false None from m node =
+      refuse NoRoute (answer_no_route q c from (destination_place c (dpc_of m)) node)
+  offer None false (Some link) from m node = record { outcome = Queued link; left = queue_on q c link m node }
+
+  -- a message for another point, with the link that it came by, if it came by one: a known destination, then room, then
+  -- no hold, then a route
+  abbrev pub transfer : (from : Option ℕ) → Message → Node Q → Done Q
+  transfer from m node =
+      unless is_destination c (dpc_of m) then refuse UnknownDestination node
+      else offer (no_room q c m node.queues) (waits c node.parts.holds m) (link_of c node.parts (flow_of m)) from m node
+
+-- ---- Relaying (Q.714 §2.3, §4.2, block SCRC): SCCP messages for this point, and the translation rows that lead them on.
+
+-- the point that this node is, and its subsystems
+abbrev pub own_of : Configuration → OwnValue
+own_of c = record { point = c.own; subsystems = c.subsystems }
+
+-- a message in the place of another, with the same service information octet
+abbrev pub in_place_of : Message → (sif : List ℕ) → Message
+in_place_of m sif = record m { sif = sif }
+
+module _ {Q : Type 0} (q : QueueKind Q) (c : Configuration) where
+  -- ---- a refused message is returned
+
+  -- the UDTS that returns a message, if one does, goes the way of any message for another point; where it finds none,
+  -- it is dropped
+  abbrev pub send_udts : (udts : Option (List ℕ)) → Message → Node Q → Node Q
+  send_udts (Some sif) m node = (transfer q c None (in_place_of m sif) node).left
+  send_udts None m node = node
+
+  abbrev pub return_unitdata : Cause → Message → Node Q → Node Q
+  return_unitdata cause m node = send_udts (returned (own_of c) node.parts.titles m.sif cause) m node
+
+  abbrev pub return_outcome : Outcome → Message → Node Q → Node Q
+  return_outcome (Refused cause) m node = return_unitdata cause m node
+  return_outcome (Queued link) m node = node
+  return_outcome Held m node = node
+  return_outcome Local m node = node
+  return_outcome Handled m node = node
+  return_outcome Ignored m node = node
+
+  abbrev pub return_refusal : Message → Done Q → Done Q
+  return_refusal m d = record d { left = return_outcome d.outcome m d.left }
+
+  -- ---- a message
+
+  -- by what becomes of it: one that goes on goes the way of any message for another point, and nobody is told where it
+  -- finds no route
+  abbrev pub relay_by : RelayedValue → Message → Node Q → Done Q
+  relay_by relays.Delivered m node = answer Local node
+  relay_by (relays.Onward sif) m node = transfer q c None (in_place_of m sif) node
+  relay_by (relays.Refused cause) m node = refuse cause node
+
+  -- an SCCP message for this point
+  abbrev pub on_unitdata : Message → Node Q → Done Q
+  on_unitdata m node = return_refusal m (relay_by (relay (own_of c) node.parts.titles m.sif) m node)
+
+-- ---- translation rows
+
+-- the same parts with other rows
+abbrev pub with_titles : List TitleEntry → Parts → Parts
+with_titles titles p = record p { titles = titles }
+
+-- why a row isn't added: as the table refuses it; else memory for it was refused
+abbrev pub title_refusal : List TitleEntry → TitleEntry → (is_memory_refused : Bool) → Option Cause
+title_refusal titles row is_memory_refused =
+    option_or (add_refusal titles row) (if is_memory_refused then Some NoMemory else None)
+
+abbrev pub add_title_unless : {Q : Type 0} → Option Cause → TitleEntry → Node Q → Done Q
+add_title_unless (Some cause) row node = refuse cause node
+add_title_unless None row node =
+    answer Handled (with_parts node (with_titles (with_row row node.parts.titles) node.parts))
+
+-- an operator adds a row
+abbrev pub add_title : {Q : Type 0} → TitleEntry → (is_memory_refused : Bool) → Node Q → Done Q
+add_title row is_memory_refused node =
+    add_title_unless (title_refusal node.parts.titles row is_memory_refused) row node
+
+-- an operator removes the row of this key and these digits
+abbrev pub remove_title : {Q : Type 0} → TitleKey → (digits : List ℕ) → Node Q → Done Q
+remove_title key digits node =
+    unless has_row node.parts.titles (place_of key digits) then refuse NoSuchName node
+    else answer Handled
+    (with_parts node (with_titles (without_row (place_of key digits) node.parts.titles) node.parts))
+
+-- ---- Message distribution (Q.704 §2.4, block HMDT): a message for this point, by its service indicator (§14.2.1).
+
+-- the service indicators of tests and of SCCP; that of management is 0
+abbrev pub testing : ℕ
+testing = 1
+
+abbrev pub sccp : ℕ
+sccp = 3
+
+-- whether a user part of this service indicator stands on this node
+abbrev pub is_user : Configuration → ℕ → Bool
+is_user c service_indicator = list_any (λ user. nat_eq user service_indicator) c.users
+
+-- whether the links of some set lead to this point
+abbrev pub is_adjacent : Configuration → ℕ → Bool
+is_adjacent c point = is_some (set_place c point)
+
+-- why a management or test message that can't be read is refused
+abbrev pub cause_of : MgmtFault → Cause
+cause_of faults.Short = BadManagement
+cause_of faults.NotInProfile = NotInProfile
+
+-- the answer to a link test from a point
+abbrev pub test_answer : Configuration → ℕ → LinkTestValue → Message
+test_answer c point test = record { sio = own_sio c testing; sif = spelled point c.own (answer_to test) }
+
+-- the link of a code in a set
+abbrev pub link_in_set : Configuration → (slc set : ℕ) → Option ℕ
+link_in_set c slc set = position (λ l. nat_eq l.set set && nat_eq l.slc slc) c.links
+
+-- the link of a code in the set that leads to a point
+abbrev pub link_with_code : Configuration → (point slc : ℕ) → Option ℕ
+link_with_code c point slc = option_and_then (link_in_set c slc) (set_place c point)
+
+module _ {Q : Type 0} (q : QueueKind Q) (c : Configuration) where
+  -- a link test is answered on the link that it came by; an answer to one is ignored (Q.707 §2.2)
+  abbrev pub do_kind : TestKind → ℕ → ℕ → LinkTestValue → Node Q → Done Q
+  do_kind Test link point test node = answer Handled (send_on q c link (test_answer c point test) node)
+  do_kind Acknowledgement link point test node = answer Ignored node
+
+  abbrev pub do_test : Result LinkTestValue MgmtFault → ℕ → ℕ → Node Q → Done Q
+  do_test (Err fault) link point node = refuse (cause_of fault) node
+  do_test (Ok test) link point node = do_kind test.kind link point test node
+
+  -- an order to change over, or the answer to one, is about a link of the set to its sender
+  abbrev pub do_order : Option ℕ → (number : Option ℕ) → Node Q → Done Q
+  do_order (Some link) number node = on_changeover_order q c link number node
+  do_order None number node = refuse BadManagement node
+
+  abbrev pub do_acknowledgement : Option ℕ → (number : Option ℕ) → Node Q → Done Q
+  do_acknowledgement (Some link) number node = on_changeover_acknowledgement q c link number node
+  do_acknowledgement None number node = refuse BadManagement node
+
+  -- a management message from a point; that it has restarted asks nothing of this node
+  abbrev pub on_management : Management → ℕ → Node Q → Done Q
+  on_management TrafficRestartAllowed point node = answer Ignored node
+  on_management (ExtendedChangeoverOrder slc number) point node =
+      do_order (link_with_code c point slc) (Some number) node
+  on_management (EmergencyChangeoverOrder slc) point node =
+      do_order (link_with_code c point slc) None node
+  on_management (ExtendedChangeoverAcknowledgement slc number) point node =
+      do_acknowledgement (link_with_code c point slc) (Some number) node
+  on_management (EmergencyChangeoverAcknowledgement slc) point node =
+      do_acknowledgement (link_with_code c point slc) None node
+  on_management (ChangebackDeclaration slc code) point node = on_changeback_declaration q c point slc code node
+  on_management (ChangebackAcknowledgement slc code) point node =
+      on_changeback_acknowledgement q c (set_place c point) code node
+  on_management (TransferProhibited about) point node =
+      on_route_status q c status.Prohibited (route_about (set_place c point) (destination_place c about)) node
+  on_management (TransferRestricted about) point node =
+      on_route_status q c status.Restricted (route_about (set_place c point) (destination_place c about)) node
+  on_management (TransferAllowed about) point node =
+      on_route_status q c status.Allowed (route_about (set_place c point) (destination_place c about)) node
+  on_management (RouteSetTestProhibited about) point node =
+      on_route_test q c test.Prohibited (route_about (set_place c point) (destination_place c about)) node
+  on_management (RouteSetTestRestricted about) point node =
+      on_route_test q c test.Restricted (route_about (set_place c point) (destination_place c about)) node
+
+  abbrev pub do_management : Result Management MgmtFault → ℕ → Node Q → Done Q
+  do_management (Err fault) point node = refuse (cause_of fault) node
+  do_management (Ok message) point node = on_management message point node
+
+  -- management and tests, by the link that they came by: only an adjacent point is heard
+  abbrev pub manage : ℕ → Message → Node Q → Done Q
+  manage link m node =
+      unless is_adjacent c (opc_of m) then refuse NotFromAdjacent node
+      else if nat_eq (service_indicator m) testing
+      then do_test (read_link_test m.sif) link (opc_of m) node
+      else do_management (read_management m.sif) (opc_of m) node
+
+  -- a message for SCCP, or for a user part
+  abbrev pub local : Message → Node Q → Done Q
+  local m node =
+      if nat_eq (service_indicator m) sccp then on_unitdata q c m node
+      else if is_user c (service_indicator m) then answer Local node
+      else refuse NoUserPart node
+
+  -- a message for this point, by the link that it came by
+  abbrev pub distribute : ℕ → Message → Node Q → Done Q
+  distribute link m node = (if is_management m then manage link m node else local m node)
+
+-- ---- Message discrimination (Q.704 §2.4, block HMDC): where a message goes, and what becomes of it.
 
 -- where a message goes, or why it is refused before its destination is looked at: its length, then its label, then its
 -- network

@@ -2,21 +2,18 @@
 -- (RFC 4165 §4.1.3).
 use Rattle.std.specs.Prelude.{ℕ, Bool, true, false, ◌&&◌, not, if◌then◌else◌}
 use Rattle.settings_rows.specs.Configuration.{Configuration}
-use Rattle.signalling_types.specs.declared.cause.Cause.TheVariants.{NoSuchName, LinkNotReady}
-use Rattle.signalling_types.specs.declared.cause.Cause.TheVariants.{ChangeoverPending}
+use Rattle.signalling_types.specs.declared.cause.Cause.TheVariants.{NoSuchName, LinkNotReady, ChangeoverPending}
 use Rattle.signalling_types.specs.declared.notice.FailureReason.{FailureReason}
 use Rattle.signalling_types.specs.declared.notice.FailureReason.TheVariants as reasons
 use Rattle.signalling_types.specs.declared.outcome.Outcome.TheVariants.{Handled, Ignored}
 use Rattle.link.specs.Table.{opening}
-use Rattle.node_links.specs.Link.{Link}
+use Rattle.node_links.specs.NodeLinks.{Link, is_down, opened}
 use Rattle.exchange_rules.specs.declared.wants.Wants.{Wants}
 use Rattle.exchange_rules.specs.declared.wants.Wants.TheVariants.{Nothing, Open, Close}
-use Rattle.exchange_rules.specs.State.{unless◌then◌else◌, ◌▷◌, QueueKind, Parts, Node, Done, with_parts, answer, refuse}
-use Rattle.node_links.specs.LinkState.{is_down, opened}
-use Rattle.exchange_rules.specs.Links.{is_link, link_at, links_with, with_link, down}
+use Rattle.exchange_rules.specs.State.{unless◌then◌else◌, ◌▷◌, QueueKind, Parts, Node, Done, with_parts, answer, refuse, is_link, link_at, links_with, with_link, down}
 use Rattle.exchange_rules.specs.Timing.{timed}
-use Rattle.changeover.specs.Standing.{may_restart}
-use Rattle.exchange_rules.specs.Failing.{changeover_of, fail}
+use Rattle.changeover.specs.Changeover.{may_restart}
+use Rattle.exchange_rules.specs.ChangingOver.{changeover_of, fail}
 
 -- a link opens where it has no association yet, and the operator lets it
 abbrev pub may_open : Link → Bool

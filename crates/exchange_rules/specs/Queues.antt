@@ -4,7 +4,7 @@ use Rattle.signalling_types.specs.Message.{Message}
 use Rattle.cell_pool.specs.Lanes.{users_in, managements_in}
 use Rattle.link.specs.Queue as queue
 use Rattle.link.specs.Queue.{Queue, first_queue}
-use Rattle.changeover.specs.Completion.{accepted_count, held_after, lost, queued_anew}
+use Rattle.changeover.specs.Changeover.{accepted_count, held_after, lost, queued_anew}
 use Rattle.exchange_rules.specs.State.{QueueKind}
 
 -- the messages that are held, and the queue of each link

@@ -1,28 +1,23 @@
 -- The message that a frame newly carries, and the count of what was received: laws.
-use Rattle.std.specs.Prelude.{◌≡◌, ◌+◌, ◌&&◌, ℕ, Bool, true, false, not, nat_eq, is_some, List, Option, Some, None}
-use Rattle.std.specs.Prelude.{Result, Ok, Err, if◌then◌else◌}
+use Rattle.std.specs.Prelude.{◌≡◌, ◌+◌, ◌&&◌, ℕ, Bool, true, false, not, nat_eq, is_some, List, Option, Some, None, Result, Ok, Err, if◌then◌else◌}
 use Rattle.signalling_types.specs.Message.{Message}
 use Rattle.signalling_types.specs.declared.cause.Cause.TheVariants.{NoSuchName}
 use Rattle.signalling_types.specs.declared.outcome.Outcome.{Outcome}
 use Rattle.signalling_types.specs.declared.outcome.Outcome.TheVariants.{Handled, Ignored, Refused}
 use Rattle.signalling_types.specs.declared.notice.FrameFault.{FrameFault}
 use Rattle.settings_rows.specs.Configuration.{Configuration}
-use Rattle.m2pa_codec.specs.Frames.{FrameValue}
-use Rattle.m2pa_codec.specs.Reading.{read_frame}
+use Rattle.m2pa_codec.specs.Frames.{FrameValue, read_frame}
 use Rattle.link.specs.declared.action.Action.{Action}
 use Rattle.link.specs.declared.action.Action.TheVariants as act
 use Rattle.link.specs.declared.action.Input.TheVariants.{UserData}
 use Rattle.link.specs.Table.{action_at}
 use Rattle.link.specs.declared.fault.SeqFault.{SeqFault}
-use Rattle.exchange_rules.specs.Happening.{Happening, CameUp, FrameCame}
-use Rattle.exchange_rules.specs.State.{Node}
-use Rattle.exchange_rules.specs.Links.{is_link, link_at, down}
-use Rattle.exchange_rules.specs.Statuses.{advance}
-use Rattle.exchange_rules.specs.Frames.{Carrying, data_of, numbers}
+use Rattle.exchange_rules.specs.State.{Happening, CameUp, FrameCame, Node, is_link, link_at, down}
+use Rattle.exchange_rules.specs.Frames.{advance, Carrying, data_of, numbers}
 use Rattle.exchange_rules.specs.Queues.{WholeQueues, queue_at, whole}
 use Rattle.exchange_rules.specs.Exchange.{outcome_of, after, taken}
 use Rattle.exchange_rules.specs.Lasting.{HasAllPlaces}
-use Rattle.exchange_rules.specs.Sound.{Abstract}
+use Rattle.exchange_rules.specs.First.{Abstract}
 
 -- the message of User Data, by what its numbers say: none where one of them is wrong
 abbrev pub new_by : Result ℕ SeqFault → Carrying → Option Message

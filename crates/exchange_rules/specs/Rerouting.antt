@@ -1,31 +1,27 @@
 -- Forced and controlled rerouting (Q.704 §7, §8, blocks TFRC and TCRC), and route set tests of this node (§13.5, block
 -- RSRT): what adjacent points say of routes, and what that does to flows.
-use Rattle.std.specs.Prelude.{ℕ, List, [], ◌∷◌, Option, Some, None, Result, Ok, Err, ◌&&◌, nat_lt, length}
-use Rattle.std.specs.Prelude.{if◌then◌else◌}
+use Rattle.std.specs.Prelude.{ℕ, List, [], ◌∷◌, Option, Some, None, Result, Ok, Err, ◌&&◌, nat_lt, length, if◌then◌else◌}
 use Rattle.settings_rows.specs.Configuration.{Configuration}
 use Rattle.signalling_types.specs.Message.{Message}
 use Rattle.signalling_types.specs.declared.outcome.Outcome.{Outcome}
 use Rattle.signalling_types.specs.declared.outcome.Outcome.TheVariants as outcomes
-use Rattle.mtp3_codec.specs.declared.management.Management.TheVariants.{RouteSetTestProhibited}
-use Rattle.mtp3_codec.specs.declared.management.Management.TheVariants.{RouteSetTestRestricted}
+use Rattle.mtp3_codec.specs.declared.management.Management.TheVariants.{RouteSetTestProhibited, RouteSetTestRestricted}
 use Rattle.timers.specs.declared.name.TimerName.TheVariants as name
 use Rattle.timers.specs.declared.name.RouteTimer.TheVariants as of_set
 use Rattle.timers.specs.Timers.{Running, set_timer, clear_timer, clear_set}
 use Rattle.routes.specs.declared.route.RouteStatus.{RouteStatus}
 use Rattle.routes.specs.declared.route.RouteStatus.TheVariants.{Allowed, Restricted, Prohibited}
-use Rattle.routes.specs.Statuses.{status_of}
-use Rattle.node_links.specs.Statuses.{with_route_status, with_statuses_reset}
+use Rattle.routes.specs.Routes.{status_of}
+use Rattle.node_links.specs.NodeLinks.{with_route_status, with_statuses_reset}
 use Rattle.flow_hold.specs.declared.procedure.Procedure.TheVariants.{Reroute}
 use Rattle.flow_hold.specs.Holds.{lifted}
 use Rattle.changeback.specs.Rerouting.{rerouted, held_for}
-use Rattle.route_management.specs.Told.{with_told_reset}
+use Rattle.route_management.specs.Told.{with_told_reset, heard}
 use Rattle.route_management.specs.declared.heard.Heard.{Heard}
 use Rattle.route_management.specs.declared.heard.Heard.TheVariants.{Ignored, Unchanged, Changed}
-use Rattle.route_management.specs.Hearing.{heard}
 use Rattle.exchange_rules.specs.State.{QueueKind, Parts, Node, Done, with_parts, answer}
-use Rattle.exchange_rules.specs.Routing.{network_of, facts}
-use Rattle.exchange_rules.specs.Points.{adjacent_of, point_of}
-use Rattle.exchange_rules.specs.Made.{management_to, send_routed}
+use Rattle.exchange_rules.specs.Routing.{network_of, facts, adjacent_of, point_of}
+use Rattle.exchange_rules.specs.Telling.{management_to, send_routed}
 
 -- ---- a status
 

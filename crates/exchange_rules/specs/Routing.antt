@@ -1,13 +1,49 @@
--- Signalling routing control (Q.704 §2.3, §4.2, block TSRC): which link a flow takes.
-use Rattle.std.specs.Prelude.{ℕ, Bool, false, nat_eq, List, Option, Some, None, length}
+-- The rows of the settings: links, and the points that sets lead to.
+use Rattle.std.specs.Prelude.{ℕ, false, [], slice_index_or, Option, Some, None, Result, Ok, Err, Bool, nat_eq, List, length, nat_le, if◌then◌else◌, ◌&&◌, not}
+use Rattle.signalling_types.specs.declared.cause.Cause.TheVariants.{UnknownDestination, PoolFull, ManagementFull}
+use Rattle.signalling_types.specs.declared.outcome.Outcome.{Outcome}
+use Rattle.signalling_types.specs.declared.outcome.Outcome.TheVariants.{Refused, Ignored}
+use Rattle.settings_rows.specs.Configuration.{Configuration, LinkEntry}
 use Rattle.std.specs.Option.{option_and_then}
 use Rattle.signalling_types.specs.declared.point.Flow.{Flow}
-use Rattle.settings_rows.specs.Configuration.{Configuration}
 use Rattle.settings.specs.Readings.{destination_place}
-use Rattle.routes.specs.Facts.{Facts, first_sets}
-use Rattle.routes.specs.Chosen.{chosen_link}
-use Rattle.node_links.specs.Network.{Network, facts_of, first_network}
-use Rattle.exchange_rules.specs.State.{Parts}
+use Rattle.routes.specs.Routes.{Facts, first_sets, chosen_link}
+use Rattle.node_links.specs.NodeLinks.{Network, facts_of, first_network}
+use Rattle.exchange_rules.specs.State.{Parts, QueueKind, Node}
+use Rattle.signalling_types.specs.Message.{Message, is_management, flow_of}
+use Rattle.signalling_types.specs.declared.limits.TheConstants.Limits.{MANAGEMENT_MESSAGES}
+use Rattle.signalling_types.specs.declared.cause.Cause.{Cause}
+use Rattle.std.specs.List.{list_all}
+use Rattle.flow_hold.specs.Holds.{HoldSet, is_held}
+
+-- the row of a link
+abbrev pub entry_of : Configuration → (link : ℕ) → LinkEntry
+entry_of c link = slice_index_or c.links link (record { name = []; set = 0; slc = 0 })
+
+-- its set
+abbrev pub set_of : Configuration → (link : ℕ) → ℕ
+set_of c link = (entry_of c link).set
+
+-- the point that the links of a set lead to
+abbrev pub adjacent_of : Configuration → (set : ℕ) → ℕ
+adjacent_of c set = (slice_index_or c.sets set (record { name = []; adjacent = 0 })).adjacent
+
+-- the point that a link leads to
+abbrev pub peer_of : Configuration → (link : ℕ) → ℕ
+peer_of c link = adjacent_of c (set_of c link)
+
+-- the point of a destination
+abbrev pub point_of : Configuration → (destination : ℕ) → ℕ
+point_of c destination =
+    (slice_index_or c.destinations destination (record { point = 0; sets = []; joined = false })).point
+
+-- what an adjacent point speaks of: the set that leads to it, and the number of the destination
+abbrev pub route_about : (set destination : Option ℕ) → Result (ℕ × ℕ) Outcome
+route_about (Some set) (Some destination) = Ok (set, destination)
+route_about None (Some destination) = Err Ignored
+route_about set None = Err (Refused UnknownDestination)
+
+-- ---- Signalling routing control (Q.704 §2.3, §4.2, block TSRC): which link a flow takes.
 
 -- the links of each set
 abbrev pub sets_in : Configuration → List (List ℕ)
@@ -34,3 +70,41 @@ link_of c p flow =
 abbrev pub goes_by : Option ℕ → (link : ℕ) → Bool
 goes_by (Some its) link = nat_eq its link
 goes_by None link = false
+
+-- ---- Message routing (Q.704 §2.3, block HMRT): the room that a message needs, and the queue of a link.
+
+module _ {Q : Type 0} (q : QueueKind Q) (c : Configuration) where
+  -- why no more message of this kind has room, if none has
+  abbrev pub no_room : Message → Q → Option Cause
+  no_room m queues =
+      if is_management m
+      then (if nat_le MANAGEMENT_MESSAGES (q.managements queues) then Some ManagementFull else None)
+      else (if nat_le c.pool (q.users queues) then Some PoolFull else None)
+
+  -- a message at the end of the queue of a link
+  abbrev pub queue_on : ℕ → Message → Node Q → Node Q
+  queue_on link m node = record node { queues = q.appended node.queues link m }
+
+-- ---- Flows that are held, and the messages of Held (Q.704 §5.4, block TSRC).
+
+-- whether a flow to a destination, by its place in the settings, has a hold
+abbrev pub is_held_at : HoldSet → Option ℕ → (sls : ℕ) → Bool
+is_held_at holds (Some place) sls = is_held holds place sls
+is_held_at holds None sls = false
+
+-- whether the flow of a message has a hold
+abbrev pub is_flow_held : Configuration → HoldSet → Message → Bool
+is_flow_held c holds m = is_held_at holds (destination_place c (flow_of m).point) (flow_of m).sls
+
+-- a user message whose flow has a hold waits; management never does
+abbrev pub waits : Configuration → HoldSet → Message → Bool
+waits c holds m = not (is_management m) && is_flow_held c holds m
+
+-- each of these messages waits
+abbrev pub all_wait : Configuration → HoldSet → List Message → Bool
+all_wait c holds ms = list_all (waits c holds) ms
+
+module _ {Q : Type 0} (q : QueueKind Q) where
+  -- a message at the end of Held
+  abbrev pub hold : Message → Node Q → Node Q
+  hold m node = record node { queues = q.holding node.queues m }

@@ -9,23 +9,19 @@ use Rattle.link.specs.declared.alignment.Alignment.TheVariants.{InService}
 use Rattle.link.specs.Queue.{first_queue}
 use Rattle.routes.specs.declared.route.Route.{Route}
 use Rattle.routes.specs.declared.route.RouteStatus.TheVariants.{Allowed}
-use Rattle.node_links.specs.LinkState.{down_link}
+use Rattle.node_links.specs.NodeLinks.{down_link}
 use Rattle.timers.specs.declared.name.TimerName.TheVariants.{T3}
 use Rattle.timers.specs.Timers.{is_running}
-use Rattle.routes.specs.Facts.{Facts, first_route}
+use Rattle.routes.specs.Routes.{Facts, first_route}
 use Rattle.flow_hold.specs.declared.procedure.Procedure.TheVariants.{Changeover, Time}
 use Rattle.flow_hold.specs.Holds.{HoldSet, no_holds, holds, with_hold}
-use Rattle.exchange_rules.specs.State.{lost_any, Node, Noted, with_node, with_parts}
+use Rattle.exchange_rules.specs.State.{lost_any, Node, Noted, with_node, with_parts, flagged, made_since, noted, Happens, CameUp}
 use Rattle.exchange_rules.specs.Queues.{WholeQueues, queue_at, whole}
-use Rattle.exchange_rules.specs.Sound.{Abstract}
-use Rattle.exchange_rules.specs.First.{first_parts, first_state}
-use Rattle.exchange_rules.specs.Noting.{flagged, made_since, noted}
-use Rattle.exchange_rules.specs.Holding.{waits}
-use Rattle.exchange_rules.specs.Happening.{Happens, CameUp}
-use Rattle.exchange_rules.specs.ChangingOver.{complete_if}
+use Rattle.exchange_rules.specs.First.{Abstract, first_parts, first_state}
+use Rattle.exchange_rules.specs.Routing.{waits}
+use Rattle.exchange_rules.specs.ChangingOver.{complete_if, fail}
 use Rattle.exchange_rules.specs.ChangingBack.{hold_flows}
-use Rattle.exchange_rules.specs.Releasing.{release}
-use Rattle.exchange_rules.specs.Failing.{fail}
+use Rattle.exchange_rules.specs.Exchange.{release}
 use Rattle.exchange_rules.specs.Lasting.{after_each}
 
 abbrev pub ticks : TimerTicks

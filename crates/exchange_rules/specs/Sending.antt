@@ -4,10 +4,8 @@ use Rattle.settings_rows.specs.Configuration.{Configuration}
 use Rattle.m2pa_codec.specs.declared.status.LinkStatus.{LinkStatus}
 use Rattle.m2pa_codec.specs.Frames.{FrameValue, EmptyFrame, MessageFrame, StatusFrame}
 use Rattle.link.specs.Queue.{Sending}
-use Rattle.node_links.specs.Link.{Link}
-use Rattle.exchange_rules.specs.State.{QueueKind, Parts, Node, with_parts}
-use Rattle.node_links.specs.LinkState.{is_in_service}
-use Rattle.exchange_rules.specs.Links.{link_at, links_with, with_link}
+use Rattle.node_links.specs.NodeLinks.{Link, is_in_service}
+use Rattle.exchange_rules.specs.State.{QueueKind, Parts, Node, with_parts, link_at, links_with, with_link}
 use Rattle.exchange_rules.specs.Timing.{timed_sending}
 
 pub data Outgoing : Type 0 where

@@ -1,20 +1,24 @@
 -- The state of an exchange, with queues of any kind.
-use Rattle.std.specs.Prelude.{ℕ, zero, suc, Bool, true, false, List, Option, Result, if◌then◌else◌}
+use Rattle.std.specs.Prelude.{ℕ, zero, suc, Bool, true, false, List, Option, Result, if◌then◌else◌, nat_lt, length, slice_set, [], ◌∷◌, ◌++◌, ◌+◌, ◌-◌, ◌%◌, ◌^◌, min}
 use Rattle.signalling_types.specs.Message.{Message}
 use Rattle.settings_rows.specs.Configuration.{Configuration, TitleEntry}
 use Rattle.signalling_types.specs.declared.cause.Cause.{Cause}
 use Rattle.signalling_types.specs.declared.notice.Notice.{Notice}
 use Rattle.signalling_types.specs.declared.outcome.Outcome.{Outcome}
-use Rattle.signalling_types.specs.declared.outcome.Outcome.TheVariants.{Refused}
+use Rattle.signalling_types.specs.declared.outcome.Outcome.TheVariants.{Refused, Queued, Held, Local, Handled, Ignored}
 use Rattle.link.specs.Queue.{Sending}
 use Rattle.link.specs.declared.fault.SeqFault.{SeqFault}
 use Rattle.timers.specs.Timers.{Running}
 use Rattle.routes.specs.declared.route.Route.{Route}
-use Rattle.node_links.specs.Link.{Link}
-use Rattle.changeover.specs.Standing.{Standing}
+use Rattle.node_links.specs.NodeLinks.{Link, is_down, is_in_service, link_in}
+use Rattle.changeover.specs.Changeover.{Standing}
 use Rattle.changeback.specs.Codes.{Codes}
 use Rattle.route_management.specs.Told.{ToldTable}
 use Rattle.flow_hold.specs.Holds.{HoldSet}
+use Rattle.sccp_codec.specs.declared.title.TitleKey.{TitleKey}
+use Rattle.circular_buffer.specs.Buffer.{keep_last}
+use Rattle.signalling_types.specs.declared.limits.TheConstants.Limits.{NOTICES}
+use Rattle.signalling_types.specs.declared.notice.Notice.TheVariants as notices
 
 -- what happens next: `node ▷ fail link ▷ release` fails the link, and then releases what is held
 infixl 20 ◌▷◌
@@ -132,3 +136,89 @@ answer outcome node = record { outcome = outcome; left = node }
 -- a refusal that leaves this node
 abbrev pub refuse : {Q : Type 0} → Cause → Node Q → Done Q
 refuse cause node = answer (Refused cause) node
+
+-- ---- What happens to an exchange, and what it is asked, as plain data.
+
+pub data Happening : Type 0 where
+  CameUp : (link : ℕ) → Happening
+  WentDown : (link : ℕ) → Happening
+  FrameCame : (link : ℕ) (text : List ℕ) → Happening
+  Ticked : Happening
+  Submitted : (message : Message) → Happening
+  Activated : (link : ℕ) → Happening
+  Deactivated : (link : ℕ) → Happening
+  -- a translation row is added, where memory for it isn't refused
+  TitleAdded : (row : TitleEntry) (is_memory_refused : Bool) → Happening
+  TitleRemoved : (key : TitleKey) (digits : List ℕ) → Happening
+
+pub data Asking : Type 0 where
+  Happens : (what : Happening) → Asking
+  Takes : (link : ℕ) → Asking
+  AsksWants : (link : ℕ) → Asking
+
+-- ---- The links of a node, by their numbers (Q.704 §3.2, block TLAC).
+
+abbrev pub is_link : Parts → ℕ → Bool
+is_link p link = nat_lt link (length p.links)
+
+-- one that isn't there is down
+abbrev pub link_at : Parts → ℕ → Link
+link_at p link = link_in p.links link
+
+abbrev pub down : Parts → ℕ → Bool
+down p link = is_down (link_at p link).alignment
+
+abbrev pub in_service : Parts → ℕ → Bool
+in_service p link = is_in_service (link_at p link).alignment
+
+-- one link in another state
+abbrev pub links_with : Parts → ℕ → Link → List Link
+links_with p link state = slice_set p.links link state
+
+abbrev pub with_link : Parts → ℕ → Link → Parts
+with_link p link state = record p { links = links_with p link state }
+
+-- ---- Notices: what an operator is told.
+
+-- of the notices the last 64 are kept, and all are counted
+abbrev pub noted : Notice → Noted → Noted
+noted notice n = record {
+  last = keep_last NOTICES (n.last ++ notice ∷ []);
+  count = (n.count + 1) % 2 ^ 64;
+}
+
+-- how many notices were made since there were so many
+abbrev pub made_since : ℕ → Noted → ℕ
+made_since count n = (n.count + 2 ^ 64 - count) % 2 ^ 64
+
+-- several, one after the other
+abbrev pub noted_all : List Notice → Noted → Noted
+noted_all [] n = n
+noted_all (notice ∷ others) n = noted_all others (noted notice n)
+
+abbrev pub note : Notice → Parts → Parts
+note notice p = record p { notices = noted notice p.notices }
+
+-- once more, where that can be counted
+abbrev pub once_more : ℕ → ℕ
+once_more times = suc (min times (2 ^ 64 - 2))
+
+-- a message may have been lost from now on
+abbrev pub flagged : Parts → Parts
+flagged p = record p { times_lost = once_more p.times_lost }
+
+-- messages may have gone out of order from now on
+abbrev pub flagged_late : Parts → Parts
+flagged_late p = record p { times_late = once_more p.times_late }
+
+-- a message in a frame that is refused leaves a notice
+abbrev pub note_outcome : ℕ → Outcome → Parts → Parts
+note_outcome link (Refused cause) p = note (notices.Refused cause link) p
+note_outcome link (Queued other) p = p
+note_outcome link Held p = p
+note_outcome link Local p = p
+note_outcome link Handled p = p
+note_outcome link Ignored p = p
+
+abbrev pub note_refusal : {Q : Type 0} → ℕ → Done Q → Done Q
+note_refusal link d = record d { left = with_parts d.left (note_outcome link d.outcome d.left.parts) }

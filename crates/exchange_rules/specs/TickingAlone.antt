@@ -7,10 +7,9 @@ use Rattle.timers.specs.declared.name.TimerName.TheVariants.{L4, L6, L7}
 use Rattle.timers.specs.Timers.{Running, is_running}
 use Rattle.flow_hold.specs.declared.procedure.Procedure.{Procedure}
 use Rattle.flow_hold.specs.Holds.{holds}
-use Rattle.exchange_rules.specs.Happening.{Asking, Happens, Ticked}
+use Rattle.exchange_rules.specs.State.{Asking, Happens, Ticked}
 use Rattle.exchange_rules.specs.Lasting.{after_each}
-use Rattle.exchange_rules.specs.Sound.{Abstract}
-use Rattle.exchange_rules.specs.First.{first_state}
+use Rattle.exchange_rules.specs.First.{Abstract, first_state}
 
 -- so many ticks, and nothing else
 abbrev pub ticks_alone : ℕ → List Asking

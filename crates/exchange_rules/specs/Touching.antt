@@ -6,16 +6,12 @@ use Rattle.link.specs.declared.action.LinkTimer.{LinkTimer}
 use Rattle.link.specs.declared.action.LinkTimer.TheVariants.{L1, L2, L3, L4, L6, L7}
 use Rattle.link.specs.Queue.{Queue, emptied}
 use Rattle.timers.specs.Timers.{is_due, ticked}
-use Rattle.exchange_rules.specs.Happening.{Happening, CameUp, WentDown, FrameCame, Ticked, Submitted}
-use Rattle.exchange_rules.specs.Happening.{Activated, Deactivated}
-use Rattle.exchange_rules.specs.Happening.{TitleAdded, TitleRemoved}
-use Rattle.exchange_rules.specs.State.{Parts, Node}
-use Rattle.exchange_rules.specs.Links.{in_service}
+use Rattle.exchange_rules.specs.State.{Happening, CameUp, WentDown, FrameCame, Ticked, Submitted, Activated, Deactivated, TitleAdded, TitleRemoved, Parts, Node, in_service}
 use Rattle.exchange_rules.specs.Timing.{timer_name}
-use Rattle.exchange_rules.specs.Failing.{changeover_of}
+use Rattle.exchange_rules.specs.ChangingOver.{changeover_of}
 use Rattle.exchange_rules.specs.Queues.{WholeQueues, queue_at, whole}
 use Rattle.exchange_rules.specs.Exchange.{after, taken}
-use Rattle.exchange_rules.specs.Sound.{Abstract}
+use Rattle.exchange_rules.specs.First.{Abstract}
 
 -- ---- whose event it is
 

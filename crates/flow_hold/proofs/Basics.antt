@@ -14,9 +14,8 @@ pub use Rattle.std.specs.FinSet.{FinSet, contains, empty, insert, contains-empty
 pub use Rattle.std.specs.List.{list_any, filter, flat_map, range_with_len}
 pub use Rattle.std.specs.Ordering.{eq_by_cmp, is_eq}
 pub use Rattle.std.specs.Prelude.{if◌then◌else◌, All}
-pub use Rattle.flow_hold.specs.Flows.{NodeFlow, flows_to, passes, with_each}
-unfoldable pub use Rattle.flow_hold.specs.Flows.{with_flows, flows, any_flow}
-pub use Rattle.flow_hold.specs.Holds.{HoldSet, is_same, holds, may_hold, with_hold, Hold, by_numbers, is_held, no_holds, may_hold_to, lifted, numbers_of, hold_numbers, is_of_flow}
+pub use Rattle.flow_hold.specs.Holds.{NodeFlow, flows_to, passes, with_each, HoldSet, is_same, holds, may_hold, with_hold, Hold, by_numbers, is_held, no_holds, may_hold_to, lifted, numbers_of, hold_numbers, is_of_flow}
+unfoldable pub use Rattle.flow_hold.specs.Holds.{with_flows, flows, any_flow}
 pub use Rattle.flow_hold.specs.Pairs.{IsOfNode, some_flow_passes, flows_add_their_pairs, flows_leave_others, flows_are_of_node, pair, hold_is_of_node, hold_adds_its_pair, hold_leaves_others, may_not_leaves, hold_holds_its_flow, hold_keeps_flows_held, first_holds_nothing, first_is_of_node, held_by_a_procedure, lift_is_of_node, lift_leaves_others, lift_ends_its_own}
 pub use Rattle.flow_hold.specs.Room.{set_of, procedure_at, hold_at}
 unfoldable pub use Rattle.flow_hold.specs.Room.{pairs_of_row, pairs_of_rows}

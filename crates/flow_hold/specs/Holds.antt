@@ -1,6 +1,6 @@
 -- Holds: a set of pairs of a procedure and a flow (Q.704 §5.4, §6.3, §8.2).
-use Rattle.std.specs.Prelude.{ℕ, Bool, ◌&&◌, not, List, [], ◌∷◌, nat_eq, nat_lt, if◌then◌else◌}
-use Rattle.std.specs.List.{list_any}
+use Rattle.std.specs.Prelude.{ℕ, Bool, ◌&&◌, not, List, [], ◌∷◌, nat_eq, nat_lt, if◌then◌else◌, map}
+use Rattle.std.specs.List.{list_any, filter, flat_map, range_with_len}
 use Rattle.std.specs.declared.cmp.Ordering.{Ordering}
 use Rattle.std.specs.Ordering.{nat_cmp, on}
 use Rattle.std.specs.Cmp.Lexicographic.{slice_cmp, pointwise}
@@ -86,3 +86,36 @@ is_same one other = pointwise nat_eq (numbers_of one) (numbers_of other)
 -- a procedure holds nothing from now on; what others hold stays
 abbrev pub lifted : HoldSet → Procedure → HoldSet
 lifted h procedure = record h { pairs = retain h.pairs (λ hold. not (is_same hold.procedure procedure)) }
+
+-- ---- The flows of a node, and a hold of all of which a test is true.
+
+-- a flow of a node: its destination, by its place in the settings, and its selection
+pub record NodeFlow : Type 0 where
+  pub destination : ℕ
+  pub sls : ℕ
+
+-- the flows to a destination
+abbrev pub flows_to : (destination : ℕ) → List NodeFlow
+flows_to destination = map (λ sls. record { destination = destination; sls = sls }) (range_with_len 0 SELECTIONS)
+
+-- the flows of a node with so many destinations
+unfoldable pub flows : (destinations : ℕ) → List NodeFlow
+flows destinations = flat_map flows_to (range_with_len 0 destinations)
+
+-- whether a test is true of a flow
+abbrev pub passes : (test : (destination sls : ℕ) → Bool) → NodeFlow → Bool
+passes test flow = test flow.destination flow.sls
+
+-- whether it is true of some flow
+unfoldable pub any_flow : (destinations : ℕ) → (test : (destination sls : ℕ) → Bool) → Bool
+any_flow destinations test = list_any (passes test) (flows destinations)
+
+-- a procedure holds each of these flows from now on, if it may
+abbrev pub with_each : Procedure → List NodeFlow → HoldSet → HoldSet
+with_each procedure [] h = h
+with_each procedure (flow ∷ others) h =
+    with_each procedure others (with_hold h procedure flow.destination flow.sls)
+
+-- a procedure holds each flow from now on of which a test is true, if it may
+unfoldable pub with_flows : HoldSet → Procedure → (test : (destination sls : ℕ) → Bool) → HoldSet
+with_flows h procedure test = with_each procedure (filter (passes test) (flows h.destinations)) h

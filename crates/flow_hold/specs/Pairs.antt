@@ -3,8 +3,7 @@ use Rattle.std.specs.Prelude.{◌≡◌, ◌≢◌, ◌<◌, ◌↔◌, ◌&&◌
 use Rattle.std.specs.FinSet.{contains}
 use Rattle.flow_hold.specs.declared.procedure.Procedure.{Procedure}
 use Rattle.signalling_types.specs.declared.limits.TheConstants.Limits.{SELECTIONS}
-use Rattle.flow_hold.specs.Holds.{Hold, HoldSet, no_holds, holds, is_held, may_hold, with_hold, lifted}
-use Rattle.flow_hold.specs.Flows.{NodeFlow, passes, any_flow, with_flows}
+use Rattle.flow_hold.specs.Holds.{Hold, HoldSet, no_holds, holds, is_held, may_hold, with_hold, lifted, NodeFlow, passes, any_flow, with_flows}
 
 -- at first no procedure holds anything
 abbrev pub first_holds_nothing : Type 0

@@ -3,11 +3,11 @@ use Rattle.std.proofs.Common.{◌≡◌, ◌∙◌, ℕ, Option, refl, sym, ap, 
 use Rattle.std.specs.Option.{option_map}
 use Rattle.m2pa_codec.specs.Frames.{FrameValue, spelled}
 use Rattle.exchange_rules.specs.Queues.{whole}
-use Rattle.exchange_rules.specs.Happening.{WentDown, FrameCame}
+use Rattle.exchange_rules.specs.State.{WentDown, FrameCame}
 use Rattle.exchange_rules.specs.Exchange.{after, taken}
-use Rattle.exchange_rules.specs.Sound.{Abstract}
+use Rattle.exchange_rules.specs.First.{Abstract}
 use Rattle.exchange.specs.KeptQueues.{kept}
-use Rattle.exchange.specs.Stands.{Kept, StandsFor}
+use Rattle.exchange.specs.Calls.{Kept, StandsFor}
 use Rattle.exchange.proofs.Standing.{stands-after, stands-outcome, stands-frame, stands-taken}
 use Rattle.lab.specs.Carrying.{Carriage, Carries, text_to_take}
 use Rattle.lab.specs.declared.carrying.Carried.{Carried}

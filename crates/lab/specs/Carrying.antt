@@ -7,8 +7,7 @@ use Rattle.signalling_types.specs.declared.outcome.Outcome.{Outcome}
 use Rattle.m2pa_codec.specs.Frames.{spelled}
 use Rattle.m2pa_codec.specs.Streams.{IsText, next_in}
 use Rattle.m2pa_codec.specs.declared.framer.Next.TheVariants.{Wait, Broken}
-use Rattle.exchange_rules.specs.State.{QueueKind, State}
-use Rattle.exchange_rules.specs.Happening.{WentDown, FrameCame}
+use Rattle.exchange_rules.specs.State.{QueueKind, State, WentDown, FrameCame}
 use Rattle.exchange_rules.specs.Exchange.{outcome_of, after, frame_to_take, taken}
 use Rattle.script.specs.Streams.{Input, Output, AppendsFirst, counted}
 use Rattle.lab.specs.declared.carrying.Carried.{Carried}

@@ -1,7 +1,7 @@
 -- How much of a script is read, and how it ends.
 use Rattle.std.specs.Prelude.{◌≡◌, ◌≤◌, ℕ, List, length, Option, Result, Ok, Err}
 use Rattle.std.specs.Io.KnownBytes.{Consumes}
-use Rattle.exchange.specs.Stands.{Kept}
+use Rattle.exchange.specs.Calls.{Kept}
 use Rattle.script.specs.Streams.{Input, Output}
 use Rattle.script.specs.declared.fault.TheConstants.{READS}
 use Rattle.script.specs.declared.fault.ScriptFault.{ScriptFault}

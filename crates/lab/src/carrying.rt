@@ -2,10 +2,10 @@
 
 ghost use Rattle.std.specs.Prelude.{◌≡◌, ◌≤◌, ◌<◌, ◌+◌, length};
 ghost use Rattle.exchange.specs.KeptQueues.{kept};
-ghost use Rattle.exchange.specs.Stands.{StandsFor};
+ghost use Rattle.exchange.specs.Calls.{StandsFor};
 ghost use Rattle.exchange_rules.specs.Exchange.{taken};
 ghost use Rattle.exchange_rules.specs.Queues.{whole};
-ghost use Rattle.exchange_rules.specs.Sound.{Abstract};
+ghost use Rattle.exchange_rules.specs.First.{Abstract};
 ghost use Rattle.m2pa_codec.specs.Streams.{next_in};
 ghost use Rattle.script.specs.Streams.{counted};
 ghost use Rattle.lab.specs.Carrying.{text_to_take, carriage, Carries, Brings, FindsText, Holds};

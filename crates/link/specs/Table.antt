@@ -1,13 +1,10 @@
 -- The alignment of a link, as a table of states and inputs (own).
 use Rattle.std.specs.Prelude.{ℕ, Bool, true, false, Option, Some, None, List, [], ◌∷◌, ◌==◌, ◌&&◌, if◌then◌else◌}
-use Rattle.m2pa_codec.specs.Statuses.{status_number}
+use Rattle.m2pa_codec.specs.Frames.{status_number}
 use Rattle.m2pa_codec.specs.declared.status.LinkStatus.{LinkStatus}
-use Rattle.m2pa_codec.specs.declared.status.LinkStatus.TheVariants.{Alignment as AlignmentStatus, ProvingNormal}
-use Rattle.m2pa_codec.specs.declared.status.LinkStatus.TheVariants.{ProvingEmergency, Ready, ProcessorOutage}
-use Rattle.m2pa_codec.specs.declared.status.LinkStatus.TheVariants.{Busy, BusyEnded, OutOfService}
+use Rattle.m2pa_codec.specs.declared.status.LinkStatus.TheVariants.{Alignment as AlignmentStatus, ProvingNormal, ProvingEmergency, Ready, ProcessorOutage, Busy, BusyEnded, OutOfService}
 use Rattle.link.specs.declared.alignment.Alignment.{Alignment}
-use Rattle.link.specs.declared.alignment.Alignment.TheVariants.{Down, NotAligned, Aligned, Proving}
-use Rattle.link.specs.declared.alignment.Alignment.TheVariants.{AlignedReady, InService}
+use Rattle.link.specs.declared.alignment.Alignment.TheVariants.{Down, NotAligned, Aligned, Proving, AlignedReady, InService}
 use Rattle.link.specs.declared.action.LinkTimer.{LinkTimer}
 use Rattle.link.specs.declared.action.LinkTimer.TheVariants.{L1, L2, L3, L4, L6, L7}
 use Rattle.link.specs.declared.action.Input.{Input}

@@ -10,9 +10,7 @@ use Rattle.signalling_types.specs.declared.notice.FrameFault.{FrameFault}
 use Rattle.signalling_types.proofs.Octets.{number_of-three_octets, three_octets-number_of, number_of-fits}
 use Rattle.m2pa_codec.specs.declared.status.LinkStatus.{LinkStatus}
 use Rattle.m2pa_codec.specs.declared.status.LinkStatus.TheVariants.{OutOfService}
-use Rattle.m2pa_codec.specs.Statuses.{status_number}
-use Rattle.m2pa_codec.specs.Frames.{FrameValue, EmptyFrame, MessageFrame, StatusFrame, user_data, link_status, state_octets, common_header, number_header, IsHeaded, IsFrame, AreOctets, sif_of, spelled, IsSayable}
-use Rattle.m2pa_codec.specs.Reading.{length_field, state_field, bsn_field, fsn_field, fault_of, value_in, unless, read_frame}
+use Rattle.m2pa_codec.specs.Frames.{status_number, FrameValue, EmptyFrame, MessageFrame, StatusFrame, user_data, link_status, state_octets, common_header, number_header, IsHeaded, IsFrame, AreOctets, sif_of, spelled, IsSayable, length_field, state_field, bsn_field, fsn_field, fault_of, value_in, unless, read_frame}
 use Rattle.m2pa_codec.specs.declared.frame.Frame.{Frame}
 use Rattle.m2pa_codec.specs.Values.{value_of, Answers}
 use Rattle.m2pa_codec.proofs.Cells.{cells}

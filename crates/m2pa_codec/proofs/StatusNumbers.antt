@@ -3,7 +3,7 @@ use Rattle.std.proofs.Common.{◌≡◌, ℕ, ◌<◌, ◌^◌, Some, refl, arit
 use Rattle.std.proofs.lemmas.Bool.Decides.{nat_tests}
 use Rattle.m2pa_codec.specs.declared.status.LinkStatus.{LinkStatus}
 use Rattle.m2pa_codec.specs.declared.status.LinkStatus.TheVariants.{Alignment}
-use Rattle.m2pa_codec.specs.Statuses.{status_number, status_of}
+use Rattle.m2pa_codec.specs.Frames.{status_number, status_of}
 
 pub status_of-number : (s : LinkStatus) → status_of (status_number s) ≡ Some s
 unfolding status_of

@@ -9,7 +9,7 @@ use Rattle.std.specs.List.{concat}
 use Rattle.signalling_types.specs.declared.limits.TheConstants.Limits.{FRAME_OCTETS}
 use Rattle.m2pa_codec.specs.declared.framer.Next.{Next}
 use Rattle.m2pa_codec.specs.declared.framer.Next.TheVariants.{Whole, Wait, Broken}
-use Rattle.m2pa_codec.specs.Reading.{length_field}
+use Rattle.m2pa_codec.specs.Frames.{length_field}
 use Rattle.m2pa_codec.specs.Streams.{IsText, next_in, Stops, IsStream, given_by, left_by, taken_of, Call, Feed, Ask, Passage, after_call, after_calls, passed, GetsThrough, ComesToTheSame}
 
 -- ---- a length field is read from the first eight octets

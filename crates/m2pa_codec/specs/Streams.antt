@@ -1,11 +1,10 @@
 -- Streams of octets: the texts of frames one after another, cut by their own length fields.
-use Rattle.std.specs.Prelude.{◌≡◌, ℕ, ◌-◌, ◌≤◌, Bool, ◌||◌, ◌&&◌, List, [], ◌∷◌, ◌++◌, length, take, drop, nat_lt}
-use Rattle.std.specs.Prelude.{nat_le, if◌then◌else◌, ◌⊎◌, All}
+use Rattle.std.specs.Prelude.{◌≡◌, ℕ, ◌-◌, ◌≤◌, Bool, ◌||◌, ◌&&◌, List, [], ◌∷◌, ◌++◌, length, take, drop, nat_lt, nat_le, if◌then◌else◌, ◌⊎◌, All}
 use Rattle.std.specs.List.{concat}
 use Rattle.signalling_types.specs.declared.limits.TheConstants.Limits.{FRAME_OCTETS}
 use Rattle.m2pa_codec.specs.declared.framer.Next.{Next}
 use Rattle.m2pa_codec.specs.declared.framer.Next.TheVariants.{Whole, Wait, Broken}
-use Rattle.m2pa_codec.specs.Reading.{length_field}
+use Rattle.m2pa_codec.specs.Frames.{length_field}
 
 -- a text of a stream: as long as its own length field says, at least a common header and no longer than a frame may be
 pub record IsText (text : List ℕ) : Type 0 where

@@ -2,8 +2,7 @@
 //! contract, and does nothing.
 
 ghost use Rattle.std.specs.Prelude.{◌≡◌, ℕ, ◌++◌, ◌↔◌, List, [], Ok};
-ghost use Rattle.m2pa_codec.specs.Frames.{FrameValue, IsFrame, IsSayable, AreOctets, spelled};
-ghost use Rattle.m2pa_codec.specs.Reading.{read_frame};
+ghost use Rattle.m2pa_codec.specs.Frames.{FrameValue, IsFrame, IsSayable, AreOctets, spelled, read_frame};
 ghost use Rattle.m2pa_codec.specs.Streams.{IsStream, Call, passed, GetsThrough, ComesToTheSame};
 
 /// No frame is a proper prefix of another.

@@ -1,11 +1,9 @@
 //! Frames read from their octets.
 
-ghost use Rattle.std.specs.Prelude.{◌≡◌, ℕ, ◌+◌, ◌≤◌, ◌<◌, ◌^◌, List, length, slice_index, IfOk, IfErr, IsOkAnd, OnOk};
-ghost use Rattle.std.specs.Prelude.{Some, None};
-ghost use Rattle.m2pa_codec.specs.Frames.{FrameValue, IsFrame, bsn_of, fsn_of, sif_of};
+ghost use Rattle.std.specs.Prelude.{◌≡◌, ℕ, ◌+◌, ◌≤◌, ◌<◌, ◌^◌, List, length, slice_index, IfOk, IfErr, IsOkAnd, OnOk, Some, None};
+ghost use Rattle.m2pa_codec.specs.Frames.{FrameValue, IsFrame, bsn_of, fsn_of, sif_of, number_field, header_fault, read_frame, fault_of};
 ghost use Rattle.m2pa_codec.specs.Values.{value_of, Answers};
 ghost use Rattle.m2pa_codec.specs.Types.{type_number};
-ghost use Rattle.m2pa_codec.specs.Reading.{number_field, header_fault, read_frame, fault_of};
 
 use crate::frame::Frame;
 use crate::layout::{BSN_AT, CLASS, FSN_AT, HEADER_OCTETS, LINK_STATUS, USER_DATA, VERSION};

@@ -1,7 +1,7 @@
 //! What a link status says.
 
 ghost use Rattle.std.specs.Prelude.{◌≡◌};
-ghost use Rattle.m2pa_codec.specs.Statuses.{status_number, status_of};
+ghost use Rattle.m2pa_codec.specs.Frames.{status_number, status_of};
 
 /// The state that a Link Status message tells (RFC 4165 §2.3.2). The numbers are those of its state field.
 #[derive(Clone, Copy, Debug, Default, PartialEq, Eq)]
@@ -36,7 +36,7 @@ impl LinkStatus {
     }
 
     /// The state of this number. None for 0 and above 9.
-    #[tactic(auto, unfolding(crate::specs::Statuses::status_of))]
+    #[tactic(auto, unfolding(crate::specs::Frames::status_of))]
     pub fn from_number(number: u32) -> Option<LinkStatus>
         ensures { result ≡ status_of number }
     {

@@ -1,9 +1,8 @@
 //! Frames written into a buffer.
 
 ghost use Rattle.std.specs.Prelude.{◌≡◌, ◌+◌, ◌<◌, ◌≤◌, ◌^◌, ◌++◌, length, take, Ok};
-ghost use Rattle.m2pa_codec.specs.Frames.{common_header, number_header, bsn_of, fsn_of, sif_of, spelled, IsFrame};
+ghost use Rattle.m2pa_codec.specs.Frames.{common_header, number_header, bsn_of, fsn_of, sif_of, spelled, IsFrame, read_frame};
 ghost use Rattle.m2pa_codec.specs.Values.{value_of};
-ghost use Rattle.m2pa_codec.specs.Reading.{read_frame};
 
 use crate::frame::{BUFFER_OCTETS, Frame};
 use crate::layout::{

@@ -4,7 +4,7 @@ use Rattle.std.specs.Prelude.{if◌then◌else◌}
 use Rattle.std.proofs.lemmas.Grind.{common_steps}
 use Rattle.std.proofs.lemmas.Bool.Decides.{nat_tests}
 use Rattle.signalling_types.specs.Message.{label_number}
-use Rattle.mtp3_codec.specs.Label.{IsLabel, label_at, label_in, label_octets, number_of_label}
+use Rattle.mtp3_codec.specs.Headings.{IsLabel, label_at, label_in, label_octets, number_of_label}
 use Rattle.mtp3_codec.specs.declared.label.Label.{Label}
 
 pub number-back : (label : Label) (rest : List ℕ) → IsLabel label → label_number (label_octets label ++ rest) ≡ number_of_label label

@@ -1,16 +1,11 @@
 -- A management message that is written is read back.
 use Rattle.std.proofs.Common.{◌≡◌, ◌<◌, ◌≤◌, ◌^◌, ◌∙◌, ◌∷◌, ℕ, Ok, Some, ap, refl, length, arith}
 use Rattle.std.proofs.lemmas.Grind.{common_steps}
-use Rattle.mtp3_codec.specs.Label.{IsLabel, label_at, label_in}
+use Rattle.mtp3_codec.specs.Headings.{IsLabel, label_at, label_in, number_in, number_octets, point_in, point_octets, management_heading}
 use Rattle.mtp3_codec.specs.declared.label.Label.{Label}
 use Rattle.mtp3_codec.proofs.Labels.{label-back, label_in-back}
 use Rattle.mtp3_codec.specs.declared.management.Management.{Management}
-use Rattle.mtp3_codec.specs.declared.management.Management.TheVariants.{ExtendedChangeoverOrder, ExtendedChangeoverAcknowledgement, ChangebackDeclaration}
-use Rattle.mtp3_codec.specs.declared.management.Management.TheVariants.{ChangebackAcknowledgement, EmergencyChangeoverOrder, EmergencyChangeoverAcknowledgement}
-use Rattle.mtp3_codec.specs.declared.management.Management.TheVariants.{TransferProhibited, TransferRestricted, TransferAllowed, RouteSetTestProhibited}
-use Rattle.mtp3_codec.specs.declared.management.Management.TheVariants.{RouteSetTestRestricted}
-use Rattle.mtp3_codec.specs.Fields.{number_in, number_octets, point_in, point_octets}
-use Rattle.mtp3_codec.specs.Headings.{management_heading}
+use Rattle.mtp3_codec.specs.declared.management.Management.TheVariants.{ExtendedChangeoverOrder, ExtendedChangeoverAcknowledgement, ChangebackDeclaration, ChangebackAcknowledgement, EmergencyChangeoverOrder, EmergencyChangeoverAcknowledgement, TransferProhibited, TransferRestricted, TransferAllowed, RouteSetTestProhibited, RouteSetTestRestricted}
 use Rattle.mtp3_codec.specs.Management.{IsManagement, field_octets, link_code_of, management_octets, message_in, message_of, read_management, with_field}
 
 number-back : (number : ℕ) → number < 2 ^ 24 → number_in (number_octets number) ≡ Ok number

@@ -1,12 +1,46 @@
--- The octet behind the label, which says what kind of message it is (Q.704 §15.3, Q.707 §5).
-use Rattle.std.specs.Prelude.{ℕ, ◌+◌, ◌*◌, ◌==◌, if◌then◌else◌, Option, Some, None}
+-- The fields behind the heading of a management message (Q.704 §15, Q.2210 §10).
+use Rattle.std.specs.Prelude.{ℕ, ◌+◌, ◌*◌, ◌/◌, ◌%◌, ◌^◌, List, [], ◌∷◌, Result, Ok, Err, ◌==◌, if◌then◌else◌, Option, Some, None, ◌<◌, length, nat_lt, nat_eq}
+use Rattle.signalling_types.specs.Numbers.{number_of}
+use Rattle.mtp3_codec.specs.declared.fault.MgmtFault.{MgmtFault}
+use Rattle.mtp3_codec.specs.declared.fault.MgmtFault.TheVariants.{Short}
 use Rattle.mtp3_codec.specs.declared.link_test.TestKind.{TestKind}
 use Rattle.mtp3_codec.specs.declared.link_test.TestKind.TheVariants.{Test, Acknowledgement}
 use Rattle.mtp3_codec.specs.declared.management.Management.{Management}
-use Rattle.mtp3_codec.specs.declared.management.Management.TheVariants.{ExtendedChangeoverOrder, ExtendedChangeoverAcknowledgement, ChangebackDeclaration}
-use Rattle.mtp3_codec.specs.declared.management.Management.TheVariants.{ChangebackAcknowledgement, EmergencyChangeoverOrder, EmergencyChangeoverAcknowledgement}
-use Rattle.mtp3_codec.specs.declared.management.Management.TheVariants.{TransferProhibited, TransferRestricted, TransferAllowed}
-use Rattle.mtp3_codec.specs.declared.management.Management.TheVariants.{RouteSetTestProhibited, RouteSetTestRestricted, TrafficRestartAllowed}
+use Rattle.mtp3_codec.specs.declared.management.Management.TheVariants.{ExtendedChangeoverOrder, ExtendedChangeoverAcknowledgement, ChangebackDeclaration, ChangebackAcknowledgement, EmergencyChangeoverOrder, EmergencyChangeoverAcknowledgement, TransferProhibited, TransferRestricted, TransferAllowed, RouteSetTestProhibited, RouteSetTestRestricted, TrafficRestartAllowed}
+use Rattle.signalling_types.specs.Message.{label_number, Message, dpc_of, network_indicator}
+use Rattle.mtp3_codec.specs.declared.label.Label.{Label}
+use Rattle.signalling_types.specs.declared.cause.Cause.{Cause}
+use Rattle.signalling_types.specs.declared.cause.Cause.TheVariants.{NoLabel, WrongNetwork}
+use Rattle.mtp3_codec.specs.declared.discrimination.Discrimination.{Discrimination}
+use Rattle.mtp3_codec.specs.declared.discrimination.Discrimination.TheVariants.{Here, Transfer, Refused}
+
+-- a number of 24 bits in front of the fields, low octet first
+abbrev pub number_in : List ℕ → Result ℕ MgmtFault
+number_in [] = Err Short
+number_in (low ∷ []) = Err Short
+number_in (low ∷ middle ∷ []) = Err Short
+number_in (low ∷ middle ∷ high ∷ rest) = Ok (number_of (high ∷ middle ∷ low ∷ []))
+
+-- its octets
+abbrev pub number_octets : ℕ → List ℕ
+number_octets number = number % 2 ^ 8 ∷ number / 2 ^ 8 % 2 ^ 8 ∷ number / 2 ^ 16 % 2 ^ 8 ∷ []
+
+-- a changeback code in front of the fields: one octet
+abbrev pub changeback_code_in : List ℕ → Result ℕ MgmtFault
+changeback_code_in [] = Err Short
+changeback_code_in (code ∷ rest) = Ok code
+
+-- a point code in front of the fields: the low 14 bits of two octets, low octet first
+abbrev pub point_in : List ℕ → Result ℕ MgmtFault
+point_in [] = Err Short
+point_in (low ∷ []) = Err Short
+point_in (low ∷ high ∷ rest) = Ok ((low + high * 2 ^ 8) % 2 ^ 14)
+
+-- its octets; the two top bits of 14 are 0
+abbrev pub point_octets : ℕ → List ℕ
+point_octets point = point % 2 ^ 8 ∷ point / 2 ^ 8 ∷ []
+
+-- ---- The octet behind the label, which says what kind of message it is (Q.704 §15.3, Q.707 §5).
 
 -- the group H0 in the low half, the message H1 in the high half
 abbrev pub heading : (h0 h1 : ℕ) → ℕ
@@ -38,3 +72,57 @@ management_heading (TransferAllowed point) = heading 4 5
 management_heading (RouteSetTestProhibited point) = heading 5 1
 management_heading (RouteSetTestRestricted point) = heading 5 2
 management_heading TrafficRestartAllowed = heading 7 1
+
+-- ---- The routing label: where a message goes, where it comes from, and how it chooses its link (Q.704 §2.2).
+
+-- the label of a signalling information field: its first four octets as one number, low octet first;
+-- the low 14 bits are the destination, the next 14 the origin, the top four the link selection
+abbrev pub label_at : List ℕ → Label
+label_at sif = record {
+  dpc = label_number sif % 2 ^ 14;
+  opc = label_number sif / 2 ^ 14 % 2 ^ 14;
+  sls = label_number sif / 2 ^ 28 % 2 ^ 4;
+}
+
+-- the same, where the field has four octets
+abbrev pub label_in : List ℕ → Option Label
+label_in sif = if nat_lt (length sif) 4 then None else Some (label_at sif)
+
+-- a label as one number
+abbrev pub number_of_label : Label → ℕ
+number_of_label label = label.dpc + label.opc * 2 ^ 14 + label.sls * 2 ^ 28
+
+-- its four octets, low octet first
+abbrev pub octets_of : ℕ → List ℕ
+octets_of number = number % 2 ^ 8 ∷ number / 2 ^ 8 % 2 ^ 8 ∷ number / 2 ^ 16 % 2 ^ 8 ∷ number / 2 ^ 24 % 2 ^ 8 ∷ []
+
+abbrev pub label_octets : Label → List ℕ
+label_octets label = octets_of (number_of_label label)
+
+-- the ranges of its parts: two codes of 14 bits, and a selection of four
+pub record IsLabel (label : Label) : Type 0 where
+  pub dpc : label.dpc < 2 ^ 14
+  pub opc : label.opc < 2 ^ 14
+  pub sls : label.sls < 2 ^ 4
+
+-- ---- Whether a message is for this point or another (Q.704 §2.4).
+
+-- why a message is refused before its destination is looked at, if it is: it has no whole label,
+-- or its network indicator is another one
+abbrev pub label_fault : Message → ℕ → Option Cause
+label_fault m network =
+    if nat_lt (length m.sif) 4
+    then Some NoLabel
+    else (if nat_eq (network_indicator m) network then None else Some WrongNetwork)
+
+-- where a message without such a fault goes: the destination of its label decides
+abbrev pub destination : Message → ℕ → Discrimination
+destination m own = if nat_eq (dpc_of m) own then Here (label_at m.sif) else Transfer (label_at m.sif)
+
+-- the fault first, then the destination
+abbrev pub fault_or_destination : Option Cause → Discrimination → Discrimination
+fault_or_destination (Some cause) where_to = Refused cause
+fault_or_destination None where_to = where_to
+
+abbrev pub discrimination : Message → ℕ → ℕ → Discrimination
+discrimination m own network = fault_or_destination (label_fault m network) (destination m own)

@@ -1,15 +1,12 @@
 -- Management messages: messages of service indicator 0 (Q.704 §15, Q.2210 §10).
-use Rattle.std.specs.Prelude.{ℕ, ⊤, ◌<◌, ◌^◌, ◌==◌, if◌then◌else◌, List, [], ◌∷◌, ◌++◌, drop, Result, Ok, Err}
-use Rattle.mtp3_codec.specs.Label.{label_at, label_octets}
+use Rattle.std.specs.Prelude.{ℕ, ⊤, ◌<◌, ◌^◌, ◌==◌, if◌then◌else◌, List, [], ◌∷◌, ◌++◌, drop, Result, Ok, Err, ◌*◌, ◌/◌, nat_lt, length, take, Option, Some, None}
+use Rattle.mtp3_codec.specs.Headings.{label_at, label_octets, number_in, number_octets, changeback_code_in, point_in, point_octets, heading, management_heading, kind_of, kind_heading}
 use Rattle.mtp3_codec.specs.declared.fault.MgmtFault.{MgmtFault}
 use Rattle.mtp3_codec.specs.declared.fault.MgmtFault.TheVariants.{Short, NotInProfile}
 use Rattle.mtp3_codec.specs.declared.management.Management.{Management}
-use Rattle.mtp3_codec.specs.declared.management.Management.TheVariants.{ExtendedChangeoverOrder, ExtendedChangeoverAcknowledgement, ChangebackDeclaration}
-use Rattle.mtp3_codec.specs.declared.management.Management.TheVariants.{ChangebackAcknowledgement, EmergencyChangeoverOrder, EmergencyChangeoverAcknowledgement}
-use Rattle.mtp3_codec.specs.declared.management.Management.TheVariants.{TransferProhibited, TransferRestricted, TransferAllowed}
-use Rattle.mtp3_codec.specs.declared.management.Management.TheVariants.{RouteSetTestProhibited, RouteSetTestRestricted, TrafficRestartAllowed}
-use Rattle.mtp3_codec.specs.Fields.{number_in, number_octets, changeback_code_in, point_in, point_octets}
-use Rattle.mtp3_codec.specs.Headings.{heading, management_heading}
+use Rattle.mtp3_codec.specs.declared.management.Management.TheVariants.{ExtendedChangeoverOrder, ExtendedChangeoverAcknowledgement, ChangebackDeclaration, ChangebackAcknowledgement, EmergencyChangeoverOrder, EmergencyChangeoverAcknowledgement, TransferProhibited, TransferRestricted, TransferAllowed, RouteSetTestProhibited, RouteSetTestRestricted, TrafficRestartAllowed}
+use Rattle.mtp3_codec.specs.declared.link_test.TestKind.{TestKind}
+use Rattle.mtp3_codec.specs.declared.link_test.TestKind.TheVariants.{Acknowledgement}
 
 -- a message of what is read of its fields
 abbrev pub with_field : (ℕ → Management) → Result ℕ MgmtFault → Result Management MgmtFault
@@ -95,3 +92,43 @@ IsManagement (TransferAllowed point) = point < 2 ^ 14
 IsManagement (RouteSetTestProhibited point) = point < 2 ^ 14
 IsManagement (RouteSetTestRestricted point) = point < 2 ^ 14
 IsManagement TrafficRestartAllowed = ⊤
+
+-- ---- Link tests and their answers: messages of service indicator 1 (Q.707 §5).
+
+-- what a link test says: the signalling link code, which stands in the label's place of the selection, and a pattern
+pub record LinkTestValue : Type 0 where
+  pub kind : TestKind
+  pub slc : ℕ
+  pub pattern : List ℕ
+
+-- behind the heading: an octet with the pattern's length in its high half, the pattern, and any octets
+abbrev pub pattern_in : TestKind → ℕ → List ℕ → Result LinkTestValue MgmtFault
+pattern_in kind slc [] = Err Short
+pattern_in kind slc (count ∷ rest) =
+    if nat_lt (length rest) (count / 16)
+    then Err Short
+    else Ok (record { kind = kind; slc = slc; pattern = take (count / 16) rest })
+
+-- the heading says what kind it is
+abbrev pub test_of_kind : Option TestKind → ℕ → List ℕ → Result LinkTestValue MgmtFault
+test_of_kind None slc rest = Err NotInProfile
+test_of_kind (Some kind) slc rest = pattern_in kind slc rest
+
+-- behind the label: the heading, and what belongs to it
+abbrev pub test_in : ℕ → List ℕ → Result LinkTestValue MgmtFault
+test_in slc [] = Err Short
+test_in slc (octet ∷ rest) = test_of_kind (kind_of octet) slc rest
+
+-- what a signalling information field says, or its first fault
+abbrev pub read_link_test : List ℕ → Result LinkTestValue MgmtFault
+read_link_test sif = test_in (label_at sif).sls (drop 4 sif)
+
+-- the one text that is written of a link test from one point to another
+abbrev pub spelled : (dpc opc : ℕ) → LinkTestValue → List ℕ
+spelled dpc opc test =
+    label_octets (record { dpc = dpc; opc = opc; sls = test.slc })
+    ++ kind_heading test.kind ∷ length test.pattern * 16 ∷ test.pattern
+
+-- a test is answered with its own code and pattern
+abbrev pub answer_to : LinkTestValue → LinkTestValue
+answer_to test = record test { kind = Acknowledgement }

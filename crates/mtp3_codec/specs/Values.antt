@@ -2,7 +2,7 @@
 use Rattle.std.specs.Prelude.{◌≡◌, Result, Ok, Err}
 use Rattle.mtp3_codec.specs.declared.fault.MgmtFault.{MgmtFault}
 use Rattle.mtp3_codec.specs.declared.link_test.LinkTest.{LinkTest}
-use Rattle.mtp3_codec.specs.LinkTests.{LinkTestValue}
+use Rattle.mtp3_codec.specs.Management.{LinkTestValue}
 
 abbrev pub test_value : LinkTest → LinkTestValue
 test_value test = record { kind = test.kind; slc = test.slc; pattern = test.pattern.now }

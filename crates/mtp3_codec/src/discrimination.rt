@@ -1,8 +1,8 @@
 //! Whether a message is for this point or another.
 
 ghost use Rattle.std.specs.Prelude.{◌≡◌};
-ghost use Rattle.signalling_types.specs.Lent.{lent};
-ghost use Rattle.mtp3_codec.specs.Discrimination.{discrimination};
+ghost use Rattle.signalling_types.specs.Message.{lent};
+ghost use Rattle.mtp3_codec.specs.Headings.{discrimination};
 
 use crate::label::Label;
 use signalling_types::{Cause, MsuRef, PointCode};

@@ -1,7 +1,7 @@
 //! The fields behind the heading of a management message.
 
 ghost use Rattle.std.specs.Prelude.{◌≡◌, Ok};
-ghost use Rattle.mtp3_codec.specs.Fields.{changeback_code_in, number_in, number_octets, point_in, point_octets};
+ghost use Rattle.mtp3_codec.specs.Headings.{changeback_code_in, number_in, number_octets, point_in, point_octets};
 
 use crate::fault::MgmtFault;
 use signalling_types::{Number24, PointCode};

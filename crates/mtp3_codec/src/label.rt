@@ -2,7 +2,7 @@
 
 ghost use Rattle.std.specs.Prelude.{◌≡◌, ℕ, ◌<◌, ◌++◌, List, All};
 ghost use Rattle.signalling_types.specs.Message.{label_number};
-ghost use Rattle.mtp3_codec.specs.Label.{IsLabel, label_at, label_in, label_octets, number_of_label};
+ghost use Rattle.mtp3_codec.specs.Headings.{IsLabel, label_at, label_in, label_octets, number_of_label};
 ghost use Rattle.mtp3_codec.specs.declared.label.Label.{Label};
 
 use signalling_types::{PointCode, Sls};

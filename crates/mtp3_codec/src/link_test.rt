@@ -2,7 +2,7 @@
 
 ghost use Rattle.std.specs.Prelude.{◌≡◌, ◌+◌, ◌≤◌, length, take, IfOk, Ok};
 ghost use Rattle.mtp3_codec.specs.Headings.{kind_of, kind_heading};
-ghost use Rattle.mtp3_codec.specs.LinkTests.{answer_to, pattern_in, read_link_test, spelled};
+ghost use Rattle.mtp3_codec.specs.Management.{answer_to, pattern_in, read_link_test, spelled};
 ghost use Rattle.mtp3_codec.specs.Values.{test_value, Gives};
 
 use crate::Label;

@@ -1,8 +1,7 @@
 //! Management messages.
 
 ghost use Rattle.std.specs.Prelude.{◌≡◌, ◌≤◌, ◌<◌, ◌^◌, ℕ, Ok, Some, length, take};
-ghost use Rattle.mtp3_codec.specs.Label.{label_in};
-ghost use Rattle.mtp3_codec.specs.Headings.{management_heading};
+ghost use Rattle.mtp3_codec.specs.Headings.{label_in, management_heading};
 ghost use Rattle.mtp3_codec.specs.Management.{link_code_of, management_octets, message_of, read_management, IsManagement};
 ghost use Rattle.mtp3_codec.specs.declared.management.Management.{Management};
 

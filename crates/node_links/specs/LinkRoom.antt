@@ -1,9 +1,8 @@
 -- How the state of a link is kept, and the room that its statuses have.
 use Rattle.std.specs.Prelude.{ℕ, ◌≤◌, length}
 use Rattle.link.specs.declared.alignment.Alignment.{Alignment}
-use Rattle.link.specs.declared.alignment.Alignment.TheVariants.{Down, NotAligned, Aligned, Proving}
-use Rattle.link.specs.declared.alignment.Alignment.TheVariants.{AlignedReady, InService}
-use Rattle.node_links.specs.Link.{Link}
+use Rattle.link.specs.declared.alignment.Alignment.TheVariants.{Down, NotAligned, Aligned, Proving, AlignedReady, InService}
+use Rattle.node_links.specs.NodeLinks.{Link}
 use Rattle.node_links.specs.declared.link_state.LinkState.TheInside.{Inside}
 
 abbrev pub link_state_in : Inside → Link

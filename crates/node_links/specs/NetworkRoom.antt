@@ -1,6 +1,6 @@
 -- How the links of a node are kept.
 use Rattle.std.specs.Prelude.{◌≡◌}
-use Rattle.node_links.specs.Network.{Network, serving}
+use Rattle.node_links.specs.NodeLinks.{Network, serving}
 use Rattle.node_links.specs.declared.node_links.NodeLinks.TheInside.{Inside}
 
 abbrev pub network_in : Inside → Network

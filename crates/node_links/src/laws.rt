@@ -1,11 +1,8 @@
 //! What holds of the link that a flow takes, and of links that change.
 
 ghost use Rattle.std.specs.Prelude.{ℕ, ◌≡◌, false, true, Some};
-ghost use Rattle.routes.specs.Facts.{with_link};
-ghost use Rattle.routes.specs.Chosen.{chosen_link};
-ghost use Rattle.node_links.specs.Link.{Link};
-ghost use Rattle.node_links.specs.LinkState.{is_in_service};
-ghost use Rattle.node_links.specs.Network.{Network, facts_of, link_in, with_state};
+ghost use Rattle.routes.specs.Routes.{with_link, chosen_link};
+ghost use Rattle.node_links.specs.NodeLinks.{Link, is_in_service, Network, facts_of, link_in, with_state};
 
 /// The law that the link of a flow is in service. The call does nothing.
 #[tactic(auto, using(crate::proofs::Chosen::chosen_serving))]

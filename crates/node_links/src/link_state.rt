@@ -3,8 +3,7 @@
 ghost use Rattle.std.specs.Prelude.{◌≡◌, ◌+◌, ◌≤◌, false, drop, length, slice_get};
 ghost use Rattle.std.specs.Option.{option_to_list};
 ghost use Rattle.link.specs.Table.{action_at};
-ghost use Rattle.node_links.specs.LinkState.{down_link, stepped, after_action, opened, after_failure};
-ghost use Rattle.node_links.specs.LinkState.{is_down, is_in_service};
+ghost use Rattle.node_links.specs.NodeLinks.{down_link, stepped, after_action, opened, after_failure, is_down, is_in_service};
 ghost use Rattle.node_links.specs.LinkRoom.{sent_by};
 
 use arrayvec::ArrayVec;
@@ -27,7 +26,7 @@ pub struct LinkState {
 }
 
 impl Model for LinkState {
-    ghost use Rattle.node_links.specs.Link.{Link};
+    ghost use Rattle.node_links.specs.NodeLinks.{Link};
 
     ghost Value = { Link };
 

@@ -2,10 +2,8 @@
 
 ghost use Rattle.std.specs.Prelude.{◌≡◌, ◌<◌, ◌≤◌, false, drop, length, replicate, slice_set, nat_lt, IfOk, IfSome};
 ghost use Rattle.link.specs.Table.{action_at};
-ghost use Rattle.routes.specs.Facts.{with_link};
-ghost use Rattle.routes.specs.Chosen.{chosen_link};
-ghost use Rattle.node_links.specs.LinkState.{after_action, down_link, after_failure, opened};
-ghost use Rattle.node_links.specs.Network.{facts_of, first_network, link_in, serving, with_state};
+ghost use Rattle.routes.specs.Routes.{with_link, chosen_link};
+ghost use Rattle.node_links.specs.NodeLinks.{after_action, down_link, after_failure, opened, facts_of, first_network, link_in, serving, with_state};
 ghost use Rattle.node_links.specs.FormerLink.{former_link};
 
 mod statuses;
@@ -30,7 +28,7 @@ pub struct NodeLinks {
 }
 
 impl Model for NodeLinks {
-    ghost use Rattle.node_links.specs.Network.{Network};
+    ghost use Rattle.node_links.specs.NodeLinks.{Network};
 
     ghost Value = { Network };
 

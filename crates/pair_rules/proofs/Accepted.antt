@@ -5,15 +5,13 @@ use Rattle.std.proofs.lemmas.List.Elements.{All-append, All-cons, All-nil}
 use Rattle.pair_rules.proofs.Definitions.{Message, dpc_of, flow_of, is_management, service_indicator, Outcome, Handled, Held, Ignored, Local, Queued, Refused, Configuration, destination_place, FrameValue, read_frame, Discrimination, Nothing, Open, Close, Node, Done, answer, refuse, WholeQueues, whole, no_room, waits, link_of, accept_text, answered_in, brought_by, brought_here, brought_in, brought_to, taken_in, unitdata_in, is_user, local, manage, sccp, on_unitdata, deliver, deliver_to, submit_to, whither_goes, new_message, FrameCame, Submitted, outcome_of, frame_to_take, wants_of, PairState, Step, AtNear, AtFar, Streams, Doing, Submits, Takes, Delivers, DeliversStatus, LosesStatus, DoublesStatus, Loses, Ticks, Activates, Deactivates, AddsTitle, RemovesTitle, OpensFirst, OpensSecond, after_steps, change_statuses, deliver_frame, did, first_pair, in_flight, may_follow, may_open_at, opens_first, opens_second, take_frame, turn, turned, without_data, without_status}
 use Rattle.signalling_types.specs.declared.cause.Cause.TheVariants as causes
 use Rattle.mtp3_codec.specs.declared.discrimination.Discrimination.TheVariants as whither
-use Rattle.sccp_relay.specs.Relay.{RelayedValue, relay}
+use Rattle.sccp_relay.specs.Relay.{RelayedValue, relay, returned}
 use Rattle.sccp_relay.specs.Relay as relays
-use Rattle.sccp_relay.specs.Return.{returned}
 use Rattle.exchange_rules.specs.declared.wants.Wants.{Wants}
 use Rattle.mtp3_codec.specs.declared.label.Label.{Label}
-use Rattle.exchange_rules.specs.Arrival.{is_destination, offer, transfer}
-use Rattle.exchange_rules.specs.Sound.{Abstract}
+use Rattle.exchange_rules.specs.Messages.{is_destination, offer, transfer, in_place_of, own_of, relay_by}
+use Rattle.exchange_rules.specs.First.{Abstract}
 use Rattle.exchange_rules.specs.Conserving.{relayed_in, returned_in}
-use Rattle.exchange_rules.specs.Relaying.{in_place_of, own_of, relay_by}
 use Rattle.pair_rules.specs.Pairs.{with_status_twice}
 use Rattle.pair_rules.specs.Accepting.{AreForFarPoint, IsUserMessageTo, accepted_goes_to_far}
 use Rattle.pair_rules.proofs.Good.{IsBetween}

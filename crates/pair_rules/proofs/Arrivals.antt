@@ -6,8 +6,8 @@ use Rattle.signalling_types.specs.declared.notice.FrameFault.{FrameFault}
 use Rattle.link.specs.declared.action.Action.TheVariants as act
 use Rattle.link.specs.declared.action.Transition.{Transition}
 use Rattle.exchange_rules.specs.ChangingBack.{declare_by}
-use Rattle.exchange_rules.specs.Statuses.{moved_on}
-use Rattle.exchange_rules.specs.Sound.{Abstract}
+use Rattle.exchange_rules.specs.Frames.{moved_on}
+use Rattle.exchange_rules.specs.First.{Abstract}
 
 module _ (c : Configuration) (link : ℕ) where
   -- ---- what it comes to is what its message comes to

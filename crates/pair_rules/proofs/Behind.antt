@@ -4,13 +4,13 @@ use Rattle.pair_rules.proofs.Definitions.{Message, flow_of, is_management, Cause
 use Rattle.std.specs.Prelude.{unwrap_or}
 use Rattle.link.specs.declared.action.Transition.{Transition}
 use Rattle.exchange_rules.specs.ChangingBack.{code_in_use, declare_by}
-use Rattle.exchange_rules.specs.Points.{adjacent_of, point_of}
-use Rattle.exchange_rules.specs.Statuses.{moved_on}
+use Rattle.exchange_rules.specs.Routing.{adjacent_of, point_of}
+use Rattle.exchange_rules.specs.Frames.{moved_on}
 use Rattle.exchange_rules.specs.Telling.{may_tell, tell_each, tell_if, tell_owed, told_parts}
 use Rattle.exchange_rules.specs.Telling as telling
 use Rattle.exchange_rules.proofs.Lists.{alike-at}
 use Rattle.exchange_rules.proofs.OwnManagement.{made-management}
-use Rattle.route_management.specs.Owed.{Owed, owed}
+use Rattle.route_management.specs.Told.{Owed, owed}
 use Rattle.pair_moves.specs.Laws.{sum_to}
 use Rattle.pair_moves.proofs.Counts.{count-append, sum-alike}
 use Rattle.pair_rules.specs.Promises.{user}

@@ -2,14 +2,11 @@
 use Rattle.pair_rules.proofs.Basics.{◌≡◌, ℕ, Bool, true, false, List, [], ◌∷◌, ◌++◌, length, Option, Some, None, refl, ap, sym, subst, ◌∙◌, nat_eq, nat_lt, arith, if◌then◌else◌, is_some, nat_tests, append-nil}
 use Rattle.pair_rules.proofs.Definitions.{Message, flow_of, is_management, dpc_of, service_indicator, network_indicator, SIF_OCTETS, Cause, Outcome, Handled, Held, Ignored, Local, Queued, Refused, Configuration, TitleEntry, Discrimination, Label, is_user_message, destination_place, is_user, local, on_unitdata, sccp, Node, Done, answer, refuse, WholeQueues, whole, no_room, all_wait, waits, submit_to, whither_goes, link_of, fit-steps, comes-here}
 use Rattle.signalling_types.specs.declared.cause.Cause.TheVariants as causes
-use Rattle.mtp3_codec.specs.Label.{label_at}
+use Rattle.mtp3_codec.specs.Headings.{label_at, fault_or_destination}
 use Rattle.mtp3_codec.specs.declared.discrimination.Discrimination.TheVariants as whither
-use Rattle.mtp3_codec.specs.Discrimination.{fault_or_destination}
 use Rattle.sccp_relay.specs.Relay as relays
-use Rattle.sccp_relay.specs.Return as returns
-use Rattle.exchange_rules.specs.Arrival.{is_destination, offer, transfer}
+use Rattle.exchange_rules.specs.Messages.{is_destination, offer, transfer, in_place_of, own_of, relay_by, return_outcome, send_udts}
 use Rattle.exchange_rules.specs.Conserving.{answered_in, brought_here, brought_to, relayed_in, returned_in, taken_in, unitdata_in}
-use Rattle.exchange_rules.specs.Relaying.{in_place_of, own_of, relay_by, return_outcome, send_udts}
 use Rattle.exchange_rules.proofs.LeavingMessages.{chosen_serves, relay_by-leaves}
 use Rattle.pair_moves.specs.Moves as moves
 use Rattle.pair_rules.proofs.Written.{Fits, onward-fits, returned-fits}
@@ -136,7 +133,7 @@ module _ (c z : Configuration) (j : IsJoined c z) where
         subst (λ (x : Node WholeQueues).
         Passes c z (at c z w n [] []) (at c z (accepting w (answered_in (Refused cause) c m n)) (return_outcome whole c (Refused cause) m x) [] []))
         (sym (same cause refl))
-        (answered (returns.returned (own_of c) rows m.sif cause) (λ sif e. returned-fits (own_of c) rows m.sif cause sif e))
+        (answered (relays.returned (own_of c) rows m.sif cause) (λ sif e. returned-fits (own_of c) rows m.sif cause sif e))
     returning out (Queued link) left same p = p
     returning out Held left same p = p
     returning out Local left same p = p
@@ -153,7 +150,7 @@ module _ (c z : Configuration) (j : IsJoined c z) where
     relayed-passes (relays.Onward sif) e =
         returning (in_place_of m sif) (relayed (relays.Onward sif)).outcome (relayed (relays.Onward sif)).left (relay_by-leaves c n (relays.Onward sif) m).left
         (written sif (onward-fits (own_of c) rows m.sif sif e))
-    relayed-passes (relays.Refused cause) e = answered (returns.returned (own_of c) rows m.sif cause) (λ sif e. returned-fits (own_of c) rows m.sif cause sif e)
+    relayed-passes (relays.Refused cause) e = answered (relays.returned (own_of c) rows m.sif cause) (λ sif e. returned-fits (own_of c) rows m.sif cause sif e)
 
     pub unitdata-passes : Passes c z (at c z w n [] []) (at c z (accepting w (unitdata_in (on_unitdata whole c m n).outcome c m n)) (on_unitdata whole c m n).left [] [])
     unitdata-passes = relayed-passes (relays.relay (own_of c) rows m.sif) refl

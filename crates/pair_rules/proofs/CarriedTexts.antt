@@ -3,7 +3,7 @@ use Rattle.pair_rules.proofs.Basics.{◌≡◌, ◌≤◌, ◌-◌, ◌+◌, ◌
 use Rattle.pair_rules.proofs.Definitions.{Message, Configuration, FrameValue, EmptyFrame, MessageFrame, StatusFrame, spelled, read_frame, Queue, down, is_link, new_message, new_of, messages_in}
 use Rattle.std.proofs.Common.{Contains}
 use Rattle.exchange_rules.specs.Laws.{carried_message}
-use Rattle.exchange_rules.specs.Sound.{Abstract}
+use Rattle.exchange_rules.specs.First.{Abstract}
 use Rattle.pair_moves.specs.Flowing.{Carry}
 use Rattle.pair_moves.proofs.Frames.{carry-below}
 use Rattle.pair_rules.proofs.World.{frame_of}

@@ -4,7 +4,7 @@ use Rattle.pair_rules.proofs.Definitions.{link_at, send_anew, Message, is_manage
 use Rattle.signalling_types.specs.declared.cause.Cause.TheVariants.{LostUnconfirmed}
 use Rattle.timers.specs.declared.name.TimerName.TheVariants.{T1}
 use Rattle.flow_hold.specs.declared.procedure.Procedure.TheVariants as held_by
-use Rattle.changeover.specs.Completion as completion
+use Rattle.changeover.specs.Changeover as completion
 use Rattle.pair_moves.specs.Ends as ends
 use Rattle.pair_moves.specs.Failing as coarse
 use Rattle.pair_moves.specs.Moves as moves

@@ -16,14 +16,13 @@ use Rattle.link.specs.Queue.{Names, newly_confirmed, confirmation, expected}
 use Rattle.link.specs.Queue as queue
 use Rattle.mtp3_codec.specs.declared.discrimination.Discrimination.TheVariants as whither
 use Rattle.mtp3_codec.specs.declared.label.Label.{Label}
-use Rattle.sccp_relay.specs.Return.{returned}
-use Rattle.exchange_rules.specs.Arrival.{is_destination, offer, transfer}
+use Rattle.sccp_relay.specs.Relay.{returned}
+use Rattle.exchange_rules.specs.Messages.{is_destination, offer, transfer, in_place_of, own_of, return_unitdata, send_udts}
 use Rattle.exchange_rules.specs.Conserving.{returned_in}
 use Rattle.exchange_rules.specs.Laws.{answered, answered_by, carried_message, noted}
-use Rattle.exchange_rules.specs.Relaying.{in_place_of, own_of, return_unitdata, send_udts}
 use Rattle.exchange_rules.specs.State.{with_node}
 use Rattle.exchange_rules.specs.Telling.{tell_owed}
-use Rattle.exchange_rules.specs.Sound.{Abstract, IsSound}
+use Rattle.exchange_rules.specs.First.{Abstract, IsSound}
 use Rattle.exchange_rules.proofs.CarriedMessages.{new-carried}
 use Rattle.exchange_rules.proofs.Leaving.{refused_leaves}
 use Rattle.exchange_rules.proofs.LeavingMessages.{chosen_serves}

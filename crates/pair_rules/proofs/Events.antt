@@ -4,9 +4,9 @@ use Rattle.pair_rules.proofs.Definitions.{Message, Ignored, Configuration, Frame
 use Rattle.std.proofs.Common.{replicate}
 use Rattle.signalling_types.specs.declared.cause.Cause.TheVariants as causes
 use Rattle.signalling_types.specs.declared.notice.FrameFault.{FrameFault}
-use Rattle.route_management.specs.Owed.{Owed, owed, owed_at, owed_by_sets, owed_from, is_owed, is_reachable, is_unlike, status_to_advertise}
+use Rattle.route_management.specs.Told.{Owed, owed, owed_at, owed_by_sets, owed_from, is_owed, is_reachable, is_unlike, status_to_advertise}
 use Rattle.route_management.proofs.Listing.{none_of_point}
-use Rattle.exchange_rules.specs.Sound.{Abstract}
+use Rattle.exchange_rules.specs.First.{Abstract}
 use Rattle.exchange_rules.specs.Telling.{tell_each, tell_owed}
 use Rattle.pair_rules.proofs.World.{World}
 use Rattle.pair_rules.proofs.Good.{Each, IsBetween, IsFlying, IsTelling, IsJoined, Good, Passes, passes-none, passes-both, at, no-status}

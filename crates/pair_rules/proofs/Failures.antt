@@ -1,14 +1,13 @@
 -- A link fails, and an order goes out where another link of its set is left: by moves.
-use Rattle.pair_rules.proofs.Lines.{end_by, end-by, link-here, link-other}
+use Rattle.pair_rules.proofs.Lines.{end_by, end-by, link-here, link-other, up-listed, becomes}
 use Rattle.pair_rules.proofs.Basics.{◌≡◌, ◌≢◌, ◌<◌, ◌||◌, ℕ, Bool, true, false, not, List, [], length, refl, ap, sym, subst, ◌∙◌, if◌then◌else◌, ⊎_elim, cases_eq}
 use Rattle.pair_rules.proofs.Definitions.{is_down, Message, FailureReason, Configuration, ExtendedChangeoverOrder, failed, begun_by_peer, Link, after_failure, down_link, each-set, Node, Parts, with_parts, down, in_service, link_at, WholeQueues, queue_at, whole, begin, begin_by_peer, change_over, changeover_of, changeover_order, changing, fail, fail_by_peer, fail_link, has_other, make_unavailable, without_tests, entry_of, peer_of, set_of, made-management, Fits, StaysFit, fit-steps, failing_by_peer-steps, fell-steps, timed_changeover-timed, with_failure}
 use Rattle.signalling_types.specs.declared.notice.FailureReason.TheVariants as reasons
-use Rattle.exchange_rules.specs.Suspending.{suspended}
+use Rattle.exchange_rules.specs.ChangingOver.{suspended}
 use Rattle.pair_moves.specs.Moves as moves
 use Rattle.pair_rules.proofs.World.{World, says_of, route_of, holds_of, line_of, end_of}
 use Rattle.pair_rules.proofs.Good.{IsSilent, IsJoined, Passes, passes-both, at}
 use Rattle.pair_rules.proofs.Going.{goes-one}
-use Rattle.pair_rules.proofs.Lines.{up-listed, becomes}
 use Rattle.pair_rules.proofs.Messages.{send_routed-passes}
 use Rattle.pair_rules.proofs.Routes.{failed-facts, route-stays}
 use Rattle.pair_rules.proofs.Falling.{falling, falling_ordered}

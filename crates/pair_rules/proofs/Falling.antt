@@ -1,18 +1,16 @@
 -- A link in service fails, with an order or without one: by moves.
 use Rattle.pair_rules.proofs.Basics.{◌≡◌, ◌≢◌, ◌<◌, ◌&&◌, ℕ, Bool, true, false, not, List, [], ◌∷◌, length, Option, Some, refl, ap, sym, subst, ◌∙◌, nat_eq, nat_lt, arith, ⊎_elim, cases_eq}
 use Rattle.pair_rules.proofs.Definitions.{SELECTIONS, goes_by, is_down, Management, Order, Message, Flow, FailureReason, Configuration, ExtendedChangeoverOrder, Running, HoldSet, with_flows, flows_add, flows_leave, Standing, no_changeover, with_standing, Link, after_failure, down_link, each-set, chosen_link, Node, Parts, with_parts, down, in_service, link_at, WholeQueues, queue_at, whole, changeover_of, changeover_order, fail_link, facts, entry_of, management_to, Fits, StaysFit, Suspends, with_failure}
-use Rattle.pair_rules.proofs.Lines.{end_by, end-by, link-here, link-other, standing-here, standing-other}
-use Rattle.pair_rules.proofs.World.{said_by, unsaid}
+use Rattle.pair_rules.proofs.Lines.{end_by, end-by, link-here, link-other, standing-here, standing-other, up-listed, becomes}
+use Rattle.pair_rules.proofs.World.{said_by, unsaid, World, says_of, shown, route_of, holds_of, procedure_of, line_of, end_of}
 use Rattle.flow_hold.specs.Holds as hold
 use Rattle.flow_hold.specs.declared.procedure.Procedure.TheVariants as held_by
-use Rattle.exchange_rules.specs.Suspending.{suspended, is_failed}
+use Rattle.exchange_rules.specs.ChangingOver.{suspended, is_failed}
 use Rattle.pair_moves.specs.Ends as ends
 use Rattle.pair_moves.specs.Moves as moves
-use Rattle.pair_rules.proofs.World.{World, says_of, shown, route_of, holds_of, procedure_of, line_of, end_of}
 use Rattle.pair_rules.proofs.Good.{Each, IsBetween, IsSilent, IsJoined, IsWord, IsWritable, Good, Passes, passes-none, passes-both, at, previous-fits}
 use Rattle.pair_rules.proofs.Good as good
 use Rattle.pair_rules.proofs.Going.{goes-one}
-use Rattle.pair_rules.proofs.Lines.{up-listed, becomes}
 use Rattle.pair_rules.proofs.Routes.{IsRouted, and-more, and-true, eq-self, failed-facts, is-routed, lt-true, or-first, or-true, route-stays}
 
 module _ (c z : Configuration) (j : IsJoined c z) where

@@ -3,8 +3,8 @@ use Rattle.pair_rules.proofs.Basics.{◌≡◌, ◌<◌, ◌≤◌, ℕ, Bool, t
 use Rattle.pair_rules.proofs.Definitions.{Flow, CHANGEBACK_CODES, SELECTIONS, Configuration, DestinationEntry, IsFacing, LeadsOnlyTo, destination_place, IsWell, IsDestination, Facts, first_route, first_routes, routes_to, with_second_joined, Choice, choice_among, taken_by, sets_of, members, link_by, chosen_link, adjacent_place, Link, down_link, is_down, serving_none, by_numbers, holds, no_codes, is_outstanding, Standing, no_changeover, Queue, IsQueue, first_queue, Parts, facts, link_of, each-replicate, Fits, LinkEnd, closed_end, first_side}
 use Rattle.std.specs.FinSet.{contains-empty}
 use Rattle.routes.specs.declared.link_group.Member.{Member}
-use Rattle.routes.specs.Preference.{preference, is_in_service, serves}
-use Rattle.node_links.specs.LinkState as state
+use Rattle.routes.specs.Routes.{preference, is_in_service, serves}
+use Rattle.node_links.specs.NodeLinks as state
 use Rattle.link.proofs.Sound.{sound-first}
 use Rattle.exchange_rules.specs.First.{first_state, first_parts}
 use Rattle.exchange_rules.proofs.LastingPlaces.{places-first}

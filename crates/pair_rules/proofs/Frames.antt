@@ -1,15 +1,14 @@
 -- A frame comes: by moves.
 use Rattle.pair_rules.proofs.Basics.{append-nil, ⊎_elim, cases_eq, ◌≡◌, ◌≢◌, ◌<◌, ℕ, Bool, true, false, not, List, [], ◌∷◌, ◌++◌, length, Option, Some, Result, Ok, Err, refl, ap, sym, subst, ◌∙◌, nat_eq, if◌then◌else◌, is_some}
 use Rattle.pair_rules.proofs.Definitions.{brought_here, brought_to, unitdata_in, do_test, users_of, all_wait, network_indicator, Message, is_management, opc_of, service_indicator, Configuration, FrameValue, read_management, Management, MgmtFault, Queue, accept_answer, after_answer, first_queue, SeqFault, Discrimination, Node, Done, refuse, down, in_service, WholeQueues, queue_at, whole, Carrying, carries, numbers, distribute, do_management, do_order, do_acknowledgement, is_adjacent, local, manage, on_management, testing, deliver, deliver_to, whither_goes, on_changeback_acknowledgement, entry_of, Fits, fit-steps, each-set, confirming, UserMessage, Order, Answer, LinkEnd, BecomeAt}
-use Rattle.pair_rules.proofs.Good.{AreFlying, IsFlying, IsTelling}
+use Rattle.pair_rules.proofs.Good.{AreFlying, IsFlying, IsTelling, Each, IsBetween, IsJoined, IsSaid, IsWord, Good, Passes, passes-none, passes-both, at}
 use Rattle.link.specs.Queue as queue
-use Rattle.mtp3_codec.specs.LinkTests.{read_link_test}
+use Rattle.mtp3_codec.specs.Management.{read_link_test}
 use Rattle.std.specs.Prelude.{map}
 use Rattle.signalling_types.specs.declared.cause.Cause.TheVariants as causes
 use Rattle.pair_moves.specs.Carrying.{with_accepted, with_statuses_left}
 use Rattle.pair_moves.specs.Moves as moves
 use Rattle.pair_rules.proofs.World.{World, says_of, read_says, management_says, said_by, unsaid, shown, line_of, end_of, frame_of}
-use Rattle.pair_rules.proofs.Good.{Each, IsBetween, IsJoined, IsSaid, IsWord, Good, Passes, passes-none, passes-both, at}
 use Rattle.pair_rules.proofs.Good as good
 use Rattle.pair_rules.proofs.Going.{goes-one}
 use Rattle.pair_rules.proofs.Bringing.{accepting, here-network, local-passes, is-no-sccp}

@@ -5,12 +5,11 @@ use Rattle.settings.specs.Well.{IsWell}
 use Rattle.exchange_rules.specs.declared.wants.Wants.{Wants}
 use Rattle.exchange_rules.specs.declared.wants.Wants.TheVariants as wants
 use Rattle.exchange_rules.specs.Exchange.{after, frame_to_take, taken}
-use Rattle.exchange_rules.specs.First.{first_state}
-use Rattle.exchange_rules.specs.Happening as happening
-use Rattle.exchange_rules.specs.Happening.{Happens, Takes}
+use Rattle.exchange_rules.specs.First.{first_state, Abstract}
+use Rattle.exchange_rules.specs.State as happening
+use Rattle.exchange_rules.specs.State.{Happens, Takes}
 use Rattle.exchange_rules.specs.Lasting.{HasAllPlaces}
 use Rattle.exchange_rules.specs.LastingHolds.{AllWillEnd}
-use Rattle.exchange_rules.specs.Sound.{Abstract}
 use Rattle.exchange_rules.proofs.LastingHolds.{every-hold, holds-stay}
 use Rattle.exchange_rules.proofs.LastingPlaces.{places-first, places-stay}
 use Rattle.pair_rules.specs.Awaiting.{nothing_is_held_in_vain}

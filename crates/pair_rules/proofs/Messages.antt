@@ -3,7 +3,7 @@ use Rattle.pair_rules.proofs.Basics.{◌≡◌, ◌<◌, ◌%◌, ◌^◌, ◌/�
 use Rattle.pair_rules.proofs.Definitions.{Message, flow_of, is_management, dpc_of, label_number, Flow, Cause, Configuration, LinkEntry, destination_place, Management, MgmtFault, read_management, HoldSet, is_held, Procedure, held_by, Queue, appended, first_queue, Node, Parts, lost_any, in_service, WholeQueues, queue_at, whole, queue_on, no_room, is_held_at, is_flow_held, waits, all_wait, link_of, send, send_anew, send_routed, go, go_by, go_each, go_on, release, StaysFit, fit-steps, each-set, go_by-steps, ToldTable, Standing, standing_at, Link, link_in, is_down, Saying, UserMessage, Order, Answer, is_user_message, is_of_flow, is_same_flow, MayGo}
 use Rattle.mtp3_codec.specs.declared.management.Management.TheVariants as says
 use Rattle.flow_hold.specs.Holds as hold
-use Rattle.exchange_rules.specs.Holding as holding
+use Rattle.exchange_rules.specs.Routing as holding
 use Rattle.exchange_rules.proofs.LeavingMessages.{chosen_serves}
 use Rattle.exchange_rules.proofs.Settling.{Waits, go-waits, left-true, right-true}
 use Rattle.exchange_rules.proofs.SteppingMessages.{by_link-steps}

@@ -2,14 +2,14 @@
 use Rattle.pair_rules.proofs.Basics.{◌≡◌, ◌≢◌, ℕ, Bool, true, false, not, ◌&&◌, ◌||◌, List, [], ◌∷◌, ◌++◌, refl, sym, ap, ◌∙◌, subst, None, Some, slice_get, slice_index_or, option_to_list, true≢false, and_left as and-first}
 use Rattle.pair_rules.proofs.Definitions.{Message, flow_of, Configuration, set_timer, start_unless_running, clear_timer, clear_set, due_name, after_due, due_count, first_sets, choice_among, link_by, Procedure, any_flow, flows, with_flows, HoldSet, holds, is_held, is_same, lifted, may_hold, no_holds, flows_add, flows_leave, contains-lifted, held_by, none_at_first, Done, Node, lost_any, late_any, WholeQueues, whole, no_room, waits, link_of, go_by, go_each, FrameCame, new_message, apply, handle_event, settled, take_back_each, PairState, AtNear, Delivers, Loses, OpensFirst, taken_in, after_steps, deliver_frame, users_of, in_flight, may_follow, without_data, is_down_at, waiting_on, brought_in}
 use Rattle.std.specs.Prelude.{Option}
-use Rattle.timers.specs.Names.{names_of}
-use Rattle.routes.specs.Members.{links_below}
-use Rattle.route_management.specs.Owed.{owes_nothing}
-use Rattle.m2pa_codec.specs.Statuses.{status_of}
+use Rattle.timers.specs.Timers.{names_of}
+use Rattle.routes.specs.Routes.{links_below}
+use Rattle.route_management.specs.Told.{owes_nothing}
+use Rattle.m2pa_codec.specs.Frames.{status_of}
 use Rattle.changeback.specs.Return.{changes_of, changes}
 use Rattle.flow_hold.specs.declared.procedure.Procedure.TheVariants.{Changeover, Code}
 use Rattle.flow_hold.proofs.Numbers.{same, same-itself}
-use Rattle.exchange_rules.specs.Arrival.{offer}
+use Rattle.exchange_rules.specs.Messages.{offer}
 use Rattle.exchange_rules.specs.Telling.{tell_owed}
 use Rattle.pair_rules.proofs.RunSettings.{joined}
 use Rattle.pair_rules.specs.OneEndFirst.{answering, completed, near_settings, ordering, served, submitted, the_message}

@@ -2,18 +2,17 @@
 use Rattle.pair_rules.proofs.Basics.{◌≡◌, ◌≢◌, ℕ, Bool, true, false, List, [], ◌∷◌, Option, Some, None, Result, Ok, Err, refl, ap, sym, ◌∙◌, nat_eq, ◌%◌, list_any, if◌then◌else◌, drop}
 use Rattle.pair_rules.proofs.Definitions.{Message, dpc_of, flow_of, is_management, Cause, Outcome, Refused, Queued, Held, Configuration, TitleEntry, Node, Done, refuse, WholeQueues, whole, link_of, no_room, waits}
 use Rattle.signalling_types.specs.declared.cause.Cause.TheVariants as causes
-use Rattle.sccp_codec.specs.Messages.{UnitdataValue, parts_of}
-use Rattle.sccp_codec.specs.Reading.{read_unitdata}
+use Rattle.sccp_codec.specs.Messages.{UnitdataValue, parts_of, read_unitdata}
 use Rattle.sccp_codec.specs.Titles.{TitleValue, read_octets, read_title}
 use Rattle.sccp_codec.specs.declared.address.Routing.{Routing}
 use Rattle.sccp_codec.specs.declared.address.Routing.TheVariants.{Title, Ssn}
 use Rattle.sccp_codec.specs.declared.fault.SccpFault.{SccpFault}
 use Rattle.sccp_codec.specs.declared.fault.SccpFault.TheVariants as faults
 use Rattle.sccp_relay.specs.Relay as relays
-use Rattle.sccp_relay.specs.Translation.{has_key, or_refusal}
-use Rattle.mtp3_codec.specs.Label.{label_at}
+use Rattle.sccp_relay.specs.Relay.{has_key, or_refusal}
+use Rattle.mtp3_codec.specs.Headings.{label_at}
 use Rattle.mtp3_codec.specs.declared.label.Label.{Label}
-use Rattle.exchange_rules.specs.Arrival.{is_destination, offer, transfer}
+use Rattle.exchange_rules.specs.Messages.{is_destination, offer, transfer}
 
 abbrev pub is_other : Cause → Bool
 is_other causes.NoUserPart = false

@@ -3,11 +3,10 @@ use Rattle.pair_rules.proofs.Basics.{◌≡◌, ◌≢◌, inl, inr, ℕ, Bool, 
 use Rattle.pair_rules.proofs.Definitions.{Message, is_management, service_indicator, Cause, Outcome, Handled, Ignored, Local, Refused, Queued, Held, Configuration, TitleEntry, FrameValue, read_frame, Discrimination, Management, is_outstanding, set_place, Node, Done, answer, refuse, FrameCame, WholeQueues, whole, changeover_of, on_changeback_acknowledgement, accept_text, answered_in, brought_by, brought_here, brought_in, brought_to, taken_in, unitdata_in, distribute, do_order, do_acknowledgement, is_user, local, manage, on_management, sccp, deliver, deliver_to, whither_goes, on_unitdata, is_idle, new_message, outcome_of, receive, users_of, PairState, Streams, Delivers, DeliversStatus, after_steps, deliver_frame, first_pair, in_flight, turned, without_data, without_status}
 use Rattle.signalling_types.specs.declared.cause.Cause.TheVariants as causes
 use Rattle.sccp_relay.specs.Relay as relays
-use Rattle.sccp_relay.specs.Return.{returned}
-use Rattle.exchange_rules.specs.Arrival.{transfer}
+use Rattle.sccp_relay.specs.Relay.{returned}
+use Rattle.exchange_rules.specs.Messages.{transfer, in_place_of, own_of, relay_by}
 use Rattle.exchange_rules.specs.Conserving.{relayed_in, returned_in}
-use Rattle.exchange_rules.specs.Relaying.{in_place_of, own_of, relay_by}
-use Rattle.exchange_rules.specs.Sound.{Abstract}
+use Rattle.exchange_rules.specs.First.{Abstract}
 use Rattle.exchange_rules.proofs.Received.{nothing-delivered}
 use Rattle.exchange_rules.specs.Laws.{carried_message}
 use Rattle.exchange_rules.proofs.CarriedMessages.{new-carried}

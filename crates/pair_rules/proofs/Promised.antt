@@ -1,15 +1,13 @@
 -- What moves promise, two exchanges promise.
-use Rattle.std.proofs.Common.{◌≡◌, ◌≢◌, ◌&&◌, ◌+◌, ℕ, Bool, true, false, not, List, [], ◌∷◌, ◌++◌, length, zero, suc, refl, ap, sym, subst, ◌∙◌, nat_eq, arith, append-nil, append_assoc, replicate}
+use Rattle.std.proofs.Common.{◌≡◌, ◌≢◌, ◌&&◌, ◌+◌, ℕ, Bool, true, false, not, List, [], ◌∷◌, ◌++◌, length, zero, suc, refl, ap, sym, subst, ◌∙◌, nat_eq, arith, append-nil, append_assoc, replicate, get_or}
 use Rattle.std.specs.Prelude.{count_by, drop, filter, if◌then◌else◌}
 use Rattle.signalling_types.specs.Message.{Message, flow_of, is_management}
 use Rattle.signalling_types.specs.declared.point.Flow.{Flow}
-use Rattle.settings_rows.specs.Configuration.{Configuration, LinkEntry}
+use Rattle.settings_rows.specs.Configuration.{Configuration, LinkEntry, DestinationEntry}
 use Rattle.settings.specs.Well.{IsWell, IsDestination}
-use Rattle.settings_rows.specs.Configuration.{DestinationEntry}
-use Rattle.std.proofs.Common.{get_or}
 use Rattle.settings.specs.Facing.{IsFacing}
 use Rattle.mtp3_codec.specs.Management.{read_management}
-use Rattle.changeover.specs.Completion.{users_of}
+use Rattle.changeover.specs.Changeover.{users_of}
 use Rattle.exchange_rules.specs.Queues.{queue_at}
 use Rattle.exchange_rules.specs.State.{late_any}
 use Rattle.pair_moves.specs.Sayings.{Saying, UserMessage, is_user_message, is_same_flow}

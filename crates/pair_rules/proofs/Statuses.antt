@@ -12,10 +12,10 @@ use Rattle.link.specs.declared.action.Action.TheVariants as act
 use Rattle.link.specs.declared.action.LinkTimer.{LinkTimer}
 use Rattle.link.specs.declared.action.LinkTimer.TheVariants as its
 use Rattle.routes.specs.declared.route.RouteStatus.TheVariants.{Allowed}
-use Rattle.routes.specs.Statuses.{status_of, leads_by}
+use Rattle.routes.specs.Routes.{status_of, leads_by}
 use Rattle.timers.specs.declared.name.TimerName.{TimerName}
 use Rattle.timers.specs.declared.name.TimerName.TheVariants as name
-use Rattle.exchange_rules.specs.Ticking.{run_due, run_next, run_timer, run_times, tick, with_timers}
+use Rattle.exchange_rules.specs.Exchange.{run_due, run_next, run_timer, run_times, tick, with_timers}
 use Rattle.exchange_rules.specs.Timing.{timed_busy, timed_busy_ended}
 use Rattle.pair_rules.proofs.Alone.{only_routes}
 use Rattle.pair_rules.proofs.World.{World}

@@ -2,7 +2,7 @@
 use Rattle.pair_rules.proofs.Basics.{◌≡◌, ◌≢◌, ◌<◌, ◌≤◌, ℕ, Bool, true, false, List, [], ◌∷◌, ◌++◌, length, Option, Some, None, refl, ap, sym, subst, ◌∙◌, nat_eq, nat_lt, arith, if◌then◌else◌, drop, option_to_list, slice_get, slice_set, take, ⊎_elim, cases_eq, cases_lt, nat_tests, get_or_past}
 use Rattle.pair_rules.proofs.Definitions.{Message, dpc_of, network_indicator, SIF_OCTETS, Outcome, Configuration, FrameValue, EmptyFrame, MessageFrame, StatusFrame, spelled, read_frame, Link, down_link, Label, Node, Happening, FrameCame, Submitted, WholeQueues, whole, whither_goes, apply, handle_event, outcome_of, frame_to_take, new_message, after_take, frame_from, frame_taken, may_send, message_first, status_first, done-waits, comes-here, PairState, Streams, change_statuses, deliver_frame, in_flight, may_follow, take_frame, brought_in, brought_by, brought_to, users_of, accept_text}
 use Rattle.std.specs.Prelude.{map}
-use Rattle.mtp3_codec.specs.Label.{label_at}
+use Rattle.mtp3_codec.specs.Headings.{label_at}
 use Rattle.mtp3_codec.specs.declared.discrimination.Discrimination.TheVariants as whither
 use Rattle.exchange_rules.proofs.Settling.{take-waits}
 use Rattle.pair_rules.specs.Pairs as pairs

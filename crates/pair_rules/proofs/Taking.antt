@@ -12,7 +12,7 @@ use Rattle.pair_rules.proofs.Lines.{queue-here, queue-other}
 use Rattle.pair_rules.proofs.Relinked.{relinked-passes}
 use Rattle.pair_rules.proofs.Silences.{IsNext, by-up, is-next, message-is-next, next-sends, next-serves, owed-out, status-out}
 use Rattle.signalling_types.specs.declared.cause.Cause.TheVariants as causes
-use Rattle.mtp3_codec.specs.Discrimination.{discrimination}
+use Rattle.mtp3_codec.specs.Headings.{discrimination}
 use Rattle.mtp3_codec.specs.declared.discrimination.Discrimination.TheVariants as whither
 use Rattle.exchange_rules.specs.Timing.{timed_sending}
 use Rattle.link.proofs.Sound.{sound-sent_one}

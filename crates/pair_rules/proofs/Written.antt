@@ -3,15 +3,12 @@ use Rattle.pair_rules.proofs.Basics.{suc, ◌≡◌, ◌≤◌, ◌&&◌, ◌+�
 use Rattle.pair_rules.proofs.Definitions.{SIF_OCTETS, Cause, TitleEntry, Label}
 use Rattle.std.specs.Prelude.{nat_le, unwrap_or}
 use Rattle.signalling_types.specs.declared.cause.Cause.TheVariants as causes
-use Rattle.mtp3_codec.specs.Label.{label_at, label_octets}
-use Rattle.sccp_codec.specs.Addresses.{address_octets}
-use Rattle.sccp_codec.specs.Messages.{PartsValue, UnitdataValue, UdtValue, UdtsValue, kind_of, parts_of, pointed, second_of, spelled}
-use Rattle.sccp_codec.specs.Reading.{read_unitdata}
+use Rattle.mtp3_codec.specs.Headings.{label_at, label_octets}
+use Rattle.sccp_codec.specs.Messages.{address_octets, PartsValue, UnitdataValue, UdtValue, UdtsValue, kind_of, parts_of, pointed, second_of, spelled, read_unitdata}
 use Rattle.sccp_codec.specs.declared.address.Routing.{Routing}
 use Rattle.sccp_codec.specs.declared.address.Routing.TheVariants.{Title, Ssn}
 use Rattle.sccp_codec.specs.declared.fault.SccpFault.{SccpFault}
 use Rattle.sccp_relay.specs.Relay as relays
-use Rattle.sccp_relay.specs.Return as returns
 
 pub record Fits (sif : List ℕ) : Type 0 where
   pub long : 4 ≤ length sif
@@ -86,21 +83,21 @@ module _ (own : relays.OwnValue) (label : Label) (sif : List ℕ) where
   back-fits true point u e = absurd cc
   back-fits false point u e = written-fits point own.point label u sif e
 
-  returned_row-fits : (row : Result TitleEntry Cause) (number : ℕ) (parts : PartsValue) → returns.return_by_row own label number parts row ≡ Some sif → Fits sif
-  returned_row-fits (Ok row) number parts e = back-fits (nat_eq row.point own.point) row.point (UdtsValue number (returns.led_back row parts)) e
+  returned_row-fits : (row : Result TitleEntry Cause) (number : ℕ) (parts : PartsValue) → relays.return_by_row own label number parts row ≡ Some sif → Fits sif
+  returned_row-fits (Ok row) number parts e = back-fits (nat_eq row.point own.point) row.point (UdtsValue number (relays.led_back row parts)) e
   returned_row-fits (Err cause) number parts e = absurd cc
 
-  returned_by-fits : (routing : Routing) (rows : List TitleEntry) (number : ℕ) (parts : PartsValue) → returns.return_by routing own rows label number parts ≡ Some sif → Fits sif
+  returned_by-fits : (routing : Routing) (rows : List TitleEntry) (number : ℕ) (parts : PartsValue) → relays.return_by routing own rows label number parts ≡ Some sif → Fits sif
   returned_by-fits Ssn rows number parts e =
-      back-fits (nat_eq (unwrap_or parts.calling.point label.opc) own.point) (unwrap_or parts.calling.point label.opc) (UdtsValue number (returns.sent_back parts)) e
+      back-fits (nat_eq (unwrap_or parts.calling.point label.opc) own.point) (unwrap_or parts.calling.point label.opc) (UdtsValue number (relays.sent_back parts)) e
   returned_by-fits Title rows number parts e = returned_row-fits (relays.row_of rows parts.calling) number parts e
 
   asked-fits : (b : Bool) (rows : List TitleEntry) (number : ℕ) (parts : PartsValue)
-      → (if b then returns.return_by parts.calling.routing own rows label number parts else None) ≡ Some sif → Fits sif
+      → (if b then relays.return_by parts.calling.routing own rows label number parts else None) ≡ Some sif → Fits sif
   asked-fits true rows number parts e = returned_by-fits parts.calling.routing rows number parts e
   asked-fits false rows number parts e = absurd cc
 
-  returned_read-fits : (rows : List TitleEntry) (number : Option ℕ) (r : Result UnitdataValue SccpFault) → returns.return_read own rows label number r ≡ Some sif → Fits sif
+  returned_read-fits : (rows : List TitleEntry) (number : Option ℕ) (r : Result UnitdataValue SccpFault) → relays.return_read own rows label number r ≡ Some sif → Fits sif
   returned_read-fits rows (Some number) (Ok (UdtValue class_octet parts)) e = asked-fits (nat_eq (class_octet / 16) 8) rows number parts e
   returned_read-fits rows (Some number) (Ok (UdtsValue cause parts)) e = absurd cc
   returned_read-fits rows (Some number) (Err fault) e = absurd cc
@@ -110,6 +107,6 @@ pub onward-fits : (own : relays.OwnValue) (rows : List TitleEntry) (text sif : L
 unfolding relays.relay
 onward-fits own rows text sif e = read-fits own (label_at text) sif rows (read_unitdata (drop 4 text)) e
 
-pub returned-fits : (own : relays.OwnValue) (rows : List TitleEntry) (text : List ℕ) (cause : Cause) (sif : List ℕ) → returns.returned own rows text cause ≡ Some sif → Fits sif
-unfolding returns.returned
-returned-fits own rows text cause sif e = returned_read-fits own (label_at text) sif rows (returns.return_cause cause) (read_unitdata (drop 4 text)) e
+pub returned-fits : (own : relays.OwnValue) (rows : List TitleEntry) (text : List ℕ) (cause : Cause) (sif : List ℕ) → relays.returned own rows text cause ≡ Some sif → Fits sif
+unfolding relays.returned
+returned-fits own rows text cause sif e = returned_read-fits own (label_at text) sif rows (relays.return_cause cause) (read_unitdata (drop 4 text)) e

@@ -1,17 +1,14 @@
 -- What a delivery comes to tells what it brought, and what the end accepted of that.
-use Rattle.std.specs.Prelude.{◌≡◌, ◌≢◌, ◌⊎◌, ℕ, Bool, true, false, List, [], ◌∷◌, drop, length, if◌then◌else◌}
-use Rattle.std.specs.Prelude.{nat_eq, Option, Some, None}
+use Rattle.std.specs.Prelude.{◌≡◌, ◌≢◌, ◌⊎◌, ℕ, Bool, true, false, List, [], ◌∷◌, drop, length, if◌then◌else◌, nat_eq, Option, Some, None}
 use Rattle.signalling_types.specs.Message.{Message, service_indicator}
 use Rattle.signalling_types.specs.declared.cause.Cause.{Cause}
 use Rattle.signalling_types.specs.declared.cause.Cause.TheVariants.{NoUserPart}
 use Rattle.signalling_types.specs.declared.outcome.Outcome.{Outcome}
 use Rattle.signalling_types.specs.declared.outcome.Outcome.TheVariants.{Queued, Held, Local, Handled, Ignored, Refused}
 use Rattle.settings_rows.specs.Configuration.{Configuration, TitleEntry}
-use Rattle.sccp_relay.specs.Relay.{RelayedValue, relay}
+use Rattle.sccp_relay.specs.Relay.{RelayedValue, relay, returned}
 use Rattle.sccp_relay.specs.Relay as relays
-use Rattle.sccp_relay.specs.Return.{returned}
-use Rattle.exchange_rules.specs.Local.{is_user, sccp}
-use Rattle.exchange_rules.specs.Relaying.{in_place_of, own_of}
+use Rattle.exchange_rules.specs.Messages.{is_user, sccp, in_place_of, own_of}
 use Rattle.pair_rules.specs.Pairs.{PairState, Doing, Delivers, DeliversStatus, did}
 use Rattle.pair_rules.specs.Promises.{Always, BothWays}
 

@@ -1,25 +1,20 @@
 -- Four laws of two exchanges, link by link, from which "Exactly once" comes. Each is said of one direction: of what the
 -- near end has for the far end.
-use Rattle.std.specs.Prelude.{◌≡◌, ◌≢◌, ◌≤◌, ◌<◌, ◌-◌, ◌^◌, ◌⊎◌, ◌||◌, ◌&&◌, ℕ, Bool, true, false, not, List, [], ◌++◌}
-use Rattle.std.specs.Prelude.{drop}
-use Rattle.std.specs.Prelude.{take, Contains, filter_map, length, slice_get, Option, Some, None, Result, Ok, Err}
-use Rattle.std.specs.Prelude.{if◌then◌else◌}
+use Rattle.std.specs.Prelude.{◌≡◌, ◌≢◌, ◌≤◌, ◌<◌, ◌-◌, ◌^◌, ◌⊎◌, ◌||◌, ◌&&◌, ℕ, Bool, true, false, not, List, [], ◌++◌, drop, take, Contains, filter_map, length, slice_get, Option, Some, None, Result, Ok, Err, if◌then◌else◌}
 use Rattle.std.specs.Option.{option_map}
 use Rattle.signalling_types.specs.Message.{Message, is_management, opc_of}
 use Rattle.settings_rows.specs.Configuration.{Configuration}
-use Rattle.m2pa_codec.specs.Reading.{read_frame}
+use Rattle.m2pa_codec.specs.Frames.{read_frame}
 use Rattle.mtp3_codec.specs.Management.{read_management}
 use Rattle.mtp3_codec.specs.declared.fault.MgmtFault.{MgmtFault}
 use Rattle.mtp3_codec.specs.declared.management.Management.{Management}
-use Rattle.mtp3_codec.specs.declared.management.Management.TheVariants.{ExtendedChangeoverOrder}
-use Rattle.mtp3_codec.specs.declared.management.Management.TheVariants.{ExtendedChangeoverAcknowledgement}
+use Rattle.mtp3_codec.specs.declared.management.Management.TheVariants.{ExtendedChangeoverOrder, ExtendedChangeoverAcknowledgement}
 use Rattle.link.specs.Queue.{first_queue, named_count, last_accepted}
-use Rattle.changeover.specs.Completion.{accepted_count, behind}
+use Rattle.changeover.specs.Changeover.{accepted_count, behind}
 use Rattle.exchange_rules.specs.declared.wants.Wants.TheVariants.{Open}
-use Rattle.exchange_rules.specs.Links.{down, in_service}
-use Rattle.exchange_rules.specs.Failing.{changeover_of, changeover_order}
-use Rattle.exchange_rules.specs.ChangingOver.{changeover_acknowledgement}
-use Rattle.exchange_rules.specs.Local.{link_with_code}
+use Rattle.exchange_rules.specs.State.{down, in_service}
+use Rattle.exchange_rules.specs.ChangingOver.{changeover_of, changeover_order, changeover_acknowledgement}
+use Rattle.exchange_rules.specs.Messages.{link_with_code}
 use Rattle.exchange_rules.specs.Exchange.{wants_of}
 use Rattle.exchange_rules.specs.Laws.{carried_message}
 use Rattle.exchange_rules.specs.Receiving.{new_message}

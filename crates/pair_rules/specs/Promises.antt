@@ -1,13 +1,12 @@
 -- What two exchanges promise each other: each message once, each flow in order.
-use Rattle.std.specs.Prelude.{◌≡◌, ◌&&◌, ◌+◌, ℕ, Bool, false, not, nat_eq, List, ◌++◌, count_by, drop, filter, length}
-use Rattle.std.specs.Prelude.{unwrap_or}
+use Rattle.std.specs.Prelude.{◌≡◌, ◌&&◌, ◌+◌, ℕ, Bool, false, not, nat_eq, List, ◌++◌, count_by, drop, filter, length, unwrap_or}
 use Rattle.signalling_types.specs.Message.{Message, flow_of, is_management}
 use Rattle.signalling_types.specs.declared.point.Flow.{Flow}
 use Rattle.settings_rows.specs.Configuration.{Configuration}
 use Rattle.settings.specs.Well.{IsWell}
 use Rattle.settings.specs.Facing.{IsFacing}
 use Rattle.link.specs.Queue.{Queue, named_count, last_accepted}
-use Rattle.changeover.specs.Completion.{users_of}
+use Rattle.changeover.specs.Changeover.{users_of}
 use Rattle.exchange_rules.specs.Queues.{queue_at}
 use Rattle.exchange_rules.specs.State.{lost_any, late_any}
 use Rattle.pair_moves.specs.Order.{join_to}

@@ -3,10 +3,9 @@ use Rattle.std.specs.Prelude.{◌≡◌, ◌<◌, ◌^◌, ℕ, length, Some}
 use Rattle.settings_rows.specs.Configuration.{Configuration}
 use Rattle.settings.specs.Well.{IsWell}
 use Rattle.settings.specs.Sharing.{SharesSet}
-use Rattle.exchange_rules.specs.Points.{entry_of, set_of}
-use Rattle.exchange_rules.specs.Failing.{changeover_order}
-use Rattle.exchange_rules.specs.ChangingOver.{changeover_acknowledgement}
-use Rattle.exchange_rules.specs.Local.{link_with_code}
+use Rattle.exchange_rules.specs.Routing.{entry_of, set_of}
+use Rattle.exchange_rules.specs.ChangingOver.{changeover_order, changeover_acknowledgement}
+use Rattle.exchange_rules.specs.Messages.{link_with_code}
 use Rattle.pair_rules.specs.Laws.{about, word_of}
 
 -- two checked settings that share a set

@@ -8,30 +8,25 @@ use Rattle.signalling_types.specs.declared.notice.FrameFault.{FrameFault}
 use Rattle.signalling_types.specs.declared.outcome.Outcome.{Outcome}
 use Rattle.signalling_types.specs.declared.outcome.Outcome.TheVariants.{Queued, Held, Local, Handled, Ignored, Refused}
 use Rattle.settings_rows.specs.Configuration.{Configuration, TitleEntry}
-use Rattle.m2pa_codec.specs.Frames.{FrameValue, EmptyFrame, MessageFrame, StatusFrame}
-use Rattle.m2pa_codec.specs.Reading.{read_frame}
+use Rattle.m2pa_codec.specs.Frames.{FrameValue, EmptyFrame, MessageFrame, StatusFrame, read_frame}
 use Rattle.mtp3_codec.specs.declared.label.Label.{Label}
 use Rattle.mtp3_codec.specs.declared.discrimination.Discrimination.{Discrimination}
 use Rattle.mtp3_codec.specs.declared.discrimination.Discrimination.TheVariants as whither
-use Rattle.sccp_relay.specs.Relay.{RelayedValue, relay}
+use Rattle.sccp_relay.specs.Relay.{RelayedValue, relay, returned}
 use Rattle.sccp_relay.specs.Relay as relays
-use Rattle.sccp_relay.specs.Return.{returned}
-use Rattle.changeover.specs.Completion.{users_of}
-use Rattle.exchange_rules.specs.Arrival.{transfer}
+use Rattle.changeover.specs.Changeover.{users_of}
+use Rattle.exchange_rules.specs.Messages.{transfer, whither_goes, in_place_of, own_of}
 use Rattle.exchange_rules.specs.Conserving.{brought_by, brought_in, brought_to, relayed_in, returned_in, taken_in, unitdata_in}
 use Rattle.exchange_rules.specs.Exchange.{after, outcome_of}
-use Rattle.exchange_rules.specs.Happening.{FrameCame, Happening, Submitted}
+use Rattle.exchange_rules.specs.State.{FrameCame, Happening, Submitted, Node}
 use Rattle.exchange_rules.specs.Lasting.{HasAllPlaces}
 use Rattle.exchange_rules.specs.Laws.{accept_text}
-use Rattle.exchange_rules.specs.Messages.{whither_goes}
 use Rattle.exchange_rules.specs.Queues.{WholeQueues, whole}
 use Rattle.exchange_rules.specs.Receiving.{new_message}
-use Rattle.exchange_rules.specs.Relaying.{in_place_of, own_of}
-use Rattle.exchange_rules.specs.Sound.{Abstract, IsSound}
-use Rattle.exchange_rules.specs.State.{Node}
+use Rattle.exchange_rules.specs.First.{Abstract, IsSound}
 use Rattle.exchange_rules.proofs.Fitting.{Fits}
 use Rattle.exchange.specs.KeptQueues.{kept}
-use Rattle.exchange.specs.Stands.{Kept, StandsFor, kept_of}
+use Rattle.exchange.specs.Calls.{Kept, StandsFor, kept_of}
 use Rattle.exchange.proofs.Standing.{stands-after, stands-outcome}
 use Rattle.exchange.proofs.Waiting.{stands-behind}
 use Rattle.pair_moves.specs.Laws.{sum_to}

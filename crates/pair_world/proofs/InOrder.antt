@@ -1,19 +1,18 @@
 -- Rows that are put in by their order, and a frame without a user message.
-use Rattle.std.proofs.Common.{◌≡◌, ◌+◌, ℕ, zero, suc, Bool, true, false, List, [], ◌∷◌, ◌++◌, Some, nat_eq, take, refl, ap, sym, ◌∙◌, append-nil, subst}
+use Rattle.std.proofs.Common.{◌≡◌, ◌+◌, ℕ, zero, suc, Bool, true, false, List, [], ◌∷◌, ◌++◌, Some, nat_eq, take, refl, ap, sym, ◌∙◌, append-nil, subst, arith}
 use Rattle.std.specs.Prelude.{filter, if◌then◌else◌, slice_get}
 use Rattle.std.specs.Ordering.{is_gt, is_lt}
 use Rattle.std.specs.List.{AllByRecursion}
 use Rattle.std.specs.declared.cmp.Ordering.{Ordering}
 use Rattle.std.specs.declared.cmp.Ordering.TheVariants.{Less}
-use Rattle.std.proofs.Common.{arith}
 use Rattle.signalling_types.specs.Message.{Message}
 use Rattle.settings_rows.specs.Configuration.{TitleEntry}
-use Rattle.m2pa_codec.specs.Reading.{read_frame}
+use Rattle.m2pa_codec.specs.Frames.{read_frame}
 use Rattle.sccp_relay.specs.Rows.{IsOrdered, is_before, is_behind, place_order, row_place, with_row}
 use Rattle.exchange_rules.specs.Exchange.{after, outcome_of}
-use Rattle.exchange_rules.specs.Happening.{FrameCame}
+use Rattle.exchange_rules.specs.State.{FrameCame}
 use Rattle.exchange.specs.KeptQueues.{kept}
-use Rattle.exchange.specs.Stands.{Kept}
+use Rattle.exchange.specs.Calls.{Kept}
 use Rattle.pair_world.specs.Bringing.{kept_in_all, number_in}
 use Rattle.pair_world.specs.KeptEnds.{accepted_number, newly_accepted, user_message_in}
 

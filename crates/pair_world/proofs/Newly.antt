@@ -4,24 +4,23 @@ use Rattle.std.specs.Prelude.{if◌then◌else◌, not, option_to_list}
 use Rattle.std.proofs.lemmas.Bool.Decides.{nat_tests}
 use Rattle.signalling_types.specs.Message.{Message}
 use Rattle.signalling_types.specs.Numbers.{previous_number}
-use Rattle.m2pa_codec.specs.Reading.{read_frame}
+use Rattle.m2pa_codec.specs.Frames.{read_frame}
 use Rattle.exchange.specs.declared.view.LinkView.{LinkView}
-use Rattle.exchange_rules.specs.Happening.{Happening, FrameCame, Happens}
-use Rattle.exchange_rules.specs.Links.{is_link, down}
+use Rattle.exchange_rules.specs.State.{Happening, FrameCame, Happens, is_link, down}
 use Rattle.exchange_rules.specs.Queues.{whole}
 use Rattle.exchange_rules.specs.Exchange.{after}
 use Rattle.exchange_rules.specs.Lasting.{HasAllPlaces}
 use Rattle.exchange_rules.specs.Receiving.{new_of, new_message, received}
-use Rattle.exchange_rules.specs.Sound.{Abstract, IsSound}
+use Rattle.exchange_rules.specs.First.{Abstract, IsSound}
 use Rattle.exchange_rules.proofs.LastingPlaces.{places-stay}
 use Rattle.exchange_rules.proofs.Received.{received-counted}
 use Rattle.exchange_rules.proofs.CarriedMessages.{new-carried}
 use Rattle.exchange.specs.KeptQueues.{kept}
-use Rattle.exchange.specs.Stands.{StandsFor, kept_of}
+use Rattle.exchange.specs.Calls.{StandsFor, kept_of}
 use Rattle.exchange.specs.Views.{link_shown}
 use Rattle.exchange.proofs.Standing.{stands-after}
 use Rattle.exchange.proofs.Showing.{stands-link}
-use Rattle.changeover.specs.Completion.{users_of}
+use Rattle.changeover.specs.Changeover.{users_of}
 use Rattle.pair_world.specs.KeptEnds.{accepted_number, number_shown, new_if_other, newly_received, user_message_in}
 
 -- what is kept of a state stands for it

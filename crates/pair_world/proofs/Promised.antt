@@ -2,8 +2,8 @@
 use Rattle.std.proofs.Common.{◌≡◌, List, refl, ap, sym, subst, ◌∙◌}
 use Rattle.std.specs.Prelude.{All}
 use Rattle.signalling_types.specs.Message.{Message}
-use Rattle.exchange_rules.specs.Sound.{IsSound}
-use Rattle.exchange.specs.Stands as exchanges
+use Rattle.exchange_rules.specs.First.{IsSound}
+use Rattle.exchange.specs.Calls as exchanges
 use Rattle.pair_rules.specs.Pairs.{PairState}
 use Rattle.pair_rules.specs.Promises.{Always, BothWays, EachOnce, InOrder, IsPunctual, LostNothing}
 use Rattle.pair_rules.specs.Laws.{WhileNothingIsLost}

@@ -10,15 +10,13 @@ use Rattle.signalling_types.specs.declared.outcome.Outcome.TheVariants.{Handled,
 use Rattle.m2pa_codec.specs.Frames.{FrameValue, EmptyFrame, MessageFrame, StatusFrame, spelled}
 use Rattle.exchange_rules.specs.declared.wants.Wants.{Wants}
 use Rattle.exchange_rules.specs.declared.wants.Wants.TheVariants as wants
-use Rattle.exchange_rules.specs.Links.{is_link}
-use Rattle.exchange_rules.specs.State.{Node}
+use Rattle.exchange_rules.specs.State.{is_link, Node, Happening, CameUp, WentDown, FrameCame, Ticked, Submitted, Activated, Deactivated, TitleAdded, TitleRemoved}
 use Rattle.exchange_rules.specs.Queues.{WholeQueues, whole}
-use Rattle.exchange_rules.specs.Happening.{Happening, CameUp, WentDown, FrameCame, Ticked, Submitted, Activated, Deactivated, TitleAdded, TitleRemoved}
 use Rattle.exchange_rules.specs.Sending.{Outgoing, SendsStatus, SendsMessage, Acknowledges, SendsNothing, frame_from, after_sending, goes_out}
 use Rattle.exchange_rules.specs.Exchange.{frame_to_take, taken, wants_of}
 use Rattle.exchange_rules.specs.Receiving.{new_message}
-use Rattle.exchange_rules.specs.Sound.{Abstract, IsSound}
-use Rattle.exchange.specs.Stands.{StandsFor, kept_of}
+use Rattle.exchange_rules.specs.First.{Abstract, IsSound}
+use Rattle.exchange.specs.Calls.{StandsFor, kept_of}
 use Rattle.exchange.specs.Views.{may_restart_at}
 use Rattle.exchange.proofs.Standing.{stands-after, stands-outcome, stands-frame, stands-taken}
 use Rattle.pair_rules.specs.Pairs.{PairState, Streams, Turn, Doing, Submits, Takes, Delivers, DeliversStatus, LosesStatus, DoublesStatus, Loses, Ticks, Activates, Deactivates, AddsTitle, RemovesTitle, OpensFirst, OpensSecond, change_statuses, deliver_frame, did, emptied, happens, in_flight, launched, submit, may_follow, may_open_at, opens_first, opens_second, take_frame, with_status_twice, without_data, without_status}

@@ -1,9 +1,8 @@
 -- A pair that stood for two abstract exchanges stands for those after each step.
 use Rattle.std.proofs.Common.{◌≡◌, refl, ap, sym, subst}
 use Rattle.settings_rows.specs.Configuration.{Configuration}
-use Rattle.exchange_rules.specs.First.{first_state}
-use Rattle.exchange_rules.specs.Sound.{IsSound}
-use Rattle.exchange.specs.Stands.{kept_of}
+use Rattle.exchange_rules.specs.First.{first_state, IsSound}
+use Rattle.exchange.specs.Calls.{kept_of}
 use Rattle.exchange.proofs.Standing.{stands-first}
 use Rattle.settings.specs.Well.{IsWell}
 use Rattle.pair_rules.specs.Pairs.{PairState, Step, AtNear, AtFar, first_pair, turn, turned}

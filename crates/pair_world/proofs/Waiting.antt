@@ -3,14 +3,14 @@ use Rattle.std.proofs.Common.{◌≡◌, ◌+◌, ◌<◌, ℕ, zero, suc, Bool,
 use Rattle.std.specs.Prelude.{count_by, if◌then◌else◌}
 use Rattle.std.proofs.lemmas.Bool.Decides.{nat_tests}
 use Rattle.signalling_types.specs.Message.{Message}
-use Rattle.changeover.specs.Completion.{users_of}
+use Rattle.changeover.specs.Changeover.{users_of}
 use Rattle.link.specs.Queue.{last_accepted}
-use Rattle.exchange_rules.specs.Links.{is_link}
+use Rattle.exchange_rules.specs.State.{is_link}
 use Rattle.exchange_rules.specs.Queues.{whole}
 use Rattle.exchange.specs.Counting.{kept_behind_number}
 use Rattle.exchange.specs.KeptQueues.{kept, counts_at, link_lane}
-use Rattle.exchange.specs.Stands.{Kept}
-use Rattle.exchange.specs.Stands as exchanges
+use Rattle.exchange.specs.Calls.{Kept}
+use Rattle.exchange.specs.Calls as exchanges
 use Rattle.exchange.specs.Views.{link_shown}
 use Rattle.exchange.proofs.Showing.{stands-link}
 use Rattle.exchange.proofs.Waiting.{stands-behind}

@@ -1,7 +1,6 @@
 -- What an event brings into a queue or Held, as the code tells it: by what became of it, by the translation rows, and
 -- where that doesn't say it, by how many user messages stand before and after.
-use Rattle.std.specs.Prelude.{ℕ, ◌+◌, Bool, true, not, nat_eq, count_by, length, List, [], ◌∷◌}
-use Rattle.std.specs.Prelude.{Option, Some, None, Result, Ok, Err, if◌then◌else◌}
+use Rattle.std.specs.Prelude.{ℕ, ◌+◌, Bool, true, not, nat_eq, count_by, length, List, [], ◌∷◌, Option, Some, None, Result, Ok, Err, if◌then◌else◌}
 use Rattle.signalling_types.specs.Message.{Message, service_indicator}
 use Rattle.signalling_types.specs.declared.cause.Cause.{Cause}
 use Rattle.signalling_types.specs.declared.notice.FrameFault.{FrameFault}
@@ -11,16 +10,13 @@ use Rattle.settings_rows.specs.Configuration.{Configuration, TitleEntry}
 use Rattle.m2pa_codec.specs.Frames.{FrameValue, EmptyFrame, MessageFrame, StatusFrame}
 use Rattle.mtp3_codec.specs.declared.discrimination.Discrimination.{Discrimination}
 use Rattle.mtp3_codec.specs.declared.discrimination.Discrimination.TheVariants as whither
-use Rattle.sccp_relay.specs.Relay.{RelayedValue, relay}
+use Rattle.sccp_relay.specs.Relay.{RelayedValue, relay, returned}
 use Rattle.sccp_relay.specs.Relay as relays
-use Rattle.sccp_relay.specs.Return.{returned}
-use Rattle.exchange_rules.specs.Local.{sccp}
-use Rattle.exchange_rules.specs.Messages.{whither_goes}
-use Rattle.exchange_rules.specs.Relaying.{in_place_of, own_of}
+use Rattle.exchange_rules.specs.Messages.{sccp, whither_goes, in_place_of, own_of}
 use Rattle.cell_pool.specs.Lanes.{is_user_picked}
 use Rattle.exchange.specs.Counting.{kept_behind_number}
 use Rattle.exchange.specs.KeptQueues.{kept, counts_at, link_lane}
-use Rattle.exchange.specs.Stands.{Kept}
+use Rattle.exchange.specs.Calls.{Kept}
 use Rattle.pair_moves.specs.Laws.{sum_to}
 
 abbrev pub is_sccp : Message → Bool

@@ -1,26 +1,22 @@
 -- One end of a pair as the code keeps it, and what becomes of it: the rules of an end of two abstract exchanges, on
 -- what is kept.
-use Rattle.std.specs.Prelude.{ℕ, Bool, true, false, nat_eq, List, [], ◌∷◌, ◌++◌, slice_get, slice_set, drop, take}
-use Rattle.std.specs.Prelude.{Option, Some, None}
-use Rattle.std.specs.Prelude.{option_to_list, slice_index_or, if◌then◌else◌}
+use Rattle.std.specs.Prelude.{ℕ, Bool, true, false, nat_eq, List, [], ◌∷◌, ◌++◌, slice_get, slice_set, drop, take, Option, Some, None, option_to_list, slice_index_or, if◌then◌else◌}
 use Rattle.std.specs.Option.{option_map}
 use Rattle.signalling_types.specs.Message.{Message}
 use Rattle.signalling_types.specs.declared.outcome.Outcome.{Outcome}
 use Rattle.signalling_types.specs.declared.outcome.Outcome.TheVariants.{Handled, Ignored}
-use Rattle.changeover.specs.Completion.{users_of}
-use Rattle.m2pa_codec.specs.Frames.{link_status, spelled}
-use Rattle.m2pa_codec.specs.Reading.{read_frame}
-use Rattle.exchange_rules.specs.Happening.{Happening, CameUp, FrameCame, Submitted}
+use Rattle.changeover.specs.Changeover.{users_of}
+use Rattle.m2pa_codec.specs.Frames.{link_status, spelled, read_frame}
+use Rattle.exchange_rules.specs.State.{Happening, CameUp, FrameCame, Submitted}
 use Rattle.exchange_rules.specs.declared.wants.Wants.{Wants}
 use Rattle.exchange_rules.specs.declared.wants.Wants.TheVariants.{Open}
 use Rattle.exchange_rules.specs.Exchange.{outcome_of, after, frame_to_take, wants_of}
 use Rattle.exchange_rules.specs.Laws.{carried_message}
 use Rattle.exchange.specs.declared.view.LinkView.{LinkView}
 use Rattle.exchange.specs.KeptQueues.{kept}
-use Rattle.exchange.specs.Stands.{Kept, kept_of}
+use Rattle.exchange.specs.Calls.{Kept, kept_of}
 use Rattle.exchange.specs.Views.{link_view}
-use Rattle.pair_rules.specs.Pairs.{End, Streams, emptied, in_flight}
-use Rattle.pair_rules.specs.Pairs.{with_status_twice, without_data, without_status}
+use Rattle.pair_rules.specs.Pairs.{End, Streams, emptied, in_flight, with_status_twice, without_data, without_status}
 use Rattle.pair_world.specs.Bringing.{kept_in, kept_in_all, number_in}
 
 -- an end: what is kept of its exchange, what is in flight to it, on which links it may follow the other, and what it

@@ -4,17 +4,12 @@ use Rattle.signalling_types.specs.declared.outcome.Outcome.{Outcome}
 use Rattle.signalling_types.specs.declared.outcome.Outcome.TheVariants.{Handled, Ignored}
 use Rattle.exchange_rules.specs.declared.wants.Wants.{Wants}
 use Rattle.exchange_rules.specs.declared.wants.Wants.TheVariants.{Open}
-use Rattle.exchange_rules.specs.Happening.{WentDown, Ticked, Activated, Deactivated, TitleAdded, TitleRemoved}
+use Rattle.exchange_rules.specs.State.{WentDown, Ticked, Activated, Deactivated, TitleAdded, TitleRemoved}
 use Rattle.exchange_rules.specs.Exchange.{taken, wants_of}
 use Rattle.exchange.specs.KeptQueues.{kept}
 use Rattle.exchange.specs.Views.{may_restart_at}
-use Rattle.pair_rules.specs.Pairs.{PairState, Streams, Doing, Submits, Takes, Delivers, DeliversStatus, LosesStatus}
-use Rattle.pair_rules.specs.Pairs.{DoublesStatus, Loses, Ticks, Activates, Deactivates, AddsTitle, RemovesTitle}
-use Rattle.pair_rules.specs.Pairs.{OpensFirst, OpensSecond, Step, AtNear, AtFar, Turn}
-use Rattle.pair_world.specs.KeptEnds.{KeptEnd, EndTurn, kept_end_of, end_happens, end_submits, end_delivers}
-use Rattle.pair_world.specs.KeptEnds.{end_delivers_status, end_loses_status, end_doubles_status}
-use Rattle.pair_world.specs.KeptEnds.{end_opens_first, end_may_follow, end_opens_second}
-use Rattle.pair_world.specs.KeptEnds.{text_to_take, behind_its, take_outcome}
+use Rattle.pair_rules.specs.Pairs.{PairState, Streams, Doing, Submits, Takes, Delivers, DeliversStatus, LosesStatus, DoublesStatus, Loses, Ticks, Activates, Deactivates, AddsTitle, RemovesTitle, OpensFirst, OpensSecond, Step, AtNear, AtFar, Turn}
+use Rattle.pair_world.specs.KeptEnds.{KeptEnd, EndTurn, kept_end_of, end_happens, end_submits, end_delivers, end_delivers_status, end_loses_status, end_doubles_status, end_opens_first, end_may_follow, end_opens_second, text_to_take, behind_its, take_outcome}
 
 pub record KeptPair : Type 0 where
   pub near : KeptEnd

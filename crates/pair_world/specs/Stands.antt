@@ -1,7 +1,7 @@
 -- When a pair of the code stands for two abstract exchanges with the frames in flight between them.
 use Rattle.std.specs.Prelude.{◌≡◌, List}
 use Rattle.settings_rows.specs.Configuration.{Configuration}
-use Rattle.exchange_rules.specs.Sound.{IsSound}
+use Rattle.exchange_rules.specs.First.{IsSound}
 use Rattle.pair_rules.specs.Pairs.{PairState, Step, after_steps, first_pair}
 use Rattle.pair_rules.specs.Promises.{AreJoined}
 use Rattle.pair_world.specs.KeptPairs.{KeptPair, kept_pair_of}

@@ -4,7 +4,7 @@ use Rattle.signalling_types.specs.Message.{Message}
 use Rattle.cell_pool.specs.Lanes.{is_user_picked}
 use Rattle.exchange.specs.Counting.{kept_behind_number}
 use Rattle.exchange.specs.KeptQueues.{kept, counts_at, link_lane}
-use Rattle.exchange.specs.Stands.{Kept}
+use Rattle.exchange.specs.Calls.{Kept}
 use Rattle.pair_moves.specs.Laws.{sum_to}
 use Rattle.pair_world.specs.KeptEnds.{accepted_number}
 

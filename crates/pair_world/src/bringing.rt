@@ -3,13 +3,11 @@
 ghost use Rattle.std.specs.Prelude.{◌≡◌, ◌≤◌, ◌*◌, ◌^◌, true, Some, length, option_to_list, IfOk};
 ghost use Rattle.pair_moves.specs.Laws.{sum_to};
 ghost use Rattle.mtp3_codec.specs.declared.label.Label.{Label};
-ghost use Rattle.exchange_rules.specs.Messages.{whither_goes};
-ghost use Rattle.exchange_rules.specs.Relaying.{in_place_of, own_of};
+ghost use Rattle.exchange_rules.specs.Messages.{whither_goes, in_place_of, own_of};
 ghost use Rattle.sccp_relay.specs.Relay as rule;
-ghost use Rattle.sccp_relay.specs.Return.{returned};
+ghost use Rattle.sccp_relay.specs.Relay.{returned};
 ghost use Rattle.sccp_relay.specs.Values.{own_value};
-ghost use Rattle.pair_world.specs.Bringing.{is_sccp, kept_behind, kept_standing, kept_standing_if, goes_on};
-ghost use Rattle.pair_world.specs.Bringing.{comes_back, told_in, written_as, udts_as};
+ghost use Rattle.pair_world.specs.Bringing.{is_sccp, kept_behind, kept_standing, kept_standing_if, goes_on, comes_back, told_in, written_as, udts_as};
 
 use exchange::{Exchange, NoMemory, Pick};
 use mtp3_codec::{Discrimination, discriminate};

@@ -1,15 +1,14 @@
 //! What comes to an end of a pair: a message that a user part hands over, and a frame.
 
 ghost use Rattle.std.specs.Prelude.{◌≡◌, ◌≤◌, ◌<◌, ◌∷◌, [], Ok, ◌++◌, length, option_to_list, vec_len, vec_capacity};
-ghost use Rattle.m2pa_codec.specs.Reading.{read_frame};
+ghost use Rattle.m2pa_codec.specs.Frames.{read_frame};
 ghost use Rattle.m2pa_codec.specs.Values.{value_of};
-ghost use Rattle.changeover.specs.Completion.{users_of};
-ghost use Rattle.exchange_rules.specs.Happening.{FrameCame, Submitted};
+ghost use Rattle.changeover.specs.Changeover.{users_of};
+ghost use Rattle.exchange_rules.specs.State.{FrameCame, Submitted};
 ghost use Rattle.exchange_rules.specs.Exchange.{outcome_of, after};
 ghost use Rattle.exchange.specs.KeptQueues.{kept};
 ghost use Rattle.pair_world.specs.Bringing.{kept_in, number_in};
-ghost use Rattle.pair_world.specs.KeptEnds.{accepted_number, newly_accepted, newly_received, new_if_other};
-ghost use Rattle.pair_world.specs.KeptEnds.{user_message_in};
+ghost use Rattle.pair_world.specs.KeptEnds.{accepted_number, newly_accepted, newly_received, new_if_other, user_message_in};
 
 use crate::bringing::{count_standing, is_sccp, told_in};
 use exchange::{Event, Exchange, Frame, FrameText, LONGEST_FRAME, decode};

@@ -2,7 +2,7 @@
 
 ghost use Rattle.std.specs.Prelude.{◌≡◌, ◌↔◌, All, IfOk, IfErr, OnOk, OnErr, count_by};
 ghost use Rattle.settings.specs.Facing.{IsFacing};
-ghost use Rattle.exchange.specs.Stands as exchanges;
+ghost use Rattle.exchange.specs.Calls as exchanges;
 ghost use Rattle.pair_rules.specs.Pairs as pairs;
 ghost use Rattle.pair_rules.specs.Pairs.{PairState, first_pair};
 ghost use Rattle.pair_rules.specs.Accepting.{IsUserMessageTo};

@@ -1,19 +1,13 @@
 //! One end of a pair.
 
-ghost use Rattle.std.specs.Prelude.{◌≡◌, ◌<◌, [], false, ◌&&◌, nat_lt, length};
-ghost use Rattle.std.specs.Prelude.{slice_index_or};
-ghost use Rattle.std.specs.Prelude.{IfOk, OnOk, OnErr};
+ghost use Rattle.std.specs.Prelude.{◌≡◌, ◌<◌, [], false, ◌&&◌, nat_lt, length, slice_index_or, IfOk, OnOk, OnErr};
 ghost use Rattle.exchange_rules.specs.Exchange.{taken, wants_of};
 ghost use Rattle.exchange_rules.specs.First.{first_state};
-ghost use Rattle.exchange.specs.Calls.{happened};
+ghost use Rattle.exchange.specs.Calls.{happened, kept_of};
 ghost use Rattle.exchange.specs.KeptQueues.{kept};
-ghost use Rattle.exchange.specs.Stands.{kept_of};
 ghost use Rattle.exchange.specs.Views.{may_restart_at};
 ghost use Rattle.pair_rules.specs.Pairs.{Streams, first_end};
-ghost use Rattle.pair_world.specs.KeptEnds.{kept_end_of, end_happens, end_submits, end_delivers};
-ghost use Rattle.pair_world.specs.KeptEnds.{end_delivers_status, end_loses_status, end_doubles_status};
-ghost use Rattle.pair_world.specs.KeptEnds.{end_opens_first, end_may_follow, end_opens_second};
-ghost use Rattle.pair_world.specs.KeptEnds.{text_to_take, behind_its, take_outcome};
+ghost use Rattle.pair_world.specs.KeptEnds.{kept_end_of, end_happens, end_submits, end_delivers, end_delivers_status, end_loses_status, end_doubles_status, end_opens_first, end_may_follow, end_opens_second, text_to_take, behind_its, take_outcome};
 ghost use Rattle.pair_world.specs.KeptPairs.{has_link};
 ghost use Rattle.pair_world.specs.Waiting.{kept_waiting};
 

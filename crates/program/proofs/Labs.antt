@@ -5,7 +5,7 @@ use Rattle.std.specs.Global.{Global}
 use Rattle.std.specs.Io.KnownBytes.{IsAtEnd}
 use Rattle.settings_file.specs.Faults.{no_memory}
 use Rattle.settings_rows.specs.Configuration.{Configuration}
-use Rattle.exchange.specs.Stands.{Kept}
+use Rattle.exchange.specs.Calls.{Kept}
 use Rattle.lab.specs.Script.{LeavesAll}
 use Rattle.program.specs.Explaining.{IsLabEndExplained}
 use Rattle.script.specs.Faults.{Counts}

@@ -7,13 +7,11 @@ use Rattle.settings_file.specs.Faults.{fault_line, no_memory}
 use Rattle.settings_file.specs.declared.fault.SettingsFault.{SettingsFault}
 use Rattle.settings.specs.Facing.{IsFacing}
 use Rattle.settings.specs.Naming.{link_names}
-use Rattle.exchange_rules.specs.Sound.{Abstract}
-use Rattle.exchange_rules.specs.First.{first_state}
+use Rattle.exchange_rules.specs.First.{Abstract, first_state}
 use Rattle.exchange_rules.specs.Queues.{whole}
 use Rattle.script.specs.BuiltIn.{built_in_settings}
 use Rattle.settings_file.specs.Sentences.{Explains}
-use Rattle.program.specs.Explaining.{IsTold, IsToldOf, usage_text, unread_sentence, IsWarned, IsEndExplained}
-use Rattle.program.specs.Explaining.{strangers_sentence, IsLabEndExplained}
+use Rattle.program.specs.Explaining.{IsTold, IsToldOf, usage_text, unread_sentence, IsWarned, IsEndExplained, strangers_sentence, IsLabEndExplained}
 use Rattle.script.specs.Faults.{Counts}
 use Rattle.program.specs.Folders.{FileRead, AreSettings, IsFault}
 use Rattle.script.specs.Runs.{Runs}

@@ -2,13 +2,12 @@
 
 ghost use Rattle.std.specs.Prelude.{◌≡◌, ◌⊎◌, IfOk, IfErr};
 ghost use Rattle.settings_rows.specs.Configuration.{Configuration};
-ghost use Rattle.exchange.specs.Stands.{StandsFor};
+ghost use Rattle.exchange.specs.Calls.{StandsFor};
 ghost use Rattle.exchange_rules.specs.First.{first_state};
 ghost use Rattle.script.specs.BuiltIn.{built_in_settings};
 ghost use Rattle.program.specs.Folders.{FileRead};
 ghost use Rattle.settings_file.specs.Faults.{no_memory};
-ghost use Rattle.program.specs.Program.{status_number, status_after, streams, NoText};
-ghost use Rattle.program.specs.Program.{RunsScript, HasNoMemory, RunsNode, RunsFile, ChecksFile, Does};
+ghost use Rattle.program.specs.Program.{status_number, status_after, streams, NoText, RunsScript, HasNoMemory, RunsNode, RunsFile, ChecksFile, Does};
 
 use crate::ending::{end_with, tell_no_memory, tell_usage};
 use crate::explaining::explain_end;

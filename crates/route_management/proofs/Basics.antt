@@ -13,12 +13,11 @@ pub use Rattle.std.specs.Option.{option_map}
 pub use Rattle.std.specs.Prelude.{None, Option, Some, if◌then◌else◌, nat_eq, slice_get, slice_index_or, slice_set, vec_capacity, vec_len}
 pub use Rattle.route_management.specs.Laws.{leaves_other_destinations, leaves_other_points, listed_is_owed, reset_is_kept, reset_leaves_others, reset_leaves_what_is_to_be_told, status_leaves_other_destinations, told_all_owes_nothing, told_is_kept, told_once}
 pub use Rattle.route_management.specs.Marks.{NoneBetween, NoneFrom, is_marked}
-pub use Rattle.route_management.specs.Owed.{Owed, all_told, is_reachable, is_same, is_unlike, owed, owed_about, owed_at, owed_by_sets, owed_from, owed_to, said_by, status_to_advertise}
-unfoldable pub use Rattle.route_management.specs.Owed.{owes_nothing}
-pub use Rattle.route_management.specs.Told.{ToldTable, adjacent_place, first_told, is_number, is_own_point, row_of, shape_of, told_at, with_told, with_told_reset}
+pub use Rattle.route_management.specs.Told.{Owed, all_told, is_reachable, is_same, is_unlike, owed, owed_about, owed_at, owed_by_sets, owed_from, owed_to, said_by, status_to_advertise, ToldTable, adjacent_place, first_told, is_number, is_own_point, row_of, shape_of, told_at, with_told, with_told_reset}
+unfoldable pub use Rattle.route_management.specs.Told.{owes_nothing}
 pub use Rattle.routes.proofs.Resetting.{reset_routes}
 pub use Rattle.routes.proofs.Telling.{other_routes}
-pub use Rattle.routes.specs.Facts.{Facts}
+pub use Rattle.routes.specs.Routes.{Facts}
 pub use Rattle.routes.specs.declared.route.RouteStatus.{RouteStatus}
 pub use Rattle.routes.specs.declared.route.RouteStatus.TheVariants.{Allowed, Prohibited, Restricted}
 pub use Rattle.settings_rows.specs.Configuration.{DestinationEntry, SetEntry}

@@ -4,10 +4,8 @@ use Rattle.std.specs.List.{All}
 use Rattle.std.specs.Option.{option_map}
 use Rattle.routes.specs.declared.route.RouteStatus.{RouteStatus}
 use Rattle.routes.specs.declared.route.RouteStatus.TheVariants.{Allowed}
-use Rattle.routes.specs.Facts.{Facts, with_status}
-use Rattle.routes.specs.Statuses.{with_statuses_reset}
-use Rattle.route_management.specs.Told.{ToldTable, told_at, with_told, with_told_reset}
-use Rattle.route_management.specs.Owed.{is_reachable, owed_at, owed, all_told, status_to_advertise}
+use Rattle.routes.specs.Routes.{Facts, with_status, with_statuses_reset}
+use Rattle.route_management.specs.Told.{ToldTable, told_at, with_told, with_told_reset, is_reachable, owed_at, owed, all_told, status_to_advertise}
 
 -- what is told is what was told, where both are there
 abbrev pub told_is_kept : Type 0

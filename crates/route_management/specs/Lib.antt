@@ -1,6 +1,4 @@
 pub mod Told
-pub mod Owed
-pub mod Hearing
 pub mod Room
 pub mod Laws
 pub mod Marks

@@ -1,7 +1,7 @@
 //! What adjacent points ask of routes.
 
 ghost use Rattle.std.specs.Prelude.{◌≡◌};
-ghost use Rattle.route_management.specs.Hearing.{heard_of, tested};
+ghost use Rattle.route_management.specs.Told.{heard_of, tested};
 
 use routes::RouteStatus;
 

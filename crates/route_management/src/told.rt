@@ -3,12 +3,9 @@
 ghost use Rattle.std.specs.Prelude.{◌≡◌, Some, None, length, map, position, replicate, nat_eq, IfOk, slice_index_or};
 ghost use Rattle.std.specs.List.{list_any};
 ghost use Rattle.routes.specs.declared.route.RouteStatus.TheVariants as status;
-ghost use Rattle.routes.specs.Statuses.{leads_by};
-ghost use Rattle.node_links.specs.Network.{facts_of};
-ghost use Rattle.route_management.specs.Told.{first_told, adjacent_place, is_own_point, told_at, with_told};
-ghost use Rattle.route_management.specs.Told.{with_told_reset};
-ghost use Rattle.route_management.specs.Owed.{said_by, status_to_advertise, owed_at};
-ghost use Rattle.route_management.specs.Hearing.{heard, answer_to_test};
+ghost use Rattle.routes.specs.Routes.{leads_by};
+ghost use Rattle.node_links.specs.NodeLinks.{facts_of};
+ghost use Rattle.route_management.specs.Told.{first_told, adjacent_place, is_own_point, told_at, with_told, with_told_reset, said_by, status_to_advertise, owed_at, heard, answer_to_test};
 
 use crate::heard::{Heard, RouteTest, heard_of};
 use crate::row::ToldRow;

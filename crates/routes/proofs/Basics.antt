@@ -18,14 +18,8 @@ pub use Rattle.std.specs.List.{filter, flat_map, list_any, range_with_len, remov
 pub use Rattle.std.specs.List.Sorted.{IsPermutation}
 pub use Rattle.std.specs.Option.{option_map, option_to_list}
 pub use Rattle.std.specs.Prelude.{Contains, None, Option, Some, if◌then◌else◌, is_some, nat_eq, nat_lt, slice_index_or, slice_set, unwrap_or, vec_capacity, vec_len}
-pub use Rattle.routes.specs.Chosen.{Choice, allowed_or, alone, alone_in, chosen_link, chosen_routes, chosen_sets, groups_of, is_open, lone_set, members, open_group, sets_of, status_number, taken_by}
-unfoldable pub use Rattle.routes.specs.Chosen.{choice_among, link_by}
-pub use Rattle.routes.specs.Facts.{Facts, first_route, first_routes, routes_to, set_at, with_link, with_status, with_status_over}
-unfoldable pub use Rattle.routes.specs.Facts.{first_sets}
-pub use Rattle.routes.specs.Members.{has_member, link_with, links_of}
-unfoldable pub use Rattle.routes.specs.Members.{links_below}
-pub use Rattle.routes.specs.Preference.{first_member, first_serving, has_link, is_in_service, members_of, order_of, preference, serves}
-pub use Rattle.routes.specs.Statuses.{leads_by, status_of, with_statuses_reset}
+pub use Rattle.routes.specs.Routes.{Choice, allowed_or, alone, alone_in, chosen_link, chosen_routes, chosen_sets, groups_of, is_open, lone_set, members, open_group, sets_of, status_number, taken_by, Facts, first_route, first_routes, routes_to, set_at, with_link, with_status, with_status_over, has_member, link_with, links_of, first_member, first_serving, has_link, is_in_service, members_of, order_of, preference, serves, leads_by, status_of, with_statuses_reset}
+unfoldable pub use Rattle.routes.specs.Routes.{choice_among, link_by, first_sets, links_below}
 pub use Rattle.routes.specs.Table.{goes_by_link, goes_by_set, links_by, mended_at, table_of}
 unfoldable pub use Rattle.routes.specs.Table.{links_among, links_of_group, mended_below}
 pub use Rattle.routes.specs.declared.link_group.Member.{Member}

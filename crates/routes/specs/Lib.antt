@@ -1,9 +1,5 @@
-pub mod Members
-pub mod Preference
+pub mod Routes
 pub mod PreferenceExamples
-pub mod Facts
-pub mod Chosen
 pub mod Table
 pub mod Room
-pub mod Statuses
 pub mod RouteExamples

@@ -1,7 +1,7 @@
 -- The order in which a flow tries two links, where a definition by which it tries one twice makes the laws false.
 use Rattle.std.specs.Prelude.{◌≡◌, ℕ, [], ◌∷◌}
 use Rattle.routes.specs.declared.link_group.Member.{Member}
-use Rattle.routes.specs.Preference.{preference}
+use Rattle.routes.specs.Routes.{preference}
 
 -- a link of set 0
 abbrev pub member : ℕ → Member

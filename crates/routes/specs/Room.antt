@@ -1,6 +1,6 @@
 -- How routing facts are kept and lent, and the links of all flows beside them.
 use Rattle.std.specs.Prelude.{◌≡◌, ℕ, ◌≤◌, List, Option, length}
-use Rattle.routes.specs.Facts.{Facts}
+use Rattle.routes.specs.Routes.{Facts}
 use Rattle.signalling_types.specs.declared.limits.TheConstants.Limits.{LINKS, SELECTIONS}
 use Rattle.routes.specs.Table.{table_of}
 use Rattle.routes.specs.declared.route_facts.RouteFacts.TheInside as route_facts

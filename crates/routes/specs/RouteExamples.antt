@@ -2,8 +2,7 @@
 -- left, the flow moves though its own link stays.
 use Rattle.std.specs.Prelude.{◌≡◌, true, false, [], ◌∷◌, Some}
 use Rattle.routes.specs.declared.route.RouteStatus.TheVariants.{Allowed}
-use Rattle.routes.specs.Facts.{Facts, with_link}
-use Rattle.routes.specs.Chosen.{chosen_link}
+use Rattle.routes.specs.Routes.{Facts, with_link, chosen_link}
 
 -- the first set has link 0, the second links 1 and 2; all are in service, and both sets lead to the destination
 abbrev pub example : Facts

@@ -2,13 +2,9 @@
 use Rattle.std.specs.Prelude.{ℕ, zero, suc, Bool, List, Option, map, slice_set, if◌then◌else◌}
 use Rattle.std.specs.List.{list_any, range_with_len}
 use Rattle.signalling_types.specs.declared.limits.TheConstants.Limits.{SELECTIONS}
-use Rattle.routes.specs.Members.{has_member}
+use Rattle.routes.specs.Routes.{has_member, first_serving, Facts, set_at, routes_to, Choice, choice_among, taken_by, sets_of, members, leads_by}
 use Rattle.routes.specs.declared.link_group.Member.{Member}
-use Rattle.routes.specs.Preference.{first_serving}
 use Rattle.routes.specs.declared.route.Route.{Route}
-use Rattle.routes.specs.Facts.{Facts, set_at, routes_to}
-use Rattle.routes.specs.Chosen.{Choice, choice_among, taken_by, sets_of, members}
-use Rattle.routes.specs.Statuses.{leads_by}
 
 -- the links of the flows that take these sets of a group
 unfoldable pub links_of_group : List Bool → (sets : List ℕ) → List Member → List (Option ℕ)

@@ -1,7 +1,7 @@
 //! The links of the flows to one destination.
 
 ghost use Rattle.std.specs.Prelude.{◌≡◌, ◌<◌, None, slice_index_or};
-ghost use Rattle.routes.specs.Preference.{first_serving};
+ghost use Rattle.routes.specs.Routes.{first_serving};
 ghost use Rattle.signalling_types.specs.declared.limits.TheConstants.Limits.{SELECTIONS};
 ghost use Rattle.routes.specs.Table.{links_of_group};
 

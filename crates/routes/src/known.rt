@@ -2,9 +2,7 @@
 
 ghost use Rattle.std.specs.Prelude.{◌≡◌, ◌≤◌, false, length, map, replicate, slice_set, IfOk};
 ghost use Rattle.routes.specs.declared.route.RouteStatus.TheVariants as status;
-ghost use Rattle.routes.specs.Preference.{is_in_service};
-ghost use Rattle.routes.specs.Facts.{first_facts, first_sets, first_routes, with_link, with_status, with_status_over};
-ghost use Rattle.routes.specs.Statuses.{with_statuses_reset};
+ghost use Rattle.routes.specs.Routes.{is_in_service, first_facts, first_sets, first_routes, with_link, with_status, with_status_over, with_statuses_reset};
 
 use crate::LinkSet;
 use crate::route::{RouteList, RouteStatus};
@@ -24,7 +22,7 @@ pub(crate) struct KnownRoutes {
 }
 
 impl Model for KnownRoutes {
-    ghost use Rattle.routes.specs.Facts.{Facts};
+    ghost use Rattle.routes.specs.Routes.{Facts};
 
     ghost Value = { Facts };
 

@@ -4,14 +4,11 @@ ghost use Rattle.std.specs.Prelude.{ℕ, ◌≡◌, ◌<◌, ◌/◌, ◌%◌, B
 ghost use Rattle.std.specs.List.{remove, list_any};
 ghost use Rattle.std.specs.List.Sorted.{IsPermutation};
 ghost use Rattle.routes.specs.declared.link_group.Member.{Member};
-ghost use Rattle.routes.specs.Preference.{preference, first_serving, serves, is_in_service, has_link};
+ghost use Rattle.routes.specs.Routes.{preference, first_serving, serves, is_in_service, has_link, Facts, set_at, with_link, with_status, chosen_link, chosen_routes, chosen_sets, lone_set, status_of, with_statuses_reset};
 ghost use Rattle.std.specs.Option.{option_map};
 ghost use Rattle.routes.specs.declared.route.Route.{Route};
 ghost use Rattle.routes.specs.declared.route.RouteStatus.{RouteStatus};
 ghost use Rattle.routes.specs.declared.route.RouteStatus.TheVariants.{Allowed, Prohibited};
-ghost use Rattle.routes.specs.Facts.{Facts, set_at, with_link, with_status};
-ghost use Rattle.routes.specs.Chosen.{chosen_link, chosen_routes, chosen_sets, lone_set};
-ghost use Rattle.routes.specs.Statuses.{status_of, with_statuses_reset};
 
 /// No links are tried in no order; else a flow tries the link at its selection modulo their count, and then the
 /// others as a flow of the quotient does.

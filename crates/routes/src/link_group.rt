@@ -3,7 +3,7 @@
 ghost use Rattle.std.specs.Prelude.{◌≡◌, ◌≤◌, ◌+◌, ◌++◌, [], length, nat_eq};
 ghost use Rattle.std.specs.List.{list_any};
 ghost use Rattle.arrayvec.specs.ArrayVec.{array_vec_len};
-ghost use Rattle.routes.specs.Preference.{members_of, preference, first_member, first_serving, first_tried, serves};
+ghost use Rattle.routes.specs.Routes.{members_of, preference, first_member, first_serving, first_tried, serves};
 
 use crate::link_set::{LinkSet, is_in_service};
 use arrayvec::ArrayVec;

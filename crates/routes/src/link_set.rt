@@ -3,8 +3,7 @@
 ghost use Rattle.std.specs.Prelude.{◌≡◌, ◌+◌, ◌<◌, ◌≤◌, ◌++◌, length, position, IfSome};
 ghost use Rattle.std.specs.Option.{option_to_list};
 ghost use Rattle.arrayvec.specs.ArrayVec.{array_vec_len};
-ghost use Rattle.routes.specs.Members.{has_code, has_member, link_with, links_of};
-ghost use Rattle.routes.specs.Preference.{has_link, is_in_service};
+ghost use Rattle.routes.specs.Routes.{has_code, has_member, link_with, links_of, has_link, is_in_service};
 
 use arrayvec::ArrayVec;
 use settings_rows::LinkRow;

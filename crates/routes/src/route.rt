@@ -1,8 +1,7 @@
 //! The routes to one destination.
 
 ghost use Rattle.std.specs.Prelude.{◌≡◌, ◌==◌, ◌≤◌, length, map};
-ghost use Rattle.routes.specs.Facts.{first_routes, first_route, with_second_joined, with_status_over};
-ghost use Rattle.routes.specs.Chosen.{status_name, status_number};
+ghost use Rattle.routes.specs.Routes.{first_routes, first_route, with_second_joined, with_status_over, status_name, status_number};
 
 use arrayvec::ArrayVec;
 use settings_rows::DestinationRow;

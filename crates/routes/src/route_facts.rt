@@ -1,10 +1,7 @@
 //! What follows from routing facts, worked out on each call.
 
 ghost use Rattle.std.specs.Prelude.{◌≡◌, length};
-ghost use Rattle.routes.specs.Members.{has_member};
-ghost use Rattle.routes.specs.Preference.{has_link};
-ghost use Rattle.routes.specs.Facts.{set_at, routes_to};
-ghost use Rattle.routes.specs.Statuses.{status_of};
+ghost use Rattle.routes.specs.Routes.{has_member, has_link, set_at, routes_to, status_of};
 ghost use Rattle.routes.specs.Table.{goes_by_link, goes_by_set};
 
 mod choice;
@@ -26,7 +23,7 @@ pub struct RouteFacts<'a> {
 }
 
 impl<'a> Model for RouteFacts<'a> {
-    ghost use Rattle.routes.specs.Facts.{Facts};
+    ghost use Rattle.routes.specs.Routes.{Facts};
 
     ghost Value = { Facts };
 

@@ -1,9 +1,7 @@
 //! Routing facts, with the link of each flow in a table.
 
 ghost use Rattle.std.specs.Prelude.{◌≡◌, ◌≤◌, false, length, slice_set, IfOk};
-ghost use Rattle.routes.specs.Facts.{first_facts, with_link, with_status};
-ghost use Rattle.routes.specs.Chosen.{chosen_link};
-ghost use Rattle.routes.specs.Statuses.{with_statuses_reset};
+ghost use Rattle.routes.specs.Routes.{first_facts, with_link, with_status, chosen_link, with_statuses_reset};
 
 mod table;
 
@@ -30,7 +28,7 @@ pub struct Routes {
 }
 
 impl Model for Routes {
-    ghost use Rattle.routes.specs.Facts.{Facts};
+    ghost use Rattle.routes.specs.Routes.{Facts};
 
     ghost Value = { Facts };
 

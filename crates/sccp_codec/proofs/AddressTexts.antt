@@ -6,8 +6,7 @@ use Rattle.std.specs.Prelude.{slice_index, ◌==◌, if◌then◌else◌, is_som
 use Rattle.sccp_codec.specs.declared.fault.SccpFault.{SccpFault}
 use Rattle.sccp_codec.specs.declared.address.Routing.{Routing}
 use Rattle.sccp_codec.specs.declared.address.Routing.TheVariants.{Title, Ssn}
-use Rattle.sccp_codec.specs.Addresses.{AddressValue, IsAddress, IsAddressValue, AreOctets, indicator_octet, point_octets, ssn_octets, bit, is_set, is_by_ssn}
-use Rattle.sccp_codec.specs.Reading.{unless, address_fault, address_in, read_address, title_place, point_at, title_indicator_of}
+use Rattle.sccp_codec.specs.Messages.{AddressValue, IsAddress, IsAddressValue, AreOctets, indicator_octet, point_octets, ssn_octets, bit, is_set, is_by_ssn, unless, address_fault, address_in, read_address, title_place, point_at, title_indicator_of}
 
 -- ---- reading without fault
 

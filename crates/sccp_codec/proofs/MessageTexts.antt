@@ -8,9 +8,7 @@ use Rattle.std.specs.Prelude.{slice_index, IfOk, IfErr, OnOk, IsOkAnd}
 use Rattle.signalling_types.specs.declared.cause.Cause.{Cause}
 use Rattle.sccp_codec.specs.declared.fault.SccpFault.{SccpFault}
 use Rattle.sccp_codec.specs.declared.unitdata.Unitdata.{Unitdata}
-use Rattle.sccp_codec.specs.Addresses.{AddressValue, IsAddress, IsAddressValue, AreOctets, address_octets}
-use Rattle.sccp_codec.specs.Messages.{PartsValue, UnitdataValue, UdtValue, UdtsValue, IsPart, HasAddress, IsUnitdata, IsUnitdataValue, kind_of, second_of, parts_of, length_place, spelled, laid_out, counted}
-use Rattle.sccp_codec.specs.Reading.{unless, first_fault, address_fault, address_in, header_fault, pointer_fault, part_at, part_length, parts_fault, parts_in, fault_of, value_in, read_unitdata}
+use Rattle.sccp_codec.specs.Messages.{AddressValue, IsAddress, IsAddressValue, AreOctets, address_octets, PartsValue, UnitdataValue, UdtValue, UdtsValue, IsPart, HasAddress, IsUnitdata, IsUnitdataValue, kind_of, second_of, parts_of, length_place, spelled, laid_out, counted, unless, first_fault, address_fault, address_in, header_fault, pointer_fault, part_at, part_length, parts_fault, parts_in, fault_of, value_in, read_unitdata}
 use Rattle.sccp_codec.specs.Values.{unitdata_of, Gives}
 use Rattle.sccp_codec.proofs.AddressTexts.{unless-ok, unless-err, unless-none, is_address-read, read_address-is_address}
 

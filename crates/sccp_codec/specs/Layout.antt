@@ -1,8 +1,7 @@
 -- The lengths and pointers of the parts of a message.
 use Rattle.std.specs.Prelude.{◌≡◌, ◌+◌, length}
 use Rattle.sccp_codec.specs.declared.writing.Layout.{Layout}
-use Rattle.sccp_codec.specs.Addresses.{address_octets}
-use Rattle.sccp_codec.specs.Messages.{PartsValue}
+use Rattle.sccp_codec.specs.Messages.{address_octets, PartsValue}
 
 pub record LaysOut (parts : PartsValue) (layout : Layout) : Type 0 where
   pub called : layout.called ≡ length (address_octets 0 parts.called)

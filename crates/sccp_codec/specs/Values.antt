@@ -7,8 +7,7 @@ use Rattle.sccp_codec.specs.declared.unitdata.Udt.{Udt as UdtMessage}
 use Rattle.sccp_codec.specs.declared.unitdata.Udts.{Udts as UdtsMessage}
 use Rattle.sccp_codec.specs.declared.unitdata.Unitdata.{Unitdata}
 use Rattle.sccp_codec.specs.declared.unitdata.Unitdata.TheVariants.{Udt, Udts}
-use Rattle.sccp_codec.specs.Addresses.{AddressValue}
-use Rattle.sccp_codec.specs.Messages.{PartsValue, UnitdataValue, UdtValue, UdtsValue}
+use Rattle.sccp_codec.specs.Messages.{AddressValue, PartsValue, UnitdataValue, UdtValue, UdtsValue}
 
 abbrev pub address_of : Address → AddressValue
 address_of a = record {

@@ -1,8 +1,7 @@
 //! Addresses of the calling and the called party.
 
 ghost use Rattle.std.specs.Prelude.{◌≡◌, ◌+◌, ◌*◌, ◌/◌, ◌%◌, ◌<◌, ◌≤◌, ◌==◌, length, Some, None};
-ghost use Rattle.sccp_codec.specs.Addresses.{is_set};
-ghost use Rattle.sccp_codec.specs.Reading.{read_address, point_at};
+ghost use Rattle.sccp_codec.specs.Messages.{is_set, read_address, point_at};
 ghost use Rattle.sccp_codec.specs.Values.{address_of, Gives};
 
 use crate::fault::SccpFault;

@@ -2,9 +2,7 @@
 //! does nothing.
 
 ghost use Rattle.std.specs.Prelude.{◌≡◌, ℕ, ◌↔◌, List, Ok};
-ghost use Rattle.sccp_codec.specs.Addresses.{AddressValue, IsAddress, IsAddressValue, AreOctets, address_octets};
-ghost use Rattle.sccp_codec.specs.Messages.{UnitdataValue, IsUnitdata, IsUnitdataValue, spelled};
-ghost use Rattle.sccp_codec.specs.Reading.{read_address, read_unitdata};
+ghost use Rattle.sccp_codec.specs.Messages.{AddressValue, IsAddress, IsAddressValue, AreOctets, address_octets, UnitdataValue, IsUnitdata, IsUnitdataValue, spelled, read_address, read_unitdata};
 
 /// Octets are an address that says something exactly where reading them gives it.
 pub fn addresses_are_what_is_read()

@@ -1,9 +1,7 @@
 //! Unitdata read from its octets.
 
 ghost use Rattle.std.specs.Prelude.{◌≡◌, ◌+◌, ◌≤◌, ◌<◌, length, IfOk, IfErr, IsOkAnd, Some};
-ghost use Rattle.sccp_codec.specs.Messages.{UnitdataValue, IsUnitdata};
-ghost use Rattle.sccp_codec.specs.Reading.{read_unitdata, fault_of, parts_in, parts_fault, part_at, pointer_fault};
-ghost use Rattle.sccp_codec.specs.Reading.{unless};
+ghost use Rattle.sccp_codec.specs.Messages.{UnitdataValue, IsUnitdata, read_unitdata, fault_of, parts_in, parts_fault, part_at, pointer_fault, unless};
 ghost use Rattle.sccp_codec.specs.Values.{unitdata_of, parts_value, Gives};
 
 use crate::address::Address;

@@ -1,12 +1,8 @@
 //! Unitdata written behind a routing label.
 
-ghost use Rattle.std.specs.Prelude.{◌≡◌, ◌+◌, ◌<◌, ◌≤◌, ◌^◌, ◌++◌, ◌↔◌, length, take, drop, IsOk, IsSome, IfSome, IfOk};
-ghost use Rattle.std.specs.Prelude.{IfErr, OnOk, OnErr, Ok};
-ghost use Rattle.sccp_codec.specs.Addresses.{address_octets, point_octets, ssn_octets, indicator_octet, bit};
-ghost use Rattle.sccp_codec.specs.Addresses.{IsAddressValue};
-ghost use Rattle.sccp_codec.specs.Messages.{spelled, counted, pointed, IsWritable, IsPartsValue, HasOctets};
+ghost use Rattle.std.specs.Prelude.{◌≡◌, ◌+◌, ◌<◌, ◌≤◌, ◌^◌, ◌++◌, ◌↔◌, length, take, drop, IsOk, IsSome, IfSome, IfOk, IfErr, OnOk, OnErr, Ok};
+ghost use Rattle.sccp_codec.specs.Messages.{address_octets, point_octets, ssn_octets, indicator_octet, bit, IsAddressValue, spelled, counted, pointed, IsWritable, IsPartsValue, HasOctets, read_unitdata};
 ghost use Rattle.sccp_codec.specs.Layout.{LaysOut};
-ghost use Rattle.sccp_codec.specs.Reading.{read_unitdata};
 ghost use Rattle.sccp_codec.specs.Values.{address_of, parts_value, udt_of, udts_of};
 
 use crate::address::{Address, Routing};

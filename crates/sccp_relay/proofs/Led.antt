@@ -10,21 +10,17 @@ use Rattle.settings_rows.specs.Configuration.{TitleEntry}
 use Rattle.settings_rows.specs.declared.title_row.TitleRoute.{TitleRoute}
 use Rattle.settings_rows.specs.declared.title_row.TitleRoute.TheVariants as route
 use Rattle.mtp3_codec.specs.declared.label.Label.{Label}
-use Rattle.mtp3_codec.specs.Label.{IsLabel, label_at, label_octets}
+use Rattle.mtp3_codec.specs.Headings.{IsLabel, label_at, label_octets}
 use Rattle.mtp3_codec.proofs.Labels.{label-back}
 use Rattle.sccp_codec.specs.declared.fault.SccpFault.{SccpFault}
 use Rattle.sccp_codec.specs.declared.title.TitleKey.{TitleKey}
 use Rattle.sccp_codec.specs.declared.address.Routing.{Routing}
 use Rattle.sccp_codec.specs.declared.address.Routing.TheVariants.{Title, Ssn}
-use Rattle.sccp_codec.specs.Addresses.{AddressValue, AreOctets, IsAddressValue}
-use Rattle.sccp_codec.specs.Messages.{PartsValue, UnitdataValue, UdtValue, UdtsValue, IsPartsValue, IsUnitdataValue, kind_of, second_of, parts_of, spelled}
-use Rattle.sccp_codec.specs.Reading.{read_unitdata}
+use Rattle.sccp_codec.specs.Messages.{AddressValue, AreOctets, IsAddressValue, PartsValue, UnitdataValue, UdtValue, UdtsValue, IsPartsValue, IsUnitdataValue, kind_of, second_of, parts_of, spelled, read_unitdata}
 use Rattle.sccp_codec.specs.Titles.{TitleValue, read_title}
 use Rattle.sccp_codec.proofs.MessageTexts.{is_unitdata-read, read_unitdata-field}
 use Rattle.sccp_relay.specs.Led.{SameTitle, IsLed, IsSeenFrom, IsSent, GoesOn, IsReturned, AreInRange, what_goes_on_reads_back, a_udts_returns_a_udt}
-use Rattle.sccp_relay.specs.Relay.{OwnValue, RelayedValue, Delivered, Onward, Refused, relay, relay_read, relay_by_routing, relay_by_row, row_of, row_of_title, translated, from_point, ssn_by, label_to, written, is_writable, onward, with_new_parts, led_on, is_equipped, is_connectionless}
-use Rattle.sccp_relay.specs.Return.{return_cause, return_to, return_by, return_by_row, return_read, returned, sent_back, led_back}
-use Rattle.sccp_relay.specs.Translation.{translation, or_refusal}
+use Rattle.sccp_relay.specs.Relay.{OwnValue, RelayedValue, Delivered, Onward, Refused, relay, relay_read, relay_by_routing, relay_by_row, row_of, row_of_title, translated, from_point, ssn_by, label_to, written, is_writable, onward, with_new_parts, led_on, is_equipped, is_connectionless, return_cause, return_to, return_by, return_by_row, return_read, returned, sent_back, led_back, translation, or_refusal}
 use Rattle.sccp_relay.specs.Ways.{IsRow, IsRoute}
 use Rattle.sccp_relay.proofs.LongestRow.{is_translation-longest}
 

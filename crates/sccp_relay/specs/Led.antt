@@ -3,13 +3,10 @@ use Rattle.std.specs.Prelude.{◌≡◌, ◌≢◌, ℕ, ◌/◌, ◌<◌, ◌^�
 use Rattle.signalling_types.specs.declared.cause.Cause.{Cause}
 use Rattle.settings_rows.specs.Configuration.{TitleEntry}
 use Rattle.settings_rows.specs.declared.title_row.TitleRoute.TheVariants as route
-use Rattle.mtp3_codec.specs.Label.{label_at}
+use Rattle.mtp3_codec.specs.Headings.{label_at}
 use Rattle.sccp_codec.specs.declared.address.Routing.TheVariants.{Title, Ssn}
-use Rattle.sccp_codec.specs.Addresses.{AddressValue, AreOctets}
-use Rattle.sccp_codec.specs.Messages.{PartsValue, UnitdataValue, UdtValue, UdtsValue, kind_of, second_of, parts_of}
-use Rattle.sccp_codec.specs.Reading.{read_unitdata}
-use Rattle.sccp_relay.specs.Relay.{OwnValue, Onward, relay, row_of}
-use Rattle.sccp_relay.specs.Return.{return_cause, returned}
+use Rattle.sccp_codec.specs.Messages.{AddressValue, AreOctets, PartsValue, UnitdataValue, UdtValue, UdtsValue, kind_of, second_of, parts_of, read_unitdata}
+use Rattle.sccp_relay.specs.Relay.{OwnValue, Onward, relay, row_of, return_cause, returned}
 use Rattle.sccp_relay.specs.Ways.{IsRow}
 
 -- the title, what it is made of and the bit for national use are the same

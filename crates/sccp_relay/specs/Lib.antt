@@ -1,5 +1,4 @@
 pub mod Relay
-pub mod Return
 pub mod Values
 pub mod Faults
 pub mod Digits
@@ -8,7 +7,6 @@ pub mod Inside
 pub mod Rows
 pub mod Places
 pub mod Ways
-pub mod Translation
 pub mod Table
 pub mod Laws
 pub mod Led

@@ -1,25 +1,65 @@
--- What becomes of an SCCP message for this point: by its called address it is for a subsystem here, or goes on, written
--- anew (Q.714 §2.3, §2.4).
-use Rattle.std.specs.Prelude.{ℕ, ◌+◌, ◌%◌, ◌^◌, Bool, true, false, ◌&&◌, if◌then◌else◌, nat_eq, nat_lt, nat_le, List}
-use Rattle.std.specs.Prelude.{◌++◌, length, take, drop, Option, Some, None, is_none, Result, Ok, Err}
-use Rattle.std.specs.List.{list_any}
-use Rattle.signalling_types.specs.declared.cause.Cause.{Cause}
-use Rattle.signalling_types.specs.declared.cause.Cause.TheVariants.{NotInProfile, BadSccp, Unequipped, TooLong}
-use Rattle.signalling_types.specs.declared.limits.TheConstants.Limits.{SIF_OCTETS, TITLE_DIGITS}
+-- What an address is translated to: among all rows of its key whose digits begin its digits, the longest (Q.714 §2.4;
+-- that the longest is taken is this node's choice).
+use Rattle.std.specs.Prelude.{ℕ, ◌≤◌, Bool, IsTrue, ◌&&◌, ◌==◌, if◌then◌else◌, nat_eq, nat_lt, List, [], ◌∷◌, length, filter, All, Contains, Option, Some, None, Result, Ok, Err, ◌+◌, ◌%◌, ◌^◌, true, false, nat_le, ◌++◌, take, drop, is_none, ◌/◌, unwrap_or}
+use Rattle.std.specs.List.{starts_with, list_any}
 use Rattle.settings_rows.specs.Configuration.{TitleEntry}
+use Rattle.signalling_types.specs.declared.cause.Cause.{Cause}
+use Rattle.signalling_types.specs.declared.cause.Cause.TheVariants.{NoNature, NoDigits, NotInProfile, BadSccp, Unequipped, TooLong, UnknownDestination, NoRoute}
+use Rattle.sccp_codec.specs.declared.title.TitleKey.{TitleKey}
+use Rattle.signalling_types.specs.declared.limits.TheConstants.Limits.{SIF_OCTETS, TITLE_DIGITS}
 use Rattle.settings_rows.specs.declared.title_row.TitleRoute.{TitleRoute}
 use Rattle.settings_rows.specs.declared.title_row.TitleRoute.TheVariants as route
 use Rattle.mtp3_codec.specs.declared.label.Label.{Label}
-use Rattle.mtp3_codec.specs.Label.{label_at, label_octets}
+use Rattle.mtp3_codec.specs.Headings.{label_at, label_octets}
 use Rattle.sccp_codec.specs.declared.fault.SccpFault.{SccpFault}
 use Rattle.sccp_codec.specs.declared.fault.SccpFault.TheVariants.{Short, Pointer, Kind}
 use Rattle.sccp_codec.specs.declared.address.Routing.{Routing}
 use Rattle.sccp_codec.specs.declared.address.Routing.TheVariants as routing
-use Rattle.sccp_codec.specs.Addresses.{AddressValue, address_octets, is_by_ssn}
-use Rattle.sccp_codec.specs.Messages.{PartsValue, UnitdataValue, UdtValue, UdtsValue, parts_of, pointed, spelled}
-use Rattle.sccp_codec.specs.Reading.{read_unitdata}
+use Rattle.sccp_codec.specs.Messages.{AddressValue, address_octets, is_by_ssn, PartsValue, UnitdataValue, UdtValue, UdtsValue, parts_of, pointed, spelled, read_unitdata}
 use Rattle.sccp_codec.specs.Titles.{TitleValue, read_title, digits_in}
-use Rattle.sccp_relay.specs.Translation.{translation}
+use Rattle.sccp_codec.specs.declared.address.Routing.TheVariants.{Title, Ssn}
+
+-- the row is of this translation type, plan and nature
+abbrev pub has_key : TitleKey → TitleEntry → Bool
+has_key key row = row.translation == key.translation && row.plan == key.plan && row.nature == key.nature
+
+-- the row is of this key, and its digits begin these
+abbrev pub leads : TitleKey → List ℕ → TitleEntry → Bool
+leads key digits row = has_key key row && starts_with nat_eq digits row.digits
+
+-- the row that has more digits; of two that have as many, the first
+abbrev pub longer : Option TitleEntry → TitleEntry → Option TitleEntry
+longer None row = Some row
+longer (Some best) row = if nat_lt (length best.digits) (length row.digits) then Some row else Some best
+
+-- the row that has the most digits
+abbrev pub longest_from : Option TitleEntry → List TitleEntry → Option TitleEntry
+longest_from best [] = best
+longest_from best (row ∷ rows) = longest_from (longer best row) rows
+
+abbrev pub longest : List TitleEntry → Option TitleEntry
+longest rows = longest_from None rows
+
+-- why an address is led nowhere: no row is of its key, or none of these begins its digits
+abbrev pub translation_refusal : List TitleEntry → TitleKey → Cause
+translation_refusal rows key = if list_any (has_key key) rows then NoDigits else NoNature
+
+abbrev pub or_refusal : Option TitleEntry → Cause → Result TitleEntry Cause
+or_refusal (Some row) cause = Ok row
+or_refusal None cause = Err cause
+
+-- the longest of the rows that lead these digits
+abbrev pub translation : List TitleEntry → TitleKey → List ℕ → Result TitleEntry Cause
+translation rows key digits = or_refusal (longest (filter (leads key digits) rows)) (translation_refusal rows key)
+
+-- what it is to be that row
+pub record IsTranslation (rows : List TitleEntry) (key : TitleKey) (digits : List ℕ) (row : TitleEntry) : Type 0 where
+  pub among : Contains rows row
+  pub leading : IsTrue (leads key digits row)
+  pub longest : All (λ other. IsTrue (leads key digits other) → length other.digits ≤ length row.digits) rows
+
+-- ---- What becomes of an SCCP message for this point: by its called address it is for a subsystem here, or goes on, written
+-- anew (Q.714 §2.3, §2.4).
 
 -- the point that a node is, and the numbers of the subsystems that stand there
 pub record OwnValue : Type 0 where
@@ -151,3 +191,53 @@ relay_read own rows label (Ok unitdata) =
 -- what becomes of a message with this signalling information field
 unfoldable pub relay : OwnValue → List TitleEntry → List ℕ → RelayedValue
 relay own rows sif = relay_read own rows (label_at sif) (read_unitdata (drop 4 sif))
+
+-- ---- The message that returns one that was refused: a UDTS (Q.714 §4.2).
+
+-- the return cause (Q.713 §3.12); nothing is returned for any other refusal
+abbrev pub return_cause : Cause → Option ℕ
+return_cause NoNature = Some 0
+return_cause NoDigits = Some 1
+return_cause Unequipped = Some 4
+return_cause UnknownDestination = Some 5
+return_cause NoRoute = Some 5
+return_cause TooLong = Some 7
+return_cause _ = None
+
+-- a UDTS goes to another point, where it can be written
+abbrev pub return_to : (own : ℕ) → Label → ℕ → UnitdataValue → Option (List ℕ)
+return_to own label point udts = if nat_eq point own then None else written point own label udts
+
+-- the parts, sent back: to the address that called, from the one that was called
+abbrev pub sent_back : PartsValue → PartsValue
+sent_back parts = record parts { called = parts.calling; calling = parts.called }
+
+-- the same, where a row leads the address that called; that which was called is kept
+abbrev pub led_back : TitleEntry → PartsValue → PartsValue
+led_back row parts = record parts { called = translated row parts.calling; calling = parts.called }
+
+abbrev pub return_by_row : OwnValue → Label → ℕ → PartsValue → Result TitleEntry Cause → Option (List ℕ)
+return_by_row own label number parts (Err cause) = None
+return_by_row own label number parts (Ok row) =
+    return_to own.point label row.point (UdtsValue number (led_back row parts))
+
+-- a UDTS goes to the address that called: by subsystem number to the point that it names, else back where the message
+-- came from; by title to where a row leads
+abbrev pub return_by : Routing → OwnValue → List TitleEntry → Label → ℕ → PartsValue → Option (List ℕ)
+return_by Ssn own rows label number parts =
+    return_to own.point label (unwrap_or parts.calling.point label.opc) (UdtsValue number (sent_back parts))
+return_by Title own rows label number parts = return_by_row own label number parts (row_of rows parts.calling)
+
+-- a UDT is returned where it asks for a return on error and there is a return cause; a UDTS never is
+abbrev pub return_read : OwnValue → List TitleEntry → Label → Option ℕ → Result UnitdataValue SccpFault
+    → Option (List ℕ)
+return_read own rows label (Some number) (Ok (UdtValue class_octet parts)) =
+    if nat_eq (class_octet / 16) 8
+    then return_by parts.calling.routing own rows label number parts
+    else None
+return_read own rows label _ _ = None
+
+-- the signalling information field of the message that returns one with this field, which was refused for a cause, if
+-- one does
+unfoldable pub returned : OwnValue → List TitleEntry → List ℕ → Cause → Option (List ℕ)
+returned own rows sif cause = return_read own rows (label_at sif) (return_cause cause) (read_unitdata (drop 4 sif))

@@ -5,7 +5,7 @@ ghost use Rattle.std.specs.Prelude.{◌≡◌, ℕ, List, Ok};
 ghost use Rattle.settings_rows.specs.Configuration.{TitleEntry};
 ghost use Rattle.sccp_codec.specs.declared.title.TitleKey.{TitleKey};
 ghost use Rattle.sccp_relay.specs.Rows.{IsOrdered};
-ghost use Rattle.sccp_relay.specs.Translation.{IsTranslation, translation};
+ghost use Rattle.sccp_relay.specs.Relay.{IsTranslation, translation};
 ghost use Rattle.sccp_relay.specs.Laws.{added_stands, added_leaves, removed_is_gone, removed_leaves};
 ghost use Rattle.sccp_relay.specs.Led as led;
 

@@ -1,7 +1,7 @@
 //! A unitdata message for this point.
 
 ghost use Rattle.std.specs.Prelude.{◌≡◌, ◌≤◌, length, drop, List, ℕ, Ok};
-ghost use Rattle.mtp3_codec.specs.Label.{label_at};
+ghost use Rattle.mtp3_codec.specs.Headings.{label_at};
 ghost use Rattle.sccp_codec.specs.Messages.{parts_of};
 ghost use Rattle.sccp_codec.specs.Values.{address_of, parts_value, udt_of, udts_of, unitdata_of};
 ghost use Rattle.sccp_relay.specs.Relay as rule;

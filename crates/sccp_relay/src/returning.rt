@@ -2,7 +2,7 @@
 
 ghost use Rattle.std.specs.Prelude.{◌≡◌, ◌≤◌, length, IfSome, Some, Ok};
 ghost use Rattle.sccp_codec.specs.Values.{parts_value, udts_of, unitdata_of};
-ghost use Rattle.sccp_relay.specs.Return as rule;
+ghost use Rattle.sccp_relay.specs.Relay as rule;
 ghost use Rattle.sccp_relay.specs.Values.{own_value, written_in};
 
 use crate::Translations;
@@ -23,7 +23,7 @@ use signalling_types::{Cause, Limits, PointCode};
 /// None where the message isn't a UDT, or doesn't ask for a return on error; where the cause is none of
 /// NoNature, NoDigits, Unequipped, UnknownDestination, NoRoute and TooLong; and where the UDTS would
 /// go to this point, finds no translation, or would be too long.
-#[tactic(auto, unfolding(crate::specs::Return::returned))]
+#[tactic(auto, unfolding(crate::specs::Relay::returned))]
 pub fn returned(
     sif: &[u8],
     cause: Cause,

@@ -11,11 +11,11 @@ pub use Rattle.std.specs.Prelude.{IsTrue, ◌↔◌, IsOk, if◌then◌else◌, 
 pub use Rattle.console.proofs.Parting.{parted-some, parted-unmarked, begun-nothing}
 pub use Rattle.console.specs.Words.{words, begun}
 pub use Rattle.exchange.specs.KeptQueues.{kept, KeptQueues}
-pub use Rattle.exchange.specs.Stands.{Kept, StandsFor, kept_of}
+pub use Rattle.exchange.specs.Calls.{Kept, StandsFor, kept_of}
 pub use Rattle.exchange_rules.specs.Exchange.{after}
-pub use Rattle.exchange_rules.specs.Happening.{Ticked}
+pub use Rattle.exchange_rules.specs.State.{Ticked}
 pub use Rattle.exchange_rules.specs.Queues.{whole, WholeQueues}
-pub use Rattle.exchange_rules.specs.Sound.{Abstract}
+pub use Rattle.exchange_rules.specs.First.{Abstract}
 pub use Rattle.point_format.specs.declared.point.PointFormat.TheVariants.{Plain}
 pub use Rattle.script.specs.Asking.{AskOrder, asked_behind, Asked, Reading, Asks, IsMalformed, parsed_line, Skips, asked_line}
 pub use Rattle.script.specs.Doing.{printed, done, after_ticks, Meaning, Calls, Passes, Shows, Refuses, meaning, answer_text, meaning_printed, meaning_done}

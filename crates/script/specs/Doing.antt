@@ -1,6 +1,5 @@
 -- What a line of a script prints, and the state after it, by the calls of an exchange.
-use Rattle.std.specs.Prelude.{ℕ, Bool, zero, suc, List, [], drop, length, nat_lt}
-use Rattle.std.specs.Prelude.{if◌then◌else◌, Option, Some, None, slice_index}
+use Rattle.std.specs.Prelude.{ℕ, Bool, zero, suc, List, [], drop, length, nat_lt, if◌then◌else◌, Option, Some, None, slice_index}
 use Rattle.signalling_types.specs.Message.{Message}
 use Rattle.settings_rows.specs.Configuration.{Configuration}
 use Rattle.settings.specs.Readings.{link_place}
@@ -13,15 +12,12 @@ use Rattle.exchange.specs.Calls.{ordered}
 use Rattle.exchange.specs.declared.event.Answer.{Answer}
 use Rattle.exchange.specs.declared.event.Answer.TheVariants.{Stepped, Taken, Wanted}
 use Rattle.exchange.specs.declared.event.Order.{Order}
-use Rattle.exchange_rules.specs.State.{State, QueueKind}
-use Rattle.exchange_rules.specs.Happening.{CameUp, WentDown, FrameCame, Ticked, Submitted}
-use Rattle.exchange_rules.specs.Happening.{Asking, Happens, Takes, AsksWants}
+use Rattle.exchange_rules.specs.State.{State, QueueKind, CameUp, WentDown, FrameCame, Ticked, Submitted, Asking, Happens, Takes, AsksWants}
 use Rattle.exchange_rules.specs.Exchange.{after}
 use Rattle.exchange.specs.Runs.{answer_to_call, after_call}
 use Rattle.console.specs.Names.{name_in}
 use Rattle.console.specs.Orders.{order_named}
-use Rattle.script.specs.Asking.{Asked, AskUp, AskDown, AskFrame, AskTick, AskTake, AskWants, AskSubmit}
-use Rattle.script.specs.Asking.{AskOrder, AskShow}
+use Rattle.script.specs.Asking.{Asked, AskUp, AskDown, AskFrame, AskTick, AskTake, AskWants, AskSubmit, AskOrder, AskShow}
 use Rattle.script.specs.Showing.{shown_text}
 use Rattle.script.specs.declared.line.Show.{Show}
 use Rattle.script.specs.Texts.{outcome_line, frame_line, none_line, wants_line}

@@ -2,7 +2,7 @@
 use Rattle.std.specs.Prelude.{◌≡◌, ◌≢◌, ℕ, Bool, ◌≤◌, List, [], ◌∷◌, ◌++◌, length, Option, Some, Result, Ok, Err}
 use Rattle.std.specs.Io.KnownBytes.{Appends}
 use Rattle.exchange.specs.KeptQueues.{KeptQueues, kept}
-use Rattle.exchange.specs.Stands.{Kept}
+use Rattle.exchange.specs.Calls.{Kept}
 use Rattle.console.specs.Words.{begun}
 use Rattle.script.specs.Lines.{lines}
 use Rattle.script.specs.Streams.{AppendsAtLeast}

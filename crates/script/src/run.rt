@@ -3,8 +3,8 @@
 ghost use Rattle.std.specs.Prelude.{◌≡◌, ◌+◌, ◌≤◌, ◌<◌, ◌^◌, [], ◌∷◌, length};
 ghost use Rattle.exchange.specs.KeptQueues.{kept};
 ghost use Rattle.exchange_rules.specs.Queues.{whole};
-ghost use Rattle.exchange_rules.specs.Sound.{Abstract};
-ghost use Rattle.exchange.specs.Stands.{Kept, StandsFor};
+ghost use Rattle.exchange_rules.specs.First.{Abstract};
+ghost use Rattle.exchange.specs.Calls.{Kept, StandsFor};
 ghost use Rattle.script.specs.Asking.{parsed_line};
 ghost use Rattle.script.specs.Runs.{Does, Runs, stopped};
 ghost use Rattle.script.specs.Steps.{DoesLine, Grows, HasTaken, first_line, rest_run};

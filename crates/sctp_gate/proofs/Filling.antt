@@ -7,7 +7,7 @@ use Rattle.sctp_rules.specs.Sending.{has_room}
 use Rattle.sctp_bundling.specs.Watching.{Sent}
 use Rattle.exchange_rules.specs.Exchange.{taken}
 use Rattle.exchange.specs.KeptQueues.{KeptQueues, kept}
-use Rattle.exchange.specs.Stands.{Kept}
+use Rattle.exchange.specs.Calls.{Kept}
 use Rattle.exchange.specs.Taking.{Writes}
 use Rattle.sctp_gate.specs.Watching.{Sight}
 use Rattle.sctp_gate.specs.Gates.{Gate, Did, nothing, text_to_take, put, taken_by, taken_all}

@@ -5,7 +5,7 @@ use Rattle.std.specs.Prelude.{map, if◌then◌else◌}
 use Rattle.sctp_rules.specs.State.{Told}
 use Rattle.sctp_bundling.specs.Watching.{Sent, sent_as}
 use Rattle.exchange.specs.KeptQueues.{KeptQueues, kept}
-use Rattle.exchange.specs.Stands.{Kept}
+use Rattle.exchange.specs.Calls.{Kept}
 use Rattle.sctp_gate.specs.Standing.{stands_by}
 use Rattle.sctp_gate.specs.Watching.{Sight, Gives}
 use Rattle.sctp_gate.specs.Handing.{after_one, after_told, sight_of, sights_of}

@@ -15,14 +15,14 @@ use Rattle.sctp_rules.specs.Timers.{ticked}
 use Rattle.sctp_endpoint.specs.Dispatching.{heard_datagram}
 use Rattle.sctp_endpoint.specs.Endpoints.{Endpoint, secrets_of}
 use Rattle.sctp_bundling.specs.Watching.{Sent, sent_as}
-use Rattle.exchange_rules.specs.Happening.{CameUp, WentDown, FrameCame}
+use Rattle.exchange_rules.specs.State.{CameUp, WentDown, FrameCame}
 use Rattle.exchange_rules.specs.Exchange.{wants_of, taken}
 use Rattle.exchange_rules.specs.Queues.{WholeQueues, whole}
-use Rattle.exchange_rules.specs.Sound.{Abstract}
+use Rattle.exchange_rules.specs.First.{Abstract}
 use Rattle.exchange_rules.specs.declared.wants.Wants.{Wants}
 use Rattle.exchange_rules.specs.declared.wants.Wants.TheVariants.{Nothing, Open, Close}
 use Rattle.exchange.specs.KeptQueues.{KeptQueues, kept}
-use Rattle.exchange.specs.Stands.{Kept, StandsFor}
+use Rattle.exchange.specs.Calls.{Kept, StandsFor}
 use Rattle.exchange.proofs.Standing.{stands-after, stands-outcome, stands-frame, stands-taken, stands-wants}
 use Rattle.sctp_gate.specs.declared.gate.filling.TheConstants.{MOST_FRAMES}
 use Rattle.sctp_gate.specs.Standing.{idle, seeking}

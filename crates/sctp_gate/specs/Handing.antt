@@ -3,8 +3,7 @@ use Rattle.std.specs.Prelude.{ℕ, Bool, List, [], ◌∷◌, nat_eq, if◌then�
 use Rattle.sctp_receiving.specs.Pieces.{Message}
 use Rattle.sctp_rules.specs.State.{Told, Up, Heard, Down}
 use Rattle.sctp_rules.specs.State as told
-use Rattle.exchange_rules.specs.State.{QueueKind, State}
-use Rattle.exchange_rules.specs.Happening.{CameUp, WentDown, FrameCame}
+use Rattle.exchange_rules.specs.State.{QueueKind, State, CameUp, WentDown, FrameCame}
 use Rattle.exchange_rules.specs.Exchange.{outcome_of, after}
 use Rattle.sctp_gate.specs.declared.handing.TheConstants.{PROTOCOL}
 use Rattle.sctp_gate.specs.Watching.{Sight, Rose, CameIn, Dropped, Fell, Failed}

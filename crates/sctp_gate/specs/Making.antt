@@ -4,7 +4,7 @@ use Rattle.sctp_rules.specs.State.{Told}
 use Rattle.sctp_bundling.specs.Watching.{Sent, sent_as}
 use Rattle.exchange_rules.specs.Queues.{WholeQueues}
 use Rattle.exchange.specs.KeptQueues.{KeptQueues, kept}
-use Rattle.exchange.specs.Stands.{Kept, StandsFor}
+use Rattle.exchange.specs.Calls.{Kept, StandsFor}
 use Rattle.sctp_gate.specs.declared.standing.Standing.{Standing}
 use Rattle.sctp_gate.specs.Standing.{stands_after}
 use Rattle.sctp_gate.specs.Watching.{Sight, Gives}

@@ -10,9 +10,8 @@ pub use Rattle.std.specs.Option.{option_map}
 pub use Rattle.std.specs.Prelude.{Result, IsErr, slice_index, sum_by}
 pub use Rattle.exchange.specs.KeptQueues.{kept}
 pub use Rattle.exchange_rules.specs.Exchange.{outcome_of, after, taken}
-pub use Rattle.exchange_rules.specs.Happening.{FrameCame}
+pub use Rattle.exchange_rules.specs.State.{FrameCame, QueueKind, State}
 pub use Rattle.exchange_rules.specs.Queues.{whole}
-pub use Rattle.exchange_rules.specs.State.{QueueKind, State}
 pub use Rattle.m2pa_codec.proofs.StreamTexts.{length_field-append, one_stream, text-next_in}
 pub use Rattle.m2pa_codec.proofs.Windows.{consumed, written_behind}
 pub use Rattle.m2pa_codec.specs.Frames.{FrameValue, EmptyFrame, MessageFrame, StatusFrame, spelled}

@@ -1,7 +1,7 @@
 -- What is read and taken is that of the abstract exchange.
 use Rattle.served_link.proofs.Basics.{◌≡◌, ◌∙◌, ℕ, Bool, true, false, List, [], ◌∷◌, ◌++◌, Option, refl, sym, ap, subst, if◌then◌else◌, Result, option_map, Outcome, FrameValue, spelled, whole, FrameCame, after, outcome_of, taken, kept, Sight, CameIn, SeesEach, text_to_take, has_room, TakesEach, after_last, Fills, after_texts, sights_of, Reads, Broken}
-use Rattle.exchange_rules.specs.Sound.{Abstract}
-use Rattle.exchange.specs.Stands.{Kept, StandsFor}
+use Rattle.exchange_rules.specs.First.{Abstract}
+use Rattle.exchange.specs.Calls.{Kept, StandsFor}
 use Rattle.exchange.proofs.Standing.{stands-after, stands-outcome, stands-frame, stands-taken}
 
 stands-texts : (link : ℕ) (texts : List (List ℕ)) (k : Kept) (a : Abstract) → StandsFor k a → StandsFor (after_texts kept link texts k) (after_texts whole link texts a)

@@ -1,14 +1,12 @@
 -- One connection of a link: whether the association is up over it, and what it holds of the octets that came and of
 -- those that go out.
-use Rattle.std.specs.Prelude.{◌≡◌, ℕ, ◌-◌, Bool, true, false, List, [], ◌∷◌, ◌++◌, length, map, nat_lt, nat_le}
-use Rattle.std.specs.Prelude.{Option, Some, None, if◌then◌else◌}
+use Rattle.std.specs.Prelude.{◌≡◌, ℕ, ◌-◌, Bool, true, false, List, [], ◌∷◌, ◌++◌, length, map, nat_lt, nat_le, Option, Some, None, if◌then◌else◌}
 use Rattle.std.specs.Option.{option_map}
 use Rattle.signalling_types.specs.declared.outcome.Outcome.{Outcome}
 use Rattle.signalling_types.specs.declared.outcome.Outcome.TheVariants.{Handled}
 use Rattle.m2pa_codec.specs.Frames.{spelled}
 use Rattle.exchange.specs.declared.frame_text.TheConstants.{LONGEST_FRAME}
-use Rattle.exchange_rules.specs.State.{QueueKind, State}
-use Rattle.exchange_rules.specs.Happening.{CameUp, WentDown}
+use Rattle.exchange_rules.specs.State.{QueueKind, State, CameUp, WentDown}
 use Rattle.exchange_rules.specs.Exchange.{outcome_of, after, frame_to_take, taken}
 use Rattle.served_link.specs.Watching.{Sight, WentOut, SeesEach}
 use Rattle.served_link.specs.declared.outgoing.TheConstants.{OUTPUT_OCTETS}

@@ -4,8 +4,7 @@ use Rattle.std.specs.List.{concat}
 use Rattle.signalling_types.specs.declared.limits.TheConstants.Limits.{FRAME_OCTETS}
 use Rattle.m2pa_codec.specs.Streams.{IsStream, IsText, next_in}
 use Rattle.m2pa_codec.specs.declared.framer.Next.TheVariants.{Wait, Broken as BreaksOff}
-use Rattle.exchange_rules.specs.State.{QueueKind, State}
-use Rattle.exchange_rules.specs.Happening.{FrameCame}
+use Rattle.exchange_rules.specs.State.{QueueKind, State, FrameCame}
 use Rattle.exchange_rules.specs.Exchange.{outcome_of, after}
 use Rattle.served_link.specs.Watching.{Sight, CameIn, SeesEach}
 use Rattle.served_link.specs.declared.association.Broken.{Broken}

@@ -2,13 +2,12 @@
 
 ghost use Rattle.std.specs.Prelude.{◌≡◌, ◌≤◌, ◌<◌, false, true, length, drop};
 ghost use Rattle.exchange.specs.KeptQueues.{kept};
-ghost use Rattle.exchange.specs.Stands.{StandsFor};
+ghost use Rattle.exchange.specs.Calls.{StandsFor};
 ghost use Rattle.exchange_rules.specs.Queues.{whole};
-ghost use Rattle.exchange_rules.specs.Sound.{Abstract};
+ghost use Rattle.exchange_rules.specs.First.{Abstract};
 ghost use Rattle.exchange_rules.specs.Exchange.{outcome_of, after};
-ghost use Rattle.exchange_rules.specs.Happening.{CameUp};
-ghost use Rattle.served_link.specs.Connections.{silent, is_handled, risen, after_rise, after_fall};
-ghost use Rattle.served_link.specs.Connections.{is_pending, Fills};
+ghost use Rattle.exchange_rules.specs.State.{CameUp};
+ghost use Rattle.served_link.specs.Connections.{silent, is_handled, risen, after_rise, after_fall, is_pending, Fills};
 ghost use Rattle.served_link.specs.Reading.{Reads};
 
 use crate::filling::fill_all;

@@ -4,7 +4,7 @@ ghost use Rattle.std.specs.Prelude.{◌≡◌, ◌<◌, length};
 ghost use Rattle.m2pa_codec.specs.Streams.{next_in};
 ghost use Rattle.exchange.specs.KeptQueues.{kept};
 ghost use Rattle.exchange_rules.specs.Exchange.{after, outcome_of};
-ghost use Rattle.exchange_rules.specs.Happening.{FrameCame};
+ghost use Rattle.exchange_rules.specs.State.{FrameCame};
 ghost use Rattle.served_link.specs.Watching.{CameIn};
 ghost use Rattle.served_link.specs.Reading.{Reads, Feeds, HandsIn, Stops};
 

@@ -2,8 +2,7 @@
 
 ghost use Rattle.std.specs.Prelude.{◌≡◌, IfOk, replicate, length};
 ghost use Rattle.exchange.specs.KeptQueues.{kept};
-ghost use Rattle.exchange.specs.Stands.{kept_of};
-ghost use Rattle.exchange.specs.Calls.{happened};
+ghost use Rattle.exchange.specs.Calls.{kept_of, happened};
 ghost use Rattle.exchange_rules.specs.Exchange.{outcome_of, after};
 ghost use Rattle.exchange_rules.specs.First.{first_state};
 ghost use Rattle.served_link.specs.Counting.{no_counts};

@@ -1,5 +1,4 @@
 pub mod Message
-pub mod Lent
 pub mod Room
 pub mod InPlace
 pub mod Causes

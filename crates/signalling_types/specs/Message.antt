@@ -1,6 +1,7 @@
 -- A signalling message and what its octets say (Q.704 §2, §14, §15).
 use Rattle.std.specs.Prelude.{ℕ, Bool, ◌+◌, ◌*◌, ◌/◌, ◌%◌, ◌^◌, List, nat_lt, slice_index}
 use Rattle.signalling_types.specs.declared.point.Flow.{Flow}
+use Rattle.signalling_types.specs.declared.msu_ref.MsuRef.{MsuRef}
 
 -- a message signal unit: its service information octet, and its signalling information field
 pub record Message : Type 0 where
@@ -39,3 +40,8 @@ is_management m = nat_lt (service_indicator m) 2
 -- messages that go one way: the same destination and the same signalling link selection
 abbrev pub flow_of : Message → Flow
 flow_of m = record { point = dpc_of m; sls = sls_of m }
+
+-- ---- A message that is lent, as a message.
+
+abbrev pub lent : MsuRef → Message
+lent m = record { sio = m.sio; sif = m.sif.now }

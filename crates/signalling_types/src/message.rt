@@ -1,8 +1,7 @@
 //! A message signal unit, in place.
 
 ghost use Rattle.std.specs.Prelude.{◌≡◌, ◌-◌, ◌^◌, ◌<◌, ◌≤◌, ◌++◌, ◌↔◌, length, drop, replicate, IsErr, IfOk, IfErr};
-ghost use Rattle.signalling_types.specs.Message.{Message, service_indicator, network_indicator, is_management};
-ghost use Rattle.signalling_types.specs.Lent.{lent};
+ghost use Rattle.signalling_types.specs.Message.{Message, service_indicator, network_indicator, is_management, lent};
 
 use crate::cause::Cause;
 use crate::limits::Limits;

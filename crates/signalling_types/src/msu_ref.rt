@@ -1,8 +1,7 @@
 //! A message that is lent.
 
 ghost use Rattle.std.specs.Prelude.{◌≡◌, ◌^◌, ◌<◌};
-ghost use Rattle.signalling_types.specs.Message.{is_management, network_indicator, service_indicator};
-ghost use Rattle.signalling_types.specs.Lent.{lent};
+ghost use Rattle.signalling_types.specs.Message.{is_management, network_indicator, service_indicator, lent};
 
 /// A message signal unit that is lent: its octets lie in a frame, in an `Msu` or wherever else its
 /// owner keeps them (Q.703 §2.3). Its signalling information field may have any length.

@@ -1,4 +1,3 @@
-pub mod Names
 pub mod Timers
 pub mod OneMap
 pub mod Places

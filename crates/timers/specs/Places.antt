@@ -7,7 +7,7 @@ use Rattle.timers.specs.declared.name.TimerName.TheVariants.{L1, L2, L3, L4, L6,
 use Rattle.timers.specs.declared.name.NodeCounts.{NodeCounts}
 use Rattle.timers.specs.declared.name.RouteTimer.{RouteTimer}
 use Rattle.timers.specs.declared.name.RouteTimer.TheVariants as route
-use Rattle.timers.specs.Names.{has_name}
+use Rattle.timers.specs.Timers.{has_name}
 
 -- no more sets than can be named
 abbrev pub named_sets : NodeCounts → NodeCounts

@@ -3,9 +3,8 @@ use Rattle.std.specs.Prelude.{◌≡◌, ℕ, Bool, if◌then◌else◌, Option,
 use Rattle.timers.specs.declared.name.TimerName.{TimerName}
 use Rattle.timers.specs.declared.name.NodeCounts.{NodeCounts}
 use Rattle.timers.specs.declared.timers.Timers.TheInside.{Inside}
-use Rattle.timers.specs.Names.{has_name, count_of}
+use Rattle.timers.specs.Timers.{has_name, count_of, Running, running_with}
 use Rattle.timers.specs.Places.{named_sets, place_in}
-use Rattle.timers.specs.Timers.{Running, running_with}
 
 pub record Table : Type 0 where
   -- how many links, sets and destinations the node has

@@ -8,9 +8,7 @@ ghost use Rattle.timers.specs.declared.name.TimerName.TheVariants as name;
 ghost use Rattle.timers.specs.declared.name.RouteTimer.{RouteTimer};
 ghost use Rattle.timers.specs.declared.name.RouteTimer.TheVariants as route;
 ghost use Rattle.timers.specs.declared.name.NodeCounts.{NodeCounts};
-ghost use Rattle.timers.specs.Names.{key_of, has_name, names_of, is_of_set, is_same, is_before, AreInOrder};
-ghost use Rattle.timers.specs.Timers.{Running, none_running, is_running, set_timer, start_unless_running};
-ghost use Rattle.timers.specs.Timers.{clear_timer, clear_set, one_less, ticked, due_name, after_due, due_count};
+ghost use Rattle.timers.specs.Timers.{key_of, has_name, names_of, is_of_set, is_same, is_before, AreInOrder, Running, none_running, is_running, set_timer, start_unless_running, clear_timer, clear_set, one_less, ticked, due_name, after_due, due_count};
 
 /// Two timers with one place in the order are one.
 pub fn keys_tell_names_apart()

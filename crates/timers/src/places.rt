@@ -2,9 +2,8 @@
 
 ghost use Rattle.std.specs.Prelude.{◌≡◌, ◌≤◌, ◌<◌, ◌+◌, ◌*◌, ◌^◌, ◌/◌, ◌%◌, ◌&&◌, nat_lt, if◌then◌else◌, Some, None};
 ghost use Rattle.timers.specs.declared.name.TimerName.TheVariants.{T8, T10};
-ghost use Rattle.timers.specs.Names.{has_name, count_of};
-ghost use Rattle.timers.specs.Places.{named_sets, codes_from, destinations_from, t8_from, t10_from, place_of};
-ghost use Rattle.timers.specs.Places.{link_name, code_name, route_name, name_at};
+ghost use Rattle.timers.specs.Timers.{has_name, count_of};
+ghost use Rattle.timers.specs.Places.{named_sets, codes_from, destinations_from, t8_from, t10_from, place_of, link_name, code_name, route_name, name_at};
 
 use crate::name::{NodeCounts, TimerName};
 use signalling_types::{Limits, LinkId, SetId};

@@ -3,8 +3,7 @@ use Rattle.std.specs.Prelude.{ℕ, ◌≤◌, List, length, Option, None, Some, 
 use Rattle.signalling_types.specs.Message.{Message}
 use Rattle.signalling_types.specs.declared.notice.FrameFault.{FrameFault}
 use Rattle.m2pa_codec.specs.declared.frame.Frame.{Frame}
-use Rattle.m2pa_codec.specs.Frames.{FrameValue, EmptyFrame, MessageFrame, StatusFrame, sif_of}
-use Rattle.m2pa_codec.specs.Reading.{read_frame}
+use Rattle.m2pa_codec.specs.Frames.{FrameValue, EmptyFrame, MessageFrame, StatusFrame, sif_of, read_frame}
 use Rattle.m2pa_codec.specs.Values.{value_of, Answers}
 
 -- this is what the octets say as a frame, or their first fault

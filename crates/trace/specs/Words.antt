@@ -4,13 +4,10 @@ use Rattle.hex.specs.Hex.{encode_lower}
 use Rattle.signalling_types.specs.declared.notice.FrameFault.{FrameFault}
 use Rattle.signalling_types.specs.Message.{Message, service_indicator}
 use Rattle.m2pa_codec.specs.declared.status.LinkStatus.{LinkStatus}
-use Rattle.m2pa_codec.specs.declared.status.LinkStatus.TheVariants.{Alignment, ProvingNormal, ProvingEmergency, Ready}
-use Rattle.m2pa_codec.specs.declared.status.LinkStatus.TheVariants.{ProcessorOutage, ProcessorRecovered, Busy}
-use Rattle.m2pa_codec.specs.declared.status.LinkStatus.TheVariants.{BusyEnded, OutOfService}
-use Rattle.m2pa_codec.specs.Frames.{FrameValue, EmptyFrame, MessageFrame, StatusFrame}
-use Rattle.m2pa_codec.specs.Reading.{read_frame}
+use Rattle.m2pa_codec.specs.declared.status.LinkStatus.TheVariants.{Alignment, ProvingNormal, ProvingEmergency, Ready, ProcessorOutage, ProcessorRecovered, Busy, BusyEnded, OutOfService}
+use Rattle.m2pa_codec.specs.Frames.{FrameValue, EmptyFrame, MessageFrame, StatusFrame, read_frame}
 use Rattle.mtp3_codec.specs.declared.label.Label.{Label}
-use Rattle.mtp3_codec.specs.Label.{label_in}
+use Rattle.mtp3_codec.specs.Headings.{label_in}
 use Rattle.trace.specs.declared.direction.Direction.{Direction}
 use Rattle.trace.specs.declared.direction.Direction.TheVariants.{In, Out}
 use Rattle.point_format.specs.declared.point.PointFormat.{PointFormat}

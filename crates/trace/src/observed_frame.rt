@@ -2,7 +2,7 @@
 
 ghost use Rattle.std.specs.Prelude.{◌≡◌};
 ghost use Rattle.std.specs.Option.{option_map};
-ghost use Rattle.signalling_types.specs.Lent.{lent};
+ghost use Rattle.signalling_types.specs.Message.{lent};
 ghost use Rattle.trace.specs.Observed.{message_in};
 ghost use Rattle.trace.specs.Packets.{stream_of};
 

@@ -1,13 +1,11 @@
 //! Frames in words.
 
 ghost use Rattle.std.specs.Prelude.{◌≡◌, ◌+◌, ◌*◌, ◌≤◌, ◌++◌, [], length, decimal};
-ghost use Rattle.m2pa_codec.specs.Frames.{sif_of};
-ghost use Rattle.m2pa_codec.specs.Reading.{read_frame};
+ghost use Rattle.m2pa_codec.specs.Frames.{sif_of, read_frame};
 ghost use Rattle.m2pa_codec.specs.Values.{value_of};
 ghost use Rattle.point_format.specs.Points.{point_text};
-ghost use Rattle.signalling_types.specs.Lent.{lent};
-ghost use Rattle.trace.specs.Words.{frame_words, numbers_words, status_word, message_words, label_words};
-ghost use Rattle.trace.specs.Words.{said_words, value_words, service_words, octets_words};
+ghost use Rattle.signalling_types.specs.Message.{lent};
+ghost use Rattle.trace.specs.Words.{frame_words, numbers_words, status_word, message_words, label_words, said_words, value_words, service_words, octets_words};
 
 use crate::direction::Direction;
 use crate::observed_frame::ObservedFrame;

@@ -2,19 +2,16 @@
 
 ghost use Rattle.std.specs.Prelude.{◌≡◌, ◌<◌, ◌≤◌, ◌&&◌, None, Some, true, false, not, length, IfSome};
 ghost use Rattle.std.specs.Option.{option_and_then};
-ghost use Rattle.signalling_types.specs.Lent.{lent};
-ghost use Rattle.signalling_types.specs.Message.{is_management, dpc_of};
-ghost use Rattle.mtp3_codec.specs.Label.{label_at};
+ghost use Rattle.signalling_types.specs.Message.{lent, is_management, dpc_of};
+ghost use Rattle.mtp3_codec.specs.Headings.{label_at};
 ghost use Rattle.settings.specs.Readings.{destination_place};
 ghost use Rattle.flow_hold.specs.Holds.{is_held};
-ghost use Rattle.exchange_rules.specs.Holding as holding;
-ghost use Rattle.routes.specs.Chosen.{chosen_link};
+ghost use Rattle.exchange_rules.specs.Routing as holding;
+ghost use Rattle.routes.specs.Routes.{chosen_link};
 ghost use Rattle.exchange.specs.KeptQueues.{kept};
 ghost use Rattle.exchange_rules.specs.Exchange.{Ends};
-ghost use Rattle.exchange_rules.specs.Routing as routing;
-ghost use Rattle.exchange_rules.specs.Routing.{facts};
-ghost use Rattle.exchange_rules.specs.Queueing.{no_room};
-ghost use Rattle.exchange_rules.specs.Arrival as rule;
+ghost use Rattle.exchange_rules.specs.Routing.{facts, no_room};
+ghost use Rattle.exchange_rules.specs.Messages as rule;
 
 use super::Exchange;
 use cell_pool::Lanes;
@@ -111,7 +108,7 @@ impl Exchange {
 
     /// The link of the flow of a label.
     pub(super) fn link_of(&self, label: &Label) -> Option<LinkId>
-        ensures link { result ≡ routing.link_of self.now.settings self.now.node.parts
+        ensures link { result ≡ holding.link_of self.now.settings self.now.node.parts
             (record { point = label.now.dpc; sls = label.now.sls }) }
         ensures fits { IfSome result (λ link. link < length self.now.settings.links) }
     {

@@ -1,7 +1,7 @@
 //! The exchange before its first event.
 
 ghost use Rattle.std.specs.Prelude.{◌≡◌, ◌≤◌, ◌+◌, [], length, replicate, IfOk};
-ghost use Rattle.changeover.specs.Standing.{no_changeover};
+ghost use Rattle.changeover.specs.Changeover.{no_changeover};
 ghost use Rattle.timers.specs.Timers.{none_running};
 ghost use Rattle.changeback.specs.Codes.{no_codes};
 ghost use Rattle.route_management.specs.Told.{first_told, shape_of};
@@ -9,7 +9,7 @@ ghost use Rattle.flow_hold.specs.Holds.{no_holds};
 ghost use Rattle.sccp_relay.specs.Rows.{table_of};
 ghost use Rattle.link.specs.Counts.{kept_first};
 ghost use Rattle.route_management.specs.Updates.{first_updates};
-ghost use Rattle.exchange.specs.Stands.{StandsFor, kept_of};
+ghost use Rattle.exchange.specs.Calls.{StandsFor, kept_of};
 ghost use Rattle.exchange_rules.specs.First.{first_state, counts_in};
 ghost use Rattle.exchange_rules.specs.Routing.{first_network_of};
 

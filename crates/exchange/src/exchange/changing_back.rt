@@ -1,14 +1,12 @@
 //! A link returns to service and takes its flows back, and what ends that.
 
-ghost use Rattle.std.specs.Prelude.{◌≡◌, ◌<◌, ℕ, None, Some, false, length, replicate, slice_index_or};
-ghost use Rattle.std.specs.Prelude.{IfErr, OnOk, is_ok, if◌then◌else◌};
-ghost use Rattle.routes.specs.Facts.{with_link};
+ghost use Rattle.std.specs.Prelude.{◌≡◌, ◌<◌, ℕ, None, Some, false, length, replicate, slice_index_or, IfErr, OnOk, is_ok, if◌then◌else◌};
+ghost use Rattle.routes.specs.Routes.{with_link};
 ghost use Rattle.changeback.specs.Return.{returned, gives_up, held_by};
 ghost use Rattle.exchange_rules.specs.State.{with_node, with_parts};
 ghost use Rattle.exchange.specs.Head.{with_holds};
 ghost use Rattle.exchange.specs.KeptQueues.{kept};
-ghost use Rattle.exchange_rules.specs.Routing.{facts};
-ghost use Rattle.exchange_rules.specs.Queueing.{no_room, queue_on};
+ghost use Rattle.exchange_rules.specs.Routing.{facts, no_room, queue_on};
 ghost use Rattle.signalling_types.specs.declared.limits.TheConstants.Limits.{LINKS};
 ghost use Rattle.exchange_rules.specs.Exchange.{Ends};
 ghost use Rattle.exchange_rules.specs.Places.{HasPlacesFor};

@@ -3,14 +3,12 @@
 ghost use Rattle.std.specs.Prelude.{◌≡◌, ◌<◌, Some, true, length, slice_get};
 ghost use Rattle.std.specs.Option.{option_map};
 ghost use Rattle.changeover.specs.Kept.{kept_accepted_count, kept_doubted};
-ghost use Rattle.exchange_rules.specs.State.{with_node, with_parts};
+ghost use Rattle.exchange_rules.specs.State.{with_node, with_parts, note, flagged};
 ghost use Rattle.exchange.specs.KeptQueues as queues;
 ghost use Rattle.exchange.specs.KeptQueues.{kept, link_lane};
 ghost use Rattle.exchange_rules.specs.Exchange.{Ends};
-ghost use Rattle.exchange_rules.specs.Noting.{note, flagged};
-ghost use Rattle.exchange_rules.specs.Failing as failing;
+ghost use Rattle.exchange_rules.specs.ChangingOver as failing;
 ghost use Rattle.exchange.specs.Draining as draining;
-ghost use Rattle.exchange_rules.specs.ChangingOver as rule;
 ghost use Rattle.signalling_types.specs.declared.notice.Notice.TheVariants as notices;
 
 use super::Exchange;
@@ -29,7 +27,7 @@ impl Exchange {
     pub(super) fn on_changeover_order(&mut self, link: LinkId, number: Option<Number24>) -> Outcome
         requires { link < length self.old.settings.links }
         ensures { Ends self.old result self.new
-            (rule.on_changeover_order kept self.old.settings link number self.old.node) }
+            (failing.on_changeover_order kept self.old.settings link number self.old.node) }
     {
         if !self.links.state(link).is_down() {
             self.fail_by_peer(link);
@@ -45,7 +43,7 @@ impl Exchange {
     fn acknowledge_changeover(&mut self, link: LinkId)
         requires { link < length self.old.settings.links }
         ensures { self.new
-            ≡ with_node self.old (rule.acknowledge_changeover kept self.old.settings link self.old.node) }
+            ≡ with_node self.old (failing.acknowledge_changeover kept self.old.settings link self.old.node) }
     {
         let number = self.sequences[link.index()].last_accepted();
         let answer = Management::ExtendedChangeoverAcknowledgement(self.code_of(link), number);
@@ -60,7 +58,7 @@ impl Exchange {
     ) -> Outcome
         requires { link < length self.old.settings.links }
         ensures { Ends self.old result self.new
-            (rule.on_changeover_acknowledgement kept self.old.settings link number self.old.node) }
+            (failing.on_changeover_acknowledgement kept self.old.settings link number self.old.node) }
     {
         let Some(incomplete) = self.changeovers.acknowledge(link) else {
             return Outcome::Ignored;
@@ -75,7 +73,7 @@ impl Exchange {
     /// A timer of a link's changeover ran out: it is completed without a number.
     pub(super) fn on_changeover_timer(&mut self, timer: ChangeoverTimer, link: LinkId)
         ensures { self.new
-            ≡ with_node self.old (rule.on_changeover_timer kept self.old.settings timer link self.old.node) }
+            ≡ with_node self.old (failing.on_changeover_timer kept self.old.settings timer link self.old.node) }
     {
         if !self.links.has(link) {
             return;
@@ -94,7 +92,7 @@ impl Exchange {
     /// sent are lost.
     fn conclude(&mut self, link: LinkId, number: Option<Number24>)
         requires { link < length self.old.settings.links }
-        ensures { self.new ≡ with_node self.old (rule.conclude kept self.old.settings
+        ensures { self.new ≡ with_node self.old (failing.conclude kept self.old.settings
             (kept.found self.old.node.queues link number) link number self.old.node) }
     {
         self.lose_doubtful(link, &number);
@@ -107,7 +105,7 @@ impl Exchange {
     fn lose_doubtful(&mut self, link: LinkId, number: &Option<Number24>)
         requires { link < length self.old.settings.links }
         ensures { self.new ≡ with_node self.old (with_parts self.old.node
-            (rule.with_losses (kept.found self.old.node.queues link number.now) self.old.node.parts)) }
+            (failing.with_losses (kept.found self.old.node.queues link number.now) self.old.node.parts)) }
     {
         if let Some(count) = self.count_in_doubt(link, number) {
             self.lose_first(link, count);
@@ -161,7 +159,7 @@ impl Exchange {
     /// The changeover of a link holds nothing any more, and T1 stops.
     fn lift(&mut self, link: LinkId)
         ensures { self.new ≡ with_node self.old
-            (with_parts self.old.node (rule.lifted_parts link self.old.node.parts)) }
+            (with_parts self.old.node (failing.lifted_parts link self.old.node.parts)) }
     {
         self.release_due = true;
         self.holds.lift(Procedure::Changeover(link));

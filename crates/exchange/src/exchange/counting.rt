@@ -2,9 +2,9 @@
 
 ghost use Rattle.std.specs.Prelude.{◌≡◌, count_by};
 ghost use Rattle.cell_pool.specs.Lanes.{is_user_picked};
-ghost use Rattle.exchange_rules.specs.Sound.{Abstract};
+ghost use Rattle.exchange_rules.specs.First.{Abstract};
 ghost use Rattle.exchange_rules.specs.Queues.{queue_at};
-ghost use Rattle.exchange.specs.Stands.{StandsFor};
+ghost use Rattle.exchange.specs.Calls.{StandsFor};
 ghost use Rattle.exchange.specs.KeptQueues.{kept, counts_at, link_lane};
 ghost use Rattle.exchange.specs.Counting.{behind_number, kept_behind_number};
 

@@ -1,11 +1,10 @@
 //! The failure of a link, and the changeover that it begins.
 
 ghost use Rattle.std.specs.Prelude.{◌≡◌, ◌<◌, length, true};
-ghost use Rattle.exchange_rules.specs.State.{with_node, with_parts};
-ghost use Rattle.exchange_rules.specs.Links.{in_service};
+ghost use Rattle.exchange_rules.specs.State.{with_node, with_parts, in_service};
 ghost use Rattle.exchange.specs.KeptQueues.{kept};
-ghost use Rattle.exchange_rules.specs.Made as made;
-ghost use Rattle.exchange_rules.specs.Failing as rule;
+ghost use Rattle.exchange_rules.specs.Telling as made;
+ghost use Rattle.exchange_rules.specs.ChangingOver as rule;
 
 use super::Exchange;
 use changeover::Beginning;

@@ -2,15 +2,13 @@
 
 ghost use Rattle.std.specs.Prelude.{◌≡◌, ◌<◌, length};
 ghost use Rattle.m2pa_codec.specs.Values.{value_of};
-ghost use Rattle.exchange_rules.specs.State.{with_node, with_parts};
+ghost use Rattle.exchange_rules.specs.State.{with_node, with_parts, link_at};
 ghost use Rattle.std.specs.Option.{option_map};
-ghost use Rattle.signalling_types.specs.Lent.{lent};
+ghost use Rattle.signalling_types.specs.Message.{lent};
 ghost use Rattle.exchange.specs.KeptQueues.{kept};
-ghost use Rattle.exchange_rules.specs.Exchange.{Ends};
-ghost use Rattle.exchange_rules.specs.Ticking.{with_timers};
+ghost use Rattle.exchange_rules.specs.Exchange.{Ends, with_timers};
 ghost use Rattle.exchange_rules.specs.Timing.{timed_confirming};
 ghost use Rattle.exchange.specs.Carried.{carrying};
-ghost use Rattle.exchange_rules.specs.Links.{link_at};
 ghost use Rattle.exchange_rules.specs.Frames.{owing};
 ghost use Rattle.exchange_rules.specs.Frames as rule;
 

@@ -1,10 +1,10 @@
 //! The lists of messages: first Held, then one for each link.
 
 ghost use Rattle.std.specs.Prelude.{◌≡◌, ◌<◌, ◌≤◌, length, None, Some, true, IfErr, OnOk, is_ok, if◌then◌else◌};
-ghost use Rattle.signalling_types.specs.Lent.{lent};
+ghost use Rattle.signalling_types.specs.Message.{lent};
 ghost use Rattle.exchange_rules.specs.State.{with_node};
-ghost use Rattle.exchange_rules.specs.Queueing.{no_room, queue_on};
-ghost use Rattle.exchange_rules.specs.Holding as holding;
+ghost use Rattle.exchange_rules.specs.Routing.{no_room, queue_on};
+ghost use Rattle.exchange_rules.specs.Routing as holding;
 ghost use Rattle.exchange.specs.KeptQueues as queues;
 ghost use Rattle.exchange.specs.KeptQueues.{kept, link_lane, without_lane};
 

@@ -1,10 +1,9 @@
 //! Links that change. As long as none enters or leaves service, what is known of routes stays, and telling isn't due.
 
 ghost use Rattle.std.specs.Prelude.{◌≡◌, ◌<◌, drop, length, not, false, if◌then◌else◌};
-ghost use Rattle.exchange_rules.specs.State.{with_node, with_parts};
-ghost use Rattle.exchange_rules.specs.Links.{link_at, with_link};
+ghost use Rattle.exchange_rules.specs.State.{with_node, with_parts, link_at, with_link};
 ghost use Rattle.link.specs.Table.{action_at};
-ghost use Rattle.node_links.specs.LinkState.{after_action, after_failure, opened};
+ghost use Rattle.node_links.specs.NodeLinks.{after_action, after_failure, opened};
 
 use super::Exchange;
 use link::{Action, Input};

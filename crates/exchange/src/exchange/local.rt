@@ -1,16 +1,15 @@
 //! A message for this point.
 
 ghost use Rattle.std.specs.Prelude.{◌≡◌, ◌<◌, ◌≤◌, ◌&&◌, length, position, nat_eq, IfSome};
-ghost use Rattle.signalling_types.specs.Lent.{lent};
-ghost use Rattle.mtp3_codec.specs.Label.{label_at};
-ghost use Rattle.mtp3_codec.specs.LinkTests.{read_link_test};
-ghost use Rattle.mtp3_codec.specs.Management.{read_management};
+ghost use Rattle.signalling_types.specs.Message.{lent};
+ghost use Rattle.mtp3_codec.specs.Headings.{label_at};
+ghost use Rattle.mtp3_codec.specs.Management.{read_link_test, read_management};
 ghost use Rattle.mtp3_codec.specs.Values.{test_value};
 ghost use Rattle.exchange_rules.specs.State.{with_node};
 ghost use Rattle.exchange.specs.KeptQueues.{kept};
-ghost use Rattle.exchange_rules.specs.Made.{send_on};
+ghost use Rattle.exchange_rules.specs.Telling.{send_on};
 ghost use Rattle.exchange_rules.specs.Exchange.{Ends};
-ghost use Rattle.exchange_rules.specs.Local as rule;
+ghost use Rattle.exchange_rules.specs.Messages as rule;
 
 use super::Exchange;
 use mtp3_codec::{ANSWER_OCTETS, Label, LinkTest, Management, MgmtFault, TestKind};

@@ -1,14 +1,12 @@
 //! Management that this node makes, or that a link left over when it failed.
 
 ghost use Rattle.std.specs.Prelude.{◌≡◌, ◌<◌, ◌≤◌, Some, None, length, IfErr, OnOk, is_ok, if◌then◌else◌};
-ghost use Rattle.signalling_types.specs.Lent.{lent};
-ghost use Rattle.signalling_types.specs.Message.{dpc_of};
-ghost use Rattle.exchange_rules.specs.State.{with_node, with_parts};
+ghost use Rattle.signalling_types.specs.Message.{lent, dpc_of};
+ghost use Rattle.exchange_rules.specs.State.{with_node, with_parts, note, flagged};
 ghost use Rattle.exchange.specs.KeptQueues.{kept};
-ghost use Rattle.exchange_rules.specs.Noting.{note, flagged};
 ghost use Rattle.signalling_types.specs.declared.notice.Notice.TheVariants as notices;
-ghost use Rattle.exchange_rules.specs.Queueing.{no_room, queue_on};
-ghost use Rattle.exchange_rules.specs.Made as rule;
+ghost use Rattle.exchange_rules.specs.Routing.{no_room, queue_on};
+ghost use Rattle.exchange_rules.specs.Telling as rule;
 
 use super::Exchange;
 use cell_pool::Lanes;

@@ -1,8 +1,8 @@
 //! A message: where it goes, and what happens to it.
 
 ghost use Rattle.std.specs.Prelude.{◌≡◌, ◌<◌, ◌≤◌, length};
-ghost use Rattle.signalling_types.specs.Lent.{lent};
-ghost use Rattle.mtp3_codec.specs.Label.{label_at};
+ghost use Rattle.signalling_types.specs.Message.{lent};
+ghost use Rattle.mtp3_codec.specs.Headings.{label_at};
 ghost use Rattle.mtp3_codec.specs.declared.discrimination.Discrimination.{Discrimination};
 ghost use Rattle.mtp3_codec.specs.declared.label.Label.{Label};
 ghost use Rattle.exchange.specs.KeptQueues.{kept};

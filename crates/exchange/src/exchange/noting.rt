@@ -2,7 +2,7 @@
 
 ghost use Rattle.std.specs.Prelude.{◌≡◌};
 ghost use Rattle.exchange_rules.specs.State.{with_node, with_parts};
-ghost use Rattle.exchange_rules.specs.Noting as rule;
+ghost use Rattle.exchange_rules.specs.State as rule;
 
 use super::Exchange;
 use settings::Notice;

@@ -4,8 +4,8 @@ ghost use Rattle.std.specs.Prelude.{◌≡◌, ◌<◌, length};
 ghost use Rattle.exchange_rules.specs.State.{with_node};
 ghost use Rattle.exchange.specs.KeptQueues.{kept};
 ghost use Rattle.exchange_rules.specs.Exchange.{Ends, wants_of};
-ghost use Rattle.exchange_rules.specs.Sound.{Abstract};
-ghost use Rattle.exchange.specs.Stands.{StandsFor};
+ghost use Rattle.exchange_rules.specs.First.{Abstract};
+ghost use Rattle.exchange.specs.Calls.{StandsFor};
 ghost use Rattle.exchange_rules.specs.Opening as rule;
 ghost use Rattle.exchange.specs.Views.{may_restart_at};
 

@@ -2,8 +2,8 @@
 
 ghost use Rattle.std.specs.Prelude.{◌≡◌, ◌<◌, length, IfOk};
 ghost use Rattle.settings.specs.Readings.{destination_place, set_place};
-ghost use Rattle.exchange_rules.specs.Points as rule;
-ghost use Rattle.exchange_rules.specs.Points.{entry_of};
+ghost use Rattle.exchange_rules.specs.Routing as rule;
+ghost use Rattle.exchange_rules.specs.Routing.{entry_of};
 
 use super::Exchange;
 use settings::{Cause, Limits, LinkId, Outcome, PointCode, SetId, Sls};

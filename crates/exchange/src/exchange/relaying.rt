@@ -1,16 +1,16 @@
 //! SCCP messages for this point, and the translation rows that lead them on.
 
 ghost use Rattle.std.specs.Prelude.{◌≡◌, ◌≤◌, length};
-ghost use Rattle.signalling_types.specs.Lent.{lent};
+ghost use Rattle.signalling_types.specs.Message.{lent};
 ghost use Rattle.sccp_relay.specs.Relay.{relay};
 ghost use Rattle.sccp_relay.specs.Values.{own_value};
 ghost use Rattle.exchange_rules.specs.State.{with_node};
 ghost use Rattle.exchange.specs.KeptQueues.{kept};
 ghost use Rattle.exchange.specs.Calls.{is_memory_refused};
 ghost use Rattle.exchange.specs.Relaying.{handled_or_refused};
-ghost use Rattle.exchange_rules.specs.Arrival.{transfer};
+ghost use Rattle.exchange_rules.specs.Messages.{transfer};
 ghost use Rattle.exchange_rules.specs.Exchange.{Ends};
-ghost use Rattle.exchange_rules.specs.Relaying as rule;
+ghost use Rattle.exchange_rules.specs.Messages as rule;
 
 use super::Exchange;
 use mtp3_codec::Label;

@@ -4,9 +4,9 @@ ghost use Rattle.std.specs.Prelude.{◌≡◌, ◌&&◌, not, length};
 ghost use Rattle.exchange_rules.specs.State.{with_node, with_parts};
 ghost use Rattle.exchange.specs.KeptQueues.{kept, held_lane};
 ghost use Rattle.settings.specs.Readings.{destination_place};
-ghost use Rattle.exchange_rules.specs.Holding.{is_held_at};
+ghost use Rattle.exchange_rules.specs.Routing.{is_held_at};
 ghost use Rattle.exchange.specs.Draining as draining;
-ghost use Rattle.exchange_rules.specs.Releasing as rule;
+ghost use Rattle.exchange_rules.specs.Exchange as rule;
 
 use super::Exchange;
 use super::head::Head;

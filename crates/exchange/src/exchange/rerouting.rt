@@ -4,13 +4,11 @@ ghost use Rattle.std.specs.Prelude.{◌≡◌, ◌<◌, length};
 ghost use Rattle.settings.specs.Readings.{destination_place, set_place};
 ghost use Rattle.exchange_rules.specs.State.{with_node, with_parts};
 ghost use Rattle.exchange.specs.KeptQueues.{kept};
-ghost use Rattle.exchange_rules.specs.Exchange.{Ends};
-ghost use Rattle.exchange_rules.specs.Routing.{facts};
-ghost use Rattle.exchange_rules.specs.Ticking.{with_timers};
-ghost use Rattle.exchange_rules.specs.Made.{management_to};
-ghost use Rattle.exchange_rules.specs.Points.{adjacent_of, route_about};
-ghost use Rattle.routes.specs.Statuses.{status_of};
-ghost use Rattle.route_management.specs.Hearing.{heard};
+ghost use Rattle.exchange_rules.specs.Exchange.{Ends, with_timers};
+ghost use Rattle.exchange_rules.specs.Routing.{facts, adjacent_of, route_about};
+ghost use Rattle.exchange_rules.specs.Telling.{management_to};
+ghost use Rattle.routes.specs.Routes.{status_of};
+ghost use Rattle.route_management.specs.Told.{heard};
 ghost use Rattle.exchange_rules.specs.Rerouting as rule;
 
 use super::Exchange;

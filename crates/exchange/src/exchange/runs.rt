@@ -5,11 +5,10 @@ ghost use Rattle.std.specs.Option.{option_map};
 ghost use Rattle.m2pa_codec.specs.Frames.{spelled};
 ghost use Rattle.exchange.specs.KeptQueues.{kept};
 ghost use Rattle.exchange_rules.specs.Queues.{whole};
-ghost use Rattle.exchange.specs.Calls.{asked, asked_each};
+ghost use Rattle.exchange.specs.Calls.{asked, asked_each, StandsFor};
 ghost use Rattle.exchange_rules.specs.Exchange.{frame_to_take, taken};
 ghost use Rattle.exchange.specs.Runs.{answer_to_call, after_call, answers_to, after_calls};
-ghost use Rattle.exchange_rules.specs.Sound.{Abstract};
-ghost use Rattle.exchange.specs.Stands.{StandsFor};
+ghost use Rattle.exchange_rules.specs.First.{Abstract};
 
 use super::Exchange;
 use crate::event::{Answer, Call};

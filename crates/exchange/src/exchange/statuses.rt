@@ -1,16 +1,14 @@
 //! Link Status, and the timers of a link that run out, by the alignment table.
 
 ghost use Rattle.std.specs.Prelude.{◌≡◌, ◌<◌, length, true, false};
-ghost use Rattle.exchange_rules.specs.State.{with_node, with_parts};
+ghost use Rattle.exchange_rules.specs.State.{with_node, with_parts, link_at, in_service};
 ghost use Rattle.exchange.specs.KeptQueues.{kept};
 ghost use Rattle.exchange_rules.specs.Exchange.{Ends};
-ghost use Rattle.routes.specs.Facts.{with_link};
-ghost use Rattle.exchange_rules.specs.Links.{link_at, in_service};
-ghost use Rattle.exchange_rules.specs.Points.{set_of};
-ghost use Rattle.exchange_rules.specs.Routing.{facts};
+ghost use Rattle.routes.specs.Routes.{with_link};
+ghost use Rattle.exchange_rules.specs.Routing.{set_of, facts};
 ghost use Rattle.exchange.specs.Entering.{entered, is_first_in, stepped_by};
 ghost use Rattle.link.specs.Table.{action_at};
-ghost use Rattle.exchange_rules.specs.Statuses as rule;
+ghost use Rattle.exchange_rules.specs.Frames as rule;
 
 use super::Exchange;
 use link::{Action, Alignment, Input, LinkTimer, Transition};

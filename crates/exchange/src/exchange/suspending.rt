@@ -11,7 +11,7 @@ ghost use Rattle.flow_hold.specs.Holds.{with_hold};
 ghost use Rattle.exchange.specs.Head.{with_holds, with_head, with_read};
 ghost use Rattle.exchange.specs.Suspending as walk;
 ghost use Rattle.exchange_rules.specs.Places.{HasPlacesFor};
-ghost use Rattle.exchange_rules.specs.Suspending.{suspended};
+ghost use Rattle.exchange_rules.specs.ChangingOver.{suspended};
 
 use super::Exchange;
 use super::head::Head;

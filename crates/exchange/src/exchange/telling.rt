@@ -2,14 +2,13 @@
 
 ghost use Rattle.std.specs.Prelude.{◌≡◌, ◌≤◌, ◌<◌, true, false, length, Some, IfSome, IfNone};
 ghost use Rattle.settings.specs.Readings.{destination_place, set_place};
-ghost use Rattle.route_management.specs.Hearing as hearing;
-ghost use Rattle.route_management.specs.Owed.{status_to_advertise};
+ghost use Rattle.route_management.specs.Told as hearing;
+ghost use Rattle.route_management.specs.Told.{status_to_advertise};
 ghost use Rattle.exchange_rules.specs.State.{with_node, with_parts};
 ghost use Rattle.exchange.specs.KeptQueues.{kept};
 ghost use Rattle.exchange_rules.specs.Exchange.{Ends};
-ghost use Rattle.exchange_rules.specs.Made.{send_routed};
-ghost use Rattle.exchange_rules.specs.Routing.{facts};
-ghost use Rattle.exchange_rules.specs.Points.{route_about};
+ghost use Rattle.exchange_rules.specs.Telling.{send_routed};
+ghost use Rattle.exchange_rules.specs.Routing.{facts, route_about};
 ghost use Rattle.exchange_rules.specs.Telling as rule;
 ghost use Rattle.exchange.specs.Telling.{known, told_set, told_at_place};
 ghost use Rattle.exchange.specs.Pending.{OwesNone, OwesNoneBefore, OwesNoneBetween, OwesNoneUpTo};

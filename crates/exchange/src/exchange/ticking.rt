@@ -4,7 +4,7 @@ ghost use Rattle.std.specs.Prelude.{◌≡◌};
 ghost use Rattle.exchange_rules.specs.State.{with_node};
 ghost use Rattle.exchange.specs.KeptQueues.{kept};
 ghost use Rattle.exchange_rules.specs.Exchange.{Ends};
-ghost use Rattle.exchange_rules.specs.Ticking as rule;
+ghost use Rattle.exchange_rules.specs.Exchange as rule;
 
 use super::Exchange;
 use link::LinkTimer;

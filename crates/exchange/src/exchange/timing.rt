@@ -3,7 +3,7 @@
 ghost use Rattle.std.specs.Prelude.{◌≡◌};
 ghost use Rattle.timers.specs.Timers.{start_unless_running};
 ghost use Rattle.exchange_rules.specs.State.{with_node};
-ghost use Rattle.exchange_rules.specs.Ticking.{with_timers};
+ghost use Rattle.exchange_rules.specs.Exchange.{with_timers};
 ghost use Rattle.exchange_rules.specs.Timing as rule;
 
 use super::Exchange;

@@ -2,10 +2,9 @@
 //! that it has.
 
 ghost use Rattle.std.specs.Prelude.{◌≡◌, ◌+◌, length, min, slice_get};
-ghost use Rattle.exchange_rules.specs.Sound.{Abstract};
-ghost use Rattle.exchange_rules.specs.Noting.{made_since};
-ghost use Rattle.exchange_rules.specs.State.{lost_any, late_any};
-ghost use Rattle.exchange.specs.Stands.{StandsFor};
+ghost use Rattle.exchange_rules.specs.First.{Abstract};
+ghost use Rattle.exchange_rules.specs.State.{made_since, lost_any, late_any};
+ghost use Rattle.exchange.specs.Calls.{StandsFor};
 ghost use Rattle.exchange.specs.KeptQueues.{kept};
 ghost use Rattle.exchange_rules.specs.Queues.{whole};
 ghost use Rattle.exchange_rules.specs.Places.{HasPlacesFor};

@@ -1,7 +1,7 @@
 //! The statuses of a node's routes.
 
 ghost use Rattle.std.specs.Prelude.{◌≡◌};
-ghost use Rattle.node_links.specs.Statuses.{with_route_status, with_statuses_reset};
+ghost use Rattle.node_links.specs.NodeLinks.{with_route_status, with_statuses_reset};
 
 use super::NodeLinks;
 use routes::RouteStatus;

@@ -2,10 +2,7 @@
 
 ghost use Rattle.std.specs.Prelude.{◌≡◌, ◌≤◌, ◌+◌, ◌++◌, length};
 ghost use Rattle.std.specs.List.{filter, list_any};
-ghost use Rattle.routes.specs.Preference.{members_of};
-ghost use Rattle.routes.specs.Facts.{routes_to, set_at};
-ghost use Rattle.routes.specs.Chosen.{alone, chosen_link, chosen_routes, chosen_sets, first_size, groups_of, is_open};
-ghost use Rattle.routes.specs.Chosen.{choice_among, lone_set, members, open_group, sets_of};
+ghost use Rattle.routes.specs.Routes.{members_of, routes_to, set_at, alone, chosen_link, chosen_routes, chosen_sets, first_size, groups_of, is_open, choice_among, lone_set, members, open_group, sets_of};
 ghost use Rattle.routes.specs.Table.{links_among};
 
 use super::RouteFacts;
@@ -57,7 +54,7 @@ impl<'f> RouteFacts<'f> {
 
     /// The link of a flow: of the group that messages to its destination take, the first in service in the order in
     /// which the selection tries them whose set they take (Q.704 §4.2).
-    #[tactic(auto, unfolding(crate::specs::Chosen::link_by))]
+    #[tactic(auto, unfolding(crate::specs::Routes::link_by))]
     pub fn link_of(&self, destination: usize, sls: Sls) -> Option<LinkId>
         ensures { result ≡ chosen_link self.now destination sls }
     {
@@ -78,7 +75,7 @@ impl<'f> RouteFacts<'f> {
     }
 
     /// The group that messages to a destination take.
-    #[tactic(auto, unfolding(crate::specs::Chosen::choice_among))]
+    #[tactic(auto, unfolding(crate::specs::Routes::choice_among))]
     fn choice(&self, destination: usize) -> Choice<'_>
         ensures group { result.group.now ≡ (choice_among self.now (routes_to self.now destination)).group }
         ensures status { result.status ≡ (choice_among self.now (routes_to self.now destination)).status }

@@ -2,9 +2,9 @@
 
 ghost use Rattle.std.specs.Prelude.{◌≡◌, [], ◌∷◌};
 ghost use Rattle.exchange.specs.KeptQueues.{kept};
-ghost use Rattle.exchange.specs.Stands.{StandsFor};
+ghost use Rattle.exchange.specs.Calls.{StandsFor};
 ghost use Rattle.exchange_rules.specs.Queues.{whole};
-ghost use Rattle.exchange_rules.specs.Sound.{Abstract};
+ghost use Rattle.exchange_rules.specs.First.{Abstract};
 ghost use Rattle.sctp_gate.specs.Gates.{filled, taken_all, put, with_given, stream_of};
 ghost use Rattle.sctp_gate.specs.Making.{Makes, MakesWhole};
 ghost use Rattle.sctp_gate.specs.Watching.{WentOut, Gives};

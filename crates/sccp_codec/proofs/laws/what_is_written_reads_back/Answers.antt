@@ -1,5 +1,5 @@
 use Rattle.std.proofs.Common.{refl}
-use Rattle.sccp_codec.specs.Addresses.{address_octets}
+use Rattle.sccp_codec.specs.Messages.{address_octets}
 use Rattle.sccp_codec.proofs.MessageTexts.{spelled-is_unitdata, read_unitdata-spelled, spelled-address}
 use Rattle.sccp_codec.proofs.laws.what_is_written_reads_back.Goals as goal
 

@@ -1,6 +1,6 @@
 -- What was told keeps its shape, and anything may be pending.
 use Rattle.exchange.proofs.Basics.{length, map, ap, sym, subst, ◌∙◌, length-map, Allowed, Network, facts_of, shape_of, reset_shape, Updates, OwesNoneBut}
-use Rattle.routes.specs.Facts as facts
+use Rattle.routes.specs.Routes as facts
 use Rattle.exchange.proofs.Pending.{all_may_be}
 use Rattle.exchange.proofs.Rooms.{changed_room}
 use Rattle.exchange.proofs.exchange.Exchange.reset_set.Goals as goal

@@ -1,5 +1,5 @@
 use Rattle.node_links.proofs.Basics.{ap, ◌∙◌}
-use Rattle.node_links.specs.Network.{Network}
+use Rattle.node_links.specs.NodeLinks.{Network}
 use Rattle.node_links.proofs.node_links.NodeLinks.facts_by.Goals as goal
 
 pub returns : goal.returns

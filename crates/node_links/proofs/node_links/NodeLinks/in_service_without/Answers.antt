@@ -1,6 +1,6 @@
 -- The routes know which links are in service.
 use Rattle.node_links.proofs.Basics.{ap, ◌∙◌, false, List, Bool, slice_set}
-use Rattle.node_links.specs.Network.{Network, serving}
+use Rattle.node_links.specs.NodeLinks.{Network, serving}
 use Rattle.node_links.proofs.node_links.NodeLinks.in_service_without.Goals as goal
 
 pub returns : goal.returns

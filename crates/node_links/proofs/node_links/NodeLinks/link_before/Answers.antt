@@ -1,7 +1,6 @@
 -- A link that is in service is there.
 use Rattle.node_links.proofs.Basics.{ap, ◌∙◌}
-use Rattle.routes.specs.Facts.{Facts}
-use Rattle.routes.specs.Chosen.{chosen_link}
+use Rattle.routes.specs.Routes.{Facts, chosen_link}
 use Rattle.node_links.proofs.Chosen.{other_is_there}
 use Rattle.node_links.proofs.node_links.NodeLinks.link_before.Goals as goal
 

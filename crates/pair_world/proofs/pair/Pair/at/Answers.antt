@@ -1,6 +1,6 @@
 -- The exchange of an end stands for that of the abstract pair.
 use Rattle.std.proofs.Common.{ap, sym, subst, ◌∙◌}
-use Rattle.exchange.specs.Stands.{Kept, StandsFor}
+use Rattle.exchange.specs.Calls.{Kept, StandsFor}
 use Rattle.pair_world.specs.KeptEnds.{KeptEnd}
 use Rattle.pair_world.specs.Told.{seen_from}
 use Rattle.pair_world.proofs.Promised.{exchange-stands}

@@ -1,0 +1,119 @@
+-- What a link is, beside its queue.
+use Rattle.std.specs.Prelude.{Bool, List, true, false, [], ◌++◌, ℕ, map, length, replicate, slice_index_or, slice_set}
+use Rattle.m2pa_codec.specs.declared.status.LinkStatus.{LinkStatus}
+use Rattle.link.specs.declared.alignment.Alignment.{Alignment}
+use Rattle.std.specs.Option.{option_to_list}
+use Rattle.link.specs.declared.alignment.Alignment.TheVariants.{Down, NotAligned, Aligned, Proving, AlignedReady, InService}
+use Rattle.link.specs.declared.action.Transition.{Transition}
+use Rattle.link.specs.declared.action.Action.{Action}
+use Rattle.link.specs.declared.action.Action.TheVariants.{Ignored, Fail, Go}
+use Rattle.link.specs.Table.{opening}
+use Rattle.settings_rows.specs.Configuration.{LinkEntry, DestinationEntry}
+use Rattle.routes.specs.declared.route.Route.{Route}
+use Rattle.routes.specs.Routes.{Facts, first_sets, first_routes}
+use Rattle.routes.specs.declared.route.RouteStatus.{RouteStatus}
+use Rattle.routes.specs.Routes as facts
+
+pub record Link : Type 0 where
+  -- where it stands on its way into service
+  pub alignment : Alignment
+  pub association : Bool
+  -- whether the operator lets it open
+  pub active : Bool
+  -- the statuses that wait to go out, the oldest first
+  pub waiting : List LinkStatus
+  -- whether its peer takes no messages for now
+  pub peer_busy : Bool
+  -- whether a message that came isn't acknowledged yet
+  pub acknowledgement_owed : Bool
+
+-- ---- The state of one link, beside its queue.
+
+-- a link that has never been up; the operator lets it open
+abbrev pub down_link : Link
+down_link = record {
+  alignment = Down;
+  association = false;
+  active = true;
+  waiting = [];
+  peer_busy = false;
+  acknowledgement_owed = false;
+}
+
+-- a link after a step of its alignment: the status that the step sends waits behind the others
+abbrev pub stepped : Transition → Link → Link
+stepped step l = record l { alignment = step.state; waiting = l.waiting ++ option_to_list step.send }
+
+-- a link after what its alignment does about an input
+abbrev pub after_action : Action → Link → Link
+after_action Ignored l = l
+after_action Fail l = l
+after_action (Go step) l = stepped step l
+
+-- a link that failed: no status waits, and Busy and the acknowledgement that was owed are forgotten
+abbrev pub after_failure : Link → Link
+after_failure l = record l { alignment = Down; waiting = []; peer_busy = false; acknowledgement_owed = false }
+
+-- a link that got an association begins anew
+abbrev pub opened : Link → Link
+opened l = stepped opening (record (after_failure l) { association = true })
+
+-- a link that is down takes no frames
+abbrev pub is_down : Alignment → Bool
+is_down Down = true
+is_down NotAligned = false
+is_down Aligned = false
+is_down (Proving ready) = false
+is_down AlignedReady = false
+is_down InService = false
+
+-- a link in service carries messages
+abbrev pub is_in_service : Alignment → Bool
+is_in_service Down = false
+is_in_service NotAligned = false
+is_in_service Aligned = false
+is_in_service (Proving ready) = false
+is_in_service AlignedReady = false
+is_in_service InService = true
+
+-- ---- The links of a node, the links of each set, and the routes to each destination.
+
+pub record Network : Type 0 where
+  pub links : List Link
+  pub sets : List (List ℕ)
+  pub routes : List (List Route)
+
+-- of each link, whether it is in service
+abbrev pub serving : List Link → List Bool
+serving links = map (λ l. is_in_service l.alignment) links
+
+-- what is known of routes
+abbrev pub facts_of : Network → Facts
+facts_of n = record { sets = n.sets; in_service = serving n.links; routes = n.routes }
+
+-- one link; one that isn't there is down
+abbrev pub link_in : List Link → ℕ → Link
+link_in links link = slice_index_or links link down_link
+
+-- one link in another state
+abbrev pub with_state : Network → ℕ → Link → Network
+with_state n link state = record n { links = slice_set n.links link state }
+
+-- at first every link is down, and every route is allowed
+abbrev pub first_network : ℕ → List LinkEntry → List DestinationEntry → Network
+first_network sets links destinations = record {
+  links = replicate (length links) down_link;
+  sets = first_sets sets links;
+  routes = map first_routes destinations;
+}
+
+-- ---- The statuses of a node's routes, as they change (Q.704 §13).
+
+-- the route to a destination by a set gets a status, if there is one
+abbrev pub with_route_status : (destination set : ℕ) → RouteStatus → Network → Network
+with_route_status destination set status n =
+    record n { routes = (facts.with_status destination set status (facts_of n)).routes }
+
+-- all routes by a set are allowed
+abbrev pub with_statuses_reset : ℕ → Network → Network
+with_statuses_reset set n = record n { routes = (facts.with_statuses_reset set (facts_of n)).routes }
