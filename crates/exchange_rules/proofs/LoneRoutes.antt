@@ -12,7 +12,7 @@ use Rattle.routes.specs.declared.link_group.Member.{Member}
 use Rattle.routes.specs.declared.route.RouteStatus.TheVariants.{Restricted}
 use Rattle.routes.specs.Routes.{members_of, preference, serves, is_in_service, has_link, set_at, links_of, is_open, allowed_or, Choice, choice_among, members, sets_of, taken_by, link_by}
 use Rattle.node_links.specs.NodeLinks.{Link, down_link, is_in_service as is_link_in_service}
-use Rattle.routes.proofs.Preference.{preference-permutation}
+use Rattle.routes.proofs.Preference.{preference_permutes}
 use Rattle.route_management.specs.Told.{adjacent_place}
 use Rattle.settings.specs.Sharing.{sets_to, LeadsAlone}
 use Rattle.exchange_rules.specs.LoneRoutes.{is_user_to, GoesBySet, flows_stay_on_their_set, the_set_decides_its_flows}
@@ -94,7 +94,7 @@ module _ (f : Facts) (r : Route) where
           (member-in r.set (set_at f r.set) m
           (subst (λ (ms : List Member). Contains ms m) (ap (members f) e ∙ members-one)
           (Contains-permutation (preference sls (members f group)) (members f group) m
-          (IsPermutation-sym (members f group) (preference sls (members f group)) (preference-permutation sls (members f group)))
+          (IsPermutation-sym (members f group) (preference sls (members f group)) (preference_permutes sls (members f group)))
           (found-in p (preference sls (members f group)) m i))))
 
   chosen-in : (sls link : ℕ) → link_by f (choice_among f (r ∷ [])) sls ≡ Some link → Contains (set_at f r.set) link
@@ -138,7 +138,7 @@ module _ (f g : Facts) (set : ℕ) (same : f.sets ≡ g.sets) (alike : (l : ℕ)
       let all : List Member = members_of set (set_at f set) in
       find-alike (serves f.in_service sets) (serves g.in_service sets) (preference sls all)
       (λ m i. ap (λ (b : Bool). b && list_any (λ s. nat_eq s m.set) sets)
-      (alike m.link (member-in set (set_at f set) m (Contains-permutation (preference sls all) all m (IsPermutation-sym all (preference sls all) (preference-permutation sls all)) i))))
+      (alike m.link (member-in set (set_at f set) m (Contains-permutation (preference sls all) all m (IsPermutation-sym all (preference sls all) (preference_permutes sls all)) i))))
 
   has-same : has_link f.in_service (set_at f set) ≡ has_link g.in_service (set_at g set)
   has-same = has-alike f.in_service g.in_service (set_at f set) alike ∙ ap (λ (sets : List (List ℕ)). has_link g.in_service (slice_index_or sets set [])) same
