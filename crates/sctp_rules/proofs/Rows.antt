@@ -300,3 +300,95 @@ data_meets_shutdown = record { phase_is = refl; sent_is = refl; told_is = refl }
 pub t2_begins_anew : rows.t2_begins_anew
 unfolding after going drained run_from blocks_from lost_from named_below passed_below given next_place gone_again gone_first confirmation confirmed settled acknowledged after_t3 stopped
 t2_begins_anew = refl
+
+pub giving_up_in_cookie_wait : rows.giving_up_in_cookie_wait
+unfolding after going drained run_from blocks_from lost_from named_below passed_below given next_place gone_again gone_first confirmation confirmed settled acknowledged after_t3 stopped
+giving_up_in_cookie_wait = record { phase_is = refl; sent_is = refl; told_is = refl }
+
+pub giving_up_in_cookie_echoed : rows.giving_up_in_cookie_echoed
+unfolding after going drained run_from blocks_from lost_from named_below passed_below given next_place gone_again gone_first confirmation confirmed settled acknowledged after_t3 stopped
+giving_up_in_cookie_echoed = record { phase_is = refl; sent_is = refl; told_is = refl }
+
+pub unconfirmed_data_is_a_loss : rows.unconfirmed_data_is_a_loss
+unfolding after going drained run_from blocks_from lost_from named_below passed_below given next_place gone_again gone_first confirmation confirmed settled acknowledged after_t3 stopped
+unconfirmed_data_is_a_loss = record { phase_is = refl; sent_is = refl; told_is = refl }
+
+pub known_init_is_answered : rows.known_init_is_answered
+unfolding after going drained run_from blocks_from lost_from named_below passed_below given next_place gone_again gone_first confirmation confirmed settled acknowledged after_t3 stopped
+known_init_is_answered = record { phase_is = refl; sent_is = refl; told_is = refl }
+
+pub cookie_of_both_tags_opens : rows.cookie_of_both_tags_opens
+unfolding after going drained run_from blocks_from lost_from named_below passed_below given next_place gone_again gone_first confirmation confirmed settled acknowledged after_t3 stopped
+cookie_of_both_tags_opens = record { phase_is = refl; sent_is = refl; told_is = refl }
+
+pub cookie_of_another_peer_opens_a_try : rows.cookie_of_another_peer_opens_a_try
+unfolding after going drained run_from blocks_from lost_from named_below passed_below given next_place gone_again gone_first confirmation confirmed settled acknowledged after_t3 stopped
+cookie_of_another_peer_opens_a_try = record { phase_is = refl; sent_is = refl; told_is = refl }
+
+pub cookie_of_another_peer_is_dropped : rows.cookie_of_another_peer_is_dropped
+unfolding after going drained run_from blocks_from lost_from named_below passed_below given next_place gone_again gone_first confirmation confirmed settled acknowledged after_t3 stopped
+cookie_of_another_peer_is_dropped = record { phase_is = refl; sent_is = refl; told_is = refl }
+
+pub usable_init_ack_is_echoed : rows.usable_init_ack_is_echoed
+unfolding after going drained run_from blocks_from lost_from named_below passed_below given next_place gone_again gone_first confirmation confirmed settled acknowledged after_t3 stopped
+usable_init_ack_is_echoed = record { phase_is = refl; sent_is = refl; told_is = refl }
+
+pub init_ack_without_cookie_ends_the_try : rows.init_ack_without_cookie_ends_the_try
+unfolding after going drained run_from blocks_from lost_from named_below passed_below given next_place gone_again gone_first confirmation confirmed settled acknowledged after_t3 stopped
+init_ack_without_cookie_ends_the_try = record { phase_is = refl; sent_is = refl; told_is = refl }
+
+pub init_ack_without_tag_ends_the_try : rows.init_ack_without_tag_ends_the_try
+unfolding after going drained run_from blocks_from lost_from named_below passed_below given next_place gone_again gone_first confirmation confirmed settled acknowledged after_t3 stopped
+init_ack_without_tag_ends_the_try = record { phase_is = refl; sent_is = refl; told_is = refl }
+
+pub unanswered_shutdown_is_a_loss : rows.unanswered_shutdown_is_a_loss
+unfolding after going drained run_from blocks_from lost_from named_below passed_below given next_place gone_again gone_first confirmation confirmed settled acknowledged after_t3 stopped
+unanswered_shutdown_is_a_loss = record { phase_is = refl; sent_is = refl; told_is = refl }
+
+pub shutdown_ack_meets_shutdown_ack : rows.shutdown_ack_meets_shutdown_ack
+unfolding after going drained run_from blocks_from lost_from named_below passed_below given next_place gone_again gone_first confirmation confirmed settled acknowledged after_t3 stopped
+shutdown_ack_meets_shutdown_ack = record { phase_is = refl; sent_is = refl; told_is = refl }
+
+pub shutdown_ack_goes_out_again : rows.shutdown_ack_goes_out_again
+unfolding after going drained run_from blocks_from lost_from named_below passed_below given next_place gone_again gone_first confirmation confirmed settled acknowledged after_t3 stopped
+shutdown_ack_goes_out_again = record { phase_is = refl; sent_is = refl; told_is = refl }
+
+pub unanswered_shutdown_ack_ends_it : rows.unanswered_shutdown_ack_ends_it
+unfolding after going drained run_from blocks_from lost_from named_below passed_below given next_place gone_again gone_first confirmation confirmed settled acknowledged after_t3 stopped
+unanswered_shutdown_ack_ends_it = record { phase_is = refl; sent_is = refl; told_is = refl }
+
+pub shutdown_waits_for_confirmation : rows.shutdown_waits_for_confirmation
+unfolding after going drained run_from blocks_from lost_from named_below passed_below given next_place gone_again gone_first confirmation confirmed settled acknowledged after_t3 stopped
+shutdown_waits_for_confirmation = record { phase_is = refl; sent_is = refl; told_is = refl }
+
+pub last_sack_is_followed_by_shutdown_ack : rows.last_sack_is_followed_by_shutdown_ack
+unfolding after going drained run_from blocks_from lost_from named_below passed_below given next_place gone_again gone_first confirmation confirmed settled acknowledged after_t3 stopped
+last_sack_is_followed_by_shutdown_ack = record { phase_is = refl; sent_is = refl; told_is = refl }
+
+pub shutdown_confirms : rows.shutdown_confirms
+unfolding after going drained run_from blocks_from lost_from named_below passed_below given next_place gone_again gone_first confirmation confirmed settled acknowledged after_t3 stopped
+shutdown_confirms = record { phase_is = refl; sent_is = refl; told_is = refl }
+
+pub data_behind_shutdown_is_dropped : rows.data_behind_shutdown_is_dropped
+unfolding after going drained run_from blocks_from lost_from named_below passed_below given next_place gone_again gone_first confirmation confirmed settled acknowledged after_t3 stopped
+data_behind_shutdown_is_dropped = record { phase_is = refl; sent_is = refl; told_is = refl }
+
+pub heartbeat_behind_shutdown_is_answered : rows.heartbeat_behind_shutdown_is_answered
+unfolding after going drained run_from blocks_from lost_from named_below passed_below given next_place gone_again gone_first confirmation confirmed settled acknowledged after_t3 stopped
+heartbeat_behind_shutdown_is_answered = record { phase_is = refl; sent_is = refl; told_is = refl }
+
+pub data_goes_out_again_behind_shutdown : rows.data_goes_out_again_behind_shutdown
+unfolding after going drained run_from blocks_from lost_from named_below passed_below given next_place gone_again gone_first confirmation confirmed settled acknowledged after_t3 stopped
+data_goes_out_again_behind_shutdown = record { phase_is = refl; sent_is = refl; told_is = refl }
+
+pub init_behind_shutdown_is_answered : rows.init_behind_shutdown_is_answered
+unfolding after going drained run_from blocks_from lost_from named_below passed_below given next_place gone_again gone_first confirmation confirmed settled acknowledged after_t3 stopped
+init_behind_shutdown_is_answered = record { phase_is = refl; sent_is = refl; told_is = refl }
+
+pub restart_behind_shutdown_ends_it : rows.restart_behind_shutdown_ends_it
+unfolding after going drained run_from blocks_from lost_from named_below passed_below given next_place gone_again gone_first confirmation confirmed settled acknowledged after_t3 stopped
+restart_behind_shutdown_ends_it = record { phase_is = refl; sent_is = refl; told_is = refl }
+
+pub abort_behind_shutdown_ends_it : rows.abort_behind_shutdown_ends_it
+unfolding after going drained run_from blocks_from lost_from named_below passed_below given next_place gone_again gone_first confirmation confirmed settled acknowledged after_t3 stopped
+abort_behind_shutdown_ends_it = record { phase_is = refl; sent_is = refl; told_is = refl }

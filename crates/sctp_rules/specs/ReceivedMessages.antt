@@ -83,13 +83,14 @@ messages_in (consuming.Tells message ∷ more) = message ∷ messages_in more
 messages_in (consuming.NoStream stream ∷ more) = messages_in more
 messages_in (consuming.Violates violation ∷ more) = messages_in more
 
--- a receiver to which chunks of an association came: all that such a receiver does holds of it. What was told in the
--- association, up to its end, is what it told
+-- a receiver to which chunks of an association came, counted from a TSN on: all that such a receiver does holds of it.
+-- What was told in the association, up to its end, is what it told
 pub record IsCourse (epoch : Epoch) (first : ℕ) (calls : List Call) : Type 0 where
   pub are : AreCalls calls
   pub chunks : All (λ chunk. Contains epoch.came chunk) (after_calls calls (first_course STREAMS first)).came
   pub heard_is : epoch.heard ≡ messages_in (after_calls calls (first_course STREAMS first)).told
 
+-- from which TSN on is left open where the association is over
 pub record IsReceived (epoch : Epoch) : Type 0 where
   pub first : ℕ
   pub calls : List Call

@@ -9,7 +9,8 @@ use Rattle.sctp_codec.specs.Packets.{InitValue}
 use Rattle.sctp_codec.specs.Packets.{UnknownChunk, DataChunk, ShutdownChunk, ShutdownCompleteChunk}
 use Rattle.sctp_codec.specs.Parameters.{information_of, state_cookie}
 use Rattle.sctp_rules.specs.declared.phase.Phase.TheVariants.{Closed, CookieWait, CookieEchoed, Established}
-use Rattle.sctp_rules.specs.declared.phase.Phase.TheVariants.{ShutdownPending, ShutdownSent, ShutdownAckSent}
+use Rattle.sctp_rules.specs.declared.phase.Phase.TheVariants.{ShutdownPending, ShutdownSent, ShutdownReceived}
+use Rattle.sctp_rules.specs.declared.phase.Phase.TheVariants.{ShutdownAckSent}
 use Rattle.sctp_rules.specs.declared.phase.Phase.{Phase}
 use Rattle.sctp_rules.specs.declared.loss.Loss.TheVariants.{Local, Aborted, Shutdown, Restart, NoAnswer, Refused}
 use Rattle.sctp_rules.specs.declared.loss.Loss.TheVariants.{Protocol}
@@ -197,6 +198,13 @@ try_fails = Does (near (Ticked 900) tries_again.left) Closed [] (Failed NoAnswer
 abbrev pub try_is_refused : Type 0
 try_is_refused = Does (near (comes 1 (of_chunk 10 (AbortChunk false []))) tries.left) Closed [] (Failed Refused ∷ [])
 
+-- the user gives up: in COOKIE-WAIT there is no tag yet that the peer takes an ABORT by
+abbrev pub giving_up_in_cookie_wait : Type 0
+giving_up_in_cookie_wait = Does (near Aborts tries.left) Closed [] (Failed Local ∷ [])
+
+abbrev pub giving_up_in_cookie_echoed : Type 0
+giving_up_in_cookie_echoed = Does (near Aborts echoes.left) Closed ((6 ∷ []) ∷ []) (Failed Local ∷ [])
+
 -- ---- INIT and COOKIE ECHO that come again (§5.2)
 
 -- of a peer that began anew: in COOKIE-ECHOED this end begins anew, too
@@ -305,6 +313,13 @@ abbrev pub data_goes_out_again : Type 0
 data_goes_out_again =
     Does (near (Flushes 400) (near (Ticked 400) sends.left).left) Established ((0 ∷ []) ∷ []) []
 
+-- for one time too many, and the association ends
+abbrev pub goes_out_thrice : Done
+goes_out_thrice = near (Flushes 1000) (near (Ticked 1000) (near (Flushes 400) (near (Ticked 400) sends.left).left).left).left
+
+abbrev pub unconfirmed_data_is_a_loss : Type 0
+unconfirmed_data_is_a_loss = Does (near (Ticked 2000) goes_out_thrice.left) Closed ((6 ∷ []) ∷ []) (Down NoAnswer ∷ [])
+
 -- a SACK of what wasn't sent is a violation
 abbrev pub too_much : ChunkValue
 too_much = SackChunk (record { cumulative = 100; window = 1000; blocks = []; duplicates = [] })
@@ -403,6 +418,40 @@ near_echoes = near (comes 2 (packet answers_alike)) tries.left
 abbrev pub cookie_opens_a_try : Type 0
 cookie_opens_a_try = Does (far (comes 3 (packet near_echoes)) answers_alike.left) Established [] (Up ∷ [])
 
+-- in COOKIE-ECHOED an INIT of the known peer is answered alike, and its cookie opens
+abbrev pub known_init_is_answered : Type 0
+known_init_is_answered = Does (near (comes 3 (packet far_tries)) near_echoes.left) CookieEchoed ((2 ∷ []) ∷ []) []
+
+abbrev pub near_answers : Done
+near_answers = near (comes 1 (packet far_tries)) tries.left
+
+abbrev pub both_answer : Done
+both_answer = near (comes 2 (packet answers_alike)) near_answers.left
+
+abbrev pub far_echoes : Done
+far_echoes = far (comes 2 (packet near_answers)) answers_alike.left
+
+abbrev pub cookie_of_both_tags_opens : Type 0
+cookie_of_both_tags_opens = Does (near (comes 3 (packet far_echoes)) both_answer.left) Established [] (Up ∷ [])
+
+-- but that of another peer tag doesn't: it opens in COOKIE-WAIT alone
+abbrev pub answers_another : Done
+answers_another = near (comes 1 (packet other_tries)) tries.left
+
+abbrev pub another_echoes : Done
+another_echoes = other (comes 2 (packet answers_another)) other_tries.left
+
+abbrev pub cookie_of_another_peer_opens_a_try : Type 0
+cookie_of_another_peer_opens_a_try =
+    Does (near (comes 3 (packet another_echoes)) answers_another.left) Established [] (Up ∷ [])
+
+abbrev pub echoes_of_another : Done
+echoes_of_another = near (comes 2 (packet answers)) answers_another.left
+
+abbrev pub cookie_of_another_peer_is_dropped : Type 0
+cookie_of_another_peer_is_dropped =
+    Does (near (comes 3 (packet another_echoes)) echoes_of_another.left) CookieEchoed [] []
+
 -- ---- T1 in COOKIE-ECHOED, and a stale cookie (§5.2.6)
 
 abbrev pub cookie_goes_out_again : Type 0
@@ -430,13 +479,27 @@ abbrev pub former_try_opens_nothing : Type 0
 former_try_opens_nothing =
     Does (near (comes 60003 (opening_behind (packet refuses_old_cookie))) echoes.left) CookieWait ((1 ∷ []) ∷ []) []
 
+-- INIT ACK with one stream alone, without a cookie, or without a tag: to the last one no ABORT can be sent
+abbrev pub init_ack_comes : InitValue → Done
+init_ack_comes init = near (comes 1 (of_chunk 10 (InitAckChunk init))) tries.left
+
+abbrev pub usable_init_ack_is_echoed : Type 0
+usable_init_ack_is_echoed = Does (init_ack_comes (init_with_cookie (1 ∷ []))) CookieEchoed ((10 ∷ []) ∷ []) []
+
 abbrev pub too_few_streams : InitValue
-too_few_streams = record (init_of (record { tag = 20; first = 5 }) []) { incoming = 1 }
+too_few_streams = record (init_with_cookie (1 ∷ [])) { incoming = 1 }
 
 abbrev pub unusable_init_ack_ends_the_try : Type 0
 unusable_init_ack_ends_the_try =
-    Does (near (comes 1 (of_chunk 10 (InitAckChunk too_few_streams))) tries.left) Closed ((6 ∷ []) ∷ [])
-    (Failed BadInitAck ∷ [])
+    Does (init_ack_comes too_few_streams) Closed ((6 ∷ []) ∷ []) (Failed BadInitAck ∷ [])
+
+abbrev pub init_ack_without_cookie_ends_the_try : Type 0
+init_ack_without_cookie_ends_the_try =
+    Does (init_ack_comes (init_of (record { tag = 20; first = 5 }) [])) Closed ((6 ∷ []) ∷ []) (Failed BadInitAck ∷ [])
+
+abbrev pub init_ack_without_tag_ends_the_try : Type 0
+init_ack_without_tag_ends_the_try =
+    Does (init_ack_comes (record (init_with_cookie (1 ∷ [])) { tag = 0 })) Closed [] (Failed BadInitAck ∷ [])
 
 abbrev pub giving_up_is_told : Type 0
 giving_up_is_told = Does (far Aborts waits.left) Closed [] (Failed Local ∷ [])
@@ -552,6 +615,14 @@ abbrev pub shutdown_goes_out_again : Type 0
 shutdown_goes_out_again =
     Does (near (Flushes 310) (near (Ticked 310) shutdown_goes_out.left).left) ShutdownSent ((7 ∷ []) ∷ []) []
 
+-- for one time too many, and the association ends
+abbrev pub shutdown_again : Done
+shutdown_again = near (Ticked 910) (near (Flushes 310) (near (Ticked 310) shutdown_goes_out.left).left).left
+
+abbrev pub unanswered_shutdown_is_a_loss : Type 0
+unanswered_shutdown_is_a_loss =
+    Does (near (Ticked 1910) (near (Flushes 910) shutdown_again.left).left) Closed ((6 ∷ []) ∷ []) (Down NoAnswer ∷ [])
+
 -- DATA that comes meanwhile is answered by SHUTDOWN and SACK, and T2 begins anew
 abbrev pub far_sends : Done
 far_sends = far (Flushes 5) (far (Sends given) acknowledges.left).left
@@ -578,7 +649,80 @@ init_is_answered_by_shutdown_ack =
 abbrev pub far_shuts_down : Done
 far_shuts_down = far (Flushes 10) (far (ShutsDown 10) acknowledges.left).left
 
+abbrev pub both_shut_down : Done
+both_shut_down = near (Flushes 11) (near (comes 11 (packet far_shuts_down)) shutdown_goes_out.left).left
+
 abbrev pub shutdown_meets_shutdown : Type 0
-shutdown_meets_shutdown =
-    Does (near (Flushes 11) (near (comes 11 (packet far_shuts_down)) shutdown_goes_out.left).left) ShutdownAckSent
-    ((8 ∷ []) ∷ []) []
+shutdown_meets_shutdown = Does both_shut_down ShutdownAckSent ((8 ∷ []) ∷ []) []
+
+abbrev pub shutdown_ack_meets_shutdown_ack : Type 0
+shutdown_ack_meets_shutdown_ack =
+    Does (near (comes 12 (of_chunk 10 ShutdownAckChunk)) both_shut_down.left) Closed ((14 ∷ []) ∷ []) (Down Shutdown ∷ [])
+
+-- T2 in SHUTDOWN-ACK-SENT; of its end the user isn't told again
+abbrev pub ack_goes_out_again : Done
+ack_goes_out_again = far (Flushes 311) (far (Ticked 311) shutdown_answered.left).left
+
+abbrev pub shutdown_ack_goes_out_again : Type 0
+shutdown_ack_goes_out_again = Does ack_goes_out_again ShutdownAckSent ((8 ∷ []) ∷ []) []
+
+abbrev pub ack_goes_out_thrice : Done
+ack_goes_out_thrice = far (Flushes 911) (far (Ticked 911) ack_goes_out_again.left).left
+
+abbrev pub unanswered_shutdown_ack_ends_it : Type 0
+unanswered_shutdown_ack_ends_it = Does (far (Ticked 1911) ack_goes_out_thrice.left) Closed ((6 ∷ []) ∷ []) []
+
+-- ---- SHUTDOWN-RECEIVED: what went out isn't confirmed yet
+
+abbrev pub is_shut_down_early : Done
+is_shut_down_early = far (comes 11 (of_chunk 20 (ShutdownChunk 99))) far_sends.left
+
+abbrev pub shutdown_waits_for_confirmation : Type 0
+shutdown_waits_for_confirmation = Does is_shut_down_early ShutdownReceived [] (Down Shutdown ∷ [])
+
+-- what comes, and then packets are asked for
+abbrev pub then_comes : ChunkValue → Done
+then_comes chunk = far (Flushes 12) (far (comes 12 (of_chunk 20 chunk)) is_shut_down_early.left).left
+
+-- by a SACK, or by SHUTDOWN once more
+abbrev pub all_of_it : ChunkValue
+all_of_it = SackChunk (record { cumulative = 100; window = 1000; blocks = []; duplicates = [] })
+
+abbrev pub last_sack_is_followed_by_shutdown_ack : Type 0
+last_sack_is_followed_by_shutdown_ack = Does (then_comes all_of_it) ShutdownAckSent ((8 ∷ []) ∷ []) []
+
+abbrev pub shutdown_confirms : Type 0
+shutdown_confirms = Does (then_comes (ShutdownChunk 100)) ShutdownAckSent ((8 ∷ []) ∷ []) []
+
+-- DATA doesn't count, and a heartbeat is answered
+abbrev pub data_behind_shutdown_is_dropped : Type 0
+data_behind_shutdown_is_dropped =
+    Does (far (Flushes 12) (far (comes 12 (packet sends)) is_shut_down_early.left).left) ShutdownReceived [] []
+
+abbrev pub heartbeat_behind_shutdown_is_answered : Type 0
+heartbeat_behind_shutdown_is_answered =
+    Does (then_comes (HeartbeatChunk (1 ∷ []))) ShutdownReceived ((5 ∷ []) ∷ []) []
+
+-- T3
+abbrev pub data_goes_out_again_behind_shutdown : Type 0
+data_goes_out_again_behind_shutdown =
+    Does (far (Flushes 305) (far (Ticked 305) is_shut_down_early.left).left) ShutdownReceived ((0 ∷ []) ∷ []) []
+
+-- an INIT is answered with a new tag, and by its cookie the association ends
+abbrev pub answers_init_behind_shutdown : Done
+answers_init_behind_shutdown = far (comes 12 (packet other_tries)) is_shut_down_early.left
+
+abbrev pub init_behind_shutdown_is_answered : Type 0
+init_behind_shutdown_is_answered = Does answers_init_behind_shutdown ShutdownReceived ((2 ∷ []) ∷ []) []
+
+abbrev pub restart_behind_shutdown : Done
+restart_behind_shutdown =
+    let echo = other (comes 13 (packet answers_init_behind_shutdown)) other_tries.left in
+    far (comes 14 (packet echo)) answers_init_behind_shutdown.left
+
+abbrev pub restart_behind_shutdown_ends_it : Type 0
+restart_behind_shutdown_ends_it = Does restart_behind_shutdown Closed ((9 ∷ []) ∷ []) []
+
+-- ABORT
+abbrev pub abort_behind_shutdown_ends_it : Type 0
+abort_behind_shutdown_ends_it = Does (then_comes (AbortChunk false [])) Closed [] []

@@ -33,7 +33,7 @@ acknowledged_with tag what = []
 -- ---- the latest association
 
 -- both tags and the TSN that this end begins with, as it opened; what the user gave in it; and the cumulative TSNs of the
--- packet that opened it, and of those that came with its tag since
+-- packet that opened it, whatever its tag, and of those that came with its tag since
 pub record Latest : Type 0 where
   pub own_tag : ℕ
   pub far_tag : ℕ

@@ -13,8 +13,8 @@ pub fn users_are_told_in_turn()
 {}
 
 /// Whatever happens: all that the user is told in an association, from Up to Down, is what a receiver tells to which
-/// DATA came that came with the association's own tag since it opened, in the packet that opened it or later, counted
-/// from the peer's first TSN on. And while DATA counts that receiver is the endpoint's.
+/// DATA came that came with the tag of the packet that opened it, in that packet or later, counted from some TSN on. And
+/// while DATA counts that receiver is the endpoint's, the tag is the association's own, and the TSN is the peer's first.
 pub fn what_is_told_was_received()
     ensures { messages_are_received }
 {}
@@ -22,7 +22,7 @@ pub fn what_is_told_was_received()
 /// Whatever happens: each DATA chunk in a packet that goes out carries a message that the user gave in that association,
 /// whole, under its first TSN and the place of the message, on the stream that it was given for and under its number
 /// there, and goes to the association's peer. What isn't confirmed is what was given without its beginning, and the peer
-/// said how much that is. A sending half alone does so under any list of calls.
+/// said how much that is, in the packet that opened the association or in one with its tag since. A sending half alone does so under any list of calls.
 pub fn what_goes_out_was_given()
     ensures sent { given_messages_are_sent }
     ensures kept { given_messages_are_kept }

@@ -3,3 +3,4 @@ pub mod Tallying
 pub mod Leaving
 pub mod Timing
 pub mod Naming
+pub mod Rooms

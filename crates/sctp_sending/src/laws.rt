@@ -1,6 +1,6 @@
 //! Laws of what an end sends. Each function says its law by its contract, and does nothing.
 
-ghost use Rattle.std.specs.Prelude.{◌≡◌, ℕ, ◌∷◌, ◌++◌, [], drop, Bool, Option};
+ghost use Rattle.std.specs.Prelude.{◌≡◌, ◌≤◌, ℕ, ◌∷◌, ◌++◌, [], drop, length, Bool, true, Option, Some};
 ghost use Rattle.sctp_sending.specs.declared.confirmation.Confirmation.{Confirmation};
 ghost use Rattle.sctp_sending.specs.Outgoing.{Message};
 ghost use Rattle.sctp_sending.specs.Sending.{
@@ -12,6 +12,9 @@ ghost use Rattle.sctp_sending.specs.Sending.{
   after_t3,
   messages_of,
   count_of,
+  most_octets,
+  has_room,
+  next_place,
 };
 
 /// A message that is given goes behind the others, and only a cumulative TSN takes messages away: as many as it
@@ -24,4 +27,10 @@ pub fn messages_leave_from_the_front()
         → messages_of (after_cumulative s now c) ≡ drop (count_of c) (messages_of s) }
     ensures sack { (s : Sending) (now window : ℕ) (names : ℕ → Bool) (c : Confirmation)
         → messages_of (after_sack s now window names c) ≡ drop (count_of c) (messages_of s) }
+{}
+
+/// Where there is room, a message of at most 290 octets that is given is the one that goes out next.
+pub fn a_message_that_finds_room_goes_out_next()
+    ensures { (s : Sending) (m : Message) → has_room s ≡ true → length m.octets ≤ most_octets
+        → next_place (given s m) ≡ Some (length s.out) }
 {}

@@ -26,9 +26,10 @@ const LATEST: u64 = 1 << 63;
 ///
 /// The network is no more than these datagrams: any of them may come to the other end, at any moment, any number of
 /// times, in any order, or never. It stands for two endpoints of the rules to which steps led from two new ones on
-/// (`StandsFor`): `new` makes it so, and each `act` keeps it, unless memory runs out for what is put out, told or
-/// given. Then it isn't whole any more (`is_whole`), and only its endpoints go on by their rules. No contract says that
-/// it is whole as long as there is memory, since none can speak of memory.
+/// (`StandsFor`): `new` makes it so, and each `act` keeps it, but one by which a datagram comes that is too old
+/// (`MayCome`), and unless memory runs out for what is put out, told or given. Then it isn't whole any more
+/// (`is_whole`), and only its endpoints go on by their rules. No contract says that it is whole as long as there is
+/// memory, since none can speak of memory.
 #[derive(Drop)]
 pub struct World {
     near: Site,

@@ -21,6 +21,9 @@ use sctp_rules::{Loss, Phase};
 impl Endpoint {
     /// The user wants an association from now on. An active end begins to try, by INIT; another one waits for its peer.
     /// Where there is an association, or the try of one, nothing changes; an end that waits may begin to try.
+    ///
+    /// Behind a Down for Shutdown there still is one, until the peer's SHUTDOWN is answered and that is confirmed, or
+    /// given up. The wish is lost then, and nothing is told: whoever wants the next association asks again.
     pub fn open<W: Watch>(&mut self, is_active: bool, now: u64, watch: &mut W)
         requires generation { self.old.state.generation < 2 ^ 63 }
         requires now { now ≤ 2 ^ 63 }
