@@ -52,3 +52,31 @@ holds_32 = refl
 
 pub table_32 : (n : ℕ) → n < 2 ^ 8 → slice_index (table 3) n ≡ divided_by 32 n
 table_32 n fits = let e : 0 + n ≡ n = omega arith in at_place (divided_by 32) 0 (table 3) n holds_32 fits ∙ ap (divided_by 32) e
+
+holds_40 : holds (divided_by 40) 0 (table 4) ≡ true
+unfolding divided_by
+holds_40 = refl
+
+pub table_40 : (n : ℕ) → n < 2 ^ 8 → slice_index (table 4) n ≡ divided_by 40 n
+table_40 n fits = let e : 0 + n ≡ n = omega arith in at_place (divided_by 40) 0 (table 4) n holds_40 fits ∙ ap (divided_by 40) e
+
+holds_48 : holds (divided_by 48) 0 (table 5) ≡ true
+unfolding divided_by
+holds_48 = refl
+
+pub table_48 : (n : ℕ) → n < 2 ^ 8 → slice_index (table 5) n ≡ divided_by 48 n
+table_48 n fits = let e : 0 + n ≡ n = omega arith in at_place (divided_by 48) 0 (table 5) n holds_48 fits ∙ ap (divided_by 48) e
+
+holds_56 : holds (divided_by 56) 0 (table 6) ≡ true
+unfolding divided_by
+holds_56 = refl
+
+pub table_56 : (n : ℕ) → n < 2 ^ 8 → slice_index (table 6) n ≡ divided_by 56 n
+table_56 n fits = let e : 0 + n ≡ n = omega arith in at_place (divided_by 56) 0 (table 6) n holds_56 fits ∙ ap (divided_by 56) e
+
+holds_64 : holds (divided_by 64) 0 (table 7) ≡ true
+unfolding divided_by
+holds_64 = refl
+
+pub table_64 : (n : ℕ) → n < 2 ^ 8 → slice_index (table 7) n ≡ divided_by 64 n
+table_64 n fits = let e : 0 + n ≡ n = omega arith in at_place (divided_by 64) 0 (table 7) n holds_64 fits ∙ ap (divided_by 64) e

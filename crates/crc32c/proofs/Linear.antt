@@ -1,7 +1,7 @@
 -- Steps of the division go through xor, so what several octets leave is what each of them leaves, by xor.
-use Rattle.std.proofs.Common.{◌≡◌, ℕ, zero, suc, ◌+◌, ◌*◌, ◌/◌, ◌%◌, ◌^◌, ◌<◌, ◌≤◌, Bool, true, false, List, [], ◌∷◌, ◌++◌, length, get_or, take, drop, bit_xor, refl, sym, ap, ◌∙◌, arith}
+use Rattle.std.proofs.Common.{◌≡◌, ℕ, zero, suc, ◌+◌, ◌*◌, ◌/◌, ◌%◌, ◌^◌, ◌<◌, Bool, true, false, List, [], ◌∷◌, ◌++◌, length, get_or, take, drop, bit_xor, refl, sym, ap, ◌∙◌, arith}
 use Rattle.std.proofs.lemmas.Bool.{ne_eqb}
-use Rattle.std.proofs.lemmas.List.{append_assoc, at_drop_more}
+use Rattle.std.proofs.lemmas.List.{append_assoc, at_drop_more, take-append-drop}
 use Rattle.std.proofs.lemmas.Nat.{xor_comm, xor_shr, xor_mod, xor_block, pow_pos}
 use Rattle.std.proofs.Math.Nat.{pow-suc, mul_assoc}
 use Rattle.std.specs.Prelude.{◌==◌, if◌then◌else◌, slice_index}
@@ -169,9 +169,14 @@ after_octets-append r (x ∷ xs) ys =
 
 -- ---- what the code computes
 
-pub word_step : (r a b c d : ℕ) → r ≡ a + (b + (c + d * 2 ^ 8) * 2 ^ 8) * 2 ^ 8 → a < 2 ^ 8 → b < 2 ^ 8 → c < 2 ^ 8 → d < 2 ^ 8
-    → bit_xor (divided_by 32 a) (bit_xor (divided_by 24 b) (bit_xor (divided_by 16 c) (divided_by 8 d))) ≡ divided_by 32 r
-word_step r a b c d e fa fb fc fd =
+-- four octets as a number, the lowest first
+abbrev pub joined : ℕ → ℕ → ℕ → ℕ → ℕ
+joined a b c d = a + (b + (c + d * 2 ^ 8) * 2 ^ 8) * 2 ^ 8
+
+-- what a number of four octets leaves after so many steps and 24 more: what each of them leaves
+pub word_step : (k r a b c d : ℕ) → r ≡ joined a b c d → a < 2 ^ 8 → b < 2 ^ 8 → c < 2 ^ 8
+    → bit_xor (divided_by (8 + (8 + (8 + k))) a) (bit_xor (divided_by (8 + (8 + k)) b) (bit_xor (divided_by (8 + k) c) (divided_by k d))) ≡ divided_by (8 + (8 + (8 + k))) r
+word_step k r a b c d e fa fb fc =
     let cd : ℕ = c + d * 2 ^ 8 in
     let bcd : ℕ = b + cd * 2 ^ 8 in
     let a-is : r % 2 ^ 8 ≡ a = omega (arith, e, fa) in
@@ -180,13 +185,27 @@ word_step r a b c d e fa fb fc fd =
     let above-b : bcd / 2 ^ 8 ≡ cd = omega (arith, fb) in
     let c-is : cd % 2 ^ 8 ≡ c = omega (arith, fc) in
     let above-c : cd / 2 ^ 8 ≡ d = omega (arith, fc) in
-    let third : divided_by 16 cd ≡ bit_xor (divided_by 16 c) (divided_by 8 d) =
-    lowest_octet 8 cd ∙ ap (λ (x : ℕ). bit_xor (divided_by 16 x) (divided_by 8 (cd / 2 ^ 8))) c-is ∙ ap (λ (x : ℕ). bit_xor (divided_by 16 c) (divided_by 8 x)) above-c in
-    let second : divided_by 24 bcd ≡ bit_xor (divided_by 24 b) (divided_by 16 cd) =
-    lowest_octet 16 bcd ∙ ap (λ (x : ℕ). bit_xor (divided_by 24 x) (divided_by 16 (bcd / 2 ^ 8))) b-is ∙ ap (λ (x : ℕ). bit_xor (divided_by 24 b) (divided_by 16 x)) above-b in
-    let first : divided_by 32 r ≡ bit_xor (divided_by 32 a) (divided_by 24 bcd) =
-    lowest_octet 24 r ∙ ap (λ (x : ℕ). bit_xor (divided_by 32 x) (divided_by 24 (r / 2 ^ 8))) a-is ∙ ap (λ (x : ℕ). bit_xor (divided_by 32 a) (divided_by 24 x)) above-a in
-    sym (first ∙ ap (bit_xor (divided_by 32 a)) (second ∙ ap (bit_xor (divided_by 24 b)) third))
+    let third : divided_by (8 + k) cd ≡ bit_xor (divided_by (8 + k) c) (divided_by k d) =
+    lowest_octet k cd ∙ ap (λ (x : ℕ). bit_xor (divided_by (8 + k) x) (divided_by k (cd / 2 ^ 8))) c-is ∙ ap (λ (x : ℕ). bit_xor (divided_by (8 + k) c) (divided_by k x)) above-c in
+    let second : divided_by (8 + (8 + k)) bcd ≡ bit_xor (divided_by (8 + (8 + k)) b) (divided_by (8 + k) cd) =
+    lowest_octet (8 + k) bcd ∙ ap (λ (x : ℕ). bit_xor (divided_by (8 + (8 + k)) x) (divided_by (8 + k) (bcd / 2 ^ 8))) b-is ∙ ap (λ (x : ℕ). bit_xor (divided_by (8 + (8 + k)) b) (divided_by (8 + k) x)) above-b in
+    let first : divided_by (8 + (8 + (8 + k))) r ≡ bit_xor (divided_by (8 + (8 + (8 + k))) a) (divided_by (8 + (8 + k)) bcd) =
+    lowest_octet (8 + (8 + k)) r ∙ ap (λ (x : ℕ). bit_xor (divided_by (8 + (8 + (8 + k))) x) (divided_by (8 + (8 + k)) (r / 2 ^ 8))) a-is ∙ ap (λ (x : ℕ). bit_xor (divided_by (8 + (8 + (8 + k))) a) (divided_by (8 + (8 + k)) x)) above-a in
+    sym (first ∙ ap (bit_xor (divided_by (8 + (8 + (8 + k))) a)) (second ∙ ap (bit_xor (divided_by (8 + (8 + k)) b)) third))
+
+-- two words in turn leave what each of them leaves: the first after 64 steps, the second after 32
+pub two_words : (r a b c d e f g h : ℕ) → a < 2 ^ 8 → b < 2 ^ 8 → c < 2 ^ 8 → d < 2 ^ 8 → e < 2 ^ 8 → f < 2 ^ 8 → g < 2 ^ 8 → h < 2 ^ 8
+    → bit_xor (divided_by 64 (bit_xor r (from_le_bytes w32 (a ∷ b ∷ c ∷ d ∷ [])))) (divided_by 32 (joined e f g h))
+    ≡ after_octets r (a ∷ b ∷ c ∷ d ∷ e ∷ f ∷ g ∷ h ∷ [])
+two_words r a b c d e f g h fa fb fc fd fe ff fg fh =
+    let one : ℕ = bit_xor r (from_le_bytes w32 (a ∷ b ∷ c ∷ d ∷ [])) in
+    let between : ℕ = divided_by 32 one in
+    let number : from_le_bytes w32 (e ∷ f ∷ g ∷ h ∷ []) ≡ joined e f g h = omega arith in
+    sym (after_word r a b c d (e ∷ f ∷ g ∷ h ∷ []) fa fb fc fd
+    ∙ after_word between e f g h [] fe ff fg fh
+    ∙ divided_by-xor 32 between (from_le_bytes w32 (e ∷ f ∷ g ∷ h ∷ []))
+    ∙ ap (λ (x : ℕ). bit_xor x (divided_by 32 (from_le_bytes w32 (e ∷ f ∷ g ∷ h ∷ [])))) (sym (divided_by-add 32 32 one))
+    ∙ ap (λ (x : ℕ). bit_xor (divided_by 64 one) (divided_by 32 x)) number)
 
 pub octet_step : (r octet : ℕ) → octet < 2 ^ 8 → bit_xor (divided_by 8 (bit_xor (r % 2 ^ 8) octet)) (r / 2 ^ 8) ≡ after_octets r (octet ∷ [])
 unfolding divided_by
@@ -200,14 +219,40 @@ octet_step r octet fits =
     ∙ ap (λ (y : ℕ). bit_xor (divided_by 8 y) (x / 2 ^ 8)) (low ∙ ap (bit_xor (r % 2 ^ 8)) same)
     ∙ ap (bit_xor (divided_by 8 (bit_xor (r % 2 ^ 8) octet))) (high ∙ ap (bit_xor (r / 2 ^ 8)) none ∙ xor_zero_r (r / 2 ^ 8)))
 
-pub word_loop : (r : ℕ) (rest word behind : List ℕ) (n s : ℕ) → 4 ≤ length rest → word ≡ take 4 rest → behind ≡ drop 4 rest
-    → n ≡ from_le_bytes w32 word → s ≡ divided_by 32 (bit_xor r n) → ((i : ℕ) → slice_index rest i < 2 ^ 8) → after_octets s behind ≡ after_octets r rest
-word_loop r [] word behind n s long w b e f fits = absurd (omega (arith, long))
-word_loop r (a ∷ []) word behind n s long w b e f fits = absurd (omega (arith, long))
-word_loop r (a ∷ c ∷ []) word behind n s long w b e f fits = absurd (omega (arith, long))
-word_loop r (a ∷ c ∷ d ∷ []) word behind n s long w b e f fits = absurd (omega (arith, long))
-word_loop r (a ∷ c ∷ d ∷ g ∷ rest) word behind n s long w b e f fits =
-    rw (f, b, e, w) (sym (after_word r a c d g rest (fits 0) (fits 1) (fits 2) (fits 3)))
+-- every place has an octet
+abbrev pub are_octets : List ℕ → Type 0
+are_octets octets = (i : ℕ) → slice_index octets i < 2 ^ 8
+
+pub four_octets : (r : ℕ) (octets : List ℕ) (word s : ℕ) → length octets ≡ 4 → are_octets octets → word ≡ from_le_bytes w32 octets
+    → s ≡ divided_by 32 (bit_xor r word) → s ≡ after_octets r octets
+four_octets r ([]) word s long fits w e = absurd (omega (arith, long))
+four_octets r (a ∷ []) word s long fits w e = absurd (omega (arith, long))
+four_octets r (a ∷ b ∷ []) word s long fits w e = absurd (omega (arith, long))
+four_octets r (a ∷ b ∷ c ∷ []) word s long fits w e = absurd (omega (arith, long))
+four_octets r (a ∷ b ∷ c ∷ d ∷ []) word s long fits w e = rw (e, w) (sym (after_word r a b c d [] (fits 0) (fits 1) (fits 2) (fits 3)))
+four_octets r (a ∷ b ∷ c ∷ d ∷ x ∷ rest) word s long fits w e = absurd (omega (arith, long))
+
+pub eight_octets : (r : ℕ) (octets : List ℕ) (word s t : ℕ) → length octets ≡ 8 → are_octets octets
+    → word ≡ from_le_bytes w32 (slice_index octets 0 ∷ slice_index octets 1 ∷ slice_index octets 2 ∷ slice_index octets 3 ∷ [])
+    → s ≡ divided_by 64 (bit_xor r word)
+    → t ≡ divided_by 32 (joined (slice_index octets 4) (slice_index octets 5) (slice_index octets 6) (slice_index octets 7))
+    → bit_xor s t ≡ after_octets r octets
+eight_octets r ([]) word s t long fits w first second = absurd (omega (arith, long))
+eight_octets r (a ∷ []) word s t long fits w first second = absurd (omega (arith, long))
+eight_octets r (a ∷ b ∷ []) word s t long fits w first second = absurd (omega (arith, long))
+eight_octets r (a ∷ b ∷ c ∷ []) word s t long fits w first second = absurd (omega (arith, long))
+eight_octets r (a ∷ b ∷ c ∷ d ∷ []) word s t long fits w first second = absurd (omega (arith, long))
+eight_octets r (a ∷ b ∷ c ∷ d ∷ e ∷ []) word s t long fits w first second = absurd (omega (arith, long))
+eight_octets r (a ∷ b ∷ c ∷ d ∷ e ∷ f ∷ []) word s t long fits w first second = absurd (omega (arith, long))
+eight_octets r (a ∷ b ∷ c ∷ d ∷ e ∷ f ∷ g ∷ []) word s t long fits w first second = absurd (omega (arith, long))
+eight_octets r (a ∷ b ∷ c ∷ d ∷ e ∷ f ∷ g ∷ h ∷ []) word s t long fits w first second =
+    rw (first, second, w) (two_words r a b c d e f g h (fits 0) (fits 1) (fits 2) (fits 3) (fits 4) (fits 5) (fits 6) (fits 7))
+eight_octets r (a ∷ b ∷ c ∷ d ∷ e ∷ f ∷ g ∷ h ∷ x ∷ rest) word s t long fits w first second = absurd (omega (arith, long))
+
+pub chunk_loop : (r s count : ℕ) (rest chunk behind : List ℕ) → chunk ≡ take count rest → behind ≡ drop count rest
+    → s ≡ after_octets r chunk → after_octets s behind ≡ after_octets r rest
+chunk_loop r s count rest chunk behind c b e =
+    rw (e, c, b) (sym (after_octets-append r (take count rest) (drop count rest)) ∙ ap (after_octets r) (take-append-drop count rest))
 
 pub octet_loop : (r s : ℕ) (xs : List ℕ) (i x : ℕ) → i < length xs → x ≡ get_or xs i 0 → s ≡ after_octets r (x ∷ [])
     → after_octets s (drop (i + 1) xs) ≡ after_octets r (drop i xs)

@@ -1,10 +1,10 @@
-//! CRC32c, the checksum of SCTP packets (RFC 9260 appendix A), by four tables of 1,024 octets.
+//! CRC32c, the checksum of SCTP packets (RFC 9260 appendix A), by eight tables of 1,024 octets.
 #![tactic(auto)]
 
 pub mod laws;
 mod tables;
 
-ghost use Rattle.std.specs.Prelude.{◌≡◌, [], ◌∷◌};
+ghost use Rattle.std.specs.Prelude.{◌≡◌, [], ◌∷◌, ◌+◌, ◌*◌, ◌^◌};
 ghost use Rattle.crc32c.specs.Division.{ones, after_octets, crc32c_of, divided_by};
 
 use tables::TABLES;
@@ -20,14 +20,18 @@ pub fn crc32c(octets: &[u8]) -> u32
 }
 
 /// The remainder after the octets, from the remainder before them. Octets may come in pieces of any
-/// length: the remainder after one is that before the next. Four octets take one step.
+/// length: the remainder after one is that before the next. Eight octets take one step.
 pub fn remainder(before: u32, octets: &[u8]) -> u32
     ensures { result ≡ after_octets before octets.now }
 {
     let mut remainder = before;
     let mut rest = octets;
-    'words: while let Some((word, behind)) = rest.split_first_chunk::<4>() {
-        remainder = after_word(remainder ^ u32::from_le_bytes(*word));
+    'eights: while let Some((eight, behind)) = rest.split_first_chunk::<8>() {
+        remainder = after_eight(remainder, eight);
+        rest = behind;
+    }
+    'fours: while let Some((four, behind)) = rest.split_first_chunk::<4>() {
+        remainder = after_four(remainder, four);
         rest = behind;
     }
     'octets: for octet in rest {
@@ -36,12 +40,47 @@ pub fn remainder(before: u32, octets: &[u8]) -> u32
     remainder
 }
 
-/// The remainder after 32 steps: what each octet leaves, by its own table.
+/// The remainder after eight octets more: what each leaves, by its own table.
 #[inline(always)]
-fn after_word(remainder: u32) -> u32
-    ensures { result ≡ divided_by 32 remainder }
+fn after_eight(remainder: u32, octets: &[u8; 8]) -> u32
+    ensures { result ≡ after_octets remainder octets.now }
 {
-    let [first, second, third, fourth] = remainder.to_le_bytes();
+    let [first, second, third, fourth, fifth, sixth, seventh, eighth] = *octets;
+    let word = u32::from_le_bytes([first, second, third, fourth]);
+    after_64_of_word(remainder ^ word) ^ after_32_of_octets(fifth, sixth, seventh, eighth)
+}
+
+/// The remainder after four octets more: what each leaves, by its own table.
+#[inline(always)]
+fn after_four(remainder: u32, octets: &[u8; 4]) -> u32
+    ensures { result ≡ after_octets remainder octets.now }
+{
+    after_32_of_word(remainder ^ u32::from_le_bytes(*octets))
+}
+
+/// What a word leaves after 32 steps.
+#[inline(always)]
+fn after_32_of_word(word: u32) -> u32
+    ensures { result ≡ divided_by 32 word }
+{
+    let [first, second, third, fourth] = word.to_le_bytes();
+    after_32_of_octets(first, second, third, fourth)
+}
+
+/// What a word leaves after 64 steps.
+#[inline(always)]
+fn after_64_of_word(word: u32) -> u32
+    ensures { result ≡ divided_by 64 word }
+{
+    let [first, second, third, fourth] = word.to_le_bytes();
+    after_64(first) ^ (after_56(second) ^ (after_48(third) ^ after_40(fourth)))
+}
+
+/// What four octets, the lowest first, leave after 32 steps.
+#[inline(always)]
+fn after_32_of_octets(first: u8, second: u8, third: u8, fourth: u8) -> u32
+    ensures { result ≡ divided_by 32 (first + (second + (third + fourth * 2 ^ 8) * 2 ^ 8) * 2 ^ 8) }
+{
     after_32(first) ^ (after_24(second) ^ (after_16(third) ^ after_8(fourth)))
 }
 
@@ -84,4 +123,36 @@ fn after_32(octet: u8) -> u32
     ensures { result ≡ divided_by 32 octet }
 {
     TABLES[3][usize::from(octet)]
+}
+
+/// What an octet leaves after 40 steps.
+#[inline(always)]
+fn after_40(octet: u8) -> u32
+    ensures { result ≡ divided_by 40 octet }
+{
+    TABLES[4][usize::from(octet)]
+}
+
+/// What an octet leaves after 48 steps.
+#[inline(always)]
+fn after_48(octet: u8) -> u32
+    ensures { result ≡ divided_by 48 octet }
+{
+    TABLES[5][usize::from(octet)]
+}
+
+/// What an octet leaves after 56 steps.
+#[inline(always)]
+fn after_56(octet: u8) -> u32
+    ensures { result ≡ divided_by 56 octet }
+{
+    TABLES[6][usize::from(octet)]
+}
+
+/// What an octet leaves after 64 steps.
+#[inline(always)]
+fn after_64(octet: u8) -> u32
+    ensures { result ≡ divided_by 64 octet }
+{
+    TABLES[7][usize::from(octet)]
 }

@@ -1,13 +1,18 @@
-use Rattle.std.proofs.Common.{◌≡◌, ℕ, ◌^◌, ◌<◌, length, drop}
-use Rattle.std.specs.Prelude.{slice_index}
+use Rattle.std.proofs.Common.{◌≡◌, length, drop}
 use Rattle.crc32c.specs.Division.{after_octets}
 use Rattle.crc32c.proofs.remainder.Given as goal
 
-abbrev pub invariant-words : goal.invariant-words
-invariant-words l = record { same : after_octets l.remainder l.rest ≡ after_octets l.fn.before l.fn.octets; octets : (i : ℕ) → slice_index l.rest i < 2 ^ 8 }
+abbrev pub invariant-eights : goal.invariant-eights
+invariant-eights l = after_octets l.remainder l.rest ≡ after_octets l.fn.before l.fn.octets
 
-abbrev pub decreases-words : goal.decreases-words
-decreases-words l = length l.rest
+abbrev pub decreases-eights : goal.decreases-eights
+decreases-eights l = length l.rest
+
+abbrev pub invariant-fours : goal.invariant-fours
+invariant-fours l = after_octets l.remainder l.rest ≡ after_octets l.fn.before l.fn.octets
+
+abbrev pub decreases-fours : goal.decreases-fours
+decreases-fours l = length l.rest
 
 abbrev pub invariant-octets : goal.invariant-octets
 invariant-octets l = after_octets l.remainder (drop l.octet-index l.octet-items) ≡ after_octets l.fn.before l.fn.octets

@@ -1,0 +1,9 @@
+use Rattle.std.proofs.Common.{◌≡◌, ℕ, ap, ◌∙◌, arith, rules}
+use Rattle.std.specs.Prelude.{slice_index}
+use Rattle.crc32c.proofs.Entries.{table, table_48}
+use Rattle.crc32c.proofs.after_48.Goals as goal
+
+pub returns : goal.returns
+returns c =
+    let same : c.from.result ≡ c.args.octet = search rules in
+    ap (λ (i : ℕ). slice_index (table 5) i) same ∙ table_48 c.args.octet (omega (arith, c.ranges.octet.fits))
