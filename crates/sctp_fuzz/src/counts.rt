@@ -3,7 +3,9 @@
 /// What came of datagrams.
 #[derive(Clone, Copy)]
 pub struct Counts {
-    /// All.
+    /// Sessions that weren't seen in their phase as they began.
+    pub elsewhere: u64,
+    /// All datagrams.
     pub handed_in: u64,
     /// Those whose checksum is wrong.
     pub refused: u64,
@@ -23,6 +25,7 @@ impl Counts {
     /// Nothing yet.
     pub fn new() -> Counts {
         Counts {
+            elsewhere: 0,
             handed_in: 0,
             refused: 0,
             read: 0,

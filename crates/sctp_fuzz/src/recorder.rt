@@ -2,6 +2,7 @@
 
 use crate::octets::{number, octet};
 use sctp_endpoint::{Address, Event, Watch};
+use sctp_rules::Loss;
 use std::alloc::{AllocError, Global};
 use std::marker::Model;
 
@@ -11,7 +12,7 @@ pub const KIND_AT: usize = 12;
 const INITIATE_TAG_AT: usize = 16;
 
 /// The type of INIT.
-const INIT: u8 = 1;
+pub const INIT: u8 = 1;
 
 /// A datagram that was put out.
 #[derive(Drop)]
@@ -90,6 +91,8 @@ impl Watch for Recorder {
         self.told = self.told.saturating_add(1);
         match event {
             Event::Up => self.change(Some(self.coming)),
+            // a peer's SHUTDOWN is told as it comes, and the association lasts until SHUTDOWN COMPLETE
+            Event::Down(Loss::Shutdown) => self.change(self.own_tag),
             Event::Down(_) | Event::Failed(_) => self.change(None),
             Event::Heard(_) => {}
         }

@@ -2,10 +2,22 @@
 
 use crate::counts::{Counts, add};
 use crate::dice::Dice;
-use crate::judging::{Kind, is_reflection, kind_of};
-use crate::octets::has_right_checksum;
+use crate::judging::{ABORT, Kind, is_reflection, kind_of};
+use crate::octets::{has_right_checksum, octet};
+use crate::recorder::{INIT, KIND_AT};
 use crate::side::{Doing, Side};
 use std::alloc::{AllocError, Global};
+
+/// Types of chunks (RFC 9260 §3.2).
+const DATA: u8 = 0;
+
+const SACK: u8 = 3;
+
+const SHUTDOWN: u8 = 7;
+
+const SHUTDOWN_ACK: u8 = 8;
+
+const COOKIE_ECHO: u8 = 10;
 
 /// A phase into which the near end is brought.
 #[derive(Clone, Copy, Debug, PartialEq, Eq)]
@@ -18,8 +30,31 @@ pub enum Stage {
     CookieEchoed,
     /// The association is there.
     Established,
-    /// It ends by SHUTDOWN, of either end.
-    ShuttingDown,
+    /// The user ends it, and what was sent isn't confirmed.
+    ShutdownPending,
+    /// Its SHUTDOWN isn't answered.
+    ShutdownSent,
+    /// The peer's SHUTDOWN came, and what was sent isn't confirmed.
+    ShutdownReceived,
+    /// Its SHUTDOWN ACK isn't answered.
+    ShutdownAckSent,
+}
+
+impl Stage {
+    /// What is seen of an end in this phase: the type of the chunk that it put out last (RFC 9260 §3.2), and whether it
+    /// takes a message.
+    fn seen(self) -> (u8, bool) {
+        match self {
+            Stage::Closed => (ABORT, false),
+            Stage::CookieWait => (INIT, false),
+            Stage::CookieEchoed => (COOKIE_ECHO, false),
+            Stage::Established => (DATA, true),
+            Stage::ShutdownPending => (DATA, false),
+            Stage::ShutdownSent => (SHUTDOWN, false),
+            Stage::ShutdownReceived => (SACK, false),
+            Stage::ShutdownAckSent => (SHUTDOWN_ACK, false),
+        }
+    }
 }
 
 /// Two ends.
@@ -70,24 +105,33 @@ impl Session {
         self.far.act(Doing::Send, self.now);
         self.near.act(Doing::Send, self.now);
         match stage {
-            Stage::ShuttingDown => self.shut_down(dice),
             Stage::Closed => self.close(dice),
+            Stage::ShutdownPending => self.near.act(Doing::ShutDown, self.now),
+            Stage::ShutdownSent => {
+                self.confirm();
+                self.near.act(Doing::ShutDown, self.now);
+            }
+            Stage::ShutdownReceived => {
+                self.near.lose();
+                self.hear_shutdown();
+            }
+            Stage::ShutdownAckSent => self.hear_shutdown(),
             _ => {}
         }
     }
 
-    /// One of the ends shuts down, with or without DATA that isn't confirmed.
-    fn shut_down(&mut self, dice: &mut Dice) {
-        if dice.below(2) == 0 {
-            pass(&mut self.near, &mut self.far, self.now);
-            pass(&mut self.far, &mut self.near, self.now);
-        }
-        if dice.below(2) == 0 {
-            self.near.act(Doing::ShutDown, self.now);
-        } else {
-            self.far.act(Doing::ShutDown, self.now);
-            pass(&mut self.far, &mut self.near, self.now);
-        }
+    /// What both ends sent comes, and its confirmations.
+    fn confirm(&mut self) {
+        pass(&mut self.near, &mut self.far, self.now);
+        pass(&mut self.far, &mut self.near, self.now);
+        pass(&mut self.near, &mut self.far, self.now);
+    }
+
+    /// The far end shuts down, with all confirmed that it sent.
+    fn hear_shutdown(&mut self) {
+        self.confirm();
+        self.far.act(Doing::ShutDown, self.now);
+        pass(&mut self.far, &mut self.near, self.now);
     }
 
     /// The near end ends the association; mostly it waits for another one then.
@@ -96,6 +140,16 @@ impl Session {
         if dice.below(4) != 0 {
             self.near.act(Doing::Open(false), self.now);
         }
+    }
+
+    /// Whether the near end is seen to be in a phase.
+    pub fn is_in(&self, stage: Stage) -> bool {
+        let (_, has_room) = self.near.shown();
+        let kind = match self.near.log.sent.last() {
+            Some(datagram) => octet(datagram.octets(), KIND_AT),
+            None => u8::MAX,
+        };
+        (kind, has_room) == stage.seen()
     }
 
     /// Hands a datagram to the near end, and counts what comes of it.

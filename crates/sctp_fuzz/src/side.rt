@@ -112,6 +112,11 @@ impl Side {
         (self.endpoint.deadline(), self.endpoint.has_room())
     }
 
+    /// What it put out, and what didn't come yet, never comes.
+    pub fn lose(&mut self) {
+        self.passed = self.log.sent.len();
+    }
+
     /// Forgets what it put out.
     pub fn clear(&mut self) {
         self.log.sent.clear();
