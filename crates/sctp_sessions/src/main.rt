@@ -8,15 +8,19 @@
 //! - `open TIME HOW`, `tick TIME`, `shutdown TIME`, `send STREAM PROTOCOL OCTETS`: a call;
 //! - `hear TIME DATAGRAM`: what came from usrsctp;
 //! - `drew TAG TSN`: a tag and first TSN that the recorded end drew;
-//! - `told WHAT`: what its user was told.
+//! - `told WHAT`: what its user was told;
+//! - `answered WHAT: CHUNKS`: the types of the chunks that it put out by a call, or by what came.
 //!
 //! An `Endpoint` draws other tags and first TSNs, and signs cookies of its own. So in what comes the verification tag,
 //! the TSNs of SACK and SHUTDOWN, the echoed cookie and the checksum are made to fit (`fitting`). All other octets are
 //! those of usrsctp. Of the one message of 300 octets that the recorded end sent, an `Endpoint` takes the first 290.
 //!
 //! Below the name of a session is what the user was told, each message with its stream, its protocol and its octets;
-//! how many datagrams were heard, and put out; and whether that is what the recorded user was told. How many are put
-//! out is no matter of the recording: the other end, which delayed SACK, put out 24, 10, 76 and 6.
+//! what is put out by calls and by all that came but messages and SACK, and what the recorded end put out; how many
+//! datagrams with messages came, and how many of them SACK answered at once; how many cookies were echoed, and how many
+//! of them as usrsctp had sent them; how many datagrams were heard, and put out; and whether the user was told what the
+//! recorded one was. How many are put out is no matter of the recording: the other end, which delayed SACK, put out 24,
+//! 10, 76 and 6.
 #![tactic(auto)]
 
 mod fitting;
@@ -48,8 +52,13 @@ fn print_session<R: Files + Print + AllocGlobal>(rt: &R, name: &str) -> io::Resu
     let told = session.told();
     let heard = session.heard();
     let put_out = session.put_out();
+    let (answers, recorded) = session.answers();
+    let (messages, confirmed) = session.confirmed();
+    let (echoed, as_it_came) = session.echoed();
     let verdict = session.verdict();
-    print!(rt; "{told}")?;
+    print!(rt; "{told} put out\n{answers} recorded\n{recorded}")?;
+    println!(rt; " messages {messages}, answered by SACK at once {confirmed}")?;
+    println!(rt; " cookies echoed {echoed}, as they came {as_it_came}")?;
     println!(rt; " heard {heard}, put out {put_out}")?;
     println!(rt; " {verdict}")
 }

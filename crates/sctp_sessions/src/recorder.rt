@@ -20,6 +20,12 @@ pub struct Recorder {
     pub names: Vec<Name>,
     /// The cookie that it signed last.
     pub cookie: [u8; COOKIE_OCTETS],
+    /// What it put out since this was last cleared: the words of the chunks of each datagram.
+    pub answer: String,
+    /// The cookie of the peer that came last, how many cookies it echoed, and how many of them as they had come.
+    pub peer_cookie: Vec<u8>,
+    pub echoed: u32,
+    pub as_it_came: u32,
 }
 
 impl Recorder {
@@ -30,6 +36,29 @@ impl Recorder {
             put_out: 0,
             names: Vec::new(alloc),
             cookie: [0; COOKIE_OCTETS],
+            answer: String::new(alloc),
+            peer_cookie: Vec::new(alloc),
+            echoed: 0,
+            as_it_came: 0,
+        }
+    }
+
+    /// Learns the cookie of an INIT ACK that comes.
+    pub fn learn_peer_cookie(&mut self, datagram: &[u8]) {
+        if let Some(packet) = Packet::read(datagram)
+            && let Some(Chunk::InitAck(init)) = packet.chunks().next()
+            && let Some(octets) = cookie(init.parameters)
+        {
+            self.peer_cookie.clear();
+            let _ = self.peer_cookie.extend_from_slice(octets);
+        }
+    }
+
+    /// A cookie is echoed.
+    fn note_echo(&mut self, cookie: &[u8]) {
+        self.echoed = self.echoed.saturating_add(1);
+        if cookie == self.peer_cookie.as_slice() {
+            self.as_it_came = self.as_it_came.saturating_add(1);
         }
     }
 
@@ -57,9 +86,14 @@ impl Watch for Recorder {
         let Some(packet) = Packet::read(octets) else {
             return;
         };
+        let mut mark = " ";
         for chunk in packet.chunks() {
-            if let Chunk::Init(init) | Chunk::InitAck(init) = chunk {
-                self.learn(&init);
+            let _ = write!(self.answer, "{mark}{}", kind_of(chunk));
+            mark = "+";
+            match chunk {
+                Chunk::Init(init) | Chunk::InitAck(init) => self.learn(&init),
+                Chunk::CookieEcho(cookie) => self.note_echo(cookie),
+                _ => {}
             }
         }
     }
@@ -71,6 +105,26 @@ impl Watch for Recorder {
             Event::Down(why) => write!(self.told, " down {}\n", word_of(*why)),
             Event::Failed(why) => write!(self.told, " failed {}\n", word_of(*why)),
         };
+    }
+}
+
+/// The word of a chunk's type (RFC 9260 §3.2).
+pub fn kind_of(chunk: Chunk<'_>) -> &'static str {
+    match chunk {
+        Chunk::Data(_) => "DATA",
+        Chunk::Init(_) => "INIT",
+        Chunk::InitAck(_) => "INIT_ACK",
+        Chunk::Sack(_) => "SACK",
+        Chunk::Heartbeat(_) => "HEARTBEAT",
+        Chunk::HeartbeatAck(_) => "HEARTBEAT_ACK",
+        Chunk::Abort { .. } => "ABORT",
+        Chunk::Shutdown { .. } => "SHUTDOWN",
+        Chunk::ShutdownAck => "SHUTDOWN_ACK",
+        Chunk::Error(_) => "ERROR",
+        Chunk::CookieEcho(_) => "COOKIE_ECHO",
+        Chunk::CookieAck => "COOKIE_ACK",
+        Chunk::ShutdownComplete { .. } => "SHUTDOWN_COMPLETE",
+        Chunk::Unknown { .. } | Chunk::Malformed { .. } => "?",
     }
 }
 

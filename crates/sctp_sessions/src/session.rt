@@ -4,8 +4,9 @@ ghost use Rattle.std.specs.Prelude.{◌≤◌, ◌^◌};
 
 use crate::fitting::fit;
 use crate::names::{Name, add};
-use crate::recorder::Recorder;
+use crate::recorder::{Recorder, kind_of};
 use crate::rows::{OCTETS, hexadecimal, number, octets, word};
+use sctp_codec::Packet;
 use sctp_endpoint::endpoint::KEY_OCTETS;
 use sctp_endpoint::{Address, Endpoint, Settings};
 use sctp_sending::{Bounds, Message};
@@ -54,6 +55,13 @@ pub struct Session {
     recorded: String,
     now: u64,
     heard: u32,
+    /// What was put out by each row, but by messages that came or were sent and by what confirms them: a line each.
+    answers: String,
+    /// The same of the recorded end.
+    recorded_answers: String,
+    /// How many messages came, and how many of them SACK answered at once.
+    messages: u32,
+    confirmed: u32,
 }
 
 impl Session {
@@ -66,14 +74,20 @@ impl Session {
             recorded: String::new(alloc),
             now: 0,
             heard: 0,
+            answers: String::new(alloc),
+            recorded_answers: String::new(alloc),
+            messages: 0,
+            confirmed: 0,
         })
     }
 
     /// What a row says happens.
     pub fn play(&mut self, row: &str) {
+        self.recorder.answer.clear();
         match word(row, 0) {
             "drew" => self.note_name(row),
             "told" => self.note_told(row),
+            "answered" => self.note_recorded_answer(row),
             "send" => self.send(row),
             "open" | "hear" | "tick" | "shutdown" => {
                 self.now = number::<u64>(row, 1).min(LATEST);
@@ -83,6 +97,28 @@ impl Session {
         }
         if self.now <= LATEST {
             self.endpoint.flush(self.now, &mut self.recorder);
+        }
+        match word(row, 0) {
+            "hear" => self.note_answer(kind_in(row)),
+            "open" | "tick" | "shutdown" => self.note_answer(word(row, 0)),
+            _ => {}
+        }
+    }
+
+    /// Notes what was put out by what happened.
+    fn note_answer(&mut self, what: &str) {
+        let answer = self.recorder.answer.as_str();
+        match what {
+            "DATA" => {
+                self.messages = self.messages.saturating_add(1);
+                if answer.starts_with(" SACK") {
+                    self.confirmed = self.confirmed.saturating_add(1);
+                }
+            }
+            "SACK" => {}
+            _ => {
+                let _ = write!(self.answers, " {what}:{answer}\n");
+            }
         }
     }
 
@@ -107,6 +143,7 @@ impl Session {
     fn hear(&mut self, row: &str, now: u64) {
         let mut buffer = [0; OCTETS];
         let datagram = octets(row, 2, &mut buffer);
+        self.recorder.learn_peer_cookie(datagram);
         let own = &self.recorder;
         fit(
             datagram,
@@ -147,6 +184,12 @@ impl Session {
         let _ = write!(self.recorded, "{told}\n");
     }
 
+    /// The recorded end put something out.
+    fn note_recorded_answer(&mut self, row: &str) {
+        let answer = row.strip_prefix("answered").unwrap_or("");
+        let _ = write!(self.recorded_answers, "{answer}\n");
+    }
+
     /// What the user was told, a line each.
     pub fn told(&self) -> &str {
         self.recorder.told.as_str()
@@ -162,6 +205,21 @@ impl Session {
         self.recorder.put_out
     }
 
+    /// What was put out by each row, but by messages and by SACK, and what the recorded end put out: a line each.
+    pub fn answers(&self) -> (&str, &str) {
+        (self.answers.as_str(), self.recorded_answers.as_str())
+    }
+
+    /// How many messages came, and how many of them SACK answered at once.
+    pub fn confirmed(&self) -> (u32, u32) {
+        (self.messages, self.confirmed)
+    }
+
+    /// How many cookies were echoed, and how many of them as they had come.
+    pub fn echoed(&self) -> (u32, u32) {
+        (self.recorder.echoed, self.recorder.as_it_came)
+    }
+
     /// Whether the user was told what was recorded.
     pub fn verdict(&self) -> &'static str {
         if self.told() == self.recorded.as_str() {
@@ -169,5 +227,18 @@ impl Session {
         } else {
             "not as recorded"
         }
+    }
+}
+
+/// The type of the first chunk of the datagram in a row.
+fn kind_in(row: &str) -> &'static str {
+    let mut buffer = [0; OCTETS];
+    let datagram: &[u8] = octets(row, 2, &mut buffer);
+    let Some(packet) = Packet::read(datagram) else {
+        return "no packet";
+    };
+    match packet.chunks().next() {
+        Some(chunk) => kind_of(chunk),
+        None => "no packet",
     }
 }
