@@ -2,7 +2,7 @@
 
 use crate::counts::{Counts, count};
 use crate::octets::number;
-use sctp_world::{End, Entry, Messages, World};
+use sctp_world::{End, Entry, Messages, Text, World};
 
 /// Where a message of an association stands.
 #[derive(Clone, Copy)]
@@ -13,28 +13,28 @@ struct Place {
     next: usize,
 }
 
+/// An association in which nothing was told yet.
+const BEGINNING: Place = Place {
+    list: None,
+    next: 0,
+};
+
 /// Counts what the user of an end was told, and what of it is out of its place: not the next message of the
-/// association of the other end of which the first message was told.
+/// association of the other end of which the first message was told. That one is later than all in which messages were
+/// told before, so an association that is told again, or out of its order, is out of place too.
 pub fn judge(world: &World, end: End, other: End, counts: &mut Counts) {
     let given = world.given(other);
-    let mut place = Place {
-        list: None,
-        next: 0,
-    };
+    let mut place = BEGINNING;
+    let mut later = 0usize;
     for told in world.told(end) {
         match told.what() {
-            Entry::Up => {
-                place = Place {
-                    list: None,
-                    next: 0,
-                };
-            }
+            Entry::Up => place = BEGINNING,
             Entry::Heard(text) => {
-                let serial = number(text.octets(), 0);
                 if place.next == 0 {
-                    place.list = list_with(given, serial);
+                    place.list = list_with(given, later, text);
+                    later = behind(place.list, later);
                 }
-                if !is_at(given, place, serial) {
+                if !is_at(given, place, text) {
                     count(&mut counts.misplaced);
                 }
                 place.next = place.next.saturating_add(1);
@@ -48,34 +48,45 @@ pub fn judge(world: &World, end: End, other: End, counts: &mut Counts) {
     }
 }
 
-/// The association whose first message has this number.
-fn list_with(given: &[Messages], serial: u32) -> Option<usize> {
-    for i in 0..given.len() {
-        if first_is(&given[i], serial) {
+/// The place behind an association, where there is one; else the place as it was.
+fn behind(list: Option<usize>, later: usize) -> usize {
+    match list {
+        Some(place) => place.saturating_add(1),
+        None => later,
+    }
+}
+
+/// The association from a place on whose first message has the number of this one.
+fn list_with(given: &[Messages], from: usize, text: &Text) -> Option<usize> {
+    for i in from..given.len() {
+        if let Some(first) = given[i].texts().first()
+            && serial(first) == serial(text)
+        {
             return Some(i);
         }
     }
     None
 }
 
-/// Whether the first message has this number.
-fn first_is(list: &Messages, serial: u32) -> bool {
-    match list.texts().first() {
-        Some(text) => number(text.octets(), 0) == serial,
+/// Whether the message in a place is this one: its number, stream, protocol and octets.
+fn is_at(given: &[Messages], place: Place, text: &Text) -> bool {
+    let Some(list) = place.list else {
+        return false;
+    };
+    let Some(messages) = given.get(list) else {
+        return false;
+    };
+    match messages.texts().get(place.next) {
+        Some(there) => {
+            there.stream() == text.stream()
+                && there.protocol() == text.protocol()
+                && there.octets() == text.octets()
+        }
         None => false,
     }
 }
 
-/// Whether the message in a place has this number.
-fn is_at(given: &[Messages], place: Place, serial: u32) -> bool {
-    let Some(list) = place.list else {
-        return false;
-    };
-    match given.get(list) {
-        Some(messages) => match messages.texts().get(place.next) {
-            Some(text) => number(text.octets(), 0) == serial,
-            None => false,
-        },
-        None => false,
-    }
+/// The number of a message, which no other of its sender has.
+fn serial(text: &Text) -> u32 {
+    number(text.octets(), 0)
 }

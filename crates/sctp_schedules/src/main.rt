@@ -4,7 +4,8 @@
 //! A schedule is 4,000 steps, each at one of the ends: of 64 steps 16 send a message, 12 flush, 6 tick, 2 open, and most
 //! others let a datagram come that the other end put out: mostly one of the latest twelve, else any that ever was. It
 //! plays as many schedules as its first word says, or 200. Each message has a number of its own, so it is seen whether
-//! it is the next one of its association; `World::told` promises that it is, so `out of place` is 0.
+//! it is the next one of its association, and whether associations are told once each, and in order. `World::told`
+//! promises that, so `out of place` is 0; all other numbers follow from the dice, and are from a run.
 #![tactic(auto)]
 
 mod counts;

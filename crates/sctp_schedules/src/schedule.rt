@@ -47,7 +47,7 @@ const UNKNOWN: Known = Known {
 pub fn play(alloc: Global, seed: u32, counts: &mut Counts) -> Result<(), AllocError> {
     let mut dice = Dice::new(u64::from(seed));
     let first = if seed % 4 == 0 { WRAPPING_KEY } else { seed };
-    let mut world = World::new(alloc, making(first, 1), making(seed, 2))?;
+    let mut world = World::new(alloc, making(first, 0), making(seed, 2))?;
     let mut near = UNKNOWN;
     let mut far = UNKNOWN;
     let mut now = 0u64;
@@ -85,8 +85,9 @@ pub fn play(alloc: Global, seed: u32, counts: &mut Counts) -> Result<(), AllocEr
     Ok(())
 }
 
-/// An endpoint, under keys that end in this number.
-fn making(number: u32, kind: u8) -> Making
+/// An endpoint, under keys that end in this number. The key of its tags begins with an octet, that of its cookies with
+/// the next one.
+fn making(number: u32, begin: u8) -> Making
     ensures initial { result.settings.bounds.initial ≡ 300 }
     ensures least { result.settings.bounds.least ≡ 100 }
     ensures most { result.settings.bounds.most ≡ 1000 }
@@ -106,8 +107,8 @@ fn making(number: u32, kind: u8) -> Making
             heartbeat: 5_000,
             cookie_life: 60_000,
         },
-        tag_key: key(number, 0),
-        cookie_key: key(number, kind),
+        tag_key: key(number, begin),
+        cookie_key: key(number, begin.saturating_add(1)),
     }
 }
 
