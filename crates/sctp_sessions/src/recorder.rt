@@ -86,10 +86,10 @@ impl Watch for Recorder {
         let Some(packet) = Packet::read(octets) else {
             return;
         };
-        let mut mark = " ";
+        let mut mark = ' ';
         for chunk in packet.chunks() {
             let _ = write!(self.answer, "{mark}{}", kind_of(chunk));
-            mark = "+";
+            mark = '+';
             match chunk {
                 Chunk::Init(init) | Chunk::InitAck(init) => self.learn(&init),
                 Chunk::CookieEcho(cookie) => self.note_echo(cookie),
