@@ -4,3 +4,4 @@ pub mod Parsed
 pub mod Spelled
 pub mod Exists
 pub mod Explained
+pub mod Times

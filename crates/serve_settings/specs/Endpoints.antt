@@ -7,7 +7,7 @@ use Rattle.toml.specs.Data.{Data, Members, get_member}
 use Rattle.settings_rows.specs.declared.key.Key.TheVariants as node
 use Rattle.settings_file.specs.declared.fault.SettingsFault.TheVariants as found
 use Rattle.serve_settings.specs.declared.server.Endpoint.{Endpoint}
-use Rattle.serve_settings.specs.declared.server.Endpoint.TheVariants.{Listen, Connect}
+use Rattle.serve_settings.specs.declared.server.Endpoint.TheVariants.{Listen, Connect, Remote}
 use Rattle.serve_settings.specs.declared.key.ServeKey.TheVariants.{LinkListen, LinkConnect}
 use Rattle.serve_settings.specs.declared.fault.ServeFault.{ServeFault}
 use Rattle.serve_settings.specs.declared.fault.ServeFault.TheVariants.{Settings, Missing, Duplicate}
@@ -19,6 +19,7 @@ use Rattle.serve_settings.specs.Keyed.{address_in}
 abbrev pub listens_on : SocketAddr → Endpoint → Bool
 listens_on a (Listen b) = is_same b a
 listens_on a (Connect b) = false
+listens_on a (Remote r) = false
 
 abbrev pub console_is_on : SocketAddr → Option SocketAddr → Bool
 console_is_on a None = false

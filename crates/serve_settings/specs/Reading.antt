@@ -1,5 +1,5 @@
 -- What is read of a server's settings from the text of a settings file.
-use Rattle.std.specs.Prelude.{◌≡◌, ◌⊎◌, ℕ, List, Result, Ok, Err, codes}
+use Rattle.std.specs.Prelude.{◌≡◌, ◌⊎◌, ℕ, false, List, None, Result, Ok, Err, codes}
 use Rattle.std.specs.Option.{ok_or}
 use Rattle.toml.specs.Data.{Members}
 use Rattle.toml.specs.Parse.{parse_document}
@@ -16,10 +16,22 @@ use Rattle.serve_settings.specs.Shapes.{and_then, value_at, table_in}
 use Rattle.serve_settings.specs.Keyed.{tick_ms_at, console_open_at, is_open, console_at, capture_at, points_at}
 use Rattle.serve_settings.specs.Endpoints.{endpoints_at}
 use Rattle.serve_settings.specs.Served.{Served}
+use Rattle.serve_settings.specs.declared.sctp.SctpTimes.{SctpTimes}
 
 -- the table `serve` of a file
 unfoldable pub serve_at : Members → Result Members ServeFault
 serve_at t = and_then (value_at (codes "serve") (Missing Serve) t) (table_in (Kind Serve))
+
+-- the times and tries of associations where a file says nothing of them
+abbrev pub default_times : SctpTimes
+default_times = record {
+  rto_initial_ms = 300;
+  rto_min_ms = 100;
+  rto_max_ms = 1000;
+  init_tries = 8;
+  retransmissions = 10;
+  heartbeat_ms = 5000;
+}
 
 -- what a file says of its server: the keys in their order, and the first fault among them is the file's
 unfoldable pub document : Spelling → Members → Result Served ServeFault
@@ -31,7 +43,17 @@ document s t =
     and_then (console_open_at serve) (λ opened.
     and_then (points_at serve) (λ points.
     and_then (endpoints_at s console t) (λ links.
-    Ok (record { tick_ms = tick_ms; console = console; capture = capture; points = points; links = links }))))))))
+    Ok (record {
+      tick_ms = tick_ms;
+      console = console;
+      capture = capture;
+      points = points;
+      udp = None;
+      sctp = default_times;
+      is_page_open = false;
+      page = None;
+      links = links;
+    }))))))))
 
 -- what a text says of its server
 unfoldable pub reading : Spelling → List ℕ → Result Served ServeFault

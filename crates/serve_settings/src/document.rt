@@ -6,12 +6,13 @@ ghost use Rattle.toml.specs.View.{table_view};
 ghost use Rattle.settings_file.specs.Reading.{IsReadAs};
 ghost use Rattle.serve_settings.specs.Addresses.{Spelling};
 ghost use Rattle.serve_settings.specs.Faults.{Answers, AnswersOrNoMemory};
-ghost use Rattle.serve_settings.specs.Reading.{serve_at, document, reading, IsFirstFault};
+ghost use Rattle.serve_settings.specs.Reading.{default_times, serve_at, document, reading, IsFirstFault};
 
 use crate::endpoints::endpoints;
 use crate::fault::ServeFault;
 use crate::key::ServeKey;
 use crate::keys::{capture, console, console_open, points, tick_ms};
+use crate::sctp::SctpTimes;
 use crate::server::ServeSettings;
 use crate::shapes::{table_in, value};
 use settings::Settings;
@@ -27,6 +28,20 @@ fn serve_in(table: &Table) -> Result<&Table, ServeFault>
     table_in(value, ServeFault::Kind(ServeKey::Serve))
 }
 
+/// The times of associations where a file says nothing of them.
+fn default_times() -> SctpTimes
+    ensures { result ≡ default_times }
+{
+    SctpTimes {
+        rto_initial_ms: 300,
+        rto_min_ms: 100,
+        rto_max_ms: 1000,
+        init_tries: 8,
+        retransmissions: 10,
+        heartbeat_ms: 5000,
+    }
+}
+
 /// What a file says of its server.
 #[tactic(auto, unfolding(crate::specs::Reading::document))]
 fn contents(alloc: Global, table: &Table) -> Result<ServeSettings, ServeFault>
@@ -40,12 +55,17 @@ fn contents(alloc: Global, table: &Table) -> Result<ServeSettings, ServeFault>
     let capture = capture(alloc, serve)?;
     opened?;
     let points = points(serve)?;
+    let sctp = default_times();
     let links = endpoints(alloc, console, table)?;
     Ok(ServeSettings {
         tick_ms,
         console,
         capture,
         points,
+        udp: None,
+        sctp,
+        is_page_open: false,
+        page: None,
         links,
     })
 }

@@ -4,6 +4,7 @@ ghost use Rattle.std.specs.Prelude.{◌≡◌, ◌≤◌};
 ghost use Rattle.std.specs.Option.{option_map};
 ghost use Rattle.serve_settings.specs.Endpoints.{listens_on};
 
+use crate::sctp::{Remote, SctpTimes};
 use point_format::PointFormat;
 use std::marker::Model;
 use std::net::SocketAddr;
@@ -15,6 +16,8 @@ pub enum Endpoint {
     Listen(SocketAddr),
     /// The server connects to this address.
     Connect(SocketAddr),
+    /// The association is one of SCTP in UDP.
+    Remote(Remote),
 }
 
 impl Endpoint {
@@ -24,19 +27,24 @@ impl Endpoint {
     {
         match self {
             Endpoint::Listen(own) => own == address,
-            Endpoint::Connect(_) => false,
+            Endpoint::Connect(_) | Endpoint::Remote(_) => false,
         }
     }
 }
 
 /// The settings of a server: how long a tick is, where its console listens, what file it captures
-/// to, how it shows point codes, and how the association of each link comes about.
+/// to, how it shows point codes, where its datagrams go out and by which times, where its status page
+/// is, and how the association of each link comes about.
 #[derive(Drop)]
 pub struct ServeSettings {
     pub(crate) tick_ms: u16,
     pub(crate) console: Option<SocketAddr>,
     pub(crate) capture: Option<String>,
     pub(crate) points: PointFormat,
+    pub(crate) udp: Option<SocketAddr>,
+    pub(crate) sctp: SctpTimes,
+    pub(crate) is_page_open: bool,
+    pub(crate) page: Option<SocketAddr>,
     pub(crate) links: Vec<Endpoint>,
 }
 
@@ -45,11 +53,11 @@ impl Model for ServeSettings {
 
     ghost Value = { Served };
 
-    ghost use Rattle.serve_settings.specs.Inside.{served_of, IsTickInRange};
+    ghost use Rattle.serve_settings.specs.Inside.{served_of, IsInRange};
 
     ghost view = { served_of };
 
-    ghost invariant = { IsTickInRange };
+    ghost invariant = { IsInRange };
 }
 
 impl ServeSettings {
@@ -81,6 +89,44 @@ impl ServeSettings {
         ensures { result ≡ self.now.points }
     {
         self.points
+    }
+
+    /// The address and the UDP port of the node, for its links over SCTP.
+    pub fn udp(&self) -> Option<SocketAddr>
+        ensures { result ≡ self.now.udp }
+    {
+        self.udp
+    }
+
+    /// The times and tries of the associations of SCTP. Times are in milliseconds.
+    pub fn sctp(&self) -> SctpTimes
+        ensures value { result ≡ self.now.sctp }
+        ensures least { 10 ≤ result.rto_min_ms }
+        ensures initial_above { result.rto_min_ms ≤ result.rto_initial_ms }
+        ensures initial_below { result.rto_initial_ms ≤ result.rto_max_ms }
+        ensures most { result.rto_max_ms ≤ 60000 }
+        ensures init_tries_above { 1 ≤ result.init_tries }
+        ensures init_tries_below { result.init_tries ≤ 100 }
+        ensures retransmissions_above { 1 ≤ result.retransmissions }
+        ensures retransmissions_below { result.retransmissions ≤ 100 }
+        ensures heartbeat_above { 100 ≤ result.heartbeat_ms }
+        ensures heartbeat_below { result.heartbeat_ms ≤ 600000 }
+    {
+        self.sctp
+    }
+
+    /// The address of the status page, where there is to be one.
+    pub fn page(&self) -> Option<SocketAddr>
+        ensures { result ≡ self.now.page }
+    {
+        self.page
+    }
+
+    /// Whether the status page may be at an address that other machines reach.
+    pub fn is_page_open(&self) -> bool
+        ensures { result ≡ self.now.is_page_open }
+    {
+        self.is_page_open
     }
 
     /// How the association of each link comes about, in the order of the settings.

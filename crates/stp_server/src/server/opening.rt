@@ -97,6 +97,7 @@ impl Server {
                 log.tell_at("connect", self.node.observers.name(link), address);
                 Listener::none()
             }
+            Endpoint::Remote(_) => Listener::none(),
         };
         self.links.push(LinkSocket::new(link, endpoint, listener))?;
         Ok(())
