@@ -25,7 +25,9 @@ may_be_joined None = false
 
 -- the keys of a link, with those of a server
 abbrev pub link_keys : List (List ℕ)
-link_keys = codes "name" ∷ codes "set" ∷ codes "slc" ∷ codes "listen" ∷ codes "connect" ∷ []
+link_keys =
+    codes "name" ∷ codes "set" ∷ codes "slc" ∷ codes "listen" ∷ codes "connect" ∷ codes "remote" ∷ codes "sctp_port"
+    ∷ codes "remote_sctp_port" ∷ codes "tries" ∷ []
 
 -- the keys of a destination, which may be joined or may not
 abbrev pub destination_keys : (may_be_joined : Bool) → List (List ℕ)

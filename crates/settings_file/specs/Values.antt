@@ -9,11 +9,21 @@ use Rattle.settings_file.specs.declared.key_rows.KeyRow.{KeyRow}
 abbrev pub is_dot : ℕ → Bool
 is_dot octet = octet == 46
 
--- the value of a key of a document; behind the first dot, of a key in the table that is named before it
+abbrev pub has_dot : List ℕ → Bool
+has_dot path = nat_lt (position_or_len is_dot path) (length path)
+
+-- the value of a key in a table; behind a dot, that of a key in its table that is named before the dot
+abbrev pub value_below : List ℕ → Data → Option Data
+value_below path d =
+    if has_dot path
+    then option_and_then (get (after_first is_dot path)) (get (before_first is_dot path) d)
+    else get path d
+
+-- the same in a document, whose tables may have tables
 abbrev pub value_at_path : List ℕ → Members → Option Data
 value_at_path path t =
-    if nat_lt (position_or_len is_dot path) (length path)
-    then option_and_then (get (after_first is_dot path)) (get_member (before_first is_dot path) t)
+    if has_dot path
+    then option_and_then (value_below (after_first is_dot path)) (get_member (before_first is_dot path) t)
     else get_member path t
 
 -- an entry of an array

@@ -5,7 +5,7 @@ ghost use Rattle.std.specs.Option.{option_copied, option_map};
 ghost use Rattle.toml.specs.Data.{get_member};
 ghost use Rattle.toml.specs.View.{view, table_view};
 ghost use Rattle.settings_file.specs.Sentences.{place_of, behind_colon, row_place, IsAboutPlace};
-ghost use Rattle.settings_file.specs.Values.{value_at, value_at_path, entry_at};
+ghost use Rattle.settings_file.specs.Values.{value_at, value_at_path, value_below, entry_at};
 
 use crate::key_rows::KeyRow;
 use crate::values::is_shown;
@@ -54,13 +54,23 @@ pub fn value_at<'a>(document: &'a Table, row: &KeyRow) -> Option<&'a Value>
     }
 }
 
-/// The value of a key that is written alone, or behind the name of its table and a dot.
+/// The value of a key that is written alone, or behind the names of its tables, each with a dot: two at most.
 fn value_at_path<'a>(document: &'a Table, path: &str) -> Option<&'a Value>
     ensures { option_map (λ value. view value.now) result ≡ value_at_path path.now (table_view document.now) }
 {
     match path.split_once('.') {
-        Some((table, key)) => found(document, table)?.get(key),
+        Some((table, below)) => value_below(found(document, table)?, below),
         None => found(document, path),
+    }
+}
+
+/// The value of a key in this table, or in a table of it that is named before a dot.
+fn value_below<'a>(table: &'a Value, path: &str) -> Option<&'a Value>
+    ensures { option_map (λ value. view value.now) result ≡ value_below path.now (view table.now) }
+{
+    match path.split_once('.') {
+        Some((inner, key)) => table.get(inner)?.get(key),
+        None => table.get(path),
     }
 }
 

@@ -33,13 +33,43 @@ const TIMERS: [&str; 13] = [
 ];
 
 /// The keys of the table `serve`.
-const SERVE: [&str; 5] = ["tick_ms", "console", "capture", "console_open", "points"];
+const SERVE: [&str; 9] = [
+    "tick_ms",
+    "console",
+    "capture",
+    "console_open",
+    "points",
+    "udp",
+    "sctp",
+    "page_open",
+    "page",
+];
+
+/// The keys of the table `serve.sctp`.
+const SCTP: [&str; 6] = [
+    "rto_initial_ms",
+    "rto_min_ms",
+    "rto_max_ms",
+    "init_tries",
+    "retransmissions",
+    "heartbeat_ms",
+];
 
 /// The keys of a link set.
 const SET: &[&str] = &["name", "adjacent"];
 
 /// The keys of a link.
-const LINK: &[&str] = &["name", "set", "slc", "listen", "connect"];
+const LINK: &[&str] = &[
+    "name",
+    "set",
+    "slc",
+    "listen",
+    "connect",
+    "remote",
+    "sctp_port",
+    "remote_sctp_port",
+    "tries",
+];
 
 /// The keys of a translation row.
 const TITLE: &[&str] = &[
@@ -106,15 +136,29 @@ impl WarningText<'_> {
     {
         self.add_table(alloc, "", document, &TOP)?;
         self.add_inner_table(alloc, document, "timers", "timers.", &TIMERS)?;
-        self.add_inner_table(alloc, document, "serve", "serve.", &SERVE)?;
+        self.add_serve(alloc, document)?;
         self.add_arrays(alloc, document)
     }
 
-    /// Warns of the keys of a table in a document.
+    /// Warns of the keys of the table `serve` of a document, and of its table `sctp`.
+    fn add_serve(&mut self, alloc: Global, document: &Table) -> Result<(), AllocError>
+        requires { IsSoFar self.old }
+        ensures { OnOk result (GoesOn self.old self.new) }
+    {
+        self.add_inner_table(alloc, document, "serve", "serve.", &SERVE)?;
+        match document.get("serve") {
+            Some(Value::Table(serve)) => {
+                self.add_inner_table(alloc, serve, "sctp", "serve.sctp.", &SCTP)
+            }
+            _ => Ok(()),
+        }
+    }
+
+    /// Warns of the keys of a table in another.
     fn add_inner_table(
         &mut self,
         alloc: Global,
-        document: &Table,
+        outer: &Table,
         name: &str,
         front: &str,
         known: &[&str],
@@ -122,7 +166,7 @@ impl WarningText<'_> {
         requires { IsSoFar self.old }
         ensures { OnOk result (GoesOn self.old self.new) }
     {
-        match document.get(name) {
+        match outer.get(name) {
             Some(Value::Table(table)) => self.add_table(alloc, front, table, known),
             _ => Ok(()),
         }
