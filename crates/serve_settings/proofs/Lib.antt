@@ -4,4 +4,5 @@ pub mod Parsed
 pub mod Spelled
 pub mod Exists
 pub mod Explained
-pub mod Times
+pub mod Sources
+pub mod Within

@@ -1,11 +1,12 @@
 -- Addresses with a port: what a text spells, and what is told of them.
-use Rattle.std.specs.Prelude.{◌≡◌, ℕ, List, [], ◌∷◌, take, Bool, Option, Some, bytes_eq}
+use Rattle.std.specs.Prelude.{◌≡◌, ℕ, List, [], ◌∷◌, take, Bool, true, false, Option, Some, None, bytes_eq}
 use Rattle.std.specs.declared.net.socket_addr.SocketAddr.{SocketAddr}
 use Rattle.std.specs.declared.net.socket_addr.SocketAddr.TheVariants.{V4, V6}
 use Rattle.std.specs.Net.Addr.{ipv4_octets, ipv6_segments}
-use Rattle.std.specs.Net.Socket.{v4_ip, v6_ip}
+use Rattle.std.specs.Net.Socket.{v4_ip, v6_ip, socket_ip}
 use Rattle.std.specs.Net.Grammar.{IsSocketText}
 use Rattle.std.specs.contracts.impls.SocketAddrPartialEq.TheImpl as same
+use Rattle.std.specs.contracts.impls.IpAddrPartialEq.TheImpl as same_host
 
 -- a function that tells what address a text spells, and of a text that spells none says so
 pub record Spelling : Type 0 where
@@ -21,3 +22,19 @@ is_loopback (V6 a) = bytes_eq (ipv6_segments (v6_ip a)) (0 ∷ 0 ∷ 0 ∷ 0 ∷
 -- two addresses are the same, with their ports, as `==` has it
 abbrev pub is_same : SocketAddr → SocketAddr → Bool
 is_same = (same.ghosts).eq
+
+-- this is the address, where there is one
+abbrev pub is_address_of : Option SocketAddr → SocketAddr → Bool
+is_address_of None a = false
+is_address_of (Some b) a = is_same b a
+
+-- two addresses are of the same host, whatever their ports are
+abbrev pub is_same_host : SocketAddr → SocketAddr → Bool
+is_same_host a b = (same_host.ghosts).eq (socket_ip a) (socket_ip b)
+
+-- both are of IPv4, or both of IPv6
+abbrev pub is_same_version : SocketAddr → SocketAddr → Bool
+is_same_version (V4 a) (V4 b) = true
+is_same_version (V4 a) (V6 b) = false
+is_same_version (V6 a) (V4 b) = false
+is_same_version (V6 a) (V6 b) = true

@@ -1,7 +1,9 @@
 -- How the settings of a server are kept.
-use Rattle.std.specs.Prelude.{◌≤◌, string_bytes}
+use Rattle.std.specs.Prelude.{◌≡◌, ◌≤◌, true, string_bytes}
 use Rattle.std.specs.Option.{option_map}
-use Rattle.serve_settings.specs.Served.{Served, AreWithin}
+use Rattle.serve_settings.specs.Served.{Served}
+use Rattle.serve_settings.specs.Times.{AreWithin}
+use Rattle.serve_settings.specs.Endpoints.{have_source}
 use Rattle.serve_settings.specs.declared.server.ServeSettings.TheInside.{Inside}
 
 abbrev pub served_of : Inside → Served
@@ -17,8 +19,10 @@ served_of s = record {
   links = s.links.items;
 }
 
--- a tick is 10 ms to 10 s long, and the times and tries of associations are within their limits
-pub record IsInRange (s : Inside) : Type 0 where
+-- a tick is 10 ms to 10 s long, the times and tries of associations are within their limits, and links over SCTP have
+-- an address that their datagrams go out from
+pub record IsSound (s : Inside) : Type 0 where
   pub above : 10 ≤ s.tick_ms
   pub below : s.tick_ms ≤ 10000
   pub times : AreWithin s.sctp
+  pub links : have_source s.udp s.links.items ≡ true

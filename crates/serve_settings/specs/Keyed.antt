@@ -9,8 +9,8 @@ use Rattle.point_format.specs.declared.point.PointFormat.TheVariants.{Plain, Thr
 use Rattle.serve_settings.specs.declared.key.ServeKey.{ServeKey}
 use Rattle.serve_settings.specs.declared.key.ServeKey.TheVariants as key
 use Rattle.serve_settings.specs.declared.fault.ServeFault.{ServeFault}
-use Rattle.serve_settings.specs.declared.fault.ServeFault.TheVariants.{Missing, Range}
-use Rattle.serve_settings.specs.Addresses.{Spelling, is_loopback}
+use Rattle.serve_settings.specs.declared.fault.ServeFault.TheVariants.{Missing, Range, Duplicate}
+use Rattle.serve_settings.specs.Addresses.{Spelling, is_loopback, is_address_of}
 use Rattle.serve_settings.specs.Shapes.{and_then, value_at, integer_in, truth_in, text_in}
 
 -- an address, whose port isn't 0
@@ -21,33 +21,44 @@ with_port key (Some a) = if nat_lt 0 (socket_port a) then Ok a else Err (Range k
 unfoldable pub address_in : Spelling → ServeKey → Data → Result SocketAddr ServeFault
 address_in s key d = and_then (text_in key d) (λ text. with_port key (s.address text))
 
--- how long a tick is: 10 to 10,000 ms
-abbrev pub tick_in : ℤ → Result ℕ ServeFault
-tick_in (pos n) = if nat_le 10 n && nat_le n 10000 then Ok n else Err (Range key.TickMs)
-tick_in (negsuc n) = Err (Range key.TickMs)
+-- a number from the least to the most
+abbrev pub number_in : ServeKey → (least most : ℕ) → ℤ → Result ℕ ServeFault
+number_in key least most (pos n) = if nat_le least n && nat_le n most then Ok n else Err (Range key)
+number_in key least most (negsuc n) = Err (Range key)
 
+-- the same of the value of a key, with this number where the key is left out
+abbrev pub number_or : ServeKey → (least most usual : ℕ) → Option Data → Result ℕ ServeFault
+number_or key least most usual None = Ok usual
+number_or key least most usual (Some d) = and_then (integer_in key d) (number_in key least most)
+
+-- a truth value, with this one where the key is left out
+abbrev pub truth_or : ServeKey → (usual : Bool) → Option Data → Result Bool ServeFault
+truth_or key usual None = Ok usual
+truth_or key usual (Some d) = truth_in key d
+
+-- how long a tick is: 10 to 10,000 ms
 unfoldable pub tick_ms_at : Members → Result ℕ ServeFault
 tick_ms_at t =
-    and_then (value_at (codes "tick_ms") (Missing key.TickMs) t) (λ d. and_then (integer_in key.TickMs d) tick_in)
+    and_then (value_at (codes "tick_ms") (Missing key.TickMs) t)
+    (λ d. and_then (integer_in key.TickMs d) (number_in key.TickMs 10 10000))
 
 -- whether the console may listen on an address that other machines reach, which it may not where the key is left out
-abbrev pub open_in : Option Data → Result Bool ServeFault
-open_in None = Ok false
-open_in (Some d) = truth_in key.ConsoleOpen d
-
 unfoldable pub console_open_at : Members → Result Bool ServeFault
-console_open_at t = open_in (get_member (codes "console_open") t)
+console_open_at t = truth_or key.ConsoleOpen false (get_member (codes "console_open") t)
 
 abbrev pub is_open : Result Bool ServeFault → Bool
 is_open (Ok opened) = opened
 is_open (Err fault) = false
 
+-- an address; where it isn't open, one that no other machine reaches
+abbrev pub guarded : ServeKey → (opened : Bool) → SocketAddr → Result SocketAddr ServeFault
+guarded key opened a = if is_loopback a || opened then Ok a else Err (Range key)
+
 -- where the console listens, if there is one: where it isn't open, on an address that no other machine reaches
 abbrev pub console_in : Spelling → (opened : Bool) → Option Data → Result (Option SocketAddr) ServeFault
 console_in s opened None = Ok None
 console_in s opened (Some d) =
-    and_then (address_in s key.Console d)
-    (λ a. if is_loopback a || opened then Ok (Some a) else Err (Range key.Console))
+    and_then (address_in s key.Console d) (λ a. and_then (guarded key.Console opened a) (λ own. Ok (Some own)))
 
 unfoldable pub console_at : Spelling → (opened : Bool) → Members → Result (Option SocketAddr) ServeFault
 console_at s opened t = console_in s opened (get_member (codes "console") t)
@@ -73,3 +84,28 @@ points_in (Some d) =
 
 unfoldable pub points_at : Members → Result PointFormat ServeFault
 points_at t = points_in (get_member (codes "points") t)
+
+-- the address and the UDP port of the server, if it has one
+abbrev pub udp_in : Spelling → Option Data → Result (Option SocketAddr) ServeFault
+udp_in s None = Ok None
+udp_in s (Some d) = and_then (address_in s key.Udp d) (λ a. Ok (Some a))
+
+unfoldable pub udp_at : Spelling → Members → Result (Option SocketAddr) ServeFault
+udp_at s t = udp_in s (get_member (codes "udp") t)
+
+-- whether the status page may be at an address that other machines reach, which it may not where the key is left out
+unfoldable pub page_open_at : Members → Result Bool ServeFault
+page_open_at t = truth_or key.PageOpen false (get_member (codes "page_open") t)
+
+-- where the status page is, if there is one: where it isn't open, at an address that no other machine reaches; and
+-- not where the console is
+abbrev pub page_in : Spelling → (opened : Bool) → Option SocketAddr → Option Data
+    → Result (Option SocketAddr) ServeFault
+page_in s opened console None = Ok None
+page_in s opened console (Some d) =
+    and_then (address_in s key.Page d) (λ a.
+    and_then (guarded key.Page opened a) (λ own.
+    if is_address_of console own then Err (Duplicate key.Page) else Ok (Some own)))
+
+unfoldable pub page_at : Spelling → (opened : Bool) → Option SocketAddr → Members → Result (Option SocketAddr) ServeFault
+page_at s opened console t = page_in s opened console (get_member (codes "page") t)

@@ -1,7 +1,7 @@
 -- What is read of a server's settings from the text of a settings file.
-use Rattle.std.specs.Prelude.{◌≡◌, ◌⊎◌, ℕ, false, List, None, Result, Ok, Err, codes}
+use Rattle.std.specs.Prelude.{◌≡◌, ◌⊎◌, ℕ, Bool, List, is_some, Result, Ok, Err, if◌then◌else◌, codes}
 use Rattle.std.specs.Option.{ok_or}
-use Rattle.toml.specs.Data.{Members}
+use Rattle.toml.specs.Data.{Members, get_member}
 use Rattle.toml.specs.Parse.{parse_document}
 use Rattle.settings_rows.specs.Configuration.{Configuration}
 use Rattle.settings_file.specs.Reading as settings
@@ -14,26 +14,16 @@ use Rattle.serve_settings.specs.Addresses.{Spelling}
 use Rattle.serve_settings.specs.Faults.{fault_of}
 use Rattle.serve_settings.specs.Shapes.{and_then, value_at, table_in}
 use Rattle.serve_settings.specs.Keyed.{tick_ms_at, console_open_at, is_open, console_at, capture_at, points_at}
+use Rattle.serve_settings.specs.Keyed.{udp_at, page_open_at, page_at}
+use Rattle.serve_settings.specs.Times.{times_at}
 use Rattle.serve_settings.specs.Endpoints.{endpoints_at}
 use Rattle.serve_settings.specs.Served.{Served}
-use Rattle.serve_settings.specs.declared.sctp.SctpTimes.{SctpTimes}
 
 -- the table `serve` of a file
 unfoldable pub serve_at : Members → Result Members ServeFault
 serve_at t = and_then (value_at (codes "serve") (Missing Serve) t) (table_in (Kind Serve))
 
--- the times and tries of associations where a file says nothing of them
-abbrev pub default_times : SctpTimes
-default_times = record {
-  rto_initial_ms = 300;
-  rto_min_ms = 100;
-  rto_max_ms = 1000;
-  init_tries = 8;
-  retransmissions = 10;
-  heartbeat_ms = 5000;
-}
-
--- what a file says of its server: the keys in their order, and the first fault among them is the file's
+-- what a file says of its server: the keys in this order, and the first fault among them is the file's
 unfoldable pub document : Spelling → Members → Result Served ServeFault
 document s t =
     and_then (serve_at t) (λ serve.
@@ -42,18 +32,30 @@ document s t =
     and_then (capture_at serve) (λ capture.
     and_then (console_open_at serve) (λ opened.
     and_then (points_at serve) (λ points.
-    and_then (endpoints_at s console t) (λ links.
+    and_then (udp_at s serve) (λ udp.
+    and_then (times_at serve) (λ sctp.
+    and_then (page_open_at serve) (λ is_page_open.
+    and_then (page_at s is_page_open console serve) (λ page.
+    and_then (endpoints_at s (record { console = console; page = page; udp = udp }) t) (λ links.
     Ok (record {
       tick_ms = tick_ms;
       console = console;
       capture = capture;
       points = points;
-      udp = None;
-      sctp = default_times;
-      is_page_open = false;
-      page = None;
+      udp = udp;
+      sctp = sctp;
+      is_page_open = is_page_open;
+      page = page;
       links = links;
-    }))))))))
+    }))))))))))))
+
+-- a file has a table for a server, or what stands in its place
+abbrev pub is_of_server : Members → Bool
+is_of_server t = is_some (get_member (codes "serve") t)
+
+-- what a file of a server and one of none come to: the first fault of the server's settings, if they have any
+unfoldable pub checked : Spelling → Members → Result Unit ServeFault
+checked s t = if is_of_server t then and_then (document s t) (λ served. Ok tt) else Ok tt
 
 -- what a text says of its server
 unfoldable pub reading : Spelling → List ℕ → Result Served ServeFault

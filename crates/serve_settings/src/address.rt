@@ -2,8 +2,8 @@
 
 ghost use Rattle.std.specs.Prelude.{◌≡◌};
 ghost use Rattle.toml.specs.View.{view};
-ghost use Rattle.serve_settings.specs.Addresses.{Spelling, is_loopback};
-ghost use Rattle.serve_settings.specs.Keyed.{address_in, with_port};
+ghost use Rattle.serve_settings.specs.Addresses.{Spelling, is_loopback, is_address_of, is_same_host, is_same_version};
+ghost use Rattle.serve_settings.specs.Keyed.{address_in, with_port, guarded};
 
 use crate::fault::ServeFault;
 use crate::key::ServeKey;
@@ -32,8 +32,50 @@ pub(crate) fn address_in(value: &Value, key: ServeKey) -> Result<SocketAddr, Ser
 }
 
 /// Whether no other machine reaches an address.
-pub(crate) fn is_loopback(address: SocketAddr) -> bool
+fn is_loopback(address: SocketAddr) -> bool
     ensures { result ≡ is_loopback address }
 {
     address.ip().is_loopback()
+}
+
+/// An address, if it is open, or if no other machine reaches it.
+pub(crate) fn guarded(
+    address: SocketAddr,
+    opened: bool,
+    key: ServeKey,
+) -> Result<SocketAddr, ServeFault>
+    ensures { result ≡ guarded key opened address }
+{
+    if is_loopback(address) || opened {
+        Ok(address)
+    } else {
+        Err(ServeFault::Range(key))
+    }
+}
+
+/// Whether this is the address, where there is one.
+pub(crate) fn is_address_of(own: Option<SocketAddr>, address: SocketAddr) -> bool
+    ensures { result ≡ is_address_of own address }
+{
+    match own {
+        Some(own) => own == address,
+        None => false,
+    }
+}
+
+/// Whether two addresses are of the same host.
+pub(crate) fn is_same_host(address: SocketAddr, other: SocketAddr) -> bool
+    ensures { result ≡ is_same_host address other }
+{
+    address.ip() == other.ip()
+}
+
+/// Whether both addresses are of IPv4, or both of IPv6.
+pub(crate) fn is_same_version(address: SocketAddr, other: SocketAddr) -> bool
+    ensures { result ≡ is_same_version address other }
+{
+    match (address, other) {
+        (SocketAddr::V4(_), SocketAddr::V4(_)) | (SocketAddr::V6(_), SocketAddr::V6(_)) => true,
+        (SocketAddr::V4(_), SocketAddr::V6(_)) | (SocketAddr::V6(_), SocketAddr::V4(_)) => false,
+    }
 }

@@ -1,22 +1,23 @@
 //! Reading the settings of a server.
 
-ghost use Rattle.std.specs.Prelude.{◌≡◌, ◌⊎◌, ℕ, List, Some, Ok, IfOk, IfErr};
+ghost use Rattle.std.specs.Prelude.{◌≡◌, ◌⊎◌, ℕ, List, Some, Ok, IfOk, IfErr, true, string_bytes};
+ghost use Rattle.std.specs.Option.{option_map};
 ghost use Rattle.toml.specs.Parse.{parse_document};
 ghost use Rattle.toml.specs.View.{table_view};
 ghost use Rattle.settings_file.specs.Reading.{IsReadAs};
 ghost use Rattle.serve_settings.specs.Addresses.{Spelling};
 ghost use Rattle.serve_settings.specs.Faults.{Answers, AnswersOrNoMemory};
-ghost use Rattle.serve_settings.specs.Reading.{default_times, serve_at, document, reading, IsFirstFault};
+ghost use Rattle.serve_settings.specs.Reading.{serve_at, document, checked, reading, IsFirstFault};
 
 use crate::endpoints::endpoints;
 use crate::fault::ServeFault;
 use crate::key::ServeKey;
-use crate::keys::{capture, console, console_open, points, tick_ms};
-use crate::sctp::SctpTimes;
-use crate::server::ServeSettings;
-use crate::shapes::{table_in, value};
+use crate::keys::{capture, console, console_open, page, page_open, points, tick_ms, udp};
+use crate::server::{OwnAddresses, ServeSettings};
+use crate::shapes::{found, table_in, value};
+use crate::times::times;
 use settings::Settings;
-use std::alloc::Global;
+use std::alloc::{AllocError, Global};
 use toml::Table;
 
 /// The table `serve` of a file.
@@ -26,20 +27,6 @@ fn serve_in(table: &Table) -> Result<&Table, ServeFault>
 {
     let value = value(table, "serve", ServeFault::Missing(ServeKey::Serve))?;
     table_in(value, ServeFault::Kind(ServeKey::Serve))
-}
-
-/// The times of associations where a file says nothing of them.
-fn default_times() -> SctpTimes
-    ensures { result ≡ default_times }
-{
-    SctpTimes {
-        rto_initial_ms: 300,
-        rto_min_ms: 100,
-        rto_max_ms: 1000,
-        init_tries: 8,
-        retransmissions: 10,
-        heartbeat_ms: 5000,
-    }
 }
 
 /// What a file says of its server.
@@ -52,34 +39,69 @@ fn contents(alloc: Global, table: &Table) -> Result<ServeSettings, ServeFault>
     let tick_ms = tick_ms(serve)?;
     let opened = console_open(serve);
     let console = console(serve, matches!(opened, Ok(true)))?;
-    let capture = capture(alloc, serve)?;
+    let file = capture(serve)?;
     opened?;
     let points = points(serve)?;
-    let sctp = default_times();
-    let links = endpoints(alloc, console, table)?;
+    let udp = udp(serve)?;
+    let sctp = times(serve)?;
+    let is_page_open = page_open(serve)?;
+    let page = page(serve, is_page_open, console)?;
+    let own = OwnAddresses { console, page, udp };
+    let links = endpoints(alloc, own, table)?;
+    let capture = owned(alloc, file)?;
     Ok(ServeSettings {
         tick_ms,
         console,
         capture,
         points,
-        udp: None,
+        udp,
         sctp,
-        is_page_open: false,
-        page: None,
+        is_page_open,
+        page,
         links,
     })
 }
 
+/// A text of its own, where there is one. The error means that memory ran out.
+fn owned(alloc: Global, text: Option<&str>) -> Result<Option<String>, AllocError>
+    ensures { IfOk result (λ owned. option_map (λ own. string_bytes own) owned
+        ≡ option_map (λ text. text.now) text.entry) }
+{
+    match text {
+        Some(text) => Ok(Some(String::from_str(alloc, text)?)),
+        None => Ok(None),
+    }
+}
+
 /// Reads the settings of a server from the document that a settings file is.
 ///
-/// Answers the settings, or the first fault of the keys `tick_ms`, `console`, `capture`, `console_open`
-/// and `points` of `[serve]`, then of `listen` and `connect` of each link, from the first on. Want of
-/// memory may stand in place of any other. Keys of other names are ignored.
+/// Answers the settings, or the first fault of the keys `tick_ms`, `console`, `capture`,
+/// `console_open`, `points` and `udp` of `[serve]`, of the keys of `[serve.sctp]`, of `page_open` and
+/// `page`, then of the keys of each link, from the first on. Want of memory may stand in place of any
+/// other. Keys of other names are ignored.
 pub fn read_server(alloc: Global, document: &Table) -> Result<ServeSettings, ServeFault>
     ensures { (s : Spelling) (text : List ℕ) → parse_document text ≡ Some (table_view document.now)
         → AnswersOrNoMemory (λ settings. settings) (reading s text) result }
 {
     contents(alloc, document)
+}
+
+/// Checks the settings of a server in the document that a settings file is. A file without `serve` has
+/// none, so it has no fault.
+///
+/// Answers the first fault, as `read_server` does. Want of memory may stand in place of any other.
+#[tactic(auto, unfolding(crate::specs::Reading::checked))]
+pub fn check_server(alloc: Global, document: &Table) -> Result<(), ServeFault>
+    ensures { (s : Spelling) → AnswersOrNoMemory (λ nothing. nothing)
+        (checked s (table_view document.now)) result }
+{
+    match found(document, "serve") {
+        Some(_) => {
+            contents(alloc, document)?;
+            Ok(())
+        }
+        None => Ok(()),
+    }
 }
 
 /// Reads the settings of a node and those of its server from the text of a settings file, and

@@ -1,34 +1,28 @@
 //! How the association of each link comes about.
 
-ghost use Rattle.std.specs.Prelude.{◌≡◌, [], length, map};
+ghost use Rattle.std.specs.Prelude.{◌≡◌, [], length, map, true, IfOk, is_some};
 ghost use Rattle.std.specs.List.{list_any};
-ghost use Rattle.std.specs.Option.{option_map};
 ghost use Rattle.toml.specs.View.{view, table_view};
 ghost use Rattle.serve_settings.specs.Addresses.{Spelling};
 ghost use Rattle.serve_settings.specs.Faults.{Answers, AnswersOrNoMemory};
-ghost use Rattle.serve_settings.specs.Endpoints.{console_is_on, listens_on, is_taken, listening_in, endpoint_of};
-ghost use Rattle.serve_settings.specs.Endpoints.{endpoint_in, endpoints_behind, links_at, endpoints_at};
+ghost use Rattle.serve_settings.specs.Endpoints.{listens_on, is_taken, has_same_peer, has_source, have_source, listening_in, without, without_sctp, listen_in, connect_in};
+ghost use Rattle.serve_settings.specs.Endpoints.{reached, sctp_port_at, tries_at, apart, remote_in, endpoint_at, endpoint_in, endpoints_behind, links_at, endpoints_at};
 
-use crate::address::address_in;
+use crate::address::{address_in, is_address_of, is_same_version};
 use crate::fault::ServeFault;
 use crate::key::ServeKey;
-use crate::server::Endpoint;
-use crate::shapes::{array_in, found, table_in, value};
+use crate::keys::truth_or;
+use crate::sctp::Remote;
+use crate::server::{Endpoint, OwnAddresses};
+use crate::shapes::{array_in, found, integer_in, table_in, value};
 use settings::Key;
 use settings_file::SettingsFault;
 use std::alloc::Global;
 use std::net::SocketAddr;
 use toml::{Table, Value};
 
-/// Whether the console listens on an address.
-fn is_console_on(console: Option<SocketAddr>, address: SocketAddr) -> bool
-    ensures { result ≡ console_is_on address console }
-{
-    match console {
-        Some(own) => own == address,
-        None => false,
-    }
-}
+/// The SCTP port of an end where its key is left out: the registered one of M2PA.
+const M2PA_PORT: u16 = 3565;
 
 /// Whether one of these links listens on an address.
 fn is_link_on(links: &[Endpoint], address: SocketAddr) -> bool
@@ -37,92 +31,217 @@ fn is_link_on(links: &[Endpoint], address: SocketAddr) -> bool
     links.iter().any(|link| link.listens_on(address))
 }
 
-/// Whether the console listens on an address, or one of the links before.
-fn is_taken(console: Option<SocketAddr>, before: &[Endpoint], address: SocketAddr) -> bool
-    ensures { result ≡ is_taken console before.now address }
+/// Whether the console listens on an address, or the status page is there, or one of the links
+/// before listens there.
+fn is_taken(own: OwnAddresses, before: &[Endpoint], address: SocketAddr) -> bool
+    ensures { result ≡ is_taken own before.now address }
 {
-    is_console_on(console, address) || is_link_on(before, address)
+    is_address_of(own.console, address)
+        || is_address_of(own.page, address)
+        || is_link_on(before, address)
 }
 
 /// Where the link behind these listens, which is where nothing else does.
 #[tactic(auto, unfolding(crate::specs::Endpoints::listening_in))]
 fn listening_in(
-    console: Option<SocketAddr>,
+    own: OwnAddresses,
     before: &[Endpoint],
     value: &Value,
 ) -> Result<SocketAddr, ServeFault>
     ensures { (s : Spelling)
-        → result ≡ listening_in s console before.now (length before.now) (view value.now) }
+        → result ≡ listening_in s own before.now (length before.now) (view value.now) }
 {
     let key = ServeKey::LinkListen(before.len());
     let address = address_in(value, key)?;
-    if is_taken(console, before, address) {
+    if is_taken(own, before, address) {
         return Err(ServeFault::Duplicate(key));
     }
     Ok(address)
 }
 
-/// How the association of the link behind these comes about, whose values of `listen` and `connect`
-/// these are.
-fn endpoint_of(
-    console: Option<SocketAddr>,
+/// Refuses a key that a link may not have beside its others.
+fn without(link: &Table, name: &str, key: ServeKey) -> Result<(), ServeFault>
+    ensures { result ≡ without name.now key (table_view link.now) }
+{
+    match found(link, name) {
+        Some(_) => Err(ServeFault::Duplicate(key)),
+        None => Ok(()),
+    }
+}
+
+/// Refuses the keys of a link over SCTP, at link `i`.
+#[tactic(auto, unfolding(crate::specs::Endpoints::without_sctp))]
+fn without_sctp(link: &Table, i: usize) -> Result<(), ServeFault>
+    ensures { result ≡ without_sctp i (table_view link.now) }
+{
+    without(link, "remote", ServeKey::LinkRemote(i))?;
+    without(link, "sctp_port", ServeKey::LinkSctpPort(i))?;
+    without(link, "remote_sctp_port", ServeKey::LinkRemoteSctpPort(i))?;
+    without(link, "tries", ServeKey::LinkTries(i))
+}
+
+/// Where the link behind these listens, which has no other key of the three.
+#[tactic(auto, unfolding(crate::specs::Endpoints::listen_in))]
+fn listen_in(
+    own: OwnAddresses,
     before: &[Endpoint],
-    listen: Option<&Value>,
-    connect: Option<&Value>,
-) -> Result<Endpoint, ServeFault>
-    ensures { (s : Spelling) → result ≡ endpoint_of s console before.now (length before.now)
-        (option_map (λ value. view value.now) listen.entry)
-        (option_map (λ value. view value.now) connect.entry) }
+    link: &Table,
+    value: &Value,
+) -> Result<SocketAddr, ServeFault>
+    ensures { (s : Spelling) → result
+        ≡ listen_in s own before.now (length before.now) (table_view link.now) (view value.now) }
 {
     let i = before.len();
-    match (listen, connect) {
-        (None, None) => Err(ServeFault::Missing(ServeKey::LinkListen(i))),
-        (None, Some(value)) => {
-            let address = address_in(value, ServeKey::LinkConnect(i))?;
-            Ok(Endpoint::Connect(address))
+    let address = listening_in(own, before, value)?;
+    without(link, "connect", ServeKey::LinkConnect(i))?;
+    without_sctp(link, i)?;
+    Ok(address)
+}
+
+/// Where link `i` connects to, which has no other key of the three.
+#[tactic(auto, unfolding(crate::specs::Endpoints::connect_in))]
+fn connect_in(link: &Table, i: usize, value: &Value) -> Result<SocketAddr, ServeFault>
+    ensures { (s : Spelling) → result ≡ connect_in s i (table_view link.now) (view value.now) }
+{
+    let address = address_in(value, ServeKey::LinkConnect(i))?;
+    without_sctp(link, i)?;
+    Ok(address)
+}
+
+/// The address of the peer of link `i`, which datagrams from the server's address reach.
+#[tactic(auto, unfolding(crate::specs::Endpoints::reached))]
+fn reached(udp: Option<SocketAddr>, i: usize, address: SocketAddr) -> Result<SocketAddr, ServeFault>
+    ensures value { result ≡ reached udp i address }
+    ensures source { IfOk result (λ _. is_some udp ≡ true) }
+{
+    match udp {
+        None => Err(ServeFault::Missing(ServeKey::Udp)),
+        Some(own) if is_same_version(own, address) => Ok(address),
+        Some(_) => Err(ServeFault::Range(ServeKey::LinkRemote(i))),
+    }
+}
+
+/// An SCTP port.
+#[tactic(auto, unfolding(crate::specs::Endpoints::sctp_port_at))]
+fn sctp_port(link: &Table, name: &str, key: ServeKey) -> Result<u16, ServeFault>
+    ensures { result ≡ sctp_port_at name.now key (table_view link.now) }
+{
+    let Some(value) = found(link, name) else {
+        return Ok(M2PA_PORT);
+    };
+    let port = integer_in(value, key)?;
+    match u16::try_from(port) {
+        Ok(port) if port > 0 => Ok(port),
+        _ => Err(ServeFault::Range(key)),
+    }
+}
+
+/// Whether an end sends INIT.
+#[tactic(auto, unfolding(crate::specs::Endpoints::tries_at))]
+fn tries(link: &Table, i: usize) -> Result<bool, ServeFault>
+    ensures { result ≡ tries_at i (table_view link.now) }
+{
+    truth_or(link, "tries", ServeKey::LinkTries(i), true)
+}
+
+/// Whether one of these links has this peer.
+fn has_peer(links: &[Endpoint], remote: Remote) -> bool
+    ensures { result ≡ list_any (has_same_peer remote) links.now }
+{
+    links.iter().any(|link| link.has_peer(remote))
+}
+
+/// Refuses a peer that one of these links has.
+#[tactic(auto, unfolding(crate::specs::Endpoints::apart))]
+fn apart(before: &[Endpoint], remote: Remote) -> Result<(), ServeFault>
+    ensures { result ≡ apart before.now (length before.now) remote }
+{
+    if has_peer(before, remote) {
+        return Err(ServeFault::Duplicate(ServeKey::LinkRemote(before.len())));
+    }
+    Ok(())
+}
+
+/// The link behind these over SCTP, whose peer is where this value says.
+#[tactic(auto, unfolding(crate::specs::Endpoints::remote_in))]
+fn remote_in(
+    own: OwnAddresses,
+    before: &[Endpoint],
+    link: &Table,
+    value: &Value,
+) -> Result<Remote, ServeFault>
+    ensures value { (s : Spelling) → result
+        ≡ remote_in s own before.now (length before.now) (table_view link.now) (view value.now) }
+    ensures source { IfOk result (λ _. is_some own.udp ≡ true) }
+{
+    let i = before.len();
+    let told = address_in(value, ServeKey::LinkRemote(i))?;
+    let address = reached(own.udp, i, told)?;
+    let own_port = sctp_port(link, "sctp_port", ServeKey::LinkSctpPort(i))?;
+    let far_port = sctp_port(link, "remote_sctp_port", ServeKey::LinkRemoteSctpPort(i))?;
+    let tries = tries(link, i)?;
+    let remote = Remote {
+        address,
+        own_port,
+        far_port,
+        tries,
+    };
+    apart(before, remote)?;
+    Ok(remote)
+}
+
+/// How the association of the link behind these comes about, whose table this is.
+#[tactic(auto, unfolding(crate::specs::Endpoints::endpoint_at))]
+fn endpoint_at(own: OwnAddresses, before: &[Endpoint], link: &Table) -> Result<Endpoint, ServeFault>
+    ensures value { (s : Spelling) → result
+        ≡ endpoint_at s own before.now (length before.now) (table_view link.now) }
+    ensures source { IfOk result (λ e. has_source own.udp e ≡ true) }
+{
+    if let Some(value) = found(link, "listen") {
+        let address = listen_in(own, before, link, value)?;
+        return Ok(Endpoint::Listen(address));
+    }
+    if let Some(value) = found(link, "connect") {
+        let address = connect_in(link, before.len(), value)?;
+        return Ok(Endpoint::Connect(address));
+    }
+    match found(link, "remote") {
+        Some(value) => {
+            let remote = remote_in(own, before, link, value)?;
+            Ok(Endpoint::Remote(remote))
         }
-        (Some(value), None) => {
-            let address = listening_in(console, before, value)?;
-            Ok(Endpoint::Listen(address))
-        }
-        (Some(value), Some(_)) => {
-            listening_in(console, before, value)?;
-            Err(ServeFault::Duplicate(ServeKey::LinkConnect(i)))
-        }
+        None => Err(ServeFault::Missing(ServeKey::LinkListen(before.len()))),
     }
 }
 
 /// How the association of the link behind these comes about.
 #[tactic(auto, unfolding(crate::specs::Endpoints::endpoint_in))]
 fn endpoint_in(
-    console: Option<SocketAddr>,
+    own: OwnAddresses,
     before: &[Endpoint],
     value: &Value,
 ) -> Result<Endpoint, ServeFault>
-    ensures { (s : Spelling) → result ≡ endpoint_in s console before.now (view value.now) }
+    ensures value { (s : Spelling) → result ≡ endpoint_in s own before.now (view value.now) }
+    ensures source { IfOk result (λ e. has_source own.udp e ≡ true) }
 {
     let entry = Key::LinkEntry(before.len());
     let link = table_in(value, ServeFault::Settings(SettingsFault::Kind(entry)))?;
-    endpoint_of(
-        console,
-        before,
-        found(link, "listen"),
-        found(link, "connect"),
-    )
+    endpoint_at(own, before, link)
 }
 
 /// How the association of each of the links comes about.
 fn each_endpoint(
     alloc: Global,
-    console: Option<SocketAddr>,
+    own: OwnAddresses,
     values: &[Value],
 ) -> Result<Vec<Endpoint>, ServeFault>
-    ensures { (s : Spelling) → AnswersOrNoMemory (λ endpoints. endpoints.items)
-        (endpoints_behind s console [] (map view values.now)) result }
+    ensures value { (s : Spelling) → AnswersOrNoMemory (λ endpoints. endpoints.items)
+        (endpoints_behind s own [] (map view values.now)) result }
+    ensures source { IfOk result (λ endpoints. have_source own.udp endpoints.items ≡ true) }
 {
     let mut endpoints = Vec::with_capacity(alloc, values.len())?;
     for i in 0..values.len() {
-        let endpoint = endpoint_in(console, endpoints.as_slice(), &values[i])?;
+        let endpoint = endpoint_in(own, endpoints.as_slice(), &values[i])?;
         endpoints.push(endpoint)?;
     }
     Ok(endpoints)
@@ -142,12 +261,13 @@ fn links(table: &Table) -> Result<&[Value], ServeFault>
 #[tactic(auto, unfolding(crate::specs::Endpoints::endpoints_at))]
 pub(crate) fn endpoints(
     alloc: Global,
-    console: Option<SocketAddr>,
+    own: OwnAddresses,
     table: &Table,
 ) -> Result<Vec<Endpoint>, ServeFault>
-    ensures { (s : Spelling) → AnswersOrNoMemory (λ endpoints. endpoints.items)
-        (endpoints_at s console (table_view table.now)) result }
+    ensures value { (s : Spelling) → AnswersOrNoMemory (λ endpoints. endpoints.items)
+        (endpoints_at s own (table_view table.now)) result }
+    ensures source { IfOk result (λ endpoints. have_source own.udp endpoints.items ≡ true) }
 {
     let values = links(table)?;
-    each_endpoint(alloc, console, values)
+    each_endpoint(alloc, own, values)
 }

@@ -21,10 +21,38 @@ pub enum ServeKey {
     ConsoleOpen,
     /// `serve.points`.
     Points,
+    /// `serve.udp`.
+    Udp,
+    /// `serve.sctp`, the table itself.
+    Sctp,
+    /// `serve.sctp.rto_initial_ms`.
+    RtoInitialMs,
+    /// `serve.sctp.rto_min_ms`.
+    RtoMinMs,
+    /// `serve.sctp.rto_max_ms`.
+    RtoMaxMs,
+    /// `serve.sctp.init_tries`.
+    InitTries,
+    /// `serve.sctp.retransmissions`.
+    Retransmissions,
+    /// `serve.sctp.heartbeat_ms`.
+    HeartbeatMs,
+    /// `serve.page_open`.
+    PageOpen,
+    /// `serve.page`.
+    Page,
     /// `link[i].listen`.
     LinkListen(usize),
     /// `link[i].connect`.
     LinkConnect(usize),
+    /// `link[i].remote`.
+    LinkRemote(usize),
+    /// `link[i].sctp_port`.
+    LinkSctpPort(usize),
+    /// `link[i].remote_sctp_port`.
+    LinkRemoteSctpPort(usize),
+    /// `link[i].tries`.
+    LinkTries(usize),
 }
 
 impl ServeKey {
@@ -39,7 +67,22 @@ impl ServeKey {
             ServeKey::Capture => "serve.capture",
             ServeKey::ConsoleOpen => "serve.console_open",
             ServeKey::Points => "serve.points",
-            ServeKey::LinkListen(_) | ServeKey::LinkConnect(_) => "link",
+            ServeKey::Udp => "serve.udp",
+            ServeKey::Sctp => "serve.sctp",
+            ServeKey::RtoInitialMs => "serve.sctp.rto_initial_ms",
+            ServeKey::RtoMinMs => "serve.sctp.rto_min_ms",
+            ServeKey::RtoMaxMs => "serve.sctp.rto_max_ms",
+            ServeKey::InitTries => "serve.sctp.init_tries",
+            ServeKey::Retransmissions => "serve.sctp.retransmissions",
+            ServeKey::HeartbeatMs => "serve.sctp.heartbeat_ms",
+            ServeKey::PageOpen => "serve.page_open",
+            ServeKey::Page => "serve.page",
+            ServeKey::LinkListen(_)
+            | ServeKey::LinkConnect(_)
+            | ServeKey::LinkRemote(_)
+            | ServeKey::LinkSctpPort(_)
+            | ServeKey::LinkRemoteSctpPort(_)
+            | ServeKey::LinkTries(_) => "link",
         }
     }
 
@@ -48,7 +91,12 @@ impl ServeKey {
         ensures { result ≡ key_index self }
     {
         match self {
-            ServeKey::LinkListen(i) | ServeKey::LinkConnect(i) => Some(i),
+            ServeKey::LinkListen(i)
+            | ServeKey::LinkConnect(i)
+            | ServeKey::LinkRemote(i)
+            | ServeKey::LinkSctpPort(i)
+            | ServeKey::LinkRemoteSctpPort(i)
+            | ServeKey::LinkTries(i) => Some(i),
             _ => None,
         }
     }
@@ -60,6 +108,10 @@ impl ServeKey {
         match self {
             ServeKey::LinkListen(_) => ".listen",
             ServeKey::LinkConnect(_) => ".connect",
+            ServeKey::LinkRemote(_) => ".remote",
+            ServeKey::LinkSctpPort(_) => ".sctp_port",
+            ServeKey::LinkRemoteSctpPort(_) => ".remote_sctp_port",
+            ServeKey::LinkTries(_) => ".tries",
             _ => "",
         }
     }

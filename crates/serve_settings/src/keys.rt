@@ -1,18 +1,18 @@
 //! The keys of the table `serve`.
 
-ghost use Rattle.std.specs.Prelude.{◌≡◌, ◌≤◌, IfOk, string_bytes};
+ghost use Rattle.std.specs.Prelude.{◌≡◌, ◌≤◌, IfOk};
 ghost use Rattle.std.specs.Option.{option_map};
+ghost use Rattle.toml.specs.Data.{get_member};
 ghost use Rattle.toml.specs.View.{table_view};
 ghost use Rattle.serve_settings.specs.Addresses.{Spelling};
-ghost use Rattle.serve_settings.specs.Faults.{AnswersOrNoMemory};
-ghost use Rattle.serve_settings.specs.Keyed.{tick_ms_at, console_open_at, console_at, capture_at, points_at};
+ghost use Rattle.serve_settings.specs.Faults.{Answers};
+ghost use Rattle.serve_settings.specs.Keyed.{truth_or, tick_ms_at, console_open_at, console_at, capture_at, points_at, udp_at, page_open_at, page_at};
 
-use crate::address::{address_in, is_loopback};
+use crate::address::{address_in, guarded, is_address_of};
 use crate::fault::ServeFault;
 use crate::key::ServeKey;
 use crate::shapes::{found, integer_in, text_in, truth_in, value};
 use point_format::PointFormat;
-use std::alloc::Global;
 use std::net::SocketAddr;
 use toml::Table;
 
@@ -37,15 +37,27 @@ pub(crate) fn tick_ms(serve: &Table) -> Result<u16, ServeFault>
     }
 }
 
+/// The truth value of a key, with this one where the key is left out.
+pub(crate) fn truth_or(
+    table: &Table,
+    name: &str,
+    key: ServeKey,
+    usual: bool,
+) -> Result<bool, ServeFault>
+    ensures { result ≡ truth_or key usual (get_member name.now (table_view table.now)) }
+{
+    match found(table, name) {
+        Some(value) => truth_in(value, key),
+        None => Ok(usual),
+    }
+}
+
 /// Whether the console may listen on an address that other machines reach.
 #[tactic(auto, unfolding(crate::specs::Keyed::console_open_at))]
 pub(crate) fn console_open(serve: &Table) -> Result<bool, ServeFault>
     ensures { result ≡ console_open_at (table_view serve.now) }
 {
-    match found(serve, "console_open") {
-        Some(value) => truth_in(value, ServeKey::ConsoleOpen),
-        None => Ok(false),
-    }
+    truth_or(serve, "console_open", ServeKey::ConsoleOpen, false)
 }
 
 /// Where the console listens, if there is one: where it isn't open, on an address that no other
@@ -57,11 +69,7 @@ pub(crate) fn console(serve: &Table, opened: bool) -> Result<Option<SocketAddr>,
     match found(serve, "console") {
         Some(value) => {
             let address = address_in(value, ServeKey::Console)?;
-            if is_loopback(address) || opened {
-                Ok(Some(address))
-            } else {
-                Err(ServeFault::Range(ServeKey::Console))
-            }
+            Ok(Some(guarded(address, opened, ServeKey::Console)?))
         }
         None => Ok(None),
     }
@@ -69,8 +77,8 @@ pub(crate) fn console(serve: &Table, opened: bool) -> Result<Option<SocketAddr>,
 
 /// The file that frames are captured to, if there is one.
 #[tactic(auto, unfolding(crate::specs::Keyed::capture_at))]
-pub(crate) fn capture(alloc: Global, serve: &Table) -> Result<Option<String>, ServeFault>
-    ensures { AnswersOrNoMemory (λ capture. option_map (λ file. string_bytes file) capture)
+pub(crate) fn capture(serve: &Table) -> Result<Option<&str>, ServeFault>
+    ensures { Answers (λ capture. option_map (λ file. file.now) capture)
         (capture_at (table_view serve.now)) result }
 {
     match found(serve, "capture") {
@@ -79,7 +87,7 @@ pub(crate) fn capture(alloc: Global, serve: &Table) -> Result<Option<String>, Se
             if file.is_empty() {
                 return Err(ServeFault::Range(ServeKey::Capture));
             }
-            Ok(Some(String::from_str(alloc, file)?))
+            Ok(Some(file))
         }
         None => Ok(None),
     }
@@ -96,5 +104,47 @@ pub(crate) fn points(serve: &Table) -> Result<PointFormat, ServeFault>
             _ => Err(ServeFault::Range(ServeKey::Points)),
         },
         None => Ok(PointFormat::Plain),
+    }
+}
+
+/// The address and the UDP port of the server, if it has one.
+#[tactic(auto, unfolding(crate::specs::Keyed::udp_at))]
+pub(crate) fn udp(serve: &Table) -> Result<Option<SocketAddr>, ServeFault>
+    ensures { (s : Spelling) → result ≡ udp_at s (table_view serve.now) }
+{
+    match found(serve, "udp") {
+        Some(value) => Ok(Some(address_in(value, ServeKey::Udp)?)),
+        None => Ok(None),
+    }
+}
+
+/// Whether the status page may be at an address that other machines reach.
+#[tactic(auto, unfolding(crate::specs::Keyed::page_open_at))]
+pub(crate) fn page_open(serve: &Table) -> Result<bool, ServeFault>
+    ensures { result ≡ page_open_at (table_view serve.now) }
+{
+    truth_or(serve, "page_open", ServeKey::PageOpen, false)
+}
+
+/// Where the status page is, if there is one: where it isn't open, at an address that no other
+/// machine reaches, since it asks for no password; and not where the console is.
+#[tactic(auto, unfolding(crate::specs::Keyed::page_at))]
+pub(crate) fn page(
+    serve: &Table,
+    opened: bool,
+    console: Option<SocketAddr>,
+) -> Result<Option<SocketAddr>, ServeFault>
+    ensures { (s : Spelling) → result ≡ page_at s opened console (table_view serve.now) }
+{
+    match found(serve, "page") {
+        Some(value) => {
+            let address = address_in(value, ServeKey::Page)?;
+            let own = guarded(address, opened, ServeKey::Page)?;
+            if is_address_of(console, own) {
+                return Err(ServeFault::Duplicate(ServeKey::Page));
+            }
+            Ok(Some(own))
+        }
+        None => Ok(None),
     }
 }

@@ -14,8 +14,9 @@ pub mod sctp;
 mod sentences;
 pub mod server;
 mod shapes;
+mod times;
 
-pub use document::{read, read_server};
+pub use document::{check_server, read, read_server};
 pub use fault::ServeFault;
 pub use key::ServeKey;
 pub use sctp::{Remote, SctpTimes};

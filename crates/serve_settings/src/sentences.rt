@@ -12,17 +12,38 @@ use settings_file::{KeyRow, SettingsFault, about, missing, must_be, value_at, va
 use std::alloc::{AllocError, Global};
 use toml::{Table, Value};
 
-/// What is wrong with a link that has neither key.
-const NEITHER: &str = "is missing, and connect is missing too";
+/// What is wrong with a link that has none of the three keys.
+const NONE_THERE: &str = "is missing, and connect and remote are missing too";
+
+/// What is wrong with a server that has no address for its links over SCTP.
+const NO_SOURCE: &str = "is missing, and a link has remote";
+
+/// What is wrong with an initial timeout that is left out.
+const NOT_USUAL: &str = "is missing, and 300 isn't from rto_min_ms to rto_max_ms";
 
 /// What the address of a console has to be.
 const LOOPBACK: &str = "a loopback address unless console_open is true";
 
-/// What is wrong with an address that two listen on.
-const TAKEN: &str = "where the console or another link listens too";
+/// What the address of a page has to be.
+const LOOPBACK_PAGE: &str = "a loopback address unless page_open is true";
 
-/// What is wrong with `connect` of a link that has both keys.
-const BOTH: &str = "but the link has listen too";
+/// What the address of a peer has to be.
+const OF_VERSION: &str = "an address of the same version of IP as serve.udp";
+
+/// What is wrong with an address that two listen on.
+const TAKEN: &str = "where the console, the page or another link listens too";
+
+/// What is wrong with a page at the console's address.
+const TAKEN_BY_CONSOLE: &str = "where the console listens too";
+
+/// What is wrong with a key that a link may not have beside `listen`.
+const LISTENS: &str = "but the link has listen too";
+
+/// What is wrong with a key that a link may not have beside `connect`.
+const CONNECTS: &str = "but the link has connect too";
+
+/// What is wrong with a peer that another link has.
+const SAME_PEER: &str = "whose host and SCTP ports another link has too";
 
 /// The sentence that says what is wrong with the document that a settings file of this name is, which has this fault,
 /// with a line feed: `node.toml: serve.tick_ms is 5, must be 10 to 10000`. Of a fault of the node's settings it is what
@@ -62,30 +83,86 @@ fn at_key(
     ensures { IfOk result (λ sentence. Explains file.now fault (string_bytes sentence)) }
 {
     let row = key_row(key);
-    let wrong = wrong(alloc, &row, value_at(document, &row), fault)?;
+    let wrong = wrong(alloc, document, &row, fault)?;
     about(alloc, file, document, &row, wrong.as_str())
 }
 
-/// What is wrong at a key of this row, which has this value.
+/// What is wrong at a key of this row.
 fn wrong(
     alloc: Global,
+    document: &Table,
     row: &KeyRow,
-    value: Option<&Value>,
     fault: ServeFault,
 ) -> Result<String, AllocError> {
-    match (value, fault) {
-        (None, ServeFault::Missing(ServeKey::LinkListen(_))) => String::from_str(alloc, NEITHER),
-        (None, _) => missing(alloc, row.kind),
-        (Some(value), ServeFault::Kind(_)) => must_be(alloc, value, row.kind),
-        (Some(value), ServeFault::Range(ServeKey::Console)) if is_address(value) => {
-            must_be(alloc, value, LOOPBACK)
-        }
-        (Some(value), ServeFault::Duplicate(ServeKey::LinkListen(_))) => {
-            value_is(alloc, value, TAKEN)
-        }
-        (Some(value), ServeFault::Duplicate(_)) => value_is(alloc, value, BOTH),
-        (Some(value), _) => must_be(alloc, value, row.demand),
+    match value_at(document, row) {
+        None => wrong_without(alloc, row, fault),
+        Some(value) => wrong_with(alloc, document, row, value, fault),
     }
+}
+
+/// What is wrong at a key of this row, which has no value.
+fn wrong_without(alloc: Global, row: &KeyRow, fault: ServeFault) -> Result<String, AllocError> {
+    match fault {
+        ServeFault::Missing(ServeKey::LinkListen(_)) => String::from_str(alloc, NONE_THERE),
+        ServeFault::Missing(ServeKey::Udp) => String::from_str(alloc, NO_SOURCE),
+        ServeFault::Range(ServeKey::RtoInitialMs) => String::from_str(alloc, NOT_USUAL),
+        _ => missing(alloc, row.kind),
+    }
+}
+
+/// What is wrong at a key of this row, which has this value.
+fn wrong_with(
+    alloc: Global,
+    document: &Table,
+    row: &KeyRow,
+    value: &Value,
+    fault: ServeFault,
+) -> Result<String, AllocError> {
+    match fault {
+        ServeFault::Kind(_) => must_be(alloc, value, row.kind),
+        ServeFault::Range(key) if is_address(value) => must_be(alloc, value, demand(key, row)),
+        ServeFault::Duplicate(key) => value_is(alloc, value, twice(document, key)),
+        _ => must_be(alloc, value, row.demand),
+    }
+}
+
+/// What an address has to be that is one with a port from 1 on.
+fn demand(key: ServeKey, row: &KeyRow) -> &'static str {
+    match key {
+        ServeKey::Console => LOOPBACK,
+        ServeKey::Page => LOOPBACK_PAGE,
+        ServeKey::LinkRemote(_) => OF_VERSION,
+        _ => row.demand,
+    }
+}
+
+/// What is wrong with a key that may not be there, or not with its value, beside another.
+fn twice(document: &Table, key: ServeKey) -> &'static str {
+    match key {
+        ServeKey::LinkListen(_) => TAKEN,
+        ServeKey::LinkConnect(i)
+        | ServeKey::LinkRemote(i)
+        | ServeKey::LinkSctpPort(i)
+        | ServeKey::LinkRemoteSctpPort(i)
+        | ServeKey::LinkTries(i) => beside(document, i),
+        _ => TAKEN_BY_CONSOLE,
+    }
+}
+
+/// What is wrong with a key of link `i`, by what else the link has.
+fn beside(document: &Table, i: usize) -> &'static str {
+    if has_value(document, ServeKey::LinkListen(i)) {
+        LISTENS
+    } else if has_value(document, ServeKey::LinkConnect(i)) {
+        CONNECTS
+    } else {
+        SAME_PEER
+    }
+}
+
+/// Whether a key has a value.
+fn has_value(document: &Table, key: ServeKey) -> bool {
+    value_at(document, &key_row(key)).is_some()
 }
 
 /// Whether a value is an address with a port from 1 on.

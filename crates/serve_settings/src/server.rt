@@ -1,9 +1,10 @@
 //! The settings of a server.
 
-ghost use Rattle.std.specs.Prelude.{◌≡◌, ◌≤◌};
+ghost use Rattle.std.specs.Prelude.{◌≡◌, ◌≤◌, true};
 ghost use Rattle.std.specs.Option.{option_map};
-ghost use Rattle.serve_settings.specs.Endpoints.{listens_on};
+ghost use Rattle.serve_settings.specs.Endpoints.{listens_on, has_same_peer, have_source};
 
+use crate::address::is_same_host;
 use crate::sctp::{Remote, SctpTimes};
 use point_format::PointFormat;
 use std::marker::Model;
@@ -30,6 +31,32 @@ impl Endpoint {
             Endpoint::Connect(_) | Endpoint::Remote(_) => false,
         }
     }
+
+    /// Whether datagrams of this peer would be taken for those of the link: they come from the same
+    /// host, between the same SCTP ports.
+    pub(crate) fn has_peer(self, remote: Remote) -> bool
+        ensures { result ≡ has_same_peer remote self }
+    {
+        match self {
+            Endpoint::Remote(other) => {
+                is_same_host(remote.address, other.address)
+                    && remote.own_port == other.own_port
+                    && remote.far_port == other.far_port
+            }
+            Endpoint::Listen(_) | Endpoint::Connect(_) => false,
+        }
+    }
+}
+
+/// The addresses that a server has itself, beside those at which its links listen.
+#[derive(Clone, Copy)]
+pub(crate) struct OwnAddresses {
+    /// Where the console listens, if there is one.
+    pub(crate) console: Option<SocketAddr>,
+    /// Where the status page is, if there is one.
+    pub(crate) page: Option<SocketAddr>,
+    /// Where datagrams go out, if they do.
+    pub(crate) udp: Option<SocketAddr>,
 }
 
 /// The settings of a server: how long a tick is, where its console listens, what file it captures
@@ -53,11 +80,11 @@ impl Model for ServeSettings {
 
     ghost Value = { Served };
 
-    ghost use Rattle.serve_settings.specs.Inside.{served_of, IsInRange};
+    ghost use Rattle.serve_settings.specs.Inside.{served_of, IsSound};
 
     ghost view = { served_of };
 
-    ghost invariant = { IsInRange };
+    ghost invariant = { IsSound };
 }
 
 impl ServeSettings {
@@ -91,9 +118,10 @@ impl ServeSettings {
         self.points
     }
 
-    /// The address and the UDP port of the node, for its links over SCTP.
+    /// The address and the UDP port of the node, for its links over SCTP. If there are any, it has one.
     pub fn udp(&self) -> Option<SocketAddr>
-        ensures { result ≡ self.now.udp }
+        ensures value { result ≡ self.now.udp }
+        ensures source { have_source result self.now.links ≡ true }
     {
         self.udp
     }
