@@ -254,8 +254,8 @@ module _ {Q : Type 0} (q : QueueKind Q) where
         let d : Done = abort g.endpoint.settings t in
         if-keeps (is_lasting now g.endpoint) g s _ _
         (λ l. record {
-        good = record { right = none-right; fits = end-good t.association.is_up t.is_wanted Local g.standing d.left refl refl };
-        up = end-up t.association.is_up t.is_wanted Local g.link s;
+          good = record { right = none-right; fits = end-good t.association.is_up t.is_wanted Local g.standing d.left refl refl };
+          up = end-up t.association.is_up t.is_wanted Local g.link s;
         })
         (λ l. nothing-keeps g s h)
 
@@ -382,11 +382,12 @@ module _ {Q : Type 0} (q : QueueKind Q) where
         let same : taken q s g.link ≡ s = none-taken g.link s e in
         (record { link_is = refl; exchange_is = same }, λ h. record { good = h; up = tt })
     taken_by-takes rest (Some frame) g s t e =
-        let d : Did Q = put q now frame g (taken q s g.link) in
-        (then-tracks g s d rest (put-tracks frame g s) (t.tracks d.gate d.exchange),
-        λ h.
-        let k : Keeps g s d = put-keeps frame g s h in
-        then-keeps g s d rest (put-tracks frame g s) k (t.keeps d.gate d.exchange k.good))
+        let d : Did Q = put q now frame g (taken q s g.link) in (
+          then-tracks g s d rest (put-tracks frame g s) (t.tracks d.gate d.exchange),
+          λ h.
+              let k : Keeps g s d = put-keeps frame g s h in
+              then-keeps g s d rest (put-tracks frame g s) k (t.keeps d.gate d.exchange k.good),
+        )
 
     all-takes : (most : ℕ) → Takes (λ g s. taken_all q now most g s)
     unfolding taken_all

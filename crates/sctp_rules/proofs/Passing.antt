@@ -665,7 +665,7 @@ module _ {A : Arrivals} {R : State → Done → Type 0} (steps : AreSteps A R) w
       either s.is_wanted s (opening.answered_anew c k now source init s) (silent s)
       (answered-anew c k now source init (k.beginning s.beginnings) s r) (stays s r)
   init-in CookieWait c k now source init s e r = answered-with c k now source init (opening.own_beginning s.association) s r
-  init-in CookieEchoed c k now source init s e r = 
+  init-in CookieEchoed c k now source init s e r =
       answered-echoed c k now source init s (r.right.down (ap opening.is_there e)) (r.right.echoed (ap opening.is_echoed e)) r
   init-in Established c k now source init s e r = answered-anew c k now source init (k.beginning s.beginnings) s r
   init-in ShutdownPending c k now source init s e r = answered-anew c k now source init (k.beginning s.beginnings) s r
