@@ -25,10 +25,11 @@ use Rattle.exchange.specs.KeptQueues.{KeptQueues, kept}
 use Rattle.exchange.specs.Calls.{Kept, StandsFor}
 use Rattle.exchange.proofs.Standing.{stands-after, stands-outcome, stands-frame, stands-taken, stands-wants}
 use Rattle.sctp_gate.specs.declared.gate.filling.TheConstants.{MOST_FRAMES}
+use Rattle.sctp_gate.specs.declared.standing.Standing.{Standing}
 use Rattle.sctp_gate.specs.Standing.{idle, seeking}
 use Rattle.sctp_gate.specs.Watching.{Sight, Gives, CameIn, Dropped}
 use Rattle.sctp_gate.specs.Handing.{is_frame, after_one, sight_of, after_told, sights_of}
-use Rattle.sctp_gate.specs.Gates.{Gate, Did, nothing, followed_by, is_lasting, may_try, handed, does, aborted, settled_by, settled, between, heard, timed, flushed, text_to_take, given, put, taken_by, taken_all, filled}
+use Rattle.sctp_gate.specs.Gates.{Gate, Did, nothing, followed_by, is_lasting, may_try, handed, does, does_as, aborted, settled_by, settled, between, heard, timed, flushed, text_to_take, given, put, taken_by, taken_all, filled}
 use Rattle.sctp_gate.specs.Making.{Makes, MakesWhole}
 
 -- ---- what is handed in
@@ -112,14 +113,19 @@ module _ (now : ℕ) where
   same-does rule g k a s =
       same-if (is_lasting now g.endpoint) _ _ _ _ (same-handed (rule g.endpoint) g k a s) (same-nothing g k a s)
 
+  same-does_as : (standing : Standing) (rule : Endpoint → Done) (g : Gate) (k : Kept) (a : Abstract) → StandsFor k a
+      → Same (does_as kept now standing rule g k) (does_as whole now standing rule g a)
+  same-does_as standing rule g k a s =
+      same-if (is_lasting now g.endpoint) _ _ _ _ (same-handed (rule g.endpoint) (record g { standing = standing }) k a s) (same-nothing g k a s)
+
   same-aborted : (g : Gate) (k : Kept) (a : Abstract) → StandsFor k a → Same (aborted kept now g k) (aborted whole now g a)
-  same-aborted g k a s = same-does (λ e. abort e.settings e.state) (record g { standing = idle g.standing }) k a s
+  same-aborted g k a s = same-does_as (idle g.standing) (λ e. abort e.settings e.state) g k a s
 
   same-settled_by : (wants : Wants) (g : Gate) (k : Kept) (a : Abstract) → StandsFor k a → Same (settled_by kept now wants g k) (settled_by whole now wants g a)
   same-settled_by Close g k a s = same-aborted g k a s
   same-settled_by Open g k a s =
       same-if g.standing.is_up _ _ _ _ (same-aborted g k a s)
-      (same-does (λ e. opening e.settings (secrets_of e) now (may_try now g) e.state) (record g { standing = seeking g.standing }) k a s)
+      (same-does_as (seeking g.standing) (λ e. opening e.settings (secrets_of e) now (may_try now g) e.state) g k a s)
   same-settled_by Nothing g k a s =
       same-if g.standing.is_seeking _ _ _ _ (same-aborted g k a s) (same-nothing g k a s)
 

@@ -6,9 +6,9 @@ use Rattle.std.specs.Option.{option_map}
 use Rattle.m2pa_codec.specs.Frames.{spelled, link_status}
 use Rattle.sctp_codec.specs.Packets.{PacketValue}
 use Rattle.sctp_sending.specs.Outgoing.{Message}
-use Rattle.sctp_rules.specs.Settings.{Address}
+use Rattle.sctp_rules.specs.Settings.{Settings, Address}
 use Rattle.sctp_rules.specs.State as rules
-use Rattle.sctp_rules.specs.State.{Datagram, Done, silent}
+use Rattle.sctp_rules.specs.State.{Datagram, Done, first_state}
 use Rattle.sctp_rules.specs.Ending.{abort}
 use Rattle.sctp_rules.specs.Opening.{opening}
 use Rattle.sctp_rules.specs.Sending.{has_room, send, flush}
@@ -22,7 +22,7 @@ use Rattle.exchange_rules.specs.declared.wants.Wants.TheVariants.{Nothing, Open,
 use Rattle.sctp_gate.specs.declared.standing.Standing.{Standing}
 use Rattle.sctp_gate.specs.declared.gate.filling.TheConstants.{MOST_FRAMES}
 use Rattle.sctp_gate.specs.declared.handing.TheConstants.{PROTOCOL}
-use Rattle.sctp_gate.specs.Standing.{idle, seeking, stands_after}
+use Rattle.sctp_gate.specs.Standing.{first_standing, idle, seeking, stands_after}
 use Rattle.sctp_gate.specs.Watching.{Sight, WentOut}
 use Rattle.sctp_gate.specs.Handing.{after_told, sights_of}
 
@@ -58,6 +58,20 @@ with_state e left = record e { state = left }
 abbrev pub is_lasting : (now : ℕ) → Endpoint → Bool
 is_lasting now e = nat_le now (2 ^ 63) && (nat_lt e.state.generation (2 ^ 63) && nat_lt e.state.nonces (2 ^ 63))
 
+-- a new gate: there is no association
+abbrev pub new_gate : (link : ℕ) → (tries : Bool) → Settings → (tag_key cookie_key : List ℕ) → Gate
+new_gate link tries settings tag_key cookie_key = record {
+  link = link;
+  tries = tries;
+  standing = first_standing;
+  endpoint = record {
+    settings = settings;
+    tag_key = tag_key;
+    cookie_key = cookie_key;
+    state = first_state settings;
+  };
+}
+
 -- ---- whether the association is the link's
 
 -- a try may begin
@@ -77,14 +91,20 @@ module _ {Q : Type 0} (q : QueueKind Q) (now : ℕ) where
   abbrev pub does : (Endpoint → Done) → Gate → State Q → Did Q
   does rule g s = if is_lasting now g.endpoint then handed (rule g.endpoint) g s else nothing g s
 
+  -- the same while the link comes to stand so
+  abbrev pub does_as : Standing → (Endpoint → Done) → Gate → State Q → Did Q
+  does_as standing rule g s =
+      if is_lasting now g.endpoint
+      then handed (rule g.endpoint) (record g { standing = standing }) s
+      else nothing g s
+
   -- the user ends the association, or the wish for one; or wants one
   abbrev pub aborted : Gate → State Q → Did Q
-  aborted g s = does (λ e. abort e.settings e.state) (record g { standing = idle g.standing }) s
+  aborted g s = does_as (idle g.standing) (λ e. abort e.settings e.state) g s
 
   abbrev pub opened : Gate → State Q → Did Q
   opened g s =
-      does (λ e. opening e.settings (secrets_of e) now (may_try now g) e.state)
-      (record g { standing = seeking g.standing }) s
+      does_as (seeking g.standing) (λ e. opening e.settings (secrets_of e) now (may_try now g) e.state) g s
 
   -- a link that wants one has none, so one that is up isn't the link's
   abbrev pub wanted : Gate → State Q → Did Q

@@ -5,3 +5,5 @@ pub mod Doing
 pub mod Gates
 pub mod Making
 pub mod Laws
+pub mod Calling
+pub mod Rising

@@ -2,14 +2,13 @@
 
 ghost use Rattle.std.specs.Prelude.{◌≡◌, ◌≤◌, ◌<◌, ◌^◌, IfOk};
 ghost use Rattle.sctp_codec.specs.Reading.{read_packet};
-ghost use Rattle.sctp_rules.specs.State.{first_state};
 ghost use Rattle.sctp_bundling.specs.Settings.{settings_of, address_of};
 ghost use Rattle.exchange.specs.KeptQueues.{kept};
 ghost use Rattle.exchange.specs.Calls.{StandsFor};
 ghost use Rattle.exchange_rules.specs.Queues.{whole};
 ghost use Rattle.exchange_rules.specs.First.{Abstract};
-ghost use Rattle.sctp_gate.specs.Standing.{first_standing};
-ghost use Rattle.sctp_gate.specs.Gates.{settled, settled_by, aborted, wanted, heard, timed, due, does, handed};
+ghost use Rattle.sctp_gate.specs.Gates.{new_gate, settled, settled_by, aborted, wanted, heard, timed, due};
+ghost use Rattle.sctp_gate.specs.Gates.{is_lasting, does, does_as, handed};
 ghost use Rattle.exchange_rules.specs.declared.wants.Wants.TheVariants.{Nothing};
 ghost use Rattle.sctp_gate.specs.Doing.{done_by};
 ghost use Rattle.sctp_gate.specs.Making.{Makes, MakesWhole};
@@ -66,17 +65,7 @@ impl Gate {
         requires initial { settings.bounds.initial ≤ settings.bounds.most }
         requires least { settings.bounds.least ≤ settings.bounds.most }
         requires most { settings.bounds.most ≤ 2 ^ 24 }
-        ensures { IfOk result (λ g. g ≡ record {
-          link = link;
-          tries = tries;
-          standing = first_standing;
-          endpoint = record {
-            settings = settings_of settings;
-            tag_key = tag_key;
-            cookie_key = cookie_key;
-            state = first_state (settings_of settings);
-          };
-        }) }
+        ensures { IfOk result (λ g. g ≡ new_gate link tries (settings_of settings) tag_key cookie_key) }
     {
         let endpoint = Endpoint::new(alloc, settings, tag_key, cookie_key)?;
         Ok(Gate {
@@ -150,8 +139,8 @@ impl Gate {
             self.abort(exchange, now, watch);
         } else {
             let is_active = self.tries && self.standing.due <= now;
-            self.standing = self.standing.seeking();
-            self.act(Doing::Open(is_active), exchange, now, watch);
+            let standing = self.standing.seeking();
+            self.act_as(standing, Doing::Open(is_active), exchange, now, watch);
         }
     }
 
@@ -169,8 +158,7 @@ impl Gate {
     fn abort<W: Watch>(&mut self, exchange: &mut Exchange, now: u64, watch: &mut W)
         ensures { Makes W.has watch.old watch.new self.new exchange.new (aborted kept now self.old exchange.old) }
     {
-        self.standing = self.standing.idle();
-        self.act(Doing::Abort, exchange, now, watch);
+        self.act_as(self.standing.idle(), Doing::Abort, exchange, now, watch);
     }
 
     /// When to call `tick` or `settle` next, in milliseconds: when the endpoint's next timer runs out; or, while it waits
@@ -205,10 +193,34 @@ impl Gate {
         ensures { Makes W.has watch.old watch.new self.new exchange.new
             (does kept now (λ e. done_by what.entry now e) self.old exchange.old) }
     {
-        if now > LATEST || !self.endpoint.lasts() {
-            return;
+        if self.is_lasting(now) {
+            self.act_through(what, exchange, now, watch);
         }
-        self.act_through(what, exchange, now, watch);
+    }
+
+    /// The same while the link comes to stand so.
+    fn act_as<W: Watch>(
+        &mut self,
+        standing: Standing,
+        what: Doing<'_>,
+        exchange: &mut Exchange,
+        now: u64,
+        watch: &mut W,
+    )
+        ensures { Makes W.has watch.old watch.new self.new exchange.new
+            (does_as kept now standing (λ e. done_by what.entry now e) self.old exchange.old) }
+    {
+        if self.is_lasting(now) {
+            self.standing = standing;
+            self.act_through(what, exchange, now, watch);
+        }
+    }
+
+    /// Whether the endpoint still does something.
+    fn is_lasting(&self, now: u64) -> bool
+        ensures { result ≡ is_lasting now self.now.endpoint }
+    {
+        now <= LATEST && self.endpoint.lasts()
     }
 
     /// The same at one that lasts.

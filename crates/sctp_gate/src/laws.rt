@@ -3,6 +3,7 @@
 ghost use Rattle.exchange.specs.KeptQueues.{kept};
 ghost use Rattle.exchange_rules.specs.Queues.{whole};
 ghost use Rattle.sctp_gate.specs.Laws.{frames_have_their_streams, settling_agrees};
+ghost use Rattle.sctp_gate.specs.Rising.{associations_come_up, calls_are_seen};
 
 /// Behind each settling, with which each datagram and each tick ends: where an association is up, the link asks for
 /// nothing; and one is wanted, or a try goes on, only where the link wants to open. It holds whatever happened to the
@@ -11,6 +12,22 @@ pub fn settled_gates_do_what_their_links_want()
     ensures whole { settling_agrees whole }
     // The same on what is kept.
     ensures kept { settling_agrees kept }
+{}
+
+/// AssociationUp is never refused. Of a gate that was new, whatever was called at it since, and whatever happened to the
+/// exchange between the calls: each time that its association is seen to come up, the link wants to open at that very
+/// moment, AssociationUp is handled, and behind it the link has an association and isn't down.
+pub fn associations_come_up_at_their_links()
+    ensures whole { associations_come_up whole }
+    // The same on what is kept.
+    ensures kept { associations_come_up kept }
+{}
+
+/// What a call does to an exchange is what is seen of it, event by event and frame by frame, and no more.
+pub fn calls_do_what_is_seen_of_them()
+    ensures whole { calls_are_seen whole }
+    // The same on what is kept.
+    ensures kept { calls_are_seen kept }
 {}
 
 /// Link Status goes out on stream 0, and User Data on stream 1 (RFC 4165 §4.1.3).

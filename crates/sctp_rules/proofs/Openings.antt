@@ -88,13 +88,14 @@ growing-steps = record {
   alike = λ s left sent f bare. let a = f.same in record { grows = omega (arith, a.generation) };
   ended = λ c why chunks s bare. ended-grows c why chunks s;
   tries = λ s left sent i bare. record { grows = omega (arith, i.generation) };
-  opens = λ c now own far first peer address s t d. record { grows = omega arith };
+  opens = λ c now own far first peer address s t d w. record { grows = omega arith };
   shuts = λ s left i. record { grows = omega (arith, i.generation, none-shut s.association.is_up losses.Shutdown) };
   takes = λ c d s come t r up now-takes.
       let steps : receiving.Steps = received s.association.receiver d.tsn (data_rules.piece_of d) in
       let taken : State = state.with_association s (record s.association { receiver = steps.left; is_sack_due = true }) in
       record { grows = (each-grows c steps.told taken).grows };
   confirms = λ s left n h t a answer. record { grows = omega (arith, a.generation) };
+  wants = λ s h. record { grows = omega arith };
   gives = λ m s left h a. record { grows = omega (arith, a.generation) };
   reports = λ s. record { grows = omega arith };
   puts = λ s left sent h a. record { grows = omega (arith, a.generation) };

@@ -43,10 +43,12 @@ use Rattle.sctp_rules.specs.Endpoint.{Happening, Opens, Came, Ticked, Sends, Abo
 
 -- ---- what a law may look at
 
--- while DATA counts the association is up, and before there is one none is
-pub record IsRight (phase : Phase) (is_up : Bool) : Type 0 where
+-- while DATA counts the association is up, and before there is one none is; and a try is one that the user wants
+pub record IsRight (phase : Phase) (is_up is_wanted : Bool) : Type 0 where
   pub up : data_rules.takes_data phase ≡ true → is_up ≡ true
   pub down : opening.is_there phase ≡ false → is_up ≡ false
+  pub waiting : opening.is_waiting phase ≡ true → is_wanted ≡ true
+  pub echoed : opening.is_echoed phase ≡ true → is_wanted ≡ true
 
 -- chunks, and packets, without DATA
 abbrev pub IsBare : ChunkValue → Type 0
@@ -62,6 +64,7 @@ IsBareTry (Some t) = All IsBare t.chunks
 
 -- what is seen of a state
 pub record Seen : Type 0 where
+  pub is_wanted : Bool
   pub generation : ℕ
   pub phase : Phase
   pub is_up : Bool
@@ -73,6 +76,7 @@ pub record Seen : Type 0 where
 
 abbrev pub seen : State → Seen
 seen s = record {
+  is_wanted = s.is_wanted;
   generation = s.generation;
   phase = s.association.phase;
   is_up = s.association.is_up;
@@ -84,16 +88,17 @@ seen s = record {
 }
 
 -- answers that wait, and what a try sends, have no DATA
-pub record AreRight (phase : Phase) (is_up : Bool) (waiting : List ChunkValue) (try : Option Try) : Type 0 where
-  pub right : IsRight phase is_up
+pub record AreRight (phase : Phase) (is_up is_wanted : Bool) (waiting : List ChunkValue) (try : Option Try) : Type 0 where
+  pub right : IsRight phase is_up is_wanted
   pub control : All IsBare waiting
   pub trying : IsBareTry try
 
 abbrev pub Right : State → Type 0
-Right s = AreRight s.association.phase s.association.is_up s.association.control s.association.trying
+Right s = AreRight s.association.phase s.association.is_up s.is_wanted s.association.control s.association.trying
 
 -- what a law may look at stays, but for messages
 pub record AreAlike (x y : Seen) : Type 0 where
+  pub wanted : x.is_wanted ≡ y.is_wanted
   pub generation : x.generation ≡ y.generation
   pub up : x.is_up ≡ y.is_up
   pub own_tag : x.own_tag ≡ y.own_tag
@@ -111,15 +116,16 @@ Alike s left = AreAlike (seen s) (seen left)
 pub record AreFollowing (x y : Seen) (h i : Half) (waiting : List ChunkValue) (try : Option Try) : Type 0 where
   pub same : AreAlike x y
   pub half : AreSame h i
-  pub right : AreRight y.phase y.is_up waiting try
+  pub right : AreRight y.phase y.is_up y.is_wanted waiting try
 
 abbrev pub Follows : State → State → Type 0
 Follows s left =
     AreFollowing (seen s) (seen left) (half_of s.association.sender) (half_of left.association.sender) left.association.control
     left.association.trying
 
--- there is no association yet
+-- there is no association yet, and the user wants one
 pub record IsTry (s left : State) : Type 0 where
+  pub was_wanted : s.is_wanted ≡ true
   pub generation : s.generation ≤ left.generation
   pub was_down : s.association.is_up ≡ false
   pub is_down : left.association.is_up ≡ false
@@ -128,6 +134,7 @@ pub record IsTry (s left : State) : Type 0 where
 
 -- the peer shuts the association down: what didn't go out is dropped
 pub record IsShut (s left : State) : Type 0 where
+  pub not_wanted : left.is_wanted ≡ false
   pub generation : s.generation ≡ left.generation
   pub is_down : left.association.is_up ≡ false
   pub takes_none : data_rules.takes_data left.association.phase ≡ false
@@ -138,13 +145,14 @@ pub record IsShut (s left : State) : Type 0 where
   pub half : Same (stopped s.association.sender) left.association.sender
 
 -- what may come: DATA, cumulative TSNs of SACK and SHUTDOWN, and tags; messages of the user; and whether packets are asked
--- for
+-- for, and an association
 pub record Arrivals : Type 1 where
   pub carried : DataValue → Type 0
   pub cumulative : ℕ → Type 0
   pub tag : ℕ → Type 0
   pub message : Message → Type 0
   pub flush : Type 0
+  pub wish : Type 0
 
 -- what rules are made of, and what a relation between a state and what a rule does then has to hold of
 pub record AreSteps (A : Arrivals) (R : State → Done → Type 0) : Type 0 where
@@ -159,7 +167,7 @@ pub record AreSteps (A : Arrivals) (R : State → Done → Type 0) : Type 0 wher
       R s (record { sent = sent; told = []; left = left })
   pub opens :
       (c : Settings) (now own_tag far_tag own_first : ℕ) (peer : state.Peer) (address : Address) (s : State) →
-      A.tag own_tag → s.association.is_up ≡ false → R s (opening.opened c now own_tag far_tag own_first peer address s)
+      A.tag own_tag → s.association.is_up ≡ false → s.is_wanted ≡ true → R s (opening.opened c now own_tag far_tag own_first peer address s)
   pub shuts :
       (s left : State) → IsShut s left →
       R s (record { sent = []; told = if s.association.is_up then Down losses.Shutdown ∷ [] else []; left = left })
@@ -170,6 +178,7 @@ pub record AreSteps (A : Arrivals) (R : State → Done → Type 0) : Type 0 wher
   pub confirms :
       (s left : State) (cumulative : ℕ) → A.cumulative cumulative → A.tag s.association.own_tag → Alike s left →
       IsAnswered (confirmation s.association.sender cumulative) s.association.sender left.association.sender → R s (silent left)
+  pub wants : (s : State) → A.wish → R s (silent (record s { is_wanted = true }))
   pub gives : (m : Message) (s left : State) → A.message m → Alike s left → R s (silent left)
   pub reports : (s : State) → R s (silent (state.with_association s (data_rules.sacked s.association)))
   pub puts :
@@ -181,8 +190,8 @@ pub record Passes (R : State → Done → Type 0) (s : State) (d : Done) : Type 
   pub left : Right d.left
 
 -- none is up
-pub off : IsRight Closed false
-off = record { up = λ e. absurd (cc); down = λ e. refl }
+pub off : IsRight Closed false false
+off = record { up = λ e. absurd (cc); down = λ e. refl; waiting = λ e. absurd (cc); echoed = λ e. absurd (cc) }
 
 none-bare : All IsBare []
 none-bare = All-nil IsBare
@@ -197,11 +206,12 @@ one-sent : (d : Datagram) → All IsBare d.packet.chunks → AreBare (d ∷ [])
 one-sent d b = All-cons (λ (x : Datagram). All IsBare x.packet.chunks) d [] b none-sent
 
 -- of an end without an association
-pub none-right : AreRight Closed false [] None
+pub none-right : AreRight Closed false false [] None
 none-right = record { right = off; control = none-bare; trying = tt }
 
 pub itself : (s : State) → Alike s s
 itself s = record {
+  wanted = refl;
   generation = refl;
   up = refl;
   own_tag = refl;
@@ -219,7 +229,7 @@ unmoved s r = record { same = itself s; half = same s.association.sender; right 
 
 -- ---- the states before there is an association
 
-closed-down : (phase : Phase) → opening.is_closed phase ≡ true → opening.is_there phase ≡ false
+pub closed-down : (phase : Phase) → opening.is_closed phase ≡ true → opening.is_there phase ≡ false
 closed-down Closed e = refl
 closed-down CookieWait e = refl
 closed-down CookieEchoed e = refl
@@ -249,14 +259,21 @@ waiting-down ShutdownSent e = absurd (cc)
 waiting-down ShutdownReceived e = absurd (cc)
 waiting-down ShutdownAckSent e = absurd (cc)
 
-waiting : IsRight CookieWait false
-waiting = record { up = λ e. absurd (cc); down = λ e. refl }
+waiting : IsRight CookieWait false true
+waiting = record { up = λ e. absurd (cc); down = λ e. refl; waiting = λ e. refl; echoed = λ e. refl }
 
-echoing : IsRight CookieEchoed false
-echoing = record { up = λ e. absurd (cc); down = λ e. refl }
+echoing : (is_up is_wanted : Bool) → is_up ≡ false → is_wanted ≡ true → IsRight CookieEchoed is_up is_wanted
+echoing is_up is_wanted d w = record { up = λ e. absurd (cc); down = λ e. d; waiting = λ e. w; echoed = λ e. w }
 
-there : IsRight Established true
-there = record { up = λ e. refl; down = λ e. absurd (cc) }
+-- from ESTABLISHED on
+there : (phase : Phase) (is_up is_wanted : Bool) → opening.is_there phase ≡ true → (data_rules.takes_data phase ≡ true → is_up ≡ true) →
+    IsRight phase is_up is_wanted
+there phase is_up is_wanted e h = record {
+  up = h;
+  down = λ g. absurd (cc);
+  waiting = λ g. absurd (let d = waiting-down phase g in cc);
+  echoed = λ g. absurd (let d = echoed-down phase g in cc);
+}
 
 pub same-number : (m n : ℕ) → nat_eq m n ≡ true → m ≡ n
 same-number m n e = grind (arith, nat_tests, e)
@@ -297,6 +314,7 @@ answer-alike chunk s = alike-choice (ending.has_place s.association.control chun
 
 same-both : (x y z : Seen) → AreAlike x y → AreAlike y z → AreAlike x z
 same-both x y z f g = record {
+  wanted = f.wanted ∙ g.wanted;
   generation = f.generation ∙ g.generation;
   up = f.up ∙ g.up;
   own_tag = f.own_tag ∙ g.own_tag;
@@ -322,14 +340,18 @@ follows-either false s x y f g = g
 
 -- ---- shutting down
 
-pending-up : (up : Bool) → IsRight ShutdownPending up → IsRight ShutdownSent up
-pending-up up r = record { up = λ e. r.up refl; down = λ e. absurd (cc) }
+pending-up : (up wanted : Bool) → IsRight ShutdownPending up wanted → IsRight ShutdownSent up wanted
+pending-up up wanted r = there ShutdownSent up wanted refl (λ e. r.up refl)
 
-settled : (up : Bool) → IsRight ShutdownAckSent up
-settled up = record { up = λ e. absurd (cc); down = λ e. absurd (cc) }
+settled : (up wanted : Bool) → IsRight ShutdownAckSent up wanted
+settled up wanted = there ShutdownAckSent up wanted refl (λ e. absurd (cc))
 
-received-right : IsRight ShutdownReceived false
-received-right = record { up = λ e. absurd (cc); down = λ e. absurd (cc) }
+received-right : (wanted : Bool) → IsRight ShutdownReceived false wanted
+received-right wanted = there ShutdownReceived false wanted refl (λ e. absurd (cc))
+
+not-wanted : (up wanted : Bool) → up ≡ true → (if up then false else wanted) ≡ false
+not-wanted true wanted e = refl
+not-wanted false wanted e = absurd (cc)
 
 not-taken : (b : Bool) → (b ≡ true → false ≡ true) → b ≡ false
 not-taken true h = let e : false ≡ true = h refl in absurd (cc)
@@ -344,6 +366,7 @@ in-phase : (s : State) (a : Association) (phase : Phase) → s.association.phase
     (data_rules.takes_data a.phase ≡ true → data_rules.takes_data phase ≡ true) → Alike s (state.with_association s (record a { phase = s.association.phase })) →
     Alike s (state.with_association s a)
 in-phase s a phase e there takes l = record {
+  wanted = l.wanted;
   generation = l.generation;
   up = l.up;
   own_tag = l.own_tag;
@@ -359,13 +382,13 @@ going-on-in : (phase : Phase) (c : Settings) (now : ℕ) (s : State) → s.assoc
     Follows s (shutdown.going_on_in phase c now s)
 going-on-in ShutdownPending c now s e r =
     let a : Association = s.association in
-    let right : IsRight ShutdownPending a.is_up = subst (λ (phase : Phase). IsRight phase a.is_up) e r.right in
+    let right : IsRight ShutdownPending a.is_up s.is_wanted = subst (λ (phase : Phase). IsRight phase a.is_up s.is_wanted) e r.right in
     let sent : Association =
     record a { t5 = Some (now + 5 * c.bounds.most); phase = ShutdownSent; t2 = Some (now + a.sender.round_trips.timeout) } in
     with-answer (shutdown.shutdown_of a) s sent tt (record {
       same = in-phase s sent ShutdownPending e refl (λ g. refl) (itself s);
       half = same a.sender;
-      right = record { right = pending-up a.is_up right; control = r.control; trying = r.trying };
+      right = record { right = pending-up a.is_up s.is_wanted right; control = r.control; trying = r.trying };
     })
 going-on-in ShutdownReceived c now s e r =
     let a : Association = s.association in
@@ -373,7 +396,7 @@ going-on-in ShutdownReceived c now s e r =
     with-answer packets.ShutdownAckChunk s sent tt (record {
       same = in-phase s sent ShutdownReceived e refl (λ g. absurd (cc)) (itself s);
       half = same a.sender;
-      right = record { right = settled a.is_up; control = r.control; trying = r.trying };
+      right = record { right = settled a.is_up s.is_wanted; control = r.control; trying = r.trying };
     })
 going-on-in Closed c now s e r = unmoved s r
 going-on-in CookieWait c now s e r = unmoved s r
@@ -399,11 +422,12 @@ abbrev pub HaveCome : Arrivals → List ChunkValue → Type 0
 HaveCome A [] = Unit {0}
 HaveCome A (chunk ∷ chunks) = HasCome A chunk × HaveCome A chunks
 
--- what comes, and the tag that it comes with; what the user gives; and that packets are asked for
+-- what comes, and the tag that it comes with; what the user gives; and that packets are asked for, or an association
 abbrev pub Comes : Arrivals → Happening → Type 0
 Comes A (Came now source packet) = HaveCome A packet.chunks × A.tag packet.tag
 Comes A (Sends message) = A.message message
 Comes A (Flushes now) = A.flush
+Comes A (Opens now is_active) = A.wish
 Comes A what = Unit {0}
 
 pub told-right : (c : Settings) (tolds : List consuming.Told) (s : State) → Right s → Right (data_rules.told_each c tolds s).left
@@ -542,49 +566,54 @@ module _ {A : Arrivals} {R : State → Done → Type 0} (steps : AreSteps A R) w
   -- ---- opening
 
   begun : (c : Settings) (now failures : ℕ) (address : Address) (b : Option Beginning) (s : State) →
-      s.association.is_up ≡ false → Right s → Passes R s (opening.begun_with c now failures address b s)
-  begun c now failures address None s d r = ended c losses.NoTag [] s none-bare r
-  begun c now failures address (Some b) s d r =
+      s.association.is_up ≡ false → A.wish → Right s → Passes R s (opening.begun_with c now failures address b s)
+  begun c now failures address None s d h r = ended c losses.NoTag [] s none-bare r
+  begun c now failures address (Some b) s d h r =
+      let wishing : State = record s { is_wanted = true } in
       let x : Done = opening.begun_with c now failures address (Some b) s in
       let init : All IsBare (packets.InitChunk (opening.init_of b []) ∷ []) = one-bare (packets.InitChunk (opening.init_of b [])) tt in
       record {
-        kept = steps.tries s x.left x.sent
-            (record { generation = omega arith; was_down = d; is_down = refl; takes_none = refl; is_none = refl })
-            (one-sent (state.datagram_to c address 0 (packets.InitChunk (opening.init_of b []) ∷ [])) init);
+        kept = steps.also s (silent wishing) (λ left. x) (steps.wants s h)
+            (steps.tries wishing x.left x.sent
+            (record { was_wanted = refl; generation = omega arith; was_down = d; is_down = refl; takes_none = refl; is_none = refl })
+            (one-sent (state.datagram_to c address 0 (packets.InitChunk (opening.init_of b []) ∷ [])) init));
         left = record { right = waiting; control = none-bare; trying = init };
       }
 
   begun-anew-with : (b : Option Beginning) (c : Settings) (now failures : ℕ) (address : Address) (s : State) →
-      s.association.is_up ≡ false → Right s → Passes R s (opening.begun_anew_with c now failures address b s)
-  begun-anew-with None c now failures address s d r = ended c losses.NoTag [] s none-bare r
-  begun-anew-with (Some b) c now failures address s d r =
+      s.association.is_up ≡ false → s.is_wanted ≡ true → Right s → Passes R s (opening.begun_anew_with c now failures address b s)
+  begun-anew-with None c now failures address s d w r = ended c losses.NoTag [] s none-bare r
+  begun-anew-with (Some b) c now failures address s d w r =
       let x : Done = opening.begun_anew_with c now failures address (Some b) s in
       let init : All IsBare (packets.InitChunk (opening.init_of b []) ∷ []) = one-bare (packets.InitChunk (opening.init_of b [])) tt in
       record {
         kept = steps.tries s x.left x.sent
-            (record { generation = omega arith; was_down = d; is_down = refl; takes_none = refl; is_none = refl })
+            (record { was_wanted = w; generation = omega arith; was_down = d; is_down = refl; takes_none = refl; is_none = refl })
             (one-sent (state.datagram_to c address 0 (packets.InitChunk (opening.init_of b []) ∷ [])) init);
         left = record { right = waiting; control = none-bare; trying = init };
       }
 
   begun-anew : (c : Settings) (k : Secrets) (now failures : ℕ) (address : Address) (s : State) →
-      s.association.is_up ≡ false → Right s → Passes R s (opening.begun_anew c k now failures address s)
-  begun-anew c k now failures address s d r = begun-anew-with (k.beginning s.beginnings) c now failures address s d r
+      s.association.is_up ≡ false → s.is_wanted ≡ true → Right s → Passes R s (opening.begun_anew c k now failures address s)
+  begun-anew c k now failures address s d w r = begun-anew-with (k.beginning s.beginnings) c now failures address s d w r
 
-  wanting : (s : State) → Right s → Passes R s (silent (record s { is_wanted = true }))
-  wanting s r = then-silent s (record s { is_wanted = true }) (unmoved s r)
+  wanting : (s : State) → A.wish → Right s → Passes R s (silent (record s { is_wanted = true }))
+  wanting s h r =
+      let q = r.right in
+      let right : IsRight s.association.phase s.association.is_up true = record { up = q.up; down = q.down; waiting = λ e. refl; echoed = λ e. refl } in
+      record { kept = steps.wants s h; left = record { right = right; control = r.control; trying = r.trying } }
 
-  opened-by-user : (c : Settings) (k : Secrets) (now : ℕ) (is_active : Bool) (s : State) → Right s →
+  opened-by-user : (c : Settings) (k : Secrets) (now : ℕ) (is_active : Bool) (s : State) → A.wish → Right s →
       Passes R s (opening.opening c k now is_active s)
-  opened-by-user c k now is_active s r =
+  opened-by-user c k now is_active s h r =
       let try : Done = opening.begun c k now 0 c.address s in
       let wait : Done = silent (record s { is_wanted = true }) in
       either-so (opening.may_open is_active s) s (if is_active then try else wait) (silent s)
       (λ e.
       let closed : opening.is_closed s.association.phase ≡ true = both-true (opening.is_closed s.association.phase) (is_active || not s.is_wanted) e in
       either is_active s try wait
-      (begun c now 0 c.address (k.beginning s.beginnings) s (r.right.down (closed-down s.association.phase closed)) r)
-      (wanting s r))
+      (begun c now 0 c.address (k.beginning s.beginnings) s (r.right.down (closed-down s.association.phase closed)) h r)
+      (wanting s h r))
       (λ e. stays s r)
 
   tried : (c : Settings) (now : ℕ) (t : Try) (s : State) → All IsBare t.chunks → Right s → Passes R s (opening.tried_again c now t s)
@@ -622,13 +651,13 @@ module _ {A : Arrivals} {R : State → Done → Type 0} (steps : AreSteps A R) w
       (answered-with c k now source init (opening.own_beginning s.association) s r) (stays s r)
 
   answered-echoed : (c : Settings) (k : Secrets) (now : ℕ) (source : Address) (init : InitValue) (s : State) →
-      s.association.is_up ≡ false → Right s → Passes R s (opening.answered_echoed c k now source init s)
-  answered-echoed c k now source init s d r =
+      s.association.is_up ≡ false → s.is_wanted ≡ true → Right s → Passes R s (opening.answered_echoed c k now source init s)
+  answered-echoed c k now source init s d w r =
       let anew : Done = opening.begun_anew c k now 0 s.association.address s in
       let rule : State → Done = λ left. opening.answered_if_trying c k now source init left in
       either (nat_eq init.tag s.association.far_tag) s (opening.answered_alike c k now source init s) (followed_by anew rule)
       (answered-with c k now source init (opening.own_beginning s.association) s r)
-      (next s anew rule (begun-anew c k now 0 s.association.address s d r) (λ left q. answered-if-trying c k now source init left q))
+      (next s anew rule (begun-anew c k now 0 s.association.address s d w r) (λ left q. answered-if-trying c k now source init left q))
 
   init-in : (phase : Phase) (c : Settings) (k : Secrets) (now : ℕ) (source : Address) (init : InitValue) (s : State) →
       s.association.phase ≡ phase → Right s → Passes R s (opening.init_in phase c k now source init s)
@@ -636,7 +665,8 @@ module _ {A : Arrivals} {R : State → Done → Type 0} (steps : AreSteps A R) w
       either s.is_wanted s (opening.answered_anew c k now source init s) (silent s)
       (answered-anew c k now source init (k.beginning s.beginnings) s r) (stays s r)
   init-in CookieWait c k now source init s e r = answered-with c k now source init (opening.own_beginning s.association) s r
-  init-in CookieEchoed c k now source init s e r = answered-echoed c k now source init s (r.right.down (ap opening.is_there e)) r
+  init-in CookieEchoed c k now source init s e r =
+      answered-echoed c k now source init s (r.right.down (ap opening.is_there e)) (r.right.echoed (ap opening.is_echoed e)) r
   init-in Established c k now source init s e r = answered-anew c k now source init (k.beginning s.beginnings) s r
   init-in ShutdownPending c k now source init s e r = answered-anew c k now source init (k.beginning s.beginnings) s r
   init-in ShutdownSent c k now source init s e r = answered-anew c k now source init (k.beginning s.beginnings) s r
@@ -669,42 +699,43 @@ module _ {A : Arrivals} {R : State → Done → Type 0} (steps : AreSteps A R) w
       (next s told rule (putting c s.association.address init.tag (ending.abort_for InvalidParameter) s s tt (unmoved s r))
       (λ left q. ended c losses.BadInitAck [] left none-bare q))
 
-  echoed : (c : Settings) (now failures : ℕ) (init : InitValue) (cookie : List ℕ) (s : State) → s.association.is_up ≡ false → Right s →
-      Passes R s (opening.echoed c now failures init cookie s)
-  echoed c now failures init cookie s d r =
+  echoed : (c : Settings) (now failures : ℕ) (init : InitValue) (cookie : List ℕ) (s : State) → s.association.is_up ≡ false →
+      s.is_wanted ≡ true → Right s → Passes R s (opening.echoed c now failures init cookie s)
+  echoed c now failures init cookie s d w r =
       let x : Done = opening.echoed c now failures init cookie s in
       let chunks : List ChunkValue = opening.echo_of cookie (complained_of init.parameters) in
       let bare : All IsBare chunks = echo-bare cookie (complained_of init.parameters) in
       let tag : ℕ = if nat_eq init.tag 0 then 0 else init.tag in
       record {
         kept = steps.tries s x.left x.sent
-            (record { generation = omega arith; was_down = d; is_down = d; takes_none = refl; is_none = refl })
+            (record { was_wanted = w; generation = omega arith; was_down = d; is_down = d; takes_none = refl; is_none = refl })
             (one-sent (state.datagram_to c s.association.address tag chunks) bare);
-        left = record { right = subst (λ (up : Bool). IsRight CookieEchoed up) (sym d) echoing; control = r.control; trying = bare };
+        left = record { right = echoing s.association.is_up s.is_wanted d w; control = r.control; trying = bare };
       }
 
   echoed-if : (c : Settings) (now : ℕ) (init : InitValue) (t : Option Try) (cookie : Option (List ℕ)) (s : State) →
-      s.association.is_up ≡ false → Right s → Passes R s (opening.echoed_if c now init t cookie s)
-  echoed-if c now init (Some t) (Some cookie) s d r =
+      s.association.is_up ≡ false → s.is_wanted ≡ true → Right s → Passes R s (opening.echoed_if c now init t cookie s)
+  echoed-if c now init (Some t) (Some cookie) s d w r =
       either (opening.is_usable init && opening.fits_echo cookie) s (opening.echoed c now t.failures init cookie s) (opening.refused c init s)
-      (echoed c now t.failures init cookie s d r)
+      (echoed c now t.failures init cookie s d w r)
       (refused c init s r)
-  echoed-if c now init None (Some cookie) s d r = stays s r
-  echoed-if c now init None None s d r = stays s r
-  echoed-if c now init (Some t) None s d r = refused c init s r
+  echoed-if c now init None (Some cookie) s d w r = stays s r
+  echoed-if c now init None None s d w r = stays s r
+  echoed-if c now init (Some t) None s d w r = refused c init s r
 
   heard-init-ack : (c : Settings) (now : ℕ) (init : InitValue) (s : State) → Right s → Passes R s (opening.heard_init_ack c now init s)
   heard-init-ack c now init s r =
       let echo : Done = opening.echoed_if c now init s.association.trying (cookie_in init.parameters) s in
       either-so (opening.is_waiting s.association.phase) s echo (silent s)
-      (λ e. echoed-if c now init s.association.trying (cookie_in init.parameters) s (r.right.down (waiting-down s.association.phase e)) r)
+      (λ e. echoed-if c now init s.association.trying (cookie_in init.parameters) s (r.right.down (waiting-down s.association.phase e)) (r.right.waiting e) r)
       (λ e. stays s r)
 
   opened : (c : Settings) (now own_tag far_tag own_first : ℕ) (peer : state.Peer) (address : Address) (s : State) →
-      A.tag own_tag → s.association.is_up ≡ false → Passes R s (opening.opened c now own_tag far_tag own_first peer address s)
-  opened c now own_tag far_tag own_first peer address s t d = record {
-    kept = steps.opens c now own_tag far_tag own_first peer address s t d;
-    left = record { right = there; control = none-bare; trying = tt };
+      A.tag own_tag → s.association.is_up ≡ false → s.is_wanted ≡ true →
+      Passes R s (opening.opened c now own_tag far_tag own_first peer address s)
+  opened c now own_tag far_tag own_first peer address s t d w = record {
+    kept = steps.opens c now own_tag far_tag own_first peer address s t d w;
+    left = record { right = there Established true s.is_wanted refl (λ e. refl); control = none-bare; trying = tt };
   }
 
   heard-cookie-ack : (c : Settings) (now : ℕ) (s : State) → A.tag s.association.own_tag → Right s → Passes R s (opening.heard_cookie_ack c now s)
@@ -712,7 +743,7 @@ module _ {A : Arrivals} {R : State → Done → Type 0} (steps : AreSteps A R) w
       let a : Association = s.association in
       let up : Done = opening.opened c now a.own_tag a.far_tag a.own_first a.peer a.address s in
       either-so (opening.is_echoed a.phase) s up (silent s)
-      (λ e. opened c now a.own_tag a.far_tag a.own_first a.peer a.address s t (r.right.down (echoed-down a.phase e)))
+      (λ e. opened c now a.own_tag a.far_tag a.own_first a.peer a.address s t (r.right.down (echoed-down a.phase e)) (r.right.echoed e))
       (λ e. stays s r)
 
   -- ---- answers
@@ -743,13 +774,13 @@ module _ {A : Arrivals} {R : State → Done → Type 0} (steps : AreSteps A R) w
   tag-stays false a control = refl
 
   opened-by : (c : Settings) (now tag : ℕ) (source : Address) (cookie : Cookie) (s : State) → cookie.own_tag ≡ tag → A.tag cookie.own_tag →
-      s.association.is_up ≡ false → Echoes tag s (opening.opened_by c now source cookie s)
-  opened-by c now tag source cookie s same t d =
+      s.association.is_up ≡ false → s.is_wanted ≡ true → Echoes tag s (opening.opened_by c now source cookie s)
+  opened-by c now tag source cookie s same t d w =
       let peer : state.Peer = record { first = cookie.peer_first_tsn; window = cookie.peer_window } in
       let up : Done = opening.opened c now cookie.own_tag cookie.peer_tag cookie.own_first_tsn peer source s in
       let rule : State → Done = λ left. silent (ending.answered packets.CookieAckChunk left) in
       record {
-        passes = next s up rule (opened c now cookie.own_tag cookie.peer_tag cookie.own_first_tsn peer source s t d)
+        passes = next s up rule (opened c now cookie.own_tag cookie.peer_tag cookie.own_first_tsn peer source s t d w)
             (λ left q. answered packets.CookieAckChunk left tt q);
         tag_is = λ e. tag-stays (ending.has_place [] packets.CookieAckChunk) up.left.association (packets.CookieAckChunk ∷ []) ∙ same;
       }
@@ -806,15 +837,15 @@ module _ {A : Arrivals} {R : State → Done → Type 0} (steps : AreSteps A R) w
       s.association.phase ≡ phase → cookie.own_tag ≡ tag → A.tag cookie.own_tag → Right s →
       Echoes tag s (opening.good_echo_in phase c now source cookie s)
   good-echo Closed c now tag source cookie s e same t r =
-      echo-either s.is_wanted tag s (opening.opened_by c now source cookie s) (nothing s)
-      (opened-by c now tag source cookie s same t (r.right.down (ap opening.is_there e))) (echo-stops tag s (silent s) (stays s r))
+      echo-either-so s.is_wanted tag s (opening.opened_by c now source cookie s) (nothing s)
+      (λ w. opened-by c now tag source cookie s same t (r.right.down (ap opening.is_there e)) w) (echo-stops tag s (silent s) (stays s r))
   good-echo CookieWait c now tag source cookie s e same t r =
       echo-either (opening.is_own cookie s.association) tag s (opening.opened_by c now source cookie s) (nothing s)
-      (opened-by c now tag source cookie s same t (r.right.down (ap opening.is_there e))) (echo-stops tag s (silent s) (stays s r))
+      (opened-by c now tag source cookie s same t (r.right.down (ap opening.is_there e)) (r.right.waiting (ap opening.is_waiting e))) (echo-stops tag s (silent s) (stays s r))
   good-echo CookieEchoed c now tag source cookie s e same t r =
       echo-either (opening.is_own cookie s.association && opening.is_far cookie s.association) tag s
       (opening.opened_by c now source cookie s) (nothing s)
-      (opened-by c now tag source cookie s same t (r.right.down (ap opening.is_there e))) (echo-stops tag s (silent s) (stays s r))
+      (opened-by c now tag source cookie s same t (r.right.down (ap opening.is_there e)) (r.right.echoed (ap opening.is_echoed e))) (echo-stops tag s (silent s) (stays s r))
   good-echo Established c now tag source cookie s e same t r = echo-in Established c tag source cookie s r
   good-echo ShutdownPending c now tag source cookie s e same t r = echo-in ShutdownPending c tag source cookie s r
   good-echo ShutdownSent c now tag source cookie s e same t r = echo-in ShutdownSent c tag source cookie s r
@@ -857,13 +888,13 @@ module _ {A : Arrivals} {R : State → Done → Type 0} (steps : AreSteps A R) w
       heard-cookie c now tag source cookie s same (subst A.tag (sym same) t) r)
       (echo-stops tag s (silent s) (stays s r))
 
-  begun-after-stale : (c : Settings) (k : Secrets) (now : ℕ) (t : Option Try) (s : State) → s.association.is_up ≡ false → Right s →
-      Passes R s (opening.begun_after_stale c k now t s)
-  begun-after-stale c k now None s d r = stays s r
-  begun-after-stale c k now (Some t) s d r =
+  begun-after-stale : (c : Settings) (k : Secrets) (now : ℕ) (t : Option Try) (s : State) → s.association.is_up ≡ false →
+      s.is_wanted ≡ true → Right s → Passes R s (opening.begun_after_stale c k now t s)
+  begun-after-stale c k now None s d w r = stays s r
+  begun-after-stale c k now (Some t) s d w r =
       either (nat_lt c.init_retransmissions (t.failures + 1)) s (ending.ended c losses.StaleCookie s)
       (opening.begun_anew c k now (t.failures + 1) c.address s)
-      (ended c losses.StaleCookie [] s none-bare r) (begun-anew c k now (t.failures + 1) c.address s d r)
+      (ended c losses.StaleCookie [] s none-bare r) (begun-anew c k now (t.failures + 1) c.address s d w r)
 
   heard-error : (c : Settings) (k : Secrets) (now : ℕ) (causes : List ItemValue) (s : State) → Right s →
       Passes R s (opening.heard_error c k now causes s)
@@ -872,7 +903,7 @@ module _ {A : Arrivals} {R : State → Done → Type 0} (steps : AreSteps A R) w
       either-so (opening.is_echoed s.association.phase && has_stale_cookie causes) s anew (silent s)
       (λ e.
       let echoed : opening.is_echoed s.association.phase ≡ true = both-true (opening.is_echoed s.association.phase) (has_stale_cookie causes) e in
-      begun-after-stale c k now s.association.trying s (r.right.down (echoed-down s.association.phase echoed)) r)
+      begun-after-stale c k now s.association.trying s (r.right.down (echoed-down s.association.phase echoed)) (r.right.echoed echoed) r)
       (λ e. stays s r)
 
   -- ---- shutting down
@@ -891,7 +922,7 @@ module _ {A : Arrivals} {R : State → Done → Type 0} (steps : AreSteps A R) w
   shutdown-in Established c now s e r =
       let pending : State = state.with_association s (record s.association { phase = ShutdownPending }) in
       let up : s.association.is_up ≡ true = r.right.up (ap data_rules.takes_data e) in
-      let right : IsRight ShutdownPending s.association.is_up = record { up = λ g. up; down = λ g. absurd (cc) } in
+      let right : IsRight ShutdownPending s.association.is_up s.is_wanted = there ShutdownPending s.association.is_up s.is_wanted refl (λ g. up) in
       let f : Follows s pending = record {
         same = in-phase s pending.association Established e refl (λ g. refl) (itself s);
         half = same s.association.sender;
@@ -904,16 +935,18 @@ module _ {A : Arrivals} {R : State → Done → Type 0} (steps : AreSteps A R) w
   shutdown-in ShutdownAckSent c now s e r = stays s r
 
   -- the peer shuts down
-  shutdown-received : (c : Settings) (now : ℕ) (s : State) → opening.is_there s.association.phase ≡ true → Right s →
+  shutdown-received : (c : Settings) (now : ℕ) (s : State) → opening.is_there s.association.phase ≡ true →
+      data_rules.takes_data s.association.phase ≡ true → Right s →
       Passes R s (shutdown.then_going_on c now (shutdown.shutdown_received s))
-  shutdown-received c now s there r =
+  shutdown-received c now s there takes r =
       let received : State = (shutdown.shutdown_received s).left in
-      let q : Right received = record { right = received-right; control = r.control; trying = r.trying } in
+      let q : Right received = record { right = received-right received.is_wanted; control = r.control; trying = r.trying } in
       let left : State = shutdown.going_on c now received in
       let on : Follows received left = going-on c now received q in
       let l : Alike received left = on.same in
       record {
         kept = steps.shuts s left (record {
+          not_wanted = sym l.wanted ∙ not-wanted s.association.is_up s.is_wanted (r.right.up takes);
           generation = l.generation;
           is_down = sym l.up;
           takes_none = takes-none received left l refl;
@@ -943,11 +976,11 @@ module _ {A : Arrivals} {R : State → Done → Type 0} (steps : AreSteps A R) w
   heard-shutdown-in Established c now cumulative s e h tag r =
       let confirmed : State = shutdown.with_confirmed now cumulative s in
       confirms now cumulative s (shutdown.heard_shutdown_in Established c now cumulative s) h tag r
-      (shutdown-received c now confirmed (ap opening.is_there e) r)
+      (shutdown-received c now confirmed (ap opening.is_there e) (ap data_rules.takes_data e) r)
   heard-shutdown-in ShutdownPending c now cumulative s e h tag r =
       let confirmed : State = shutdown.with_confirmed now cumulative s in
       confirms now cumulative s (shutdown.heard_shutdown_in ShutdownPending c now cumulative s) h tag r
-      (shutdown-received c now confirmed (ap opening.is_there e) r)
+      (shutdown-received c now confirmed (ap opening.is_there e) (ap data_rules.takes_data e) r)
   heard-shutdown-in ShutdownReceived c now cumulative s e h tag r =
       let confirmed : State = shutdown.with_confirmed now cumulative s in
       confirms now cumulative s (silent (shutdown.going_on c now confirmed)) h tag r
@@ -959,7 +992,7 @@ module _ {A : Arrivals} {R : State → Done → Type 0} (steps : AreSteps A R) w
       (with-answer packets.ShutdownAckChunk s answered tt (record {
         same = in-phase s answered ShutdownSent e refl (λ g. absurd (cc)) (itself s);
         half = same a.sender;
-        right = record { right = settled a.is_up; control = r.control; trying = r.trying };
+        right = record { right = settled a.is_up s.is_wanted; control = r.control; trying = r.trying };
       }))
   heard-shutdown-in Closed c now cumulative s e h tag r = stays s r
   heard-shutdown-in CookieWait c now cumulative s e h tag r = stays s r
@@ -1397,7 +1430,7 @@ module _ {A : Arrivals} {R : State → Done → Type 0} (steps : AreSteps A R) w
 
   pub happens : (c : Settings) (k : Secrets) (what : Happening) (s : State) → Comes A what → Right s → Passes R s (after c k what s)
   unfolding after
-  happens c k (Opens now is_active) s h r = opened-by-user c k now is_active s r
+  happens c k (Opens now is_active) s h r = opened-by-user c k now is_active s h r
   happens c k (Came now source packet) s h r = heard c k now source packet s h.0 h.1 r
   happens c k (Ticked now) s h r = ticked c k now s r
   happens c k (Sends message) s h r = sends message s h r

@@ -287,6 +287,7 @@ arrived what = record {
   tag = λ tag. tag ≡ tag_of what;
   message = λ m. Unit {0};
   flush = Unit {0};
+  wish = Unit {0};
 }
 
 present-as : (epochs : List Epoch) (a b : Association) → IsSame a b → Presents epochs a → Presents epochs b
@@ -440,7 +441,7 @@ received-steps what = record {
       let d : Done = ending.ended_with c why chunks s in
       gone-keeps what s d.left d.sent d.told (end-told what s.association.is_up s.is_wanted why) refl;
   tries = λ s left sent i bare. gone-keeps what s left sent [] (λ epochs. refl) i.takes_none;
-  opens = opens-keeps what;
+  opens = λ c now own far first peer address s t d w. opens-keeps what c now own far first peer address s t d;
   shuts = λ s left i. gone-keeps what s left [] _ (shut-told what s.association.is_up) i.takes_none;
   takes = λ c d s come tag right up now-takes. record {
     keeps = λ epochs h.
@@ -448,6 +449,7 @@ received-steps what = record {
         takes-present what c d s epochs come tag h.current r.each (r.present now-takes);
   };
   confirms = λ s left n h tag a answer. alike-keeps what s left [] a;
+  wants = λ s h. record { keeps = λ epochs t. t };
   gives = λ m s left h a. alike-keeps what s left [] a;
   puts = λ s left sent h a. alike-keeps what s left sent a;
   reports = λ s. record {

@@ -85,6 +85,7 @@ arrived what = record {
   tag = λ tag. tag ≡ tag_of what;
   message = λ m. ⊥;
   flush = ⊥;
+  wish = Unit {0};
 }
 
 -- ---- the steps
@@ -258,7 +259,7 @@ sent-steps what = record {
   alike = alike-follow what;
   ended = λ c why chunks s bare. gone-follow what s (ending.ended_with c why chunks s) refl bare;
   tries = λ s left sent i bare. gone-follow what s (record { sent = sent; told = []; left = left }) i.is_none bare;
-  opens = λ c now own far first peer address s t d. opens-follow what c now own far first peer address s;
+  opens = λ c now own far first peer address s t d w. opens-follow what c now own far first peer address s;
   shuts = shuts-follow what;
   takes = λ c d s come tag r up now-takes.
       let steps : receiving.Steps = received s.association.receiver d.tsn (data_rules.piece_of d) in
@@ -266,6 +267,7 @@ sent-steps what = record {
       let x = each-follow what c steps.told taken r in
       record { keeps = x.keeps; stays = x.stays; bare = x.bare };
   confirms = confirms-follow what;
+  wants = λ s h. record { keeps = λ messages acknowledged t. t; stays = λ e t. (t, refl); bare = none-sent };
   gives = λ m s left h a. absurd h;
   reports = λ s. record { keeps = λ messages acknowledged h. h; stays = λ e t. (t, refl); bare = none-sent };
   puts = λ s left sent h a. absurd h;

@@ -136,47 +136,51 @@ each-turns c (consuming.Violates v ∷ one ∷ more) s h u = let e : true ≡ fa
 
 -- ---- the pass
 
+abbrev pub anything_with : (wish : Type 0) → Arrivals
+anything_with wish = record { carried = λ d. Unit {0}; cumulative = λ n. Unit {0}; tag = λ n. Unit {0}; message = λ m. Unit {0}; flush = Unit {0}; wish = wish }
+
 abbrev pub anything : Arrivals
-anything = record { carried = λ d. Unit {0}; cumulative = λ n. Unit {0}; tag = λ n. Unit {0}; message = λ m. Unit {0}; flush = Unit {0} }
+anything = anything_with (Unit {0})
 
 pub turn-steps : AreSteps anything Turns
 turn-steps = record {
   alike = λ s left sent f bare. let a = f.same in record { turn = ap (λ (up : Bool). Some up) a.up };
   ended = λ c why chunks s bare. ended-turns c why chunks s;
   tries = λ s left sent i bare. record { turn = ap (λ (up : Bool). Some up) (i.was_down ∙ sym i.is_down) };
-  opens = λ c now own far first peer address s t d. record { turn = ap (λ (up : Bool). turned_by (Up ∷ []) up) d };
+  opens = λ c now own far first peer address s t d w. record { turn = ap (λ (up : Bool). turned_by (Up ∷ []) up) d };
   shuts = λ s left i. record { turn = shut-turn s.association.is_up losses.Shutdown ∙ ap (λ (up : Bool). Some up) (sym i.is_down) };
   takes = λ c d s come t r up now-takes.
       let steps : receiving.Steps = received s.association.receiver d.tsn (data_rules.piece_of d) in
       let taken : State = state.with_association s (record s.association { receiver = steps.left; is_sack_due = true }) in
       record { turn = (each-turns c steps.told taken (received-last s.association.receiver d.tsn (data_rules.piece_of d)) up).turn };
   confirms = λ s left n h t a answer. record { turn = ap (λ (up : Bool). Some up) a.up };
+  wants = λ s h. record { turn = refl };
   gives = λ m s left h a. record { turn = ap (λ (up : Bool). Some up) a.up };
   reports = λ s. record { turn = refl };
   puts = λ s left sent h a. record { turn = ap (λ (up : Bool). Some up) a.up };
   also = also-turns;
 }
 
-any-chunks : (chunks : List ChunkValue) → HaveCome anything chunks
-any-chunks [] = tt
-any-chunks (packets.DataChunk d ∷ chunks) = (tt, any-chunks chunks)
-any-chunks (packets.InitChunk init ∷ chunks) = (tt, any-chunks chunks)
-any-chunks (packets.InitAckChunk init ∷ chunks) = (tt, any-chunks chunks)
-any-chunks (packets.SackChunk sack ∷ chunks) = (tt, any-chunks chunks)
-any-chunks (packets.HeartbeatChunk information ∷ chunks) = (tt, any-chunks chunks)
-any-chunks (packets.HeartbeatAckChunk information ∷ chunks) = (tt, any-chunks chunks)
-any-chunks (packets.AbortChunk is_reflected causes ∷ chunks) = (tt, any-chunks chunks)
-any-chunks (packets.ShutdownChunk cumulative ∷ chunks) = (tt, any-chunks chunks)
-any-chunks (packets.ShutdownAckChunk ∷ chunks) = (tt, any-chunks chunks)
-any-chunks (packets.ErrorChunk causes ∷ chunks) = (tt, any-chunks chunks)
-any-chunks (packets.CookieEchoChunk cookie ∷ chunks) = (tt, any-chunks chunks)
-any-chunks (packets.CookieAckChunk ∷ chunks) = (tt, any-chunks chunks)
-any-chunks (packets.ShutdownCompleteChunk is_reflected ∷ chunks) = (tt, any-chunks chunks)
-any-chunks (packets.UnknownChunk kind flags value ∷ chunks) = (tt, any-chunks chunks)
-any-chunks (packets.MalformedChunk kind ∷ chunks) = (tt, any-chunks chunks)
+pub any-chunks : (wish : Type 0) (chunks : List ChunkValue) → HaveCome (anything_with wish) chunks
+any-chunks wish [] = tt
+any-chunks wish (packets.DataChunk d ∷ chunks) = (tt, any-chunks wish chunks)
+any-chunks wish (packets.InitChunk init ∷ chunks) = (tt, any-chunks wish chunks)
+any-chunks wish (packets.InitAckChunk init ∷ chunks) = (tt, any-chunks wish chunks)
+any-chunks wish (packets.SackChunk sack ∷ chunks) = (tt, any-chunks wish chunks)
+any-chunks wish (packets.HeartbeatChunk information ∷ chunks) = (tt, any-chunks wish chunks)
+any-chunks wish (packets.HeartbeatAckChunk information ∷ chunks) = (tt, any-chunks wish chunks)
+any-chunks wish (packets.AbortChunk is_reflected causes ∷ chunks) = (tt, any-chunks wish chunks)
+any-chunks wish (packets.ShutdownChunk cumulative ∷ chunks) = (tt, any-chunks wish chunks)
+any-chunks wish (packets.ShutdownAckChunk ∷ chunks) = (tt, any-chunks wish chunks)
+any-chunks wish (packets.ErrorChunk causes ∷ chunks) = (tt, any-chunks wish chunks)
+any-chunks wish (packets.CookieEchoChunk cookie ∷ chunks) = (tt, any-chunks wish chunks)
+any-chunks wish (packets.CookieAckChunk ∷ chunks) = (tt, any-chunks wish chunks)
+any-chunks wish (packets.ShutdownCompleteChunk is_reflected ∷ chunks) = (tt, any-chunks wish chunks)
+any-chunks wish (packets.UnknownChunk kind flags value ∷ chunks) = (tt, any-chunks wish chunks)
+any-chunks wish (packets.MalformedChunk kind ∷ chunks) = (tt, any-chunks wish chunks)
 
 pub any-happening : (what : Happening) → Comes anything what
-any-happening (Came now source packet) = (any-chunks packet.chunks, tt)
+any-happening (Came now source packet) = (any-chunks (Unit {0}) packet.chunks, tt)
 any-happening (Opens now is_active) = tt
 any-happening (Ticked now) = tt
 any-happening (Sends message) = tt

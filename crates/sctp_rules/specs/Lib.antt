@@ -11,6 +11,7 @@ pub mod Sending
 pub mod Endpoint
 pub mod Rows
 pub mod Telling
+pub mod Wishing
 pub mod GivenMessages
 pub mod SentMessages
 pub mod ReceivedMessages

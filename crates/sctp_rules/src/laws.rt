@@ -5,11 +5,18 @@ ghost use Rattle.sctp_rules.specs.Openings.{generations_grow, cookies_open_in_th
 ghost use Rattle.sctp_rules.specs.ReceivedMessages.{messages_are_received};
 ghost use Rattle.sctp_rules.specs.SentMessages.{given_messages_are_sent, given_messages_are_kept};
 ghost use Rattle.sctp_rules.specs.Telling.{told_in_turn};
+ghost use Rattle.sctp_rules.specs.Wishing.{told_as_wished};
 ghost use Rattle.sctp_rules.specs.WrittenPackets.{packets_are_written, packets_are_read};
 
 /// Whatever happens, the user is told in turn: Up, then messages, then Down; and Failed only while none is up.
 pub fn users_are_told_in_turn()
     ensures { told_in_turn }
+{}
+
+/// Whatever happens, Up is told only where the user wants an association: it called for one since the last Down, Failed
+/// or Up. And while it wants none and has none, the endpoint neither tries to open one nor waits for its peer to do so.
+pub fn associations_come_up_where_wanted()
+    ensures { told_as_wished }
 {}
 
 /// Whatever happens: all that the user is told in an association, from Up to Down, is what a receiver tells to which
