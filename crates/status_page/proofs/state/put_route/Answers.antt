@@ -1,0 +1,12 @@
+-- The destination is there.
+use Rattle.exchange.specs.Views.{route_view}
+use Rattle.status_page.specs.States.{route_tokens}
+use Rattle.status_page.proofs.Shown.{route_put}
+use Rattle.status_page.proofs.state.put_route.Goals as goal
+
+pub returns-in-Some : goal.returns-in-Some
+unfolding route_tokens
+returns-in-Some c =
+    route_put c.args.points c.settings.result.now c.args.exchange.now.settings (route_view c.args.exchange.now c.args.destination) c.in-Some.view
+    c.put_shown_route.result c.args.out.now c.put_shown_route.new.out
+    c.in-Some.ensures.kept_route c.settings.ensures.kept_settings c.put_shown_route.ensures

@@ -1,0 +1,142 @@
+-- The families of metrics: their names, what is said of them, and what is in each.
+use Rattle.std.specs.Prelude.{ℕ, List, [], ◌∷◌, map, codes}
+use Rattle.signalling_types.specs.declared.cause.Cause.{Cause}
+use Rattle.signalling_types.specs.declared.cause.Cause.TheVariants.{WrongNetwork, NoLabel, UnknownDestination}
+use Rattle.signalling_types.specs.declared.cause.Cause.TheVariants.{NoRoute, PoolFull, NoUserPart}
+use Rattle.signalling_types.specs.declared.cause.Cause.TheVariants.{NotInProfile, BadManagement, BadSccp}
+use Rattle.signalling_types.specs.declared.cause.Cause.TheVariants.{NoNature, NoDigits, Unequipped, TooLong}
+use Rattle.signalling_types.specs.declared.cause.Cause.TheVariants.{LostUnconfirmed, ManagementFull}
+use Rattle.signalling_types.specs.declared.cause.Cause.TheVariants.{NotFromAdjacent, LinkNotReady}
+use Rattle.signalling_types.specs.declared.cause.Cause.TheVariants.{ChangeoverPending, NoMemory, TableFull}
+use Rattle.signalling_types.specs.declared.cause.Cause.TheVariants.{DuplicateRow, NoSuchName}
+use Rattle.signalling_types.specs.declared.notice.FailureReason.{FailureReason}
+use Rattle.signalling_types.specs.declared.notice.FailureReason.TheVariants.{Association, Timer, Sequence}
+use Rattle.signalling_types.specs.declared.notice.FailureReason.TheVariants.{Status, Length, Changeover}
+use Rattle.signalling_types.specs.declared.notice.FailureReason.TheVariants.{Operator}
+use Rattle.served_link.specs.declared.counter.Counter.{Counter}
+use Rattle.served_link.specs.declared.counter.Counter.TheVariants as counting
+use Rattle.status_page.specs.declared.family.Kind.{Kind}
+use Rattle.status_page.specs.declared.family.Kind.TheVariants.{Counter as Growing, Gauge}
+use Rattle.status_page.specs.declared.family.Family.{Family}
+use Rattle.status_page.specs.declared.family.Family.TheVariants.{Build, Uptime, Pool, Held, Notices, Flags}
+use Rattle.status_page.specs.declared.family.Family.TheVariants.{Raised, InService, ChangingOver, Queue}
+use Rattle.status_page.specs.declared.family.Family.TheVariants.{FramesReceived, OctetsReceived, FramesSent}
+use Rattle.status_page.specs.declared.family.Family.TheVariants.{OctetsSent, Forwarded, Delivered, Refused}
+use Rattle.status_page.specs.declared.family.Family.TheVariants.{Failures, Retries}
+use Rattle.status_page.specs.declared.metric.Metric.{Metric}
+use Rattle.status_page.specs.declared.metric.Metric.TheVariants.{Node, Link}
+use Rattle.status_page.specs.declared.metric.NodeMetric.TheVariants as of_node
+use Rattle.status_page.specs.declared.metric.LinkMetric.TheVariants as of_link
+
+-- all families, in the order in which they are shown
+abbrev pub families : List Family
+families =
+    Build ∷ Uptime ∷ Pool ∷ Held ∷ Notices ∷ Flags ∷ Raised ∷ InService ∷ ChangingOver ∷ Queue ∷
+    FramesReceived ∷ OctetsReceived ∷ FramesSent ∷ OctetsSent ∷ Forwarded ∷ Delivered ∷ Refused ∷ Failures ∷
+    Retries ∷ []
+
+-- the name: a counter ends in total, and a unit is in the name
+abbrev pub family_name : Family → List ℕ
+family_name Build = codes "stp_build_info"
+family_name Uptime = codes "stp_uptime_seconds"
+family_name Pool = codes "stp_pool_limit_messages"
+family_name Held = codes "stp_held_messages"
+family_name Notices = codes "stp_notices_total"
+family_name Flags = codes "stp_flag"
+family_name Raised = codes "stp_flag_raised_total"
+family_name InService = codes "stp_link_in_service"
+family_name ChangingOver = codes "stp_link_changing_over"
+family_name Queue = codes "stp_queue_messages"
+family_name FramesReceived = codes "stp_frames_received_total"
+family_name OctetsReceived = codes "stp_octets_received_total"
+family_name FramesSent = codes "stp_frames_sent_total"
+family_name OctetsSent = codes "stp_octets_sent_total"
+family_name Forwarded = codes "stp_messages_forwarded_total"
+family_name Delivered = codes "stp_messages_delivered_total"
+family_name Refused = codes "stp_refused_total"
+family_name Failures = codes "stp_link_failures_total"
+family_name Retries = codes "stp_connection_retries_total"
+
+-- what is said of it
+abbrev pub family_help : Family → List ℕ
+family_help Build = codes "The version of the program; the value is always 1."
+family_help Uptime = codes "Whole seconds since the start of the node."
+family_help Pool = codes "User messages that the node may keep."
+family_help Held = codes "User messages that are held until a flow may go on."
+family_help Notices = codes "Notices since the start, modulo 2^64."
+family_help Flags = codes "1 if the flag is raised: a message may be lost, or may have come late."
+family_help Raised = codes "How often the flag was raised."
+family_help InService = codes "1 if the link is in service, else 0."
+family_help ChangingOver = codes "1 if the link is down and its changeover isn't over, else 0."
+family_help Queue = codes "Messages of the link that the peer hasn't confirmed, sent or not."
+family_help FramesReceived = codes "Frames that came in on the link."
+family_help OctetsReceived = codes "Octets of the frames that came in on the link."
+family_help FramesSent = codes "Frames that went out on the link."
+family_help OctetsSent = codes "Octets of the frames that went out on the link."
+family_help Forwarded = codes "User messages from the link that were queued or held to go on."
+family_help Delivered = codes "Messages from the link for a user part or a subsystem of the node."
+family_help Refused = codes "Frames from the link that were refused, or whose message was."
+family_help Failures = codes "Failures of the link."
+family_help Retries = codes "Connections of the link that were tried again."
+
+-- whether it only grows
+abbrev pub kind_of : Family → Kind
+kind_of Build = Gauge
+kind_of Uptime = Gauge
+kind_of Pool = Gauge
+kind_of Held = Gauge
+kind_of Notices = Growing
+kind_of Flags = Gauge
+kind_of Raised = Growing
+kind_of InService = Gauge
+kind_of ChangingOver = Gauge
+kind_of Queue = Gauge
+kind_of FramesReceived = Growing
+kind_of OctetsReceived = Growing
+kind_of FramesSent = Growing
+kind_of OctetsSent = Growing
+kind_of Forwarded = Growing
+kind_of Delivered = Growing
+kind_of Refused = Growing
+kind_of Failures = Growing
+kind_of Retries = Growing
+
+abbrev pub kind_name : Kind → List ℕ
+kind_name Growing = codes "counter"
+kind_name Gauge = codes "gauge"
+
+-- the causes of refusals, and the reasons of failures
+abbrev pub causes : List Cause
+causes =
+    WrongNetwork ∷ NoLabel ∷ UnknownDestination ∷ NoRoute ∷ PoolFull ∷ NoUserPart ∷ NotInProfile ∷
+    BadManagement ∷ BadSccp ∷ NoNature ∷ NoDigits ∷ Unequipped ∷ TooLong ∷ LostUnconfirmed ∷ ManagementFull ∷
+    NotFromAdjacent ∷ LinkNotReady ∷ ChangeoverPending ∷ NoMemory ∷ TableFull ∷ DuplicateRow ∷ NoSuchName ∷ []
+
+abbrev pub reasons : List FailureReason
+reasons = Association ∷ Timer ∷ Sequence ∷ Status ∷ Length ∷ Changeover ∷ Operator ∷ []
+
+-- a counter of each link
+abbrev pub counted : Counter → Metric
+counted what = Link (of_link.Counted what)
+
+-- the metrics of a family, in the order in which they are shown
+abbrev pub metrics_of : Family → List Metric
+metrics_of Build = Node of_node.Build ∷ []
+metrics_of Uptime = Node of_node.Uptime ∷ []
+metrics_of Pool = Node of_node.Pool ∷ []
+metrics_of Held = Node of_node.Held ∷ []
+metrics_of Notices = Node of_node.Notices ∷ []
+metrics_of Flags = Node of_node.LostAny ∷ Node of_node.LateAny ∷ []
+metrics_of Raised = Node of_node.TimesLost ∷ Node of_node.TimesLate ∷ []
+metrics_of InService = Link of_link.InService ∷ []
+metrics_of ChangingOver = Link of_link.ChangingOver ∷ []
+metrics_of Queue = Link of_link.Waiting ∷ []
+metrics_of FramesReceived = counted counting.FramesIn ∷ []
+metrics_of OctetsReceived = counted counting.OctetsIn ∷ []
+metrics_of FramesSent = counted counting.FramesOut ∷ []
+metrics_of OctetsSent = counted counting.OctetsOut ∷ []
+metrics_of Forwarded = counted counting.Forwarded ∷ []
+metrics_of Delivered = counted counting.Delivered ∷ []
+metrics_of Refused = map (λ cause. counted (counting.Refused cause)) causes
+metrics_of Failures = map (λ reason. counted (counting.Failed reason)) reasons
+metrics_of Retries = counted counting.Retries ∷ []

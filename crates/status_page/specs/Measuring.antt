@@ -1,0 +1,77 @@
+-- The value of each metric.
+use Rattle.std.specs.Prelude.{ℕ, ◌/◌, Bool, true, false, ◌&&◌, not, count_by, unwrap_or, List, slice_get}
+use Rattle.std.specs.Option.{option_map}
+use Rattle.signalling_types.specs.Message.{is_management}
+use Rattle.cell_pool.specs.Lanes.{is_user_picked}
+use Rattle.served_link.specs.declared.row.LinkCounters.{LinkCounters}
+use Rattle.served_link.specs.Counting.{no_counts, value_of}
+use Rattle.exchange_rules.specs.State.{QueueKind, State, lost_any, late_any}
+use Rattle.exchange.specs.declared.view.LinkStanding.{LinkStanding}
+use Rattle.exchange.specs.declared.view.LinkStanding.TheVariants.{Down, NotAligned, Aligned, Proving}
+use Rattle.exchange.specs.declared.view.LinkStanding.TheVariants.{AlignedReady, InService}
+use Rattle.exchange.specs.Views.{link_view, may_restart_at}
+use Rattle.status_page.specs.declared.metric.NodeMetric.{NodeMetric}
+use Rattle.status_page.specs.declared.metric.NodeMetric.TheVariants as of_node
+use Rattle.status_page.specs.declared.metric.LinkMetric.{LinkMetric}
+use Rattle.status_page.specs.declared.metric.LinkMetric.TheVariants as of_link
+
+abbrev pub bit : Bool → ℕ
+bit true = 1
+bit false = 0
+
+-- the user messages that are held
+abbrev pub held_users : {Q : Type 0} → QueueKind Q → State Q → ℕ
+held_users q s = count_by (is_user_picked (λ m. not (is_management m))) (q.held s.node.queues)
+
+-- the value of a metric of the node, so many milliseconds after its start
+abbrev pub node_value : {Q : Type 0} → QueueKind Q → NodeMetric → State Q → (uptime : ℕ) → ℕ
+node_value q of_node.Build s uptime = 1
+node_value q of_node.Uptime s uptime = uptime / 1000
+node_value q of_node.Pool s uptime = s.settings.pool
+node_value q of_node.Held s uptime = held_users q s
+node_value q of_node.Notices s uptime = s.node.parts.notices.count
+node_value q of_node.LostAny s uptime = bit (lost_any s.node.parts)
+node_value q of_node.LateAny s uptime = bit (late_any s.node.parts)
+node_value q of_node.TimesLost s uptime = s.node.parts.times_lost
+node_value q of_node.TimesLate s uptime = s.node.parts.times_late
+
+-- ---- of a link; where there is no such link it is 0
+
+abbrev pub is_service : LinkStanding → Bool
+is_service Down = false
+is_service NotAligned = false
+is_service Aligned = false
+is_service Proving = false
+is_service AlignedReady = false
+is_service InService = true
+
+abbrev pub is_down : LinkStanding → Bool
+is_down Down = true
+is_down NotAligned = false
+is_down Aligned = false
+is_down Proving = false
+is_down AlignedReady = false
+is_down InService = false
+
+abbrev pub is_in_service : {Q : Type 0} → QueueKind Q → State Q → ℕ → Bool
+is_in_service q s link = unwrap_or (option_map (λ v. is_service v.standing) (link_view q s link)) false
+
+-- whether it is down, and its changeover isn't complete or an acknowledgement of its changeover order is awaited
+abbrev pub is_changing_over : {Q : Type 0} → QueueKind Q → State Q → ℕ → Bool
+is_changing_over q s link =
+    unwrap_or (option_map (λ v. is_down v.standing && not (may_restart_at s link)) (link_view q s link)) false
+
+-- how many messages of its queue aren't confirmed
+abbrev pub waiting_on : {Q : Type 0} → QueueKind Q → State Q → ℕ → ℕ
+waiting_on q s link = unwrap_or (option_map (λ v. v.waiting) (link_view q s link)) 0
+
+-- the counters of a link
+abbrev pub counters_at : List LinkCounters → ℕ → LinkCounters
+counters_at rows link = unwrap_or (slice_get rows link) no_counts
+
+-- the value of a metric of a link
+abbrev pub link_value : {Q : Type 0} → QueueKind Q → LinkMetric → State Q → List LinkCounters → ℕ → ℕ
+link_value q of_link.InService s rows k = bit (is_in_service q s k)
+link_value q of_link.ChangingOver s rows k = bit (is_changing_over q s k)
+link_value q of_link.Waiting s rows k = waiting_on q s k
+link_value q (of_link.Counted counter) s rows k = value_of counter (counters_at rows k)

@@ -1,0 +1,44 @@
+-- All metrics of a node, in Prometheus' text format 0.0.4.
+use Rattle.std.specs.Prelude.{ℕ, List, ◌++◌, length, flat_map}
+use Rattle.exchange_rules.specs.State.{QueueKind, State}
+use Rattle.served_link.specs.declared.row.LinkCounters.{LinkCounters}
+use Rattle.console.specs.Names.{name_in}
+use Rattle.status_page.specs.declared.family.Family.{Family}
+use Rattle.status_page.specs.declared.metric.LinkMetric.{LinkMetric}
+use Rattle.status_page.specs.declared.metric.Metric.{Metric}
+use Rattle.status_page.specs.declared.metric.Metric.TheVariants.{Node, Link}
+use Rattle.status_page.specs.Each.{each}
+use Rattle.status_page.specs.Families.{families, metrics_of}
+use Rattle.status_page.specs.Measuring.{link_value, node_value}
+use Rattle.status_page.specs.Samples.{head_text, link_labels, node_labels, sample_text}
+
+-- the sample of a link
+unfoldable pub link_sample :
+    {Q : Type 0} → QueueKind Q → State Q → List LinkCounters → Family → LinkMetric → ℕ → List ℕ
+link_sample q s rows family metric k =
+    sample_text family (link_labels metric (name_in s.settings k)) (link_value q metric s rows k)
+
+-- the sample of each link
+abbrev pub link_samples : {Q : Type 0} → QueueKind Q → State Q → List LinkCounters → Family → LinkMetric → List ℕ
+link_samples q s rows family metric = each (link_sample q s rows family metric) (length s.settings.links)
+
+-- the samples of a metric
+unfoldable pub metric_text :
+    {Q : Type 0} → QueueKind Q → State Q → List LinkCounters → (uptime : ℕ) → Family → Metric → List ℕ
+metric_text q s rows uptime family (Node metric) =
+    sample_text family (node_labels metric) (node_value q metric s uptime)
+metric_text q s rows uptime family (Link metric) = link_samples q s rows family metric
+
+-- a family: its head, and then its metrics
+unfoldable pub family_text :
+    {Q : Type 0} → QueueKind Q → State Q → List LinkCounters → (uptime : ℕ) → Family → List ℕ
+family_text q s rows uptime family =
+    head_text family ++ flat_map (metric_text q s rows uptime family) (metrics_of family)
+
+abbrev pub families_text :
+    {Q : Type 0} → QueueKind Q → State Q → List LinkCounters → (uptime : ℕ) → List Family → List ℕ
+families_text q s rows uptime fs = flat_map (family_text q s rows uptime) fs
+
+-- all metrics, so many milliseconds after the start
+unfoldable pub metrics_text : {Q : Type 0} → QueueKind Q → State Q → List LinkCounters → (uptime : ℕ) → List ℕ
+metrics_text q s rows uptime = families_text q s rows uptime families

@@ -1,0 +1,58 @@
+-- The lines of metrics, in Prometheus' text format 0.0.4.
+use Rattle.std.specs.Prelude.{ℕ, List, [], ◌++◌, codes, decimal}
+use Rattle.signalling_types.specs.Causes.{cause_name}
+use Rattle.signalling_types.specs.Notices.{failure_name}
+use Rattle.served_link.specs.declared.counter.Counter.{Counter}
+use Rattle.served_link.specs.declared.counter.Counter.TheVariants.{FramesIn, OctetsIn, FramesOut, OctetsOut}
+use Rattle.served_link.specs.declared.counter.Counter.TheVariants.{Forwarded, Delivered, Refused, Failed, Retries}
+use Rattle.status_page.specs.declared.family.Family.{Family}
+use Rattle.status_page.specs.declared.metric.NodeMetric.{NodeMetric}
+use Rattle.status_page.specs.declared.metric.NodeMetric.TheVariants as of_node
+use Rattle.status_page.specs.declared.metric.LinkMetric.{LinkMetric}
+use Rattle.status_page.specs.declared.metric.LinkMetric.TheVariants as of_link
+use Rattle.status_page.specs.Families.{family_name, family_help, kind_name, kind_of}
+
+-- the two lines in front of a family
+abbrev pub head_text : Family → List ℕ
+head_text family =
+    codes "# HELP " ++ family_name family ++ codes " " ++ family_help family
+    ++ codes "\n# TYPE " ++ family_name family ++ codes " " ++ kind_name (kind_of family) ++ codes "\n"
+
+-- the line of a sample
+abbrev pub sample_text : Family → (labels : List ℕ) → (value : ℕ) → List ℕ
+sample_text family labels value = family_name family ++ labels ++ codes " " ++ decimal value ++ codes "\n"
+
+-- ---- labels
+
+abbrev pub node_labels : NodeMetric → List ℕ
+node_labels of_node.Build = codes "{version=\"0.1\"}"
+node_labels of_node.Uptime = []
+node_labels of_node.Pool = []
+node_labels of_node.Held = []
+node_labels of_node.Notices = []
+node_labels of_node.LostAny = codes "{name=\"lost_any\"}"
+node_labels of_node.LateAny = codes "{name=\"late_any\"}"
+node_labels of_node.TimesLost = codes "{name=\"lost_any\"}"
+node_labels of_node.TimesLate = codes "{name=\"late_any\"}"
+
+-- the cause of a refusal, or the reason of a failure
+abbrev pub counter_labels : Counter → List ℕ
+counter_labels FramesIn = []
+counter_labels OctetsIn = []
+counter_labels FramesOut = []
+counter_labels OctetsOut = []
+counter_labels Forwarded = []
+counter_labels Delivered = []
+counter_labels (Refused cause) = codes ",cause=\"" ++ cause_name cause ++ codes "\""
+counter_labels (Failed reason) = codes ",reason=\"" ++ failure_name reason ++ codes "\""
+counter_labels Retries = []
+
+abbrev pub metric_labels : LinkMetric → List ℕ
+metric_labels of_link.InService = []
+metric_labels of_link.ChangingOver = []
+metric_labels of_link.Waiting = []
+metric_labels (of_link.Counted counter) = counter_labels counter
+
+-- the labels of a metric of the link of this name
+abbrev pub link_labels : LinkMetric → (name : List ℕ) → List ℕ
+link_labels metric name = codes "{link=\"" ++ name ++ codes "\"" ++ metric_labels metric ++ codes "}"

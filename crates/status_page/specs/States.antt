@@ -1,0 +1,168 @@
+-- The state of a node, as JSON.
+use Rattle.std.specs.Prelude.{ℕ, suc, ◌+◌, ◌-◌, ◌^◌, ◌%◌, List, [], ◌∷◌, ◌++◌, length, map, flat_map, slice_get, unwrap_or, codes, Option, Some, None}
+use Rattle.std.specs.Option.{option_map}
+use Rattle.json.specs.Token.{Token, string}
+use Rattle.signalling_types.specs.Causes.{cause_name}
+use Rattle.signalling_types.specs.Notices.{failure_name}
+use Rattle.settings_rows.specs.Configuration.{Configuration, SetEntry}
+use Rattle.point_format.specs.Points.{point_text}
+use Rattle.point_format.specs.declared.point.PointFormat.{PointFormat}
+use Rattle.routes.specs.Routes.{status_name}
+use Rattle.exchange_rules.specs.State.{QueueKind, State}
+use Rattle.exchange.specs.declared.view.LinkView.{LinkView}
+use Rattle.exchange.specs.declared.view.RouteView.{RouteView}
+use Rattle.exchange.specs.Views.{link_view, route_view, standing_name}
+use Rattle.console.specs.Names.{name_in, set_name_in}
+use Rattle.console.specs.Texts.{notice_line}
+use Rattle.served_link.specs.declared.counter.Counter.{Counter}
+use Rattle.served_link.specs.declared.counter.Counter.TheVariants.{FramesIn, OctetsIn, FramesOut, OctetsOut}
+use Rattle.served_link.specs.declared.counter.Counter.TheVariants.{Forwarded, Delivered, Refused, Failed, Retries}
+use Rattle.served_link.specs.declared.row.LinkCounters.{LinkCounters}
+use Rattle.served_link.specs.Counting.{value_of}
+use Rattle.status_page.specs.Each.{each}
+use Rattle.status_page.specs.Families.{causes, reasons}
+use Rattle.status_page.specs.Measuring.{counters_at, held_users, is_changing_over}
+use Rattle.status_page.specs.Members.{object, text_member, number_member, bool_member, object_member, array_member}
+
+-- ---- counters
+
+-- the member that shows a counter: of refusals the cause, of failures the reason
+abbrev pub counter_key : Counter → List ℕ
+counter_key FramesIn = codes "frames_in"
+counter_key OctetsIn = codes "octets_in"
+counter_key FramesOut = codes "frames_out"
+counter_key OctetsOut = codes "octets_out"
+counter_key Forwarded = codes "forwarded"
+counter_key Delivered = codes "delivered"
+counter_key (Refused cause) = cause_name cause
+counter_key (Failed reason) = failure_name reason
+counter_key Retries = codes "retries"
+
+abbrev pub counter_member : LinkCounters → Counter → List Token
+counter_member row counter = number_member (counter_key counter) (value_of counter row)
+
+abbrev pub counter_members : LinkCounters → List Counter → List Token
+counter_members row counters = flat_map (counter_member row) counters
+
+-- what is counted of a link as a whole
+abbrev pub totals : List Counter
+totals = FramesIn ∷ OctetsIn ∷ FramesOut ∷ OctetsOut ∷ Forwarded ∷ Delivered ∷ Retries ∷ []
+
+-- all counters of a link: refusals by their cause and failures by their reason
+unfoldable pub all_counters : LinkCounters → List Token
+all_counters row =
+    counter_members row totals
+    ++ object_member (codes "refused") (counter_members row (map (λ cause. Refused cause) causes))
+    ++ object_member (codes "failed") (counter_members row (map (λ reason. Failed reason) reasons))
+
+-- ---- links and sets
+
+-- the name of a link's set; nothing where there is no such link
+abbrev pub set_name_of : Configuration → (link : ℕ) → List ℕ
+set_name_of c link = unwrap_or (option_map (λ row. set_name_in c row.set) (slice_get c.links link)) []
+
+abbrev pub view_members : LinkView → List Token
+view_members v =
+    text_member (codes "state") (standing_name v.standing) ++ number_member (codes "waiting") v.waiting
+    ++ number_member (codes "fsn") v.last_sent ++ number_member (codes "bsn") v.last_accepted
+
+-- the names of a link and of its set
+abbrev pub name_members : Configuration → (link : ℕ) → List Token
+name_members c link = text_member (codes "name") (name_in c link) ++ text_member (codes "set") (set_name_of c link)
+
+-- a link, as it is shown, by its number
+abbrev pub link_object : {Q : Type 0} → QueueKind Q → State Q → List LinkCounters → ℕ → LinkView → List Token
+link_object q s rows k v =
+    object (name_members s.settings k ++ view_members v
+    ++ bool_member (codes "changing_over") (is_changing_over q s k)
+    ++ all_counters (counters_at rows k))
+
+-- the same, where there is such a link
+abbrev pub shown_link : {Q : Type 0} → QueueKind Q → State Q → List LinkCounters → ℕ → Option LinkView → List Token
+shown_link q s rows k None = []
+shown_link q s rows k (Some v) = link_object q s rows k v
+
+unfoldable pub link_tokens : {Q : Type 0} → QueueKind Q → State Q → List LinkCounters → ℕ → List Token
+link_tokens q s rows k = shown_link q s rows k (link_view q s k)
+
+-- a set, and the point that it leads to
+abbrev pub set_tokens : PointFormat → SetEntry → List Token
+set_tokens points set =
+    object (text_member (codes "name") set.name ++ text_member (codes "adjacent") (point_text points set.adjacent))
+
+-- ---- routes
+
+-- the names of sets
+abbrev pub set_names : Configuration → List ℕ → List Token
+set_names c sets = flat_map (λ set. string (set_name_in c set) ∷ []) sets
+
+-- a destination, the sets that messages take to it, and their status
+abbrev pub route_object : PointFormat → Configuration → RouteView → List Token
+route_object points c v =
+    object (text_member (codes "point") (point_text points v.point)
+    ++ array_member (codes "sets") (set_names c v.sets.items)
+    ++ text_member (codes "status") (status_name v.status))
+
+abbrev pub shown_route : PointFormat → Configuration → Option RouteView → List Token
+shown_route points c None = []
+shown_route points c (Some v) = route_object points c v
+
+unfoldable pub route_tokens : {Q : Type 0} → PointFormat → State Q → ℕ → List Token
+route_tokens points s k = shown_route points s.settings (route_view s k)
+
+-- ---- notices
+
+-- the number of a notice that is kept, by its place from the oldest: the last has as many as there were
+abbrev pub notice_number : {Q : Type 0} → State Q → ℕ → ℕ
+notice_number s k =
+    (s.node.parts.notices.count + 2 ^ 64 - (length s.node.parts.notices.last - suc k)) % 2 ^ 64
+
+abbrev pub notice_object : (number : ℕ) → (text : List ℕ) → List Token
+notice_object n text = object (number_member (codes "number") n ++ text_member (codes "text") text)
+
+abbrev pub shown_notice : (number : ℕ) → Option (List ℕ) → List Token
+shown_notice n None = []
+shown_notice n (Some text) = notice_object n text
+
+unfoldable pub notice_tokens : {Q : Type 0} → PointFormat → State Q → ℕ → List Token
+notice_tokens points s k = shown_notice (notice_number s k) (notice_line points s k)
+
+-- ---- the node
+
+-- the version, and the time since the start in milliseconds
+abbrev pub program_members : (uptime : ℕ) → List Token
+program_members uptime =
+    text_member (codes "version") (codes "0.1") ++ number_member (codes "uptime_ms") uptime
+
+-- the node's own point, its network, and the user messages that it may keep
+abbrev pub place_members : PointFormat → Configuration → List Token
+place_members points c =
+    text_member (codes "point") (point_text points c.own)
+    ++ number_member (codes "network") c.network
+    ++ number_member (codes "pool") c.pool
+
+-- the user messages that are held, how often each flag was raised, and how many notices there were
+abbrev pub count_members : {Q : Type 0} → QueueKind Q → State Q → List Token
+count_members q s =
+    number_member (codes "held") (held_users q s)
+    ++ number_member (codes "times_lost") s.node.parts.times_lost
+    ++ number_member (codes "times_late") s.node.parts.times_late
+    ++ number_member (codes "notice_count") s.node.parts.notices.count
+
+unfoldable pub node_members : {Q : Type 0} → QueueKind Q → PointFormat → State Q → (uptime : ℕ) → List Token
+node_members q points s uptime = program_members uptime ++ place_members points s.settings ++ count_members q s
+
+-- the node, and its sets, links, destinations and notices
+unfoldable pub state_members :
+    {Q : Type 0} → QueueKind Q → PointFormat → State Q → List LinkCounters → (uptime : ℕ) → List Token
+state_members q points s rows uptime =
+    node_members q points s uptime
+    ++ array_member (codes "sets") (flat_map (set_tokens points) s.settings.sets)
+    ++ array_member (codes "links") (each (link_tokens q s rows) (length s.settings.links))
+    ++ array_member (codes "routes") (each (route_tokens points s) (length s.settings.destinations))
+    ++ array_member (codes "notices") (each (notice_tokens points s) (length s.node.parts.notices.last))
+
+-- the whole state
+abbrev pub state_tokens :
+    {Q : Type 0} → QueueKind Q → PointFormat → State Q → List LinkCounters → (uptime : ℕ) → List Token
+state_tokens q points s rows uptime = object (state_members q points s rows uptime)

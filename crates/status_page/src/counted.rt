@@ -1,0 +1,14 @@
+//! The counters of a link, by its number.
+
+ghost use Rattle.std.specs.Prelude.{◌≡◌};
+ghost use Rattle.status_page.specs.Measuring.{counters_at};
+
+use served_link::{Counters, LinkCounters};
+use signalling_types::LinkId;
+
+/// The counters of a link; of a link that isn't there all are 0.
+pub(crate) fn counters_of(counters: &Counters, link: LinkId) -> LinkCounters
+    ensures { result ≡ counters_at counters.now link }
+{
+    counters.row(link).copied().unwrap_or(LinkCounters::new())
+}

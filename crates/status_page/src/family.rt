@@ -1,0 +1,259 @@
+//! The families of metrics.
+
+ghost use Rattle.std.specs.Prelude.{◌≡◌, ◌≤◌, length};
+ghost use Rattle.status_page.specs.Families.{family_help, family_name, kind_name, kind_of, metrics_of};
+
+use crate::metric::{LinkMetric, Metric, NodeMetric};
+use served_link::Counter;
+use signalling_types::{Cause, FailureReason};
+
+/// What a metric does over time.
+#[derive(Clone, Copy)]
+pub enum Kind {
+    /// It only grows, until the node starts again.
+    Counter,
+    /// It goes up and down.
+    Gauge,
+}
+
+impl Kind {
+    /// The kind's name in a TYPE line.
+    pub fn name(self) -> &'static str
+        ensures name { result.now ≡ kind_name self }
+        ensures fits { length result.now ≤ 7 }
+    {
+        match self {
+            Kind::Counter => "counter",
+            Kind::Gauge => "gauge",
+        }
+    }
+}
+
+/// Octets of a family's name, at most.
+pub const NAME_OCTETS: usize = 40;
+
+/// Octets of what is said of a family, at most.
+pub const HELP_OCTETS: usize = 120;
+
+/// Metrics of one name.
+#[derive(Clone, Copy)]
+pub enum Family {
+    /// The version of the program.
+    Build,
+    /// How long the node has run.
+    Uptime,
+    /// How many user messages the node may keep.
+    Pool,
+    /// User messages that are held.
+    Held,
+    /// Notices so far.
+    Notices,
+    /// Whether each flag is raised.
+    Flags,
+    /// How often each flag was raised.
+    Raised,
+    /// Whether each link is in service.
+    InService,
+    /// Whether the changeover of each link isn't over.
+    ChangingOver,
+    /// Messages of each link that aren't confirmed.
+    Queue,
+    /// Frames that came in.
+    FramesReceived,
+    /// Octets of these.
+    OctetsReceived,
+    /// Frames that went out.
+    FramesSent,
+    /// Octets of these.
+    OctetsSent,
+    /// User messages that were sent on.
+    Forwarded,
+    /// Messages that were for this node.
+    Delivered,
+    /// Frames that were refused, by cause.
+    Refused,
+    /// Failures of links, by reason.
+    Failures,
+    /// Connections that were tried again.
+    Retries,
+}
+
+impl Family {
+    /// All families, in the order in which they are shown.
+    pub const ALL: [Family; 19] = [
+        Family::Build,
+        Family::Uptime,
+        Family::Pool,
+        Family::Held,
+        Family::Notices,
+        Family::Flags,
+        Family::Raised,
+        Family::InService,
+        Family::ChangingOver,
+        Family::Queue,
+        Family::FramesReceived,
+        Family::OctetsReceived,
+        Family::FramesSent,
+        Family::OctetsSent,
+        Family::Forwarded,
+        Family::Delivered,
+        Family::Refused,
+        Family::Failures,
+        Family::Retries,
+    ];
+
+    /// The family's name.
+    pub fn name(self) -> &'static str
+        ensures name { result.now ≡ family_name self }
+        ensures fits { length result.now ≤ NAME_OCTETS }
+    {
+        match self {
+            Family::Build => "stp_build_info",
+            Family::Uptime => "stp_uptime_seconds",
+            Family::Pool => "stp_pool_limit_messages",
+            Family::Held => "stp_held_messages",
+            Family::Notices => "stp_notices_total",
+            Family::Flags => "stp_flag",
+            Family::Raised => "stp_flag_raised_total",
+            Family::InService => "stp_link_in_service",
+            Family::ChangingOver => "stp_link_changing_over",
+            Family::Queue => "stp_queue_messages",
+            Family::FramesReceived => "stp_frames_received_total",
+            Family::OctetsReceived => "stp_octets_received_total",
+            Family::FramesSent => "stp_frames_sent_total",
+            Family::OctetsSent => "stp_octets_sent_total",
+            Family::Forwarded => "stp_messages_forwarded_total",
+            Family::Delivered => "stp_messages_delivered_total",
+            Family::Refused => "stp_refused_total",
+            Family::Failures => "stp_link_failures_total",
+            Family::Retries => "stp_connection_retries_total",
+        }
+    }
+
+    /// What is said of the family in its HELP line.
+    pub fn help(self) -> &'static str
+        ensures help { result.now ≡ family_help self }
+        ensures fits { length result.now ≤ HELP_OCTETS }
+    {
+        match self {
+            Family::Build => "The version of the program; the value is always 1.",
+            Family::Uptime => "Whole seconds since the start of the node.",
+            Family::Pool => "User messages that the node may keep.",
+            Family::Held => "User messages that are held until a flow may go on.",
+            Family::Notices => "Notices since the start, modulo 2^64.",
+            Family::Flags =>
+                "1 if the flag is raised: a message may be lost, or may have come late.",
+            Family::Raised => "How often the flag was raised.",
+            Family::InService => "1 if the link is in service, else 0.",
+            Family::ChangingOver => "1 if the link is down and its changeover isn't over, else 0.",
+            Family::Queue => "Messages of the link that the peer hasn't confirmed, sent or not.",
+            Family::FramesReceived => "Frames that came in on the link.",
+            Family::OctetsReceived => "Octets of the frames that came in on the link.",
+            Family::FramesSent => "Frames that went out on the link.",
+            Family::OctetsSent => "Octets of the frames that went out on the link.",
+            Family::Forwarded => "User messages from the link that were queued or held to go on.",
+            Family::Delivered =>
+                "Messages from the link for a user part or a subsystem of the node.",
+            Family::Refused => "Frames from the link that were refused, or whose message was.",
+            Family::Failures => "Failures of the link.",
+            Family::Retries => "Connections of the link that were tried again.",
+        }
+    }
+
+    /// What the family does over time.
+    pub fn kind(self) -> Kind
+        ensures { result ≡ kind_of self }
+    {
+        match self {
+            Family::Build
+            | Family::Uptime
+            | Family::Pool
+            | Family::Held
+            | Family::Flags
+            | Family::InService
+            | Family::ChangingOver
+            | Family::Queue => Kind::Gauge,
+            Family::Notices
+            | Family::Raised
+            | Family::FramesReceived
+            | Family::OctetsReceived
+            | Family::FramesSent
+            | Family::OctetsSent
+            | Family::Forwarded
+            | Family::Delivered
+            | Family::Refused
+            | Family::Failures
+            | Family::Retries => Kind::Counter,
+        }
+    }
+
+    /// The metrics of the family, in the order in which they are shown.
+    pub fn metrics(self) -> &'static [Metric]
+        ensures { result.now ≡ metrics_of self }
+    {
+        match self {
+            Family::Build => &[Metric::Node(NodeMetric::Build)],
+            Family::Uptime => &[Metric::Node(NodeMetric::Uptime)],
+            Family::Pool => &[Metric::Node(NodeMetric::Pool)],
+            Family::Held => &[Metric::Node(NodeMetric::Held)],
+            Family::Notices => &[Metric::Node(NodeMetric::Notices)],
+            Family::Flags => &[
+                Metric::Node(NodeMetric::LostAny),
+                Metric::Node(NodeMetric::LateAny),
+            ],
+            Family::Raised => &[
+                Metric::Node(NodeMetric::TimesLost),
+                Metric::Node(NodeMetric::TimesLate),
+            ],
+            Family::InService => &[Metric::Link(LinkMetric::InService)],
+            Family::ChangingOver => &[Metric::Link(LinkMetric::ChangingOver)],
+            Family::Queue => &[Metric::Link(LinkMetric::Waiting)],
+            Family::FramesReceived => &[Metric::Link(LinkMetric::Counted(Counter::FramesIn))],
+            Family::OctetsReceived => &[Metric::Link(LinkMetric::Counted(Counter::OctetsIn))],
+            Family::FramesSent => &[Metric::Link(LinkMetric::Counted(Counter::FramesOut))],
+            Family::OctetsSent => &[Metric::Link(LinkMetric::Counted(Counter::OctetsOut))],
+            Family::Forwarded => &[Metric::Link(LinkMetric::Counted(Counter::Forwarded))],
+            Family::Delivered => &[Metric::Link(LinkMetric::Counted(Counter::Delivered))],
+            Family::Refused => &REFUSED,
+            Family::Failures => &FAILURES,
+            Family::Retries => &[Metric::Link(LinkMetric::Counted(Counter::Retries))],
+        }
+    }
+}
+
+/// Frames that were refused, by each cause.
+const REFUSED: [Metric; 22] = [
+    Metric::Link(LinkMetric::Counted(Counter::Refused(Cause::WrongNetwork))),
+    Metric::Link(LinkMetric::Counted(Counter::Refused(Cause::NoLabel))),
+    Metric::Link(LinkMetric::Counted(Counter::Refused(Cause::UnknownDestination))),
+    Metric::Link(LinkMetric::Counted(Counter::Refused(Cause::NoRoute))),
+    Metric::Link(LinkMetric::Counted(Counter::Refused(Cause::PoolFull))),
+    Metric::Link(LinkMetric::Counted(Counter::Refused(Cause::NoUserPart))),
+    Metric::Link(LinkMetric::Counted(Counter::Refused(Cause::NotInProfile))),
+    Metric::Link(LinkMetric::Counted(Counter::Refused(Cause::BadManagement))),
+    Metric::Link(LinkMetric::Counted(Counter::Refused(Cause::BadSccp))),
+    Metric::Link(LinkMetric::Counted(Counter::Refused(Cause::NoNature))),
+    Metric::Link(LinkMetric::Counted(Counter::Refused(Cause::NoDigits))),
+    Metric::Link(LinkMetric::Counted(Counter::Refused(Cause::Unequipped))),
+    Metric::Link(LinkMetric::Counted(Counter::Refused(Cause::TooLong))),
+    Metric::Link(LinkMetric::Counted(Counter::Refused(Cause::LostUnconfirmed))),
+    Metric::Link(LinkMetric::Counted(Counter::Refused(Cause::ManagementFull))),
+    Metric::Link(LinkMetric::Counted(Counter::Refused(Cause::NotFromAdjacent))),
+    Metric::Link(LinkMetric::Counted(Counter::Refused(Cause::LinkNotReady))),
+    Metric::Link(LinkMetric::Counted(Counter::Refused(Cause::ChangeoverPending))),
+    Metric::Link(LinkMetric::Counted(Counter::Refused(Cause::NoMemory))),
+    Metric::Link(LinkMetric::Counted(Counter::Refused(Cause::TableFull))),
+    Metric::Link(LinkMetric::Counted(Counter::Refused(Cause::DuplicateRow))),
+    Metric::Link(LinkMetric::Counted(Counter::Refused(Cause::NoSuchName))),
+];
+
+/// Failures, by each reason.
+const FAILURES: [Metric; 7] = [
+    Metric::Link(LinkMetric::Counted(Counter::Failed(FailureReason::Association))),
+    Metric::Link(LinkMetric::Counted(Counter::Failed(FailureReason::Timer))),
+    Metric::Link(LinkMetric::Counted(Counter::Failed(FailureReason::Sequence))),
+    Metric::Link(LinkMetric::Counted(Counter::Failed(FailureReason::Status))),
+    Metric::Link(LinkMetric::Counted(Counter::Failed(FailureReason::Length))),
+    Metric::Link(LinkMetric::Counted(Counter::Failed(FailureReason::Changeover))),
+    Metric::Link(LinkMetric::Counted(Counter::Failed(FailureReason::Operator))),
+];

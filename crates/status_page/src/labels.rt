@@ -1,0 +1,82 @@
+//! The labels of samples.
+
+ghost use Rattle.std.specs.Prelude.{◌≡◌, ◌+◌, ◌≤◌, ◌++◌, length};
+ghost use Rattle.status_page.specs.Samples.{counter_labels, link_labels, metric_labels, node_labels};
+
+use crate::metric::{LinkMetric, NodeMetric};
+use arrayvec::ArrayString;
+use served_link::Counter;
+use signalling_types::Limits;
+
+/// The version of the program, as the pages show it.
+pub const VERSION: &str = "0.1";
+
+/// Octets of a sample's labels, at most.
+pub const LABELS_OCTETS: usize = 64;
+
+/// The labels of a metric of the node.
+pub(crate) fn node_labels(metric: NodeMetric) -> &'static str
+    ensures labels { result.now ≡ node_labels metric }
+    ensures fits { length result.now ≤ LABELS_OCTETS }
+{
+    match metric {
+        NodeMetric::Build => "{version=\"0.1\"}",
+        NodeMetric::LostAny | NodeMetric::TimesLost => "{name=\"lost_any\"}",
+        NodeMetric::LateAny | NodeMetric::TimesLate => "{name=\"late_any\"}",
+        NodeMetric::Uptime | NodeMetric::Pool | NodeMetric::Held | NodeMetric::Notices => "",
+    }
+}
+
+/// The labels of a metric of the link of this name. A name has only letters, digits and dashes, so none of it is
+/// escaped.
+pub(crate) fn link_labels(metric: LinkMetric, name: &str) -> ArrayString<LABELS_OCTETS>
+    requires { length name.now ≤ Limits.NAME_OCTETS }
+    ensures { result.bytes ≡ link_labels metric name.now }
+{
+    let mut labels = ArrayString::new();
+    labels.push_str("{link=\"");
+    labels.push_str(name);
+    labels.push_str("\"");
+    push_further(metric, &mut labels);
+    labels.push_str("}");
+    labels
+}
+
+/// Puts the further label of a metric of a link behind what is there.
+fn push_further(metric: LinkMetric, labels: &mut ArrayString<LABELS_OCTETS>)
+    requires { length labels.old.bytes ≤ 24 }
+    ensures label { labels.new.bytes ≡ labels.old.bytes ++ metric_labels metric }
+    ensures short { length labels.new.bytes ≤ length labels.old.bytes + 32 }
+{
+    match metric {
+        LinkMetric::Counted(counter) => push_reason(counter, labels),
+        LinkMetric::InService | LinkMetric::ChangingOver | LinkMetric::Waiting => {}
+    }
+}
+
+/// Puts the label of a counter of refusals or of failures behind what is there, its cause or its reason.
+fn push_reason(counter: Counter, labels: &mut ArrayString<LABELS_OCTETS>)
+    requires { length labels.old.bytes ≤ 24 }
+    ensures label { labels.new.bytes ≡ labels.old.bytes ++ counter_labels counter }
+    ensures short { length labels.new.bytes ≤ length labels.old.bytes + 32 }
+{
+    match counter {
+        Counter::Refused(cause) => {
+            labels.push_str(",cause=\"");
+            labels.push_str(cause.name());
+            labels.push_str("\"");
+        }
+        Counter::Failed(reason) => {
+            labels.push_str(",reason=\"");
+            labels.push_str(reason.name());
+            labels.push_str("\"");
+        }
+        Counter::FramesIn
+        | Counter::OctetsIn
+        | Counter::FramesOut
+        | Counter::OctetsOut
+        | Counter::Forwarded
+        | Counter::Delivered
+        | Counter::Retries => {}
+    }
+}

@@ -1,0 +1,17 @@
+//! What the status page of a node holds: its metrics, its state, and the page that a person reads.
+#![tactic(auto)]
+
+pub mod content;
+mod counted;
+pub mod family;
+pub mod labels;
+mod link_state;
+mod measuring;
+mod members;
+pub mod metric;
+mod metrics;
+mod sample;
+mod state;
+pub mod text;
+
+pub use content::StatusPage;

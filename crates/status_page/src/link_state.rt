@@ -1,0 +1,190 @@
+//! A link in the state of a node.
+
+ghost use Rattle.std.specs.Prelude.{◌≡◌};
+ghost use Rattle.exchange.specs.KeptQueues.{kept};
+ghost use Rattle.status_page.specs.Members.{Adds, object_member};
+ghost use Rattle.status_page.specs.States.{all_counters, counter_key, counter_members, link_object, link_tokens, name_members, set_name_of, view_members};
+ghost use Rattle.console.specs.Names.{set_name_in};
+
+use crate::counted::counters_of;
+use crate::measuring::is_changing_over;
+use crate::members::{put_bool, put_number, put_text};
+use console::link_name;
+use exchange::{Exchange, LinkView};
+use json::Writer;
+use served_link::{Counter, Counters, LinkCounters};
+use settings::Settings;
+use signalling_types::{Cause, FailureReason, LinkId, SetId};
+use std::alloc::AllocError;
+
+/// What is counted of a link as a whole.
+const TOTALS: [Counter; 7] = [
+    Counter::FramesIn,
+    Counter::OctetsIn,
+    Counter::FramesOut,
+    Counter::OctetsOut,
+    Counter::Forwarded,
+    Counter::Delivered,
+    Counter::Retries,
+];
+
+/// Refusals, by each cause.
+const REFUSALS: [Counter; 22] = [
+    Counter::Refused(Cause::WrongNetwork),
+    Counter::Refused(Cause::NoLabel),
+    Counter::Refused(Cause::UnknownDestination),
+    Counter::Refused(Cause::NoRoute),
+    Counter::Refused(Cause::PoolFull),
+    Counter::Refused(Cause::NoUserPart),
+    Counter::Refused(Cause::NotInProfile),
+    Counter::Refused(Cause::BadManagement),
+    Counter::Refused(Cause::BadSccp),
+    Counter::Refused(Cause::NoNature),
+    Counter::Refused(Cause::NoDigits),
+    Counter::Refused(Cause::Unequipped),
+    Counter::Refused(Cause::TooLong),
+    Counter::Refused(Cause::LostUnconfirmed),
+    Counter::Refused(Cause::ManagementFull),
+    Counter::Refused(Cause::NotFromAdjacent),
+    Counter::Refused(Cause::LinkNotReady),
+    Counter::Refused(Cause::ChangeoverPending),
+    Counter::Refused(Cause::NoMemory),
+    Counter::Refused(Cause::TableFull),
+    Counter::Refused(Cause::DuplicateRow),
+    Counter::Refused(Cause::NoSuchName),
+];
+
+/// Failures, by each reason.
+const FAILURES: [Counter; 7] = [
+    Counter::Failed(FailureReason::Association),
+    Counter::Failed(FailureReason::Timer),
+    Counter::Failed(FailureReason::Sequence),
+    Counter::Failed(FailureReason::Status),
+    Counter::Failed(FailureReason::Length),
+    Counter::Failed(FailureReason::Changeover),
+    Counter::Failed(FailureReason::Operator),
+];
+
+/// Puts the object of a link behind what was written; nothing where there is no such link.
+#[tactic(auto, unfolding(crate::specs::States::link_tokens))]
+pub(crate) fn put_link(
+    exchange: &Exchange,
+    counters: &Counters,
+    link: LinkId,
+    out: &mut Writer,
+) -> Result<(), AllocError>
+    ensures { Adds result out.old out.new (link_tokens kept exchange.now counters.now link) }
+{
+    match exchange.link(link) {
+        Some(view) => put_shown(exchange, counters, link, view, out),
+        None => Ok(()),
+    }
+}
+
+/// Puts the object of a link that is shown so behind what was written.
+fn put_shown(
+    exchange: &Exchange,
+    counters: &Counters,
+    link: LinkId,
+    view: LinkView,
+    out: &mut Writer,
+) -> Result<(), AllocError>
+    ensures { Adds result out.old out.new (link_object kept exchange.now counters.now link view) }
+{
+    out.begin_object()?;
+    put_names(exchange.settings(), link, out)?;
+    put_view(view, out)?;
+    put_bool(out, "changing_over", is_changing_over(exchange, link))?;
+    put_counters(&counters_of(counters, link), out)?;
+    out.end_object()
+}
+
+/// Puts the names of a link and of its set behind what was written.
+fn put_names(settings: &Settings, link: LinkId, out: &mut Writer) -> Result<(), AllocError>
+    ensures { Adds result out.old out.new (name_members settings.now link) }
+{
+    put_text(out, "name", link_name(settings, link))?;
+    put_text(out, "set", set_name_of(settings, link))
+}
+
+/// The name of a link's set; nothing where there is no such link.
+fn set_name_of(settings: &Settings, link: LinkId) -> &str
+    ensures { result.now ≡ set_name_of settings.now link }
+{
+    match settings.links().get(link.index()) {
+        Some(row) => set_name(settings, row.set()),
+        None => "",
+    }
+}
+
+/// The name of a set; nothing where no set has this number.
+pub(crate) fn set_name(settings: &Settings, set: SetId) -> &str
+    ensures { result.now ≡ set_name_in settings.now set }
+{
+    match settings.sets().get(set.index()) {
+        Some(row) => row.name(),
+        None => "",
+    }
+}
+
+/// Puts how a link stands behind what was written.
+fn put_view(view: LinkView, out: &mut Writer) -> Result<(), AllocError>
+    ensures { Adds result out.old out.new (view_members view) }
+{
+    put_text(out, "state", view.standing.name())?;
+    put_number(out, "waiting", view.waiting as u64)?;
+    put_number(out, "fsn", u64::from(view.last_sent.value()))?;
+    put_number(out, "bsn", u64::from(view.last_accepted.value()))
+}
+
+/// Puts all counters of a link behind what was written.
+fn put_counters(row: &LinkCounters, out: &mut Writer) -> Result<(), AllocError>
+    ensures { Adds result out.old out.new (all_counters row.now) }
+{
+    put_each(&TOTALS, row, out)?;
+    put_object("refused", &REFUSALS, row, out)?;
+    put_object("failed", &FAILURES, row, out)
+}
+
+/// Puts an object of these counters behind what was written.
+fn put_object(
+    name: &str,
+    counters: &[Counter],
+    row: &LinkCounters,
+    out: &mut Writer,
+) -> Result<(), AllocError>
+    ensures { Adds result out.old out.new
+        (object_member name.now (counter_members row.now counters.now)) }
+{
+    out.key(name)?;
+    out.begin_object()?;
+    put_each(counters, row, out)?;
+    out.end_object()
+}
+
+/// Puts these counters behind what was written.
+fn put_each(counters: &[Counter], row: &LinkCounters, out: &mut Writer) -> Result<(), AllocError>
+    ensures { Adds result out.old out.new (counter_members row.now counters.now) }
+{
+    for counter in counters {
+        put_number(out, key(*counter), row.get(*counter))?;
+    }
+    Ok(())
+}
+
+/// The member that shows a counter.
+fn key(counter: Counter) -> &'static str
+    ensures { result.now ≡ counter_key counter }
+{
+    match counter {
+        Counter::FramesIn => "frames_in",
+        Counter::OctetsIn => "octets_in",
+        Counter::FramesOut => "frames_out",
+        Counter::OctetsOut => "octets_out",
+        Counter::Forwarded => "forwarded",
+        Counter::Delivered => "delivered",
+        Counter::Refused(cause) => cause.name(),
+        Counter::Failed(reason) => reason.name(),
+        Counter::Retries => "retries",
+    }
+}

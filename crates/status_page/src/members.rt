@@ -1,0 +1,31 @@
+//! Members of JSON objects.
+
+ghost use Rattle.std.specs.Prelude.{◌≡◌};
+ghost use Rattle.status_page.specs.Members.{Adds, bool_member, number_member, text_member};
+
+use json::Writer;
+use std::alloc::AllocError;
+
+/// Puts a member whose value is a text behind what was written.
+pub(crate) fn put_text(out: &mut Writer, name: &str, text: &str) -> Result<(), AllocError>
+    ensures { Adds result out.old out.new (text_member name.now text.now) }
+{
+    out.key(name)?;
+    out.string(text)
+}
+
+/// Puts a member whose value is a number behind what was written.
+pub(crate) fn put_number(out: &mut Writer, name: &str, n: u64) -> Result<(), AllocError>
+    ensures { Adds result out.old out.new (number_member name.now n) }
+{
+    out.key(name)?;
+    out.u64(n)
+}
+
+/// Puts a member whose value is true or false behind what was written.
+pub(crate) fn put_bool(out: &mut Writer, name: &str, b: bool) -> Result<(), AllocError>
+    ensures { Adds result out.old out.new (bool_member name.now b) }
+{
+    out.key(name)?;
+    out.boolean(b)
+}

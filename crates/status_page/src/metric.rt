@@ -1,0 +1,48 @@
+//! What is measured.
+
+use served_link::Counter;
+
+/// One thing that is measured.
+#[derive(Clone, Copy)]
+pub enum Metric {
+    /// Of the node as a whole.
+    Node(NodeMetric),
+    /// Of each link.
+    Link(LinkMetric),
+}
+
+/// What is measured of the node as a whole.
+#[derive(Clone, Copy)]
+pub enum NodeMetric {
+    /// Its version.
+    Build,
+    /// Whole seconds since its start.
+    Uptime,
+    /// User messages that it may keep.
+    Pool,
+    /// User messages that are held.
+    Held,
+    /// Notices so far, modulo 2^64.
+    Notices,
+    /// Whether a message may have been lost.
+    LostAny,
+    /// Whether messages of a flow may have gone out of order.
+    LateAny,
+    /// How often a message may have been lost.
+    TimesLost,
+    /// How often messages of a flow may have gone out of order.
+    TimesLate,
+}
+
+/// What is measured of each link.
+#[derive(Clone, Copy)]
+pub enum LinkMetric {
+    /// Whether it is in service.
+    InService,
+    /// Whether it is down and its changeover isn't over.
+    ChangingOver,
+    /// Messages of its queue that aren't confirmed.
+    Waiting,
+    /// What was counted of it.
+    Counted(Counter),
+}

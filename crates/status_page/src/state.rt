@@ -1,0 +1,310 @@
+//! The state of a node, as JSON.
+
+ghost use Rattle.std.specs.Prelude.{◌≡◌, ◌<◌, IfOk, codes, flat_map, length};
+ghost use Rattle.json.specs.Print.{print};
+ghost use Rattle.exchange.specs.KeptQueues.{kept};
+ghost use Rattle.status_page.specs.Each.{each};
+ghost use Rattle.status_page.specs.Members.{Adds, array_member};
+ghost use Rattle.status_page.specs.States.{count_members, link_tokens, node_members, notice_number, notice_object, notice_tokens, place_members, program_members, route_object, route_tokens, set_names, set_tokens, state_members, state_tokens};
+
+use crate::labels::VERSION;
+use crate::link_state::{put_link, set_name};
+use crate::measuring::held_users;
+use crate::members::{put_number, put_text};
+use arrayvec::ArrayString;
+use console::{LINE_OCTETS, show_notices};
+use exchange::{Exchange, RouteView};
+use json::Writer;
+use point_format::{PointFormat, point_text};
+use served_link::Counters;
+use settings::{SetRow, Settings};
+use signalling_types::{LinkId, SetId};
+use std::alloc::{AllocError, Global};
+
+/// The state of a node, so many milliseconds after its start. The error means that memory ran out.
+pub(crate) fn state_text(
+    alloc: Global,
+    exchange: &Exchange,
+    counters: &Counters,
+    points: PointFormat,
+    uptime_ms: u64,
+) -> Result<Vec<u8>, AllocError>
+    ensures { IfOk result (λ text. text.items
+        ≡ print (state_tokens kept points exchange.now counters.now uptime_ms)) }
+{
+    let mut out = Writer::new(Vec::new(alloc));
+    put_state(exchange, counters, points, uptime_ms, &mut out)?;
+    Ok(out.into_inner())
+}
+
+/// Puts the object of the state behind what was written.
+fn put_state(
+    exchange: &Exchange,
+    counters: &Counters,
+    points: PointFormat,
+    uptime_ms: u64,
+    out: &mut Writer,
+) -> Result<(), AllocError>
+    ensures { Adds result out.old out.new (state_tokens kept points exchange.now counters.now uptime_ms) }
+{
+    out.begin_object()?;
+    put_members(exchange, counters, points, uptime_ms, out)?;
+    out.end_object()
+}
+
+/// Puts the members of that object behind what was written.
+fn put_members(
+    exchange: &Exchange,
+    counters: &Counters,
+    points: PointFormat,
+    uptime_ms: u64,
+    out: &mut Writer,
+) -> Result<(), AllocError>
+    ensures { Adds result out.old out.new (state_members kept points exchange.now counters.now uptime_ms) }
+{
+    put_node(exchange, points, uptime_ms, out)?;
+    put_sets(exchange, points, out)?;
+    put_links(exchange, counters, out)?;
+    put_routes(exchange, points, out)?;
+    put_notices(exchange, points, out)
+}
+
+/// Puts what is shown of the node as a whole behind what was written.
+fn put_node(
+    exchange: &Exchange,
+    points: PointFormat,
+    uptime_ms: u64,
+    out: &mut Writer,
+) -> Result<(), AllocError>
+    ensures { Adds result out.old out.new (node_members kept points exchange.now uptime_ms) }
+{
+    put_program(uptime_ms, out)?;
+    put_place(exchange.settings(), points, out)?;
+    put_counts(exchange, out)
+}
+
+/// Puts the version and the time since the start behind what was written.
+fn put_program(uptime_ms: u64, out: &mut Writer) -> Result<(), AllocError>
+    ensures { Adds result out.old out.new (program_members uptime_ms) }
+{
+    put_text(out, "version", VERSION)?;
+    put_number(out, "uptime_ms", uptime_ms)
+}
+
+/// Puts the node's own point, its network and its limit of user messages behind what was written.
+fn put_place(settings: &Settings, points: PointFormat, out: &mut Writer) -> Result<(), AllocError>
+    ensures { Adds result out.old out.new (place_members points settings.now) }
+{
+    put_text(out, "point", point_text(settings.own(), points).as_str())?;
+    put_number(out, "network", u64::from(settings.network()))?;
+    put_number(out, "pool", settings.pool() as u64)
+}
+
+/// Puts how many user messages are held, how often each flag was raised, and how many notices there were behind what
+/// was written.
+fn put_counts(exchange: &Exchange, out: &mut Writer) -> Result<(), AllocError>
+    ensures { Adds result out.old out.new (count_members kept exchange.now) }
+{
+    put_number(out, "held", held_users(exchange))?;
+    put_number(out, "times_lost", exchange.times_lost())?;
+    put_number(out, "times_late", exchange.times_late())?;
+    put_number(out, "notice_count", exchange.notice_count())
+}
+
+/// Puts the array of the sets behind what was written.
+fn put_sets(exchange: &Exchange, points: PointFormat, out: &mut Writer) -> Result<(), AllocError>
+    ensures { Adds result out.old out.new
+        (array_member (codes "sets") (flat_map (set_tokens points) exchange.now.settings.sets)) }
+{
+    out.key("sets")?;
+    out.begin_array()?;
+    put_each_set(exchange.settings().sets(), points, out)?;
+    out.end_array()
+}
+
+/// Puts the objects of these sets behind what was written.
+fn put_each_set(sets: &[SetRow], points: PointFormat, out: &mut Writer) -> Result<(), AllocError>
+    ensures { Adds result out.old out.new (flat_map (set_tokens points) sets.now) }
+{
+    for set in sets {
+        put_set(set, points, out)?;
+    }
+    Ok(())
+}
+
+/// Puts the object of a set behind what was written.
+fn put_set(set: &SetRow, points: PointFormat, out: &mut Writer) -> Result<(), AllocError>
+    ensures { Adds result out.old out.new (set_tokens points set.now) }
+{
+    out.begin_object()?;
+    put_text(out, "name", set.name())?;
+    put_text(out, "adjacent", point_text(set.adjacent(), points).as_str())?;
+    out.end_object()
+}
+
+/// Puts the array of the links behind what was written.
+fn put_links(exchange: &Exchange, counters: &Counters, out: &mut Writer) -> Result<(), AllocError>
+    ensures { Adds result out.old out.new (array_member (codes "links")
+        (each (link_tokens kept exchange.now counters.now) (length exchange.now.settings.links))) }
+{
+    out.key("links")?;
+    out.begin_array()?;
+    put_each_link(exchange, counters, out)?;
+    out.end_array()
+}
+
+/// Puts the objects of the links behind what was written.
+fn put_each_link(
+    exchange: &Exchange,
+    counters: &Counters,
+    out: &mut Writer,
+) -> Result<(), AllocError>
+    ensures { Adds result out.old out.new
+        (each (link_tokens kept exchange.now counters.now) (length exchange.now.settings.links)) }
+{
+    for k in 0..exchange.settings().link_count() {
+        put_link(exchange, counters, LinkId::new(k as u8), out)?;
+    }
+    Ok(())
+}
+
+/// Puts the array of the routes behind what was written.
+fn put_routes(exchange: &Exchange, points: PointFormat, out: &mut Writer) -> Result<(), AllocError>
+    ensures { Adds result out.old out.new (array_member (codes "routes")
+        (each (route_tokens points exchange.now) (length exchange.now.settings.destinations))) }
+{
+    out.key("routes")?;
+    out.begin_array()?;
+    put_each_route(exchange, points, out)?;
+    out.end_array()
+}
+
+/// Puts the objects of the destinations behind what was written.
+fn put_each_route(
+    exchange: &Exchange,
+    points: PointFormat,
+    out: &mut Writer,
+) -> Result<(), AllocError>
+    ensures { Adds result out.old out.new
+        (each (route_tokens points exchange.now) (length exchange.now.settings.destinations)) }
+{
+    for k in 0..exchange.settings().destinations().len() {
+        put_route(exchange, k, points, out)?;
+    }
+    Ok(())
+}
+
+/// Puts the object of a destination behind what was written; nothing where it isn't there.
+#[tactic(auto, unfolding(crate::specs::States::route_tokens))]
+fn put_route(
+    exchange: &Exchange,
+    destination: usize,
+    points: PointFormat,
+    out: &mut Writer,
+) -> Result<(), AllocError>
+    ensures { Adds result out.old out.new (route_tokens points exchange.now destination) }
+{
+    match exchange.route(destination) {
+        Some(view) => put_shown_route(exchange.settings(), &view, points, out),
+        None => Ok(()),
+    }
+}
+
+/// Puts the object of a destination that is shown so behind what was written.
+fn put_shown_route(
+    settings: &Settings,
+    view: &RouteView,
+    points: PointFormat,
+    out: &mut Writer,
+) -> Result<(), AllocError>
+    ensures { Adds result out.old out.new (route_object points settings.now view.now) }
+{
+    out.begin_object()?;
+    put_text(out, "point", point_text(view.point, points).as_str())?;
+    put_set_names(settings, &view.sets, out)?;
+    put_text(out, "status", view.status.name())?;
+    out.end_object()
+}
+
+/// Puts the array of the names of these sets behind what was written.
+fn put_set_names(settings: &Settings, sets: &[SetId], out: &mut Writer) -> Result<(), AllocError>
+    ensures { Adds result out.old out.new
+        (array_member (codes "sets") (set_names settings.now sets.now)) }
+{
+    out.key("sets")?;
+    out.begin_array()?;
+    put_each_name(settings, sets, out)?;
+    out.end_array()
+}
+
+/// Puts the names of these sets behind what was written.
+fn put_each_name(settings: &Settings, sets: &[SetId], out: &mut Writer) -> Result<(), AllocError>
+    ensures { Adds result out.old out.new (set_names settings.now sets.now) }
+{
+    for set in sets {
+        out.string(set_name(settings, *set))?;
+    }
+    Ok(())
+}
+
+/// Puts the array of the notices that are kept behind what was written, the oldest first.
+fn put_notices(exchange: &Exchange, points: PointFormat, out: &mut Writer) -> Result<(), AllocError>
+    ensures { Adds result out.old out.new (array_member (codes "notices")
+        (each (notice_tokens points exchange.now) (length exchange.now.node.parts.notices.last))) }
+{
+    out.key("notices")?;
+    out.begin_array()?;
+    put_each_notice(exchange, points, out)?;
+    out.end_array()
+}
+
+/// Puts the objects of the notices that are kept behind what was written.
+fn put_each_notice(
+    exchange: &Exchange,
+    points: PointFormat,
+    out: &mut Writer,
+) -> Result<(), AllocError>
+    ensures { Adds result out.old out.new
+        (each (notice_tokens points exchange.now) (length exchange.now.node.parts.notices.last)) }
+{
+    for k in 0..exchange.notices().len() {
+        put_notice(exchange, k, points, out)?;
+    }
+    Ok(())
+}
+
+/// Puts the object of a notice behind what was written.
+fn put_notice(
+    exchange: &Exchange,
+    k: usize,
+    points: PointFormat,
+    out: &mut Writer,
+) -> Result<(), AllocError>
+    requires { k < length exchange.now.node.parts.notices.last }
+    ensures { Adds result out.old out.new (notice_tokens points exchange.now k) }
+{
+    let mut line = ArrayString::<LINE_OCTETS>::new();
+    if show_notices(exchange, k, points, &mut line) {
+        return put_shown_notice(notice_number(exchange, k), line.as_str(), out);
+    }
+    Ok(())
+}
+
+/// Puts the object of a notice of this number and this text behind what was written.
+fn put_shown_notice(number: u64, text: &str, out: &mut Writer) -> Result<(), AllocError>
+    ensures { Adds result out.old out.new (notice_object number text.now) }
+{
+    out.begin_object()?;
+    put_number(out, "number", number)?;
+    put_text(out, "text", text)?;
+    out.end_object()
+}
+
+/// The number of a notice that is kept, by its place from the oldest.
+fn notice_number(exchange: &Exchange, k: usize) -> u64
+    requires { k < length exchange.now.node.parts.notices.last }
+    ensures { result ≡ notice_number exchange.now k }
+{
+    let behind = exchange.notices().len() - (k + 1);
+    exchange.notice_count().wrapping_sub(behind as u64)
+}
