@@ -26,4 +26,4 @@ pub use log::Log;
 pub use naming::SocketName;
 pub use node::Node;
 pub use observers::{FileCapture, FrameObserver, Observers};
-pub use socket::{Progress, read_some, write_some};
+pub use socket::{Progress, read_some, unmoved, write_some};

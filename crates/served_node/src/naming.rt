@@ -1,6 +1,6 @@
 //! The names of sockets in the events of a poll.
 
-ghost use Rattle.std.specs.Prelude.{◌≡◌, ◌≤◌, IfSome, IsSome};
+ghost use Rattle.std.specs.Prelude.{◌≡◌, ◌<◌, ◌≤◌, IfSome, IsSome};
 ghost use Rattle.served_node.specs.Naming.{number_of};
 
 use mio::net::TcpStream;
@@ -20,6 +20,10 @@ pub enum SocketName {
     Client(u8),
     /// The listener of the console.
     Console,
+    /// The listener of the status page.
+    Page,
+    /// The connection of the page's client in this place.
+    PageClient(u8),
 }
 
 impl SocketName {
@@ -32,6 +36,8 @@ impl SocketName {
             SocketName::Link(link) => Token(KIND + usize::from(link)),
             SocketName::Client(place) => Token(2 * KIND + usize::from(place)),
             SocketName::Console => Token(3 * KIND),
+            SocketName::Page => Token(3 * KIND + 2),
+            SocketName::PageClient(place) => Token(4 * KIND + usize::from(place)),
         }
     }
 
@@ -39,6 +45,9 @@ impl SocketName {
     pub fn of(token: Token) -> Option<SocketName>
         ensures named { IfSome result (λ name. number_of name ≡ token.0) }
         ensures found { token.0 ≤ number_of SocketName.Console → IsSome result }
+        ensures page { token.0 ≡ number_of SocketName.Page → IsSome result }
+        ensures clients { number_of (SocketName.PageClient 0) ≤ token.0 → token.0 < number_of (SocketName.PageClient KIND)
+            → IsSome result }
     {
         let number = (token.0 % KIND) as u8;
         match token.0 / KIND {
@@ -46,6 +55,8 @@ impl SocketName {
             1 => Some(SocketName::Link(number)),
             2 => Some(SocketName::Client(number)),
             3 if number == 0 => Some(SocketName::Console),
+            3 if number == 2 => Some(SocketName::Page),
+            4 => Some(SocketName::PageClient(number)),
             _ => None,
         }
     }

@@ -44,7 +44,7 @@ pub fn write_some(stream: &mut TcpStream, octets: &[u8]) -> Progress
 }
 
 /// What an error of this kind says of a socket.
-fn unmoved(kind: ErrorKind) -> Progress
+pub fn unmoved(kind: ErrorKind) -> Progress
     ensures { (most : ℕ) → IsWithin result most }
 {
     match kind {

@@ -1,0 +1,9 @@
+//! The status page on sockets: where its clients come, and the clients, as sockets of a poll. What they are answered is
+//! `page_service`'s.
+#![tactic(auto)]
+
+mod client;
+pub mod page;
+mod places;
+
+pub use page::ServedPage;

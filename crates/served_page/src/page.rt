@@ -1,0 +1,167 @@
+//! The status page and the sockets of those who look at it.
+
+ghost use Rattle.std.specs.Prelude.{◌≡◌};
+ghost use Rattle.served_page.specs.Turns.{AnswersOneAtMost};
+
+use crate::client::PageClient;
+use crate::places::{
+    answer_next, are_busy, first_due_ms, free_place, free_places, put, read_each, write_each,
+};
+use mio::Registry;
+use mio::event::Event;
+use mio::net::TcpStream;
+use page_service::{Allowance, Content, PAGE_CLIENTS, PageNames, PageService};
+use script::Sink;
+use served_node::{Listener, Log, OpenFault, SocketName};
+use std::alloc::Global;
+use std::hash::RandomState;
+use std::marker::Model;
+use std::net::{Net, SocketAddr};
+use std::random::RandomSource;
+
+/// Connections that are taken in one turn, at most.
+const ACCEPTS: usize = 64;
+
+/// The status page of a node: its names, where its clients come, and its clients, each in a place of its own.
+///
+/// It has no clock: each call is told the milliseconds since the start of the node.
+#[derive(Drop)]
+pub struct ServedPage {
+    alloc: Global,
+    names: PageNames,
+    keys: RandomState,
+    listener: Listener,
+    places: Vec<Option<PageClient>>,
+    allowance: Allowance,
+    /// The place that is looked at next for a request to answer.
+    next: usize,
+}
+
+// No contract can say what sockets give: of a page only this is known, how much was answered of late.
+impl Model for ServedPage {
+    ghost use Rattle.page_service.specs.declared.patience.Allowance.{Allowance};
+
+    ghost Value = { Allowance };
+
+    ghost view = { λ page. page.allowance };
+}
+
+impl ServedPage {
+    /// A page at this address, of which the poll tells from now on; the log has the address. Where the page is open it
+    /// may be asked for by any name. No client is there yet.
+    ///
+    /// Listen where the system refuses the address, Poll where the poll takes no further socket, or the system has no
+    /// random octets to give, NoMemory.
+    pub fn open<N: Net + RandomSource, W: Sink>(
+        net: &N,
+        alloc: Global,
+        registry: &Registry,
+        address: SocketAddr,
+        is_open: bool,
+        log: &mut Log<'_, W>,
+    ) -> Result<ServedPage, OpenFault> {
+        let keys = drawn_keys(net)?;
+        let places = free_places(alloc)?;
+        let (listener, address) = Listener::open(net, registry, address, SocketName::Page)?;
+        log.tell(&format_args!("page {address}"));
+        Ok(ServedPage {
+            alloc,
+            names: PageNames::new(alloc, address, is_open)?,
+            keys,
+            listener,
+            places,
+            allowance: Allowance::new(),
+            next: 0,
+        })
+    }
+
+    /// A client may have come.
+    pub fn mark_listener(&mut self)
+        ensures { self.new ≡ self.old }
+    {
+        self.listener.mark();
+    }
+
+    /// The socket of the client in a place may be ready.
+    pub fn mark(&mut self, place: u8, event: &Event)
+        ensures { self.new ≡ self.old }
+    {
+        if let Some(Some(client)) = self.places.get_mut(usize::from(place)) {
+            client.mark(event);
+        }
+    }
+
+    /// Does what there is to do on each socket, once, and returns: takes clients, reads, answers one request at most,
+    /// writes, and closes the connections that are over.
+    pub fn turn<C: Content>(&mut self, registry: &Registry, content: &C, now_ms: u64)
+        ensures { AnswersOneAtMost now_ms self.old self.new }
+    {
+        self.accept(registry, now_ms);
+        read_each(&mut self.places);
+        self.answer(content, now_ms);
+        write_each(&mut self.places, now_ms);
+    }
+
+    /// Takes the clients that came.
+    fn accept(&mut self, registry: &Registry, now_ms: u64)
+        ensures { self.new ≡ self.old }
+    {
+        for _ in 0..ACCEPTS {
+            match self.listener.accept() {
+                Some((stream, _)) => self.seat(stream, registry, now_ms),
+                None => return,
+            }
+        }
+    }
+
+    /// Gives a client a place, if there is one, and closes its connection otherwise.
+    fn seat(&mut self, mut stream: TcpStream, registry: &Registry, now_ms: u64)
+        ensures { self.new ≡ self.old }
+    {
+        let free = free_place(&self.places);
+        if is_seated(free, registry, &mut stream) {
+            let client = PageClient::new(self.alloc, stream, self.keys, now_ms);
+            put(&mut self.places, free, client);
+        }
+    }
+
+    /// Answers one request at most, if the second has an answer left. Each client has its turn.
+    fn answer<C: Content>(&mut self, content: &C, now_ms: u64)
+        ensures { AnswersOneAtMost now_ms self.old self.new }
+    {
+        if !self.allowance.may_answer(now_ms) {
+            return;
+        }
+        let mut service = PageService {
+            names: &self.names,
+            content,
+        };
+        if answer_next(&mut self.places, &mut self.next, &mut service) {
+            self.allowance.count(now_ms);
+        }
+    }
+
+    /// Whether there is something to accept, to read, to answer or to write now.
+    pub fn is_busy(&self, now_ms: u64) -> bool {
+        self.listener.may_accept() || are_busy(&self.places, self.allowance.may_answer(now_ms))
+    }
+
+    /// How many milliseconds it takes until something is due of which no socket tells.
+    pub fn until_due_ms(&self, now_ms: u64) -> u64 {
+        let next_second_ms = (now_ms / 1000).saturating_add(1).saturating_mul(1000);
+        first_due_ms(&self.places, next_second_ms).saturating_sub(now_ms)
+    }
+}
+
+/// Keys for the names of fields, which clients choose.
+fn drawn_keys<N: RandomSource>(net: &N) -> Result<RandomState, OpenFault> {
+    match RandomState::new(net) {
+        Ok(keys) => Ok(keys),
+        Err(_) => Err(OpenFault::Poll),
+    }
+}
+
+/// Has the poll tell of a client's socket, if there is a place for it. False if it has no place.
+fn is_seated(free: usize, registry: &Registry, stream: &mut TcpStream) -> bool {
+    free < PAGE_CLIENTS && SocketName::PageClient(free as u8).is_registered(registry, stream)
+}
