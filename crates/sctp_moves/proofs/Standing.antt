@@ -374,13 +374,13 @@ pub none-opens : (st : Standing) (x y : End) (list : List End) → IsSound x y �
 none-opens st x y [] h m l s = (s, refl)
 none-opens st x y (z ∷ rest) h m l s =
     by (turn y x z m.0) (λ k t. none-opens st z y rest (sound-move x y z m.0 h) m.1 k t) where
-  by : Turn x z → (length (last_end z rest).epochs ≡ length z.epochs → Stands st z y → StaysSo st z y (last_end z rest)) →
-      StaysSo st x y (last_end z rest)
-  by (keeps k) on =
-      let r : StaysSo st z y (last_end z rest) = on (l ∙ sym (kept-long x z k)) (stays-standing x y z h st m.0 k s) in
-      (r.0, r.1 ∙ k)
-  by (opens e down up now) on =
-      absurd (contrary (length x.epochs) (length (last_end z rest).epochs) (length z.epochs) (opened-long x z e now) (none-fewer y z rest m.1) l)
+      by : Turn x z → (length (last_end z rest).epochs ≡ length z.epochs → Stands st z y → StaysSo st z y (last_end z rest)) →
+          StaysSo st x y (last_end z rest)
+      by (keeps k) on =
+          let r : StaysSo st z y (last_end z rest) = on (l ∙ sym (kept-long x z k)) (stays-standing x y z h st m.0 k s) in
+          (r.0, r.1 ∙ k)
+      by (opens e down up now) on =
+          absurd (contrary (length x.epochs) (length (last_end z rest).epochs) (length z.epochs) (opened-long x z e now) (none-fewer y z rest m.1) l)
 
 -- an end without an association, in a list of moves that opens none
 pub none-opens-down : (x y : End) (list : List End) → IsSound x y → EndMoves y x list → length (last_end x list).epochs ≡ length x.epochs →
@@ -388,16 +388,16 @@ pub none-opens-down : (x y : End) (list : List End) → IsSound x y → EndMoves
 none-opens-down x y [] h m l d = (d, refl)
 none-opens-down x y (z ∷ rest) h m l d =
     by (turn y x z m.0) (λ k t. none-opens-down z y rest (sound-move x y z m.0 h) m.1 k t) where
-  by : Turn x z →
-      (length (last_end z rest).epochs ≡ length z.epochs → z.phase ≢ Established →
-      ((last_end z rest).phase ≢ Established) × ((last_end z rest).epochs ≡ z.epochs)) →
-      ((last_end z rest).phase ≢ Established) × ((last_end z rest).epochs ≡ x.epochs)
-  by (keeps k) on =
-      let i = still-down x y z h m.0 k d in
-      let r = on (l ∙ sym (kept-long x z k)) i.0 in
-      (r.0, r.1 ∙ i.1)
-  by (opens e down up now) on =
-      absurd (contrary (length x.epochs) (length (last_end z rest).epochs) (length z.epochs) (opened-long x z e now) (none-fewer y z rest m.1) l)
+      by : Turn x z →
+          (length (last_end z rest).epochs ≡ length z.epochs → z.phase ≢ Established →
+          ((last_end z rest).phase ≢ Established) × ((last_end z rest).epochs ≡ z.epochs)) →
+          ((last_end z rest).phase ≢ Established) × ((last_end z rest).epochs ≡ x.epochs)
+      by (keeps k) on =
+          let i = still-down x y z h m.0 k d in
+          let r = on (l ∙ sym (kept-long x z k)) i.0 in
+          (r.0, r.1 ∙ i.1)
+      by (opens e down up now) on =
+          absurd (contrary (length x.epochs) (length (last_end z rest).epochs) (length z.epochs) (opened-long x z e now) (none-fewer y z rest m.1) l)
 
 calm-up : (s : Phase) → s ≡ Established → IsCalm s
 calm-up s e = subst IsCalm (sym e) tt
@@ -413,35 +413,35 @@ pub one-opens : (st : Standing) (x y : End) (list : List End) → IsSound x y �
 one-opens st x y [] h m l s = absurd (omega (arith, l))
 one-opens st x y (z ∷ rest) h m l s =
     by (turn y x z m.0) (λ k t. one-opens st z y rest (sound-move x y z m.0 h) m.1 k t) where
-  sound : IsSound z y
-  sound = sound-move x y z m.0 h
+      sound : IsSound z y
+      sound = sound-move x y z m.0 h
 
-  before : Opening st z y (last_end z rest) → Opening st x y (last_end z rest)
-  before (follows e j) = follows e j
-  before (leads j r) = leads j (ready-before x y z h m.0 r)
+      before : Opening st z y (last_end z rest) → Opening st x y (last_end z rest)
+      before (follows e j) = follows e j
+      before (leads j r) = leads j (ready-before x y z h m.0 r)
 
-  later-on : ties z ≡ ties x → OneOpened st z y (last_end z rest) (IsQuiet z rest) →
-      OneOpened st x y (last_end z rest) (IsQuietMove x z × IsQuiet z rest)
-  later-on k o = record {
-    opening = before o.opening;
-    latest = o.latest;
-    ties_now = o.ties_now ∙ ap (λ (ts : List Tie). o.latest ∷ ts) k;
-    spent = λ q. o.spent q.1;
-  }
+      later-on : ties z ≡ ties x → OneOpened st z y (last_end z rest) (IsQuiet z rest) →
+          OneOpened st x y (last_end z rest) (IsQuietMove x z × IsQuiet z rest)
+      later-on k o = record {
+        opening = before o.opening;
+        latest = o.latest;
+        ties_now = o.ties_now ∙ ap (λ (ts : List Tie). o.latest ∷ ts) k;
+        spent = λ q. o.spent q.1;
+      }
 
-  spent : z.phase ≡ Established → IsQuietMove x z × IsQuiet z rest → IsReady (last_end z rest) y → ⊥
-  spent up q r = up-not-ready z y sound up (ready-quiet z y rest m.1 q.1 (calm-up z.phase up) r)
+      spent : z.phase ≡ Established → IsQuietMove x z × IsQuiet z rest → IsReady (last_end z rest) y → ⊥
+      spent up q r = up-not-ready z y sound up (ready-quiet z y rest m.1 q.1 (calm-up z.phase up) r)
 
-  here : (e : Epoch) → z.phase ≡ Established → z.epochs ≡ e ∷ x.epochs → Opening st x y z →
-      OneOpened st x y (last_end z rest) (IsQuietMove x z × IsQuiet z rest)
-  here e up now (follows is j) =
-      let r : StaysSo Joined z y (last_end z rest) = none-opens Joined z y rest sound m.1 (l ∙ sym (opened-long x z e now)) j in
-      record { opening = follows is r.0; latest = tie e; ties_now = r.1 ∙ ap (map tie) now; spent = spent up }
-  here e up now (leads j ready) =
-      let r : StaysSo NearAhead z y (last_end z rest) = none-opens NearAhead z y rest sound m.1 (l ∙ sym (opened-long x z e now)) j in
-      record { opening = leads r.0 ready; latest = tie e; ties_now = r.1 ∙ ap (map tie) now; spent = spent up }
+      here : (e : Epoch) → z.phase ≡ Established → z.epochs ≡ e ∷ x.epochs → Opening st x y z →
+          OneOpened st x y (last_end z rest) (IsQuietMove x z × IsQuiet z rest)
+      here e up now (follows is j) =
+          let r : StaysSo Joined z y (last_end z rest) = none-opens Joined z y rest sound m.1 (l ∙ sym (opened-long x z e now)) j in
+          record { opening = follows is r.0; latest = tie e; ties_now = r.1 ∙ ap (map tie) now; spent = spent up }
+      here e up now (leads j ready) =
+          let r : StaysSo NearAhead z y (last_end z rest) = none-opens NearAhead z y rest sound m.1 (l ∙ sym (opened-long x z e now)) j in
+          record { opening = leads r.0 ready; latest = tie e; ties_now = r.1 ∙ ap (map tie) now; spent = spent up }
 
-  by : Turn x z → (length (last_end z rest).epochs ≡ suc (length z.epochs) → Stands st z y → OneOpened st z y (last_end z rest) (IsQuiet z rest)) →
-      OneOpened st x y (last_end z rest) (IsQuietMove x z × IsQuiet z rest)
-  by (keeps k) on = later-on k (on (l ∙ ap suc (sym (kept-long x z k))) (stays-standing x y z h st m.0 k s))
-  by (opens e down up now) on = here e up now (opens-so x y z h m.0 e down up now st s)
+      by : Turn x z → (length (last_end z rest).epochs ≡ suc (length z.epochs) → Stands st z y → OneOpened st z y (last_end z rest) (IsQuiet z rest)) →
+          OneOpened st x y (last_end z rest) (IsQuietMove x z × IsQuiet z rest)
+      by (keeps k) on = later-on k (on (l ∙ ap suc (sym (kept-long x z k))) (stays-standing x y z h st m.0 k s))
+      by (opens e down up now) on = here e up now (opens-so x y z h m.0 e down up now st s)
