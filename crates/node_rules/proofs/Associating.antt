@@ -1,26 +1,24 @@
 -- Something happens to the endpoint of a link: the pair goes on by what it tells.
-use Rattle.std.proofs.Common.{◌≡◌, ◌≢◌, ◌⊎◌, inl, inr, ◌<◌, ℕ, suc, ◌+◌, arith, Bool, true, false, ◌&&◌, not, List, [], ◌∷◌, ◌++◌, Option, Some, None, length, map, refl, ap, sym, ◌∙◌, subst, append-nil, drop, take}
+use Rattle.std.proofs.Common.{◌≡◌, ◌≢◌, ◌⊎◌, inl, inr, ◌<◌, ℕ, suc, arith, Bool, true, false, ◌&&◌, List, [], ◌∷◌, ◌++◌, Option, Some, None, length, refl, ap, sym, ◌∙◌, subst, drop, take}
 use Rattle.std.proofs.lemmas.List.{length-map}
 use Rattle.std.specs.Prelude.{if◌then◌else◌}
 use Rattle.exchange_rules.specs.State.{CameUp, Parts, is_link, link_at, down}
-use Rattle.exchange_rules.specs.Opening.{wanted, wanted_by, wanted_down}
+use Rattle.exchange_rules.specs.Opening.{wanted}
 use Rattle.exchange_rules.specs.Exchange.{wants_of}
 use Rattle.exchange_rules.specs.ChangingOver.{changeover_of}
-use Rattle.exchange_rules.specs.declared.wants.Wants.{Wants}
 use Rattle.exchange_rules.specs.declared.wants.Wants.TheVariants.{Nothing, Open, Close}
 use Rattle.changeover.specs.Changeover.{may_restart}
-use Rattle.sctp_rules.specs.Settings.{Secrets}
-use Rattle.sctp_rules.specs.State.{State, Told, Up, Heard, Down, Failed, Done}
+use Rattle.sctp_rules.specs.State.{State, Told, Up, Done}
 use Rattle.sctp_rules.specs.Endpoint.{Happening, Opens, Came, Ticked, Sends, Aborts, ShutsDown, Flushes, after}
 use Rattle.sctp_rules.specs.Wishing.{Wish, Idle, Seeking, Served, wish_by_call, wish_after, Fits}
 use Rattle.sctp_rules.proofs.Passing.{Right}
 use Rattle.sctp_rules.proofs.Wishing.{happening-fits, still-right}
-use Rattle.sctp_moves.specs.Ends.{Message, Epoch, Established, End}
-use Rattle.sctp_moves.specs.Moves.{EndMoves, last_end}
+use Rattle.sctp_moves.specs.Ends.{Message, Epoch, End}
+use Rattle.sctp_moves.specs.Moves.{last_end}
 use Rattle.sctp_moves.specs.Openings.{Standing, Neither, Joined, NearAhead, FarAhead, IsCalm, IsQuiet}
 use Rattle.sctp_moves.proofs.Sides.{Tie, tie}
-use Rattle.sctp_moves.proofs.Keeping.{IsSound, turned-sound}
-use Rattle.sctp_moves.proofs.Standing.{ties, IsAhead, AreJoined, Stands, other_way, IsReady, Opening, follows, leads, OneOpened, none-opens, one-opens, up-not-ready, ready-quiet, ready-all-before}
+use Rattle.sctp_moves.proofs.Keeping.{IsSound}
+use Rattle.sctp_moves.proofs.Standing.{ties, IsAhead, AreJoined, Stands, IsReady, Opening, follows, leads, OneOpened, none-opens, one-opens, up-not-ready, ready-quiet, ready-all-before}
 use Rattle.sctp_ends.specs.Shown.{AreGood, IsPresent}
 use Rattle.sctp_ends.specs.Told.{told_by, opened_by, given_by}
 use Rattle.sctp_ends.specs.Theorems.{begins, ShowsSite, received_in, sent_in}
@@ -29,13 +27,13 @@ use Rattle.sctp_ends.proofs.Alike.{Outcome, sound-on}
 use Rattle.sctp_ends.proofs.Pass.{happens}
 use Rattle.sctp_ends.proofs.World.{heeds, site-after}
 use Rattle.pair_rules.specs.Pairs.{PairState}
-use Rattle.node_rules.specs.Worlds.{Books, Port, Node, happened, handed_all, wished, IsLooked, MayAssociate}
+use Rattle.node_rules.specs.Worlds.{Books, Port, Node, happened, handed_all, wished, MayAssociate}
 use Rattle.node_rules.proofs.Staying.{MayOpen}
-use Rattle.node_rules.proofs.Flights.{Air, Shows, with_air, air-here, Reaches, by-none, reaches-on}
+use Rattle.node_rules.proofs.Flights.{Air, Shows, with_air, air-here, Reaches, reaches-on}
 use Rattle.node_rules.proofs.PairSteps.{up-first, up-second}
-use Rattle.node_rules.proofs.Telling.{NoUp, heard_in, told-heads, told-none, opened-same, told-long, Shape, nothing, serving, rising, shape-of, opens-plain, aborts-plain, flushes-plain}
+use Rattle.node_rules.proofs.Telling.{NoUp, heard_in, told-heads, opened-same, told-long, Shape, nothing, serving, rising, shape-of, opens-plain, aborts-plain, flushes-plain}
 use Rattle.node_rules.proofs.Linked.{AreFramed, framed-front, framed-air, firsts, latest_sent, latest_received, air_of, Linked, StaysSo, is-present, is-calm, IsJoint, is-joint, ahead-none, split, drop-none}
-use Rattle.node_rules.proofs.Walk.{ShowsAt, ReachesAt, leaves, told-walk}
+use Rattle.node_rules.proofs.Walk.{leaves, told-walk}
 
 -- ---- a link that wants to open may open
 

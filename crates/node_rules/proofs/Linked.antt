@@ -1,28 +1,24 @@
 -- One link of two nodes: its endpoints, the ends of `sctp_moves` that they show, and what is in the air between them.
-use Rattle.std.proofs.Common.{◌≡◌, ◌≢◌, ◌⊎◌, inl, inr, ◌<◌, ◌≤◌, ℕ, zero, suc, ◌+◌, arith, Bool, true, false, ◌&&◌, ◌||◌, not, List, [], ◌∷◌, ◌++◌, Option, Some, None, length, map, refl, ap, sym, ◌∙◌, subst, append-nil, drop, take}
-use Rattle.std.proofs.lemmas.List.{append_assoc, take-append-drop, length-append}
+use Rattle.std.proofs.Common.{◌≡◌, ◌⊎◌, inl, ◌<◌, ◌≤◌, ℕ, zero, suc, arith, Bool, true, false, List, [], ◌∷◌, ◌++◌, Some, length, map, refl, ap, sym, ◌∙◌, subst, drop, take}
+use Rattle.std.proofs.lemmas.List.{take-append-drop}
 use Rattle.std.proofs.lemmas.Grind.{common_steps}
-use Rattle.std.specs.Prelude.{if◌then◌else◌}
-use Rattle.sctp_receiving.specs.Pieces as pieces
 use Rattle.sctp_rules.specs.declared.phase.Phase.{Phase}
 use Rattle.sctp_rules.specs.declared.phase.Phase.TheVariants as phases
 use Rattle.sctp_rules.specs.Opening.{is_there}
-use Rattle.sctp_rules.specs.State.{State, Told, Up, Heard, Down, Failed}
+use Rattle.sctp_rules.specs.State.{State}
 use Rattle.sctp_rules.specs.Wishing.{Wish, Idle, Seeking, Served, Fits}
 use Rattle.sctp_rules.proofs.Passing.{Right}
-use Rattle.sctp_moves.specs.Ends.{Message, Epoch, Established, End, new_end}
-use Rattle.sctp_moves.specs.Ends as moves
-use Rattle.sctp_moves.specs.Moves.{EndMoves, last_end}
+use Rattle.sctp_moves.specs.Ends.{Message, Epoch, End}
 use Rattle.sctp_moves.specs.Theorems.{AreOne, HasOther}
 use Rattle.sctp_moves.specs.Openings.{Standing, Neither, Joined, NearAhead, FarAhead, IsCalm}
 use Rattle.sctp_moves.proofs.Members.{In, in-from, in-map}
 use Rattle.sctp_moves.proofs.Sides.{Tie, back, tie, side_of, one-far}
 use Rattle.sctp_moves.proofs.Carried.{IsFlow}
-use Rattle.sctp_moves.proofs.Keeping.{IsSound, turned-sound, sound-first}
+use Rattle.sctp_moves.proofs.Keeping.{IsSound, turned-sound}
 use Rattle.sctp_moves.proofs.Concluded.{has-other}
 use Rattle.sctp_moves.proofs.Standing.{ties, IsAhead, AreJoined, Stands, other_way, turned-stands, IsReady}
 use Rattle.sctp_moves.proofs.Openings.{Latest, latest-of}
-use Rattle.sctp_ends.specs.Shown.{Stage, Off, Waiting, Echoing, There, stage_of, IsIn, IsPresent, Shows}
+use Rattle.sctp_ends.specs.Shown.{Stage, Off, Waiting, Echoing, There, stage_of, IsIn, IsPresent}
 use Rattle.sctp_ends.specs.Theorems.{ShowsSite, received_in, sent_in}
 use Rattle.sctp_ends.specs.Worlds as ends
 use Rattle.node_rules.specs.Worlds.{Books, Port, m2pa}

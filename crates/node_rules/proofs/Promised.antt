@@ -1,12 +1,12 @@
 -- The promises of a pair hold of two nodes.
-use Rattle.std.proofs.Common.{◌≡◌, ℕ, List, [], ap, sym, ◌∙◌, subst}
+use Rattle.std.proofs.Common.{◌≡◌, List, [], ap, sym, ◌∙◌, subst}
 use Rattle.signalling_types.specs.Message.{Message}
 use Rattle.exchange_rules.specs.First.{Abstract}
 use Rattle.pair_rules.specs.Pairs.{End, PairState, first_pair, after_steps, nothing_in_flight}
 use Rattle.pair_rules.specs.Promises.{LostNothing, EachOnce, InOrder, IsPunctual, BothWays}
 use Rattle.pair_rules.proofs.Promised.{each-once, each-in-order}
-use Rattle.node_rules.specs.Worlds.{Books, Make, World, new_world, Steps, last_world}
-use Rattle.node_rules.specs.Promises.{AreFacing, IsOf, IsRunOfPair, ends_of, each_message_once, each_flow_in_order}
+use Rattle.node_rules.specs.Worlds.{Books, World, new_world, last_world}
+use Rattle.node_rules.specs.Promises.{IsOf, IsRunOfPair, ends_of, each_message_once, each_flow_in_order}
 use Rattle.node_rules.proofs.Runs.{are-runs}
 
 -- a pair with these books, of which the promises speak

@@ -7,14 +7,13 @@ use Rattle.std.specs.Prelude.{if◌then◌else◌}
 use Rattle.settings_rows.specs.Configuration.{Configuration, LinkEntry}
 use Rattle.settings.specs.Facing.{link_codes}
 use Rattle.m2pa_codec.specs.Frames.{FrameValue, spelled}
-use Rattle.exchange_rules.specs.State.{Happening, CameUp, WentDown, FrameCame}
+use Rattle.exchange_rules.specs.State.{CameUp, WentDown, FrameCame}
 use Rattle.exchange_rules.specs.Exchange.{frame_to_take}
 use Rattle.exchange_rules.specs.Queues.{whole}
 use Rattle.exchange_rules.proofs.Lists.{each-replicate}
-use Rattle.exchange_rules.proofs.SteppingEvents.{IsOf}
 use Rattle.sctp_rules.specs.State.{Told, Up, Heard, Down, Failed}
 use Rattle.sctp_rules.specs.Endpoint as endpoint
-use Rattle.sctp_rules.specs.Wishing.{Wish, Idle, Seeking}
+use Rattle.sctp_rules.specs.Wishing.{Idle, Seeking}
 use Rattle.sctp_rules.proofs.Passing.{none-right}
 use Rattle.sctp_moves.specs.Ends.{new_end}
 use Rattle.sctp_moves.specs.Openings.{Neither}
@@ -24,10 +23,9 @@ use Rattle.sctp_ends.specs.Worlds as ends
 use Rattle.sctp_ends.proofs.World.{new-shown}
 use Rattle.pair_rules.specs.Pairs as pairs
 use Rattle.pair_rules.specs.Pairs.{PairState, Step, AtNear, AtFar, did, turn, first_pair, after_steps, in_flight}
-use Rattle.pair_rules.specs.Promises.{AreJoined}
 use Rattle.node_rules.specs.Worlds as worlds
 use Rattle.node_rules.specs.Worlds.{Books, handed, handed_all, happened, is_frame, Port, Node, Make, with_port, associated, Doing, Happens, Associates, Sends, IsOwn, MayDo, World, turned, new_world, at_near, at_far, Steps, last_world, told_by, given, sent}
-use Rattle.node_rules.specs.Promises.{AreFacing, IsRunOfPair, runs_are_runs_of_pairs}
+use Rattle.node_rules.specs.Promises.{runs_are_runs_of_pairs}
 use Rattle.node_rules.proofs.Staying.{MayOpen, events-stay, takes-stay, own-of}
 use Rattle.node_rules.proofs.Flights.{Air, turned_air, Flies, Sized, Shows, with_air, air-here, air-other, dids, Reaches, turned-shows}
 use Rattle.node_rules.proofs.PairSteps.{own-happens}

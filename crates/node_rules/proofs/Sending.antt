@@ -1,5 +1,5 @@
 -- A frame is taken, and given to the endpoint of its link: the pair has it in the air.
-use Rattle.std.proofs.Common.{◌≡◌, ◌≢◌, ◌⊎◌, inl, inr, ◌<◌, ℕ, suc, arith, Bool, true, false, ◌&&◌, List, [], ◌∷◌, ◌++◌, Option, Some, None, length, map, refl, ap, sym, ◌∙◌, subst, append-nil, drop}
+use Rattle.std.proofs.Common.{◌≡◌, ◌⊎◌, inl, inr, ℕ, suc, arith, Bool, true, false, ◌&&◌, List, [], ◌∷◌, ◌++◌, Some, length, map, refl, ap, sym, ◌∙◌, subst, drop}
 use Rattle.std.proofs.lemmas.List.{length-map}
 use Rattle.std.specs.Prelude.{if◌then◌else◌}
 use Rattle.m2pa_codec.specs.Frames.{FrameValue, EmptyFrame, MessageFrame, StatusFrame, spelled}
@@ -12,29 +12,26 @@ use Rattle.sctp_rules.specs.State.{Told, Done}
 use Rattle.sctp_rules.specs.Sending.{is_established, may_send}
 use Rattle.sctp_rules.specs.Confirming.{can_take}
 use Rattle.sctp_rules.specs.Endpoint.{Sends, after}
-use Rattle.sctp_rules.specs.Wishing.{Wish, Seeking, wish_after, Fits}
-use Rattle.sctp_rules.proofs.Passing.{Right}
+use Rattle.sctp_rules.specs.Wishing.{Wish, wish_after, Fits}
 use Rattle.sctp_rules.proofs.Wishing.{happening-fits, still-right}
-use Rattle.sctp_moves.specs.Ends.{Message, Epoch, Established, End}
+use Rattle.sctp_moves.specs.Ends.{Message, Epoch, End}
 use Rattle.sctp_moves.specs.Moves.{last_end}
 use Rattle.sctp_moves.specs.Openings.{Standing, Neither, Joined, NearAhead, FarAhead, IsCalm}
-use Rattle.sctp_moves.proofs.Sides.{Tie, tie}
 use Rattle.sctp_moves.proofs.Keeping.{IsSound, turned-sound}
-use Rattle.sctp_moves.proofs.Standing.{ties, IsAhead, Stands, other_way, turned-stands, IsReady, none-opens, up-not-ready, ready-quiet, ready-all-before}
+use Rattle.sctp_moves.proofs.Standing.{Stands, turned-stands, IsReady, none-opens, up-not-ready, ready-quiet, ready-all-before}
 use Rattle.sctp_ends.specs.Shown.{AreGood, Stage, There, stage_of, IsIn, IsPresent}
 use Rattle.sctp_ends.specs.Told.{with_last, told_by, opened_by, given_by}
-use Rattle.sctp_ends.specs.Theorems.{ShowsSite, received_in, sent_in}
+use Rattle.sctp_ends.specs.Theorems.{received_in, sent_in}
 use Rattle.sctp_ends.specs.Worlds as ends
 use Rattle.sctp_ends.proofs.Alike.{Outcome, sound-on}
 use Rattle.sctp_ends.proofs.Pass.{happens}
 use Rattle.sctp_ends.proofs.World.{site-after}
-use Rattle.pair_rules.specs.Pairs.{PairState}
 use Rattle.node_rules.specs.Worlds.{Books, Port, m2pa, stream_of, message_of, wished}
 use Rattle.node_rules.proofs.Staying.{MayOpen}
-use Rattle.node_rules.proofs.Flights.{Air, Shows, with_air, air-here, Reaches}
+use Rattle.node_rules.proofs.Flights.{Air, with_air, air-here, Reaches}
 use Rattle.node_rules.proofs.PairSteps.{goes-out}
 use Rattle.node_rules.proofs.Linked.{AreFramed, framed-behind, firsts, latest_sent, latest_received, air_of, Linked, StaysSo, IsJoint, is-joint, drop-within}
-use Rattle.node_rules.proofs.Associating.{Went, some-epochs, no-epochs}
+use Rattle.node_rules.proofs.Associating.{Went, no-epochs}
 use Rattle.node_rules.proofs.Walk.{leaves}
 
 established-there : (p : Phase) → is_established p ≡ true → stage_of p ≡ There

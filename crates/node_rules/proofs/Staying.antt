@@ -12,7 +12,7 @@ use Rattle.changeover.specs.Changeover.{Standing, no_changeover, may_restart}
 use Rattle.timers.specs.Timers.{ticked, after_due}
 use Rattle.exchange_rules.specs.State.{Happening, CameUp, WentDown, FrameCame, Ticked, Submitted, Activated, Deactivated, TitleAdded, TitleRemoved, Parts, Node, link_at, down}
 use Rattle.exchange_rules.specs.ChangingOver.{changeover_of}
-use Rattle.exchange_rules.specs.Exchange.{apply, with_timers, run_next, tick}
+use Rattle.exchange_rules.specs.Exchange.{apply, with_timers, tick}
 use Rattle.exchange_rules.specs.Sending.{after_take}
 use Rattle.exchange_rules.specs.Queues.{WholeQueues, whole}
 use Rattle.exchange_rules.proofs.Steps.{IsOfSteps, IsOfRules}

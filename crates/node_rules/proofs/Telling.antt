@@ -1,17 +1,17 @@
 -- What an endpoint tells by one thing that happens to it: messages of the association that is up, and Down behind them;
 -- or Up, and then these; or none of it.
-use Rattle.std.proofs.Common.{◌≡◌, ◌⊎◌, inl, inr, ℕ, suc, Bool, true, false, List, [], ◌∷◌, ◌++◌, Option, Some, None, length, refl, ap, sym, ◌∙◌, subst, append-nil}
+use Rattle.std.proofs.Common.{◌≡◌, ◌⊎◌, inl, inr, ℕ, Bool, true, false, List, [], ◌∷◌, ◌++◌, Option, Some, None, length, refl, ap, sym, ◌∙◌, subst, append-nil}
 use Rattle.std.proofs.lemmas.List.{append_assoc}
 use Rattle.std.specs.Prelude.{if◌then◌else◌}
 use Rattle.sctp_rules.specs.declared.loss.Loss.{Loss}
 use Rattle.sctp_rules.specs.declared.loss.Loss.TheVariants.{NoTag, Local}
 use Rattle.sctp_rules.specs.Settings.{Settings, Secrets, Beginning, Address}
-use Rattle.sctp_rules.specs.State.{State, Told, Up, Heard, Down, Failed, Done, silent}
+use Rattle.sctp_rules.specs.State.{State, Told, Up, Heard, Down, Failed, silent}
 use Rattle.sctp_rules.specs.Opening.{may_open, begun_with}
-use Rattle.sctp_rules.specs.Endpoint.{Happening, Opens, Aborts, Flushes, after}
-use Rattle.sctp_rules.specs.Wishing.{Wish, Idle, Seeking, Served, wish_by, wish_after, and_then}
+use Rattle.sctp_rules.specs.Endpoint.{Opens, Aborts, Flushes, after}
+use Rattle.sctp_rules.specs.Wishing.{Wish, Idle, Seeking, Served, wish_after}
 use Rattle.sctp_moves.specs.Ends.{Message}
-use Rattle.sctp_ends.specs.Told.{text_told, with_last, told_by, opened_by}
+use Rattle.sctp_ends.specs.Told.{text_told, told_by, opened_by}
 use Rattle.node_rules.specs.Worlds.{Books, handed_all}
 
 abbrev pub NoUp : List Told → Type 0

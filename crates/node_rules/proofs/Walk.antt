@@ -1,10 +1,10 @@
 -- What an endpoint tells, handed in event by event, is steps of a pair.
-use Rattle.std.proofs.Common.{◌≡◌, ◌≢◌, ◌⊎◌, inl, inr, ◌<◌, ℕ, Bool, true, false, List, [], ◌∷◌, ◌++◌, refl, ap, sym, ◌∙◌, subst, nat_eq, ⊎_elim}
+use Rattle.std.proofs.Common.{◌≡◌, ◌≢◌, ◌⊎◌, inl, inr, ◌<◌, ℕ, Bool, true, List, [], ◌∷◌, ◌++◌, refl, ap, sym, ◌∙◌, subst, nat_eq, ⊎_elim}
 use Rattle.std.proofs.lemmas.Bool.{cases_eq}
 use Rattle.std.proofs.lemmas.Bool.Decides.{nat_tests}
 use Rattle.std.proofs.Common.{arith}
 use Rattle.std.specs.Prelude.{if◌then◌else◌}
-use Rattle.exchange_rules.specs.State.{Happening, CameUp, WentDown, FrameCame}
+use Rattle.exchange_rules.specs.State.{WentDown, FrameCame}
 use Rattle.sctp_receiving.specs.Pieces as pieces
 use Rattle.sctp_rules.specs.State.{Told, Up, Heard, Down, Failed}
 use Rattle.sctp_moves.specs.Ends.{Message}

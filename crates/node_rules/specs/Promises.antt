@@ -3,7 +3,7 @@ use Rattle.std.specs.Prelude.{◌≡◌, ℕ, List, []}
 use Rattle.sctp_ends.specs.Shown.{AreGood}
 use Rattle.pair_rules.specs.Pairs.{End, PairState, Step, first_pair, after_steps, nothing_in_flight}
 use Rattle.pair_rules.specs.Promises.{AreJoined, LostNothing, EachOnce, InOrder, IsPunctual, BothWays}
-use Rattle.node_rules.specs.Worlds.{Books, Node, Make, World, new_world, Steps, last_world}
+use Rattle.node_rules.specs.Worlds.{Node, Make, World, new_world, Steps, last_world}
 
 -- two nodes whose settings face each other; no endpoint draws a tag twice, and cookies open as what was signed
 pub record AreFacing (near far : Make) : Type 0 where
