@@ -27,11 +27,11 @@ use Rattle.sctp_ends.proofs.Alike.{Outcome, sound-on}
 use Rattle.sctp_ends.proofs.Pass.{happens}
 use Rattle.sctp_ends.proofs.World.{heeds, site-after}
 use Rattle.pair_rules.specs.Pairs.{PairState}
-use Rattle.node_rules.specs.Worlds.{Books, Port, Node, happened, handed_all, wished, MayAssociate}
+use Rattle.node_rules.specs.Worlds.{Books, Port, Node, happened, handed_all, wished, wish_left, MayAssociate}
 use Rattle.node_rules.proofs.Staying.{MayOpen}
 use Rattle.node_rules.proofs.Flights.{Air, Shows, with_air, air-here, Reaches, reaches-on}
 use Rattle.node_rules.proofs.PairSteps.{up-first, up-second}
-use Rattle.node_rules.proofs.Telling.{NoUp, heard_in, told-heads, opened-same, told-long, Shape, nothing, serving, rising, shape-of, opens-plain, aborts-plain, flushes-plain}
+use Rattle.node_rules.proofs.Telling.{NoUp, heard_in, told-heads, opened-same, told-long, Shape, nothing, serving, rising, shape-of, opens-plain, aborts-plain, flushes-plain, aborts-idle}
 use Rattle.node_rules.proofs.Linked.{AreFramed, framed-front, framed-air, firsts, latest_sent, latest_received, air_of, Linked, StaysSo, is-present, is-calm, IsJoint, is-joint, ahead-none, split, drop-none}
 use Rattle.node_rules.proofs.Walk.{leaves, told-walk}
 
@@ -93,6 +93,15 @@ served-call (Sends message) w e = e
 served-call Aborts w e = e
 served-call (ShutsDown now) w e = e
 served-call (Flushes now) w e = e
+
+ends-or : (what : Happening) → (what ≡ Aborts) ⊎ ((o : Option Wish) (w : Wish) → wish_left what o w ≡ wished o w)
+ends-or (Opens now active) = inr (λ o w. refl)
+ends-or (Came now source packet) = inr (λ o w. refl)
+ends-or (Ticked now) = inr (λ o w. refl)
+ends-or (Sends message) = inr (λ o w. refl)
+ends-or Aborts = inl refl
+ends-or (ShutsDown now) = inr (λ o w. refl)
+ends-or (Flushes now) = inr (λ o w. refl)
 
 -- what is asked of a happening (`MayAssociate`), in one
 pub record MayCome (k : ℕ) (books : Books) (other : ends.Site) (what : Happening) (wish : Wish) : Type 0 where
@@ -441,8 +450,46 @@ module _ (n k : ℕ) (m o : ends.Make) (good : AreGood m.secrets) (s t : Port) (
   shaped w e (serving q f seeks) = serving-went w e q f seeks
   shaped w e (rising more is q f seeks) = rising-went more is q w e f seeks
 
-  pub goes : Went n k m o (record { site = ends.happened m what s.site; wish = wished (wish_after d.told from) s.wish }) t near (handed_all k d.told near) far a
-  goes =
-      let w = wish-is (wish_after d.told from) refl fits in
-      subst (λ (v : Option Wish). Went n k m o (port (wished v s.wish)) t near (handed_all k d.told near) far a) (sym w.1)
-      (shaped w.0 w.1 (shape-of d.told from w.0 w.1))
+  told-goes : (w : Wish) → wish_after d.told from ≡ Some w → Went n k m o (port w) t near (handed_all k d.told near) far a
+  told-goes w e = shaped w e (shape-of d.told from w e)
+
+  -- it wants none any more
+  idle-linked : (w : Wish) (b : Air) → Fits (Some Idle) d.left → Linked k m o (port w) t (handed_all k d.told near) far b
+      → Linked k m o (port Idle) t (handed_all k d.told near) far b
+  idle-linked w b x g = record {
+    x = g.x;
+    y = g.y;
+    sound = g.sound;
+    near_shown = g.near_shown;
+    far_shown = g.far_shown;
+    standing = g.standing;
+    stands = g.stands;
+    near_right = g.near_right;
+    far_right = g.far_right;
+    near_fits = x;
+    far_fits = g.far_fits;
+    air_is = g.air_is;
+    near_framed = g.near_framed;
+    far_framed = g.far_framed;
+    near_ready = g.near_ready;
+    far_ready = g.far_ready;
+    near_seeks = λ e. let no : Idle ≡ Seeking = e in absurd cc;
+    far_seeks = g.far_seeks;
+  }
+
+  idle-goes : (w : Wish) → Fits (Some Idle) d.left → Went n k m o (port w) t near (handed_all k d.told near) far a
+      → Went n k m o (port Idle) t near (handed_all k d.told near) far a
+  idle-goes w x g = record { air = g.air; linked = idle-linked w g.air x g.linked; reaches = g.reaches }
+
+  pub goes : Went n k m o (record { site = ends.happened m what s.site; wish = wish_left what (wish_after d.told from) s.wish }) t near (handed_all k d.told near) far a
+  goes = by (ends-or what) (wish-is (wish_after d.told from) refl fits) where
+    by : (what ≡ Aborts) ⊎ ((o : Option Wish) (w : Wish) → wish_left what o w ≡ wished o w) → (w : Wish) × (wish_after d.told from ≡ Some w)
+        → Went n k m o (port (wish_left what (wish_after d.told from) s.wish)) t near (handed_all k d.told near) far a
+    by (inr same) w =
+        subst (λ (v : Wish). Went n k m o (port v) t near (handed_all k d.told near) far a)
+        (sym (same (wish_after d.told from) s.wish ∙ ap (λ (v : Option Wish). wished v s.wish) w.1)) (told-goes w.0 w.1)
+    by (inl is) w =
+        subst (λ (v : Wish). Went n k m o (port v) t near (handed_all k d.told near) far a)
+        (ap (λ (z : Happening). wish_left z (wish_after d.told from) s.wish) (sym is))
+        (idle-goes w.0 (subst (λ (z : Happening). Fits (Some Idle) (after m.settings m.secrets z s.site.state).left) (sym is) (aborts-idle m.settings m.secrets s.site.state))
+        (told-goes w.0 w.1))

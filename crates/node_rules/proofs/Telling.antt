@@ -9,7 +9,7 @@ use Rattle.sctp_rules.specs.Settings.{Settings, Secrets, Beginning, Address}
 use Rattle.sctp_rules.specs.State.{State, Told, Up, Heard, Down, Failed, silent}
 use Rattle.sctp_rules.specs.Opening.{may_open, begun_with}
 use Rattle.sctp_rules.specs.Endpoint.{Opens, Aborts, Flushes, after}
-use Rattle.sctp_rules.specs.Wishing.{Wish, Idle, Seeking, Served, wish_after}
+use Rattle.sctp_rules.specs.Wishing.{Fits, Wish, Idle, Seeking, Served, wish_after}
 use Rattle.sctp_moves.specs.Ends.{Message}
 use Rattle.sctp_ends.specs.Told.{text_told, told_by, opened_by}
 use Rattle.node_rules.specs.Worlds.{Books, handed_all}
@@ -140,3 +140,9 @@ aborts-plain c k s = ended-plain s.association.is_up s.is_wanted Local
 pub flushes-plain : (c : Settings) (k : Secrets) (now : ℕ) (s : State) → NoUp (after c k (Flushes now) s).told
 unfolding after
 flushes-plain c k now s = tt
+
+-- ---- what is left of an endpoint that was told to end what it has
+
+pub aborts-idle : (c : Settings) (k : Secrets) (s : State) → Fits (Some Idle) (after c k Aborts s).left
+unfolding after
+aborts-idle c k s = (refl, refl)

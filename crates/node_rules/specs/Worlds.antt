@@ -109,6 +109,11 @@ abbrev pub wished : Option Wish → (otherwise : Wish) → Wish
 wished None otherwise = otherwise
 wished (Some wish) otherwise = wish
 
+-- once it was told to end what it has, it wants none
+abbrev pub wish_left : endpoint.Happening → Option Wish → (otherwise : Wish) → Wish
+wish_left endpoint.Aborts wish otherwise = Idle
+wish_left what wish otherwise = wished wish otherwise
+
 abbrev pub told_by : Make → (link : ℕ) → endpoint.Happening → Node → List Told
 told_by m link what n =
     (endpoint.after (m.endpoints link).settings (m.endpoints link).secrets what (n.ports link).site.state).told
@@ -116,7 +121,8 @@ told_by m link what n =
 abbrev pub associated : Make → (link : ℕ) → endpoint.Happening → Node → Port
 associated m link what n = record {
   site = ends.happened (m.endpoints link) what (n.ports link).site;
-  wish = wished (wish_after (told_by m link what n) (wish_by_call what (n.ports link).wish)) (n.ports link).wish;
+  wish = wish_left what (wish_after (told_by m link what n) (wish_by_call what (n.ports link).wish))
+      (n.ports link).wish;
 }
 
 abbrev pub given : Make → (link : ℕ) → FrameValue → Node → Node
