@@ -25,7 +25,7 @@ use Rattle.pair_rules.specs.Pairs as pairs
 use Rattle.pair_rules.specs.Pairs.{PairState, Step, AtNear, AtFar, did, turn, first_pair, after_steps, in_flight}
 use Rattle.node_rules.specs.Worlds as worlds
 use Rattle.node_rules.specs.Worlds.{Books, handed, handed_all, happened, is_frame, Port, Node, Make, with_port, associated, Doing, Happens, Associates, Sends, IsOwn, MayDo, World, turned, new_world, at_near, at_far, Steps, last_world, told_by, given, sent}
-use Rattle.node_rules.specs.Promises.{runs_are_runs_of_pairs}
+use Rattle.node_rules.specs.Promises.{AreFacing, runs_are_runs_of_pairs}
 use Rattle.node_rules.proofs.Staying.{MayOpen, events-stay, takes-stay, own-of}
 use Rattle.node_rules.proofs.Flights.{Air, turned_air, Flies, Sized, Shows, with_air, air-here, air-other, dids, Reaches, turned-shows}
 use Rattle.node_rules.proofs.PairSteps.{own-happens}
@@ -261,16 +261,20 @@ first-runs near far n near-many far-many = record {
 
 -- ---- runs
 
-same-many : (near far : Configuration) → link_codes near ≡ link_codes far → length far.links ≡ length near.links
+pub same-many : (near far : Configuration) → link_codes near ≡ link_codes far → length far.links ≡ length near.links
 same-many near far e =
     sym (length-map far.links (λ (l : LinkEntry). l.slc)) ∙ ap (λ (codes : List ℕ). length codes) (sym e) ∙ length-map near.links (λ (l : LinkEntry). l.slc)
 
-pub are-runs : runs_are_runs_of_pairs
-are-runs near far facing list m =
+pub all-run : (near far : Make) → AreFacing near far → (list : List World) → Steps near far (new_world near far) list
+    → IsRun near far (length near.configuration.links) (last_world (new_world near far) list)
+all-run near far facing list m =
     let n : ℕ = length near.configuration.links in
     let far-many : length far.configuration.links ≡ n = same-many near.configuration far.configuration facing.joined.facing.codes in
-    let r : IsRun near far n (last_world (new_world near far) list) =
-    all-steps near far n refl far-many facing.near_good facing.far_good list (new_world near far) m (first-runs near far n refl far-many) in
+    all-steps near far n refl far-many facing.near_good facing.far_good list (new_world near far) m (first-runs near far n refl far-many)
+
+pub are-runs : runs_are_runs_of_pairs
+are-runs near far facing list m =
+    let r : IsRun near far (length near.configuration.links) (last_world (new_world near far) list) = all-run near far facing list m in
     record {
       steps = r.steps;
       near_is = record { exchange = r.meets.shows.near_has.exchange; accepted = r.meets.shows.near_has.accepted; received = r.meets.shows.near_has.received };
