@@ -1,23 +1,20 @@
 -- Each call of a gate, but for fills, is a list of steps of its node.
-use Rattle.std.proofs.Common.{◌≡◌, ◌≢◌, ◌⊎◌, inl, inr, ◌<◌, ℕ, Bool, true, false, ◌&&◌, List, [], ◌∷◌, ◌++◌, Option, Some, None, length, map, refl, ap, sym, ◌∙◌, subst, nat_eq, arith}
+use Rattle.std.proofs.Common.{◌≡◌, ◌≢◌, ◌⊎◌, inl, inr, ◌<◌, ℕ, Bool, true, false, List, [], ◌∷◌, ◌++◌, Option, Some, None, length, map, refl, ap, sym, ◌∙◌, subst, nat_eq, arith}
 use Rattle.std.proofs.lemmas.Bool.Decides.{nat_tests}
 use Rattle.std.specs.Prelude.{if◌then◌else◌}
-use Rattle.std.specs.List.{Contains}
 use Rattle.sctp_codec.specs.Packets.{PacketValue}
 use Rattle.sctp_rules.specs.declared.loss.Loss.{Loss}
 use Rattle.sctp_rules.specs.declared.loss.Loss.TheVariants.{Local}
-use Rattle.sctp_rules.specs.Settings.{Settings, Secrets, Address}
+use Rattle.sctp_rules.specs.Settings.{Settings, Secrets}
 use Rattle.sctp_rules.specs.State as rules
 use Rattle.sctp_rules.specs.State.{Told, Up, Heard, Down, Failed, Datagram, Done, silent}
 use Rattle.sctp_rules.specs.Ending.{abort}
 use Rattle.sctp_rules.specs.Opening.{opening}
-use Rattle.sctp_rules.specs.Packets.{heard}
-use Rattle.sctp_rules.specs.Timers.{ticked}
-use Rattle.sctp_rules.specs.Endpoint.{Happening, Opens, Came, Ticked, Aborts, after}
+use Rattle.sctp_rules.specs.Endpoint.{Happening, Opens, Aborts, after}
 use Rattle.sctp_rules.specs.Wishing.{Wish, Idle, Seeking, Served, wish_by_call, wish_after, Fits}
 use Rattle.sctp_rules.proofs.Passing.{Right}
 use Rattle.sctp_rules.proofs.Wishing.{happening-fits, still-right}
-use Rattle.sctp_moves.proofs.Members.{In, in-from, contains-from, in-map}
+use Rattle.sctp_moves.proofs.Members.{In, in-map}
 use Rattle.sctp_ends.specs.Worlds as ends
 use Rattle.sctp_endpoint.specs.Endpoints.{secrets_of}
 use Rattle.exchange_rules.specs.State as exchange
@@ -29,7 +26,7 @@ use Rattle.exchange_rules.specs.declared.wants.Wants.TheVariants.{Nothing, Open,
 use Rattle.sctp_gate.specs.declared.standing.Standing.{Standing}
 use Rattle.sctp_gate.specs.Standing.{idle, seeking, stands_after}
 use Rattle.sctp_gate.specs.Handing.{after_told}
-use Rattle.sctp_gate.specs.Gates.{Gate, Did, nothing, followed_by, is_lasting, may_try, handed, does, does_as, aborted, opened, wanted, settled_by, settled, between, heard as gate_heard, timed}
+use Rattle.sctp_gate.specs.Gates.{Gate, Did, nothing, followed_by, is_lasting, may_try, handed, does, aborted, opened, wanted, settled_by, settled, between}
 use Rattle.sctp_gate.specs.Laws.{Agrees}
 use Rattle.sctp_gate.proofs.Agreeing.{agrees}
 use Rattle.node_rules.specs.Worlds.{Make, Node, Books, Port, handed_all, is_frame, happened, associated, wish_left, wished, Doing, Associates, did, MayDo, MayAssociate}

@@ -1,30 +1,21 @@
 -- The laws of gates beside nodes.
-use Rattle.std.proofs.Common.{◌≡◌, ◌<◌, ℕ, Bool, true, List, [], Option, Some, None, length, refl, sym, subst}
-use Rattle.std.specs.List.{Contains}
+use Rattle.std.proofs.Common.{◌≡◌, ◌<◌, ℕ, Some, None, length, refl, sym, subst}
 use Rattle.sctp_codec.specs.Packets.{PacketValue}
 use Rattle.sctp_rules.specs.Settings.{Settings, Secrets, Address}
 use Rattle.sctp_rules.specs.State as rules
 use Rattle.sctp_rules.specs.State.{Datagram, Done, silent}
 use Rattle.sctp_rules.specs.Packets.{heard}
 use Rattle.sctp_rules.specs.Timers.{ticked}
-use Rattle.sctp_rules.specs.Endpoint.{Happening, Came, Ticked, after}
-use Rattle.sctp_rules.specs.Wishing.{Seeking, wish_by_call}
-use Rattle.sctp_moves.proofs.Members.{In, in-from, contains-from}
-use Rattle.sctp_ends.specs.Worlds as ends
+use Rattle.sctp_rules.specs.Endpoint.{Came, Ticked, after}
+use Rattle.sctp_moves.proofs.Members.{in-from, contains-from}
 use Rattle.sctp_endpoint.specs.Endpoints.{secrets_of}
-use Rattle.sctp_endpoint.specs.Dispatching.{heard_datagram}
-use Rattle.exchange_rules.specs.Exchange.{wants_of}
-use Rattle.exchange_rules.specs.First.{Abstract}
 use Rattle.exchange_rules.specs.Queues.{WholeQueues, whole}
-use Rattle.exchange_rules.specs.declared.wants.Wants.TheVariants.{Open}
-use Rattle.sctp_gate.specs.Gates.{Gate, Did, handed}
+use Rattle.sctp_gate.specs.Gates.{Gate, Did}
 use Rattle.sctp_gate.specs.Calling.{Call, Hears, Ticks, Settles, Fills, called}
-use Rattle.node_rules.specs.Worlds.{Make, Node, new_node, World, new_world, last_world, Steps, MayAssociate}
-use Rattle.node_rules.specs.Promises.{AreFacing}
+use Rattle.node_rules.specs.Worlds.{Make, Node, new_node, World, new_world, last_world}
 use Rattle.node_rules.proofs.Runs.{IsRun, all-run, same-many}
-use Rattle.node_rules.proofs.Linked.{Linked}
-use Rattle.gate_rules.specs.Calls.{Shows, AreSteps, MayCall, CallsAreSteps, BothCall, calls_are_steps, new_gates_show}
-use Rattle.gate_rules.proofs.Calling.{IsSane, IsPlain, AreDone, plain-done, between-done, settled-done, idle-done}
+use Rattle.gate_rules.specs.Calls.{Shows, AreSteps, MayCall, calls_are_steps, new_gates_show}
+use Rattle.gate_rules.proofs.Calling.{IsSane, AreDone, plain-done, between-done, settled-done, idle-done}
 
 module _ (m : Make) (other : Node) (k : ℕ) (k-in : k < length m.configuration.links) where
   heard-is : (now : ℕ) (source : Address) (packet : PacketValue) (c : Settings) (r : Secrets) (t : rules.State) → heard c r now source packet t ≡ after c r (Came now source packet) t
