@@ -117,7 +117,7 @@ makes-steps c = record {
   failed = λ link why st n e f. record { made = notices.Failed link why ∷ []; by = refl };
   dropped = λ link why n e. record { made = notices.Failed link why ∷ []; by = refl };
   completed = λ link number st n e f. same-makes n _ refl;
-  answered = λ link st n e f. same-makes n _ refl;
+  answered = λ link st n e f w. same-makes n _ refl;
   linked = λ link x n e. same-makes n _ refl;
   parted = λ link n e. same-makes n _ refl;
   opened = λ link n own e f g. same-makes n _ refl;

@@ -41,7 +41,7 @@ dues-steps c = record {
   failed = λ link why st n e f. (let t = without_timers-for link n.parts.timers in record { counts = t.counts; due = t.due });
   dropped = λ link why n e. (let t = without_timers-for link n.parts.timers in record { counts = t.counts; due = t.due });
   completed = λ link number st n e f. same-dues n _ refl;
-  answered = λ link st n e f. same-dues n _ refl;
+  answered = λ link st n e f w. same-dues n _ refl;
   linked = λ link x n e. same-dues n _ refl;
   parted = λ link n e. same-dues n _ refl;
   opened = λ link n own there e f. (let t = timed-for link c opening n.parts.timers in record { counts = t.counts; due = t.due });

@@ -61,7 +61,7 @@ fit-steps c =
       completed = λ link number st n e f.
           queues-fit c n _ (s.completed link number st n e f)
           (λ h. with-held c _ _ (with-one c link (emptied (queue_at n.queues link)) n.queues (λ q. sound-emptied c.window (queue_at n.queues link) q.limit) h));
-      answered = λ link st n e f. parts-fit c n _ (s.answered link st n e f) refl;
+      answered = λ link st n e f w. parts-fit c n _ (s.answered link st n e f w) refl;
       linked = λ link x n e. parts-fit c n _ (s.linked link x n e) refl;
       parted = λ link n e. parts-fit c n _ (s.parted link n e) refl;
       opened = λ link n own e f g. queues-fit c n _ (s.opened link n own e f g) (with-one c link first_queue n.queues (λ q. sound-first c.window q.limit));

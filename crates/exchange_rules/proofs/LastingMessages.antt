@@ -108,7 +108,7 @@ module _ (c : Configuration) where
     completed = λ link number st n e f.
         queue-keeps n _ (moved (queue_at n.queues link) number ++ n.queues.held) link (emptied (queue_at n.queues link)) refl
         (λ h. joined c (moved (queue_at n.queues link) number) n.queues.held (moved-onward c (queue_at n.queues link) number (h.links link)) h.held) (λ h. refl);
-    answered = λ link st n e f. same-queues n _ refl;
+    answered = λ link st n e f w. same-queues n _ refl;
     linked = λ link x n e. same-queues n _ refl;
     parted = λ link n e. same-queues n _ refl;
     opened = λ link n own e f g. queue-keeps n _ n.queues.held link first_queue refl (λ h. h.held) (λ h. refl);

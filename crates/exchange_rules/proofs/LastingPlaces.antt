@@ -200,7 +200,7 @@ places-steps c = record {
   dropped = λ link why n e. fallen-keeps c link why n;
   completed = λ link number st n e f.
       both-keep c _ _ _ (queue-keeps c (whole.completed n.queues link number).held link (emptied (queue_at n.queues link)) n) (changeover-keeps c link st _);
-  answered = λ link st n e f. changeover-keeps c link st n;
+  answered = λ link st n e f w. changeover-keeps c link st n;
   linked = λ link x n e. link-keeps c link x n.parts.timers n refl;
   parted = λ link n e. link-keeps c link (record (link_at n.parts link) { association = false }) n.parts.timers n refl;
   opened = λ link n own e f g.

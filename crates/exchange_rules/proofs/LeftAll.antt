@@ -38,7 +38,7 @@ module _ (dues : Bool) (c : Configuration) (l : ℕ) where
     failed = λ link why st n e f. failed-left dues l link why st n e;
     dropped = λ link why n e. dropped-left dues l link why n e;
     completed = λ link number st n e f. completed-left dues l link number st n e f;
-    answered = λ link st n e f. answered-left dues l link st n e f;
+    answered = λ link st n e f w. answered-left dues l link st n e f;
     linked = λ link x n e. linked-left dues l link x n e.alignment;
     parted = λ link n e. linked-left dues l link _ n refl;
     opened = λ link n own there e f. other-left dues l link _ _ _ n _ (opened-on link c n) own;

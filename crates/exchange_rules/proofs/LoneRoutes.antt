@@ -329,7 +329,7 @@ module _ (c : Configuration) (set point destination : ℕ) (leads : LeadsAlone c
     failed = λ link why st n e f. same-lone n _ refl refl refl;
     dropped = λ link why n e. same-lone n _ refl refl refl;
     completed = λ link number st n e f. queue-lone n _ link (emptied (queue_at n.queues link)) refl refl refl (λ h away. refl);
-    answered = λ link st n e f. same-lone n _ refl refl refl;
+    answered = λ link st n e f w. same-lone n _ refl refl refl;
     linked = λ link x n e. same-lone n _ refl refl refl;
     parted = λ link n e. same-lone n _ refl refl refl;
     opened = λ link n own e f g. queue-lone n _ link first_queue refl refl refl (λ h away. refl);

@@ -58,7 +58,7 @@ module _ (l : ℕ) where
     failed = λ link why st n e f. same-queues n _ refl;
     dropped = λ link why n e. same-queues n _ refl;
     completed = λ link number st n e f. one-queue link (emptied (queue_at n.queues link)) n _ refl refl;
-    answered = λ link st n e f. same-queues n _ refl;
+    answered = λ link st n e f w. same-queues n _ refl;
     linked = λ link x n e. same-queues n _ refl;
     parted = λ link n e. same-queues n _ refl;
     opened = λ link n own e f g. other-queue link first_queue n _ own refl;

@@ -100,7 +100,7 @@ module _ (exact : Bool) (c : Configuration) (l : ℕ) where
     failed = λ link why st n e f. failed-keeps exact c l link why st n f;
     dropped = λ link why n e. dropped-keeps exact c l link why n e;
     completed = λ link number st n e f. completed-keeps exact c l link number st n e f;
-    answered = λ link st n e f. answered-keeps exact c l link st n e f;
+    answered = λ link st n e f w. answered-keeps exact c l link st n e f;
     linked = λ link x n e. linked-keeps exact c l link x n e;
     parted = λ link n e. parted-keeps exact c l link n e;
     opened = λ link n own there e f. opened-keeps link n e f;

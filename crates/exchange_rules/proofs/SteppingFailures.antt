@@ -127,20 +127,21 @@ module _ {c : Configuration} {Own Counts : ℕ → Type 0} {R : Node WholeQueues
 
   -- a changeover ends that wasn't complete, or was
   pub ended-steps : (incomplete : Bool) (link : ℕ) (number : Option ℕ) (st : Standing) (n : Node WholeQueues) → (changeover_of n.parts link).incomplete ≡ incomplete
-      → st.incomplete ≡ false → R n (complete_if whole c incomplete link number (with_parts n (with_changeover link st n.parts)))
-  ended-steps true link number st n e i =
+      → st.incomplete ≡ false → (st.awaited ≡ true → (changeover_of n.parts link).awaited ≡ true)
+      → R n (complete_if whole c incomplete link number (with_parts n (with_changeover link st n.parts)))
+  ended-steps true link number st n e i w =
       let found : Found = whole.found n.queues link number in
       let done : Node WholeQueues = record { queues = whole.completed n.queues link number; parts = with_changeover link st n.parts } in
       s.both _ _ _ (s.completed link number st n e i)
       (s.both _ _ _ (concluded-steps link found done) (send_each-steps (sends-of s) found.queued_anew (with_parts done (concluded link found done.parts))))
-  ended-steps false link number st n e i = s.answered link st n e i
+  ended-steps false link number st n e i w = s.answered link st n e i w
 
   pub fail_by_order-steps : (link : ℕ) (n : Node WholeQueues) → R n (fail_by_order whole c link n)
   fail_by_order-steps link n =
       either-steps (sends-of s) (down n.parts link) n n (fail_by_peer whole c link n) (s.none n) (failing_by_peer-steps (in_service n.parts link) link n refl)
 
   pub complete_by_order-steps : (link : ℕ) (number : Option ℕ) (n : Node WholeQueues) → R n (complete_by_order whole c link number n)
-  complete_by_order-steps link number n = ended-steps (changeover_of n.parts link).incomplete link number (completed (changeover_of n.parts link)) n refl refl
+  complete_by_order-steps link number n = ended-steps (changeover_of n.parts link).incomplete link number (completed (changeover_of n.parts link)) n refl refl (λ a. a)
 
   pub on_changeover_order-steps : (link : ℕ) (number : Option ℕ) (n : Node WholeQueues) → R n (on_changeover_order whole c link number n).left
   on_changeover_order-steps link number n =
@@ -154,7 +155,7 @@ module _ {c : Configuration} {Own Counts : ℕ → Type 0} {R : Node WholeQueues
   acknowledged-steps link number n =
       let stopped : Node WholeQueues = with_parts n (record n.parts { timers = (with_changeover_acknowledged link n.parts).timers }) in
       s.both _ _ _ (s.timed _ n (clear-timed (name.T2 link) n.parts.timers (λ l e. cc)))
-      (ended-steps (changeover_of n.parts link).incomplete link number (acknowledged (changeover_of n.parts link)) stopped refl refl)
+      (ended-steps (changeover_of n.parts link).incomplete link number (acknowledged (changeover_of n.parts link)) stopped refl refl (λ a. absurd cc))
 
   pub on_changeover_acknowledgement-steps : (link : ℕ) (number : Option ℕ) (n : Node WholeQueues) → R n (on_changeover_acknowledgement whole c link number n).left
   on_changeover_acknowledgement-steps link number n =
@@ -168,11 +169,11 @@ module _ {c : Configuration} {Own Counts : ℕ → Type 0} {R : Node WholeQueues
   expired-steps which.T1 link n =
       let noted : Node WholeQueues = with_parts n (record n.parts { notices = (with_expiry which.T1 link n.parts).notices }) in
       s.both _ _ _ (s.noted (notices.Expired which.T1 link) n (record { lost = λ f. absurd cc; late = λ f. absurd cc }))
-      (ended-steps (changeover_of n.parts link).incomplete link None (completed (changeover_of n.parts link)) noted refl refl)
+      (ended-steps (changeover_of n.parts link).incomplete link None (completed (changeover_of n.parts link)) noted refl refl (λ a. a))
   expired-steps which.T2 link n =
       let noted : Node WholeQueues = with_parts n (record n.parts { notices = (with_expiry which.T2 link n.parts).notices; times_lost = (with_expiry which.T2 link n.parts).times_lost }) in
       s.both _ _ _ (s.both _ _ _ (s.lost n) (s.noted (notices.Expired which.T2 link) _ (record { lost = λ f. refl; late = λ f. absurd cc })))
-      (ended-steps (changeover_of n.parts link).incomplete link None (acknowledged (changeover_of n.parts link)) noted refl refl)
+      (ended-steps (changeover_of n.parts link).incomplete link None (acknowledged (changeover_of n.parts link)) noted refl refl (λ a. absurd cc))
 
   pub on_changeover_timer-steps : (timer : ChangeoverTimer) (link : ℕ) (n : Node WholeQueues) → R n (on_changeover_timer whole c timer link n)
   on_changeover_timer-steps timer link n =

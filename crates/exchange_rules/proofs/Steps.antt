@@ -104,7 +104,7 @@ pub record IsOfSteps (c : Configuration) (Own Counts : ℕ → Type 0) (R : Node
   pub completed : (link : ℕ) (number : Option ℕ) (s : Standing) (n : Node WholeQueues) → (changeover_of n.parts link).incomplete ≡ true → s.incomplete ≡ false
       → R n (record { queues = whole.completed n.queues link number; parts = with_changeover link s n.parts })
   pub answered : (link : ℕ) (s : Standing) (n : Node WholeQueues) → (changeover_of n.parts link).incomplete ≡ false → s.incomplete ≡ false
-      → R n (with_parts n (with_changeover link s n.parts))
+      → (s.awaited ≡ true → (changeover_of n.parts link).awaited ≡ true) → R n (with_parts n (with_changeover link s n.parts))
   -- ---- a link loses its association, opens, takes a step of its alignment, hears that its peer is busy and that it isn't, accepts User Data, and sends
   pub linked : (link : ℕ) (x : Link) (n : Node WholeQueues) → IsSameLink (link_at n.parts link) x → R n (with_parts n (with_link n.parts link x))
   pub parted : (link : ℕ) (n : Node WholeQueues) → down n.parts link ≡ true → R n (with_parts n (without_association link n.parts))

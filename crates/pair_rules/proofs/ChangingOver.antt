@@ -195,7 +195,7 @@ module _ (c z : Configuration) (j : IsJoined c z) where
               }));
           good = λ g. record {
             fits = ((fit-steps c).both _ _ _ ((fit-steps c).timed (clear_timer (T2 link) n.parts.timers) n (clear-timed (T2 link) n.parts.timers (λ l e. cc)))
-                ((fit-steps c).answered link (acknowledged (changeover_of n.parts link)) (with_parts n (record n.parts { timers = clear_timer (T2 link) n.parts.timers })) e refl)).stay g.fits;
+                ((fit-steps c).answered link (acknowledged (changeover_of n.parts link)) (with_parts n (record n.parts { timers = clear_timer (T2 link) n.parts.timers })) e refl (λ a. absurd cc))).stay g.fits;
             alone = record { routes = g.alone.routes; adjacents = g.alone.adjacents };
             unawaited = λ other up.
                 ⊎_elim

@@ -54,7 +54,7 @@ module _ (c z : Configuration) (j : IsJoined c z) where
   t2-ends false w n link e there lost = record {
     goes = λ g. goes-lost (says_of c.links) _ _ lost;
     good = λ g. record {
-      fits = ((fit-steps c).answered link (acknowledged (changeover_of n.parts link)) n e refl).stay g.fits;
+      fits = ((fit-steps c).answered link (acknowledged (changeover_of n.parts link)) n e refl (λ a. absurd cc)).stay g.fits;
       alone = record { routes = g.alone.routes; adjacents = g.alone.adjacents };
       unawaited = λ other up.
           ⊎_elim

@@ -15,6 +15,8 @@ use Rattle.sctp_rules.specs.GivenMessages.{message_of}
 use Rattle.sctp_moves.specs.Numbers.{modulus, cumulative}
 use Rattle.sctp_moves.specs.Ends.{Message, Name, Epoch, CookieWait, CookieEchoed, End}
 use Rattle.sctp_moves.specs.Moves.{EndMoves, last_end, ack_of}
+use Rattle.sctp_moves.specs.Openings.{IsQuiet}
+use Rattle.sctp_moves.proofs.Standing.{quiet-append}
 use Rattle.sctp_moves.proofs.Members.{In, in-from}
 use Rattle.sctp_moves.proofs.Keeping.{IsSound, sound-move}
 use Rattle.sctp_moves.proofs.Concluded.{far-differ}
@@ -63,8 +65,8 @@ gifts e = map (λ (epoch : Epoch). epoch.sent) e.epochs
 
 -- ---- what a rule does
 
--- `before` are the messages that were given before Up was told
-pub record Outcome (own far : Secrets) (mark : ℕ) (other e : End) (before : List (List Message)) (d : Done) : Type 0 where
+-- `before` are the messages that were given before Up was told; `begins` says whether the user may begin a try
+pub record Outcome (own far : Secrets) (mark : ℕ) (other e : End) (begins : Bool) (before : List (List Message)) (d : Done) : Type 0 where
   pub list : List End
   pub moves : EndMoves other e list
   pub shows : Shows own far mark (last_end e list) d.left
@@ -72,9 +74,10 @@ pub record Outcome (own far : Secrets) (mark : ℕ) (other e : End) (before : Li
   pub sent : AreSaid own far mark (last_end e list) d.sent
   pub told : receipts (last_end e list) ≡ told_by (receipts e) d.told
   pub given : gifts (last_end e list) ≡ opened_by before d.told
+  pub quiet : begins ≡ false → IsQuiet e list
 
 abbrev pub Result : (own far : Secrets) → (mark : ℕ) → (other e : End) → Done → Type 0
-Result own far mark other e d = Outcome own far mark other e (gifts e) d
+Result own far mark other e d = Outcome own far mark other e false (gifts e) d
 
 -- from COOKIE-ECHOED on, the packet that is looked at has this tag
 abbrev pub hears : Stage → Bool
@@ -89,6 +92,25 @@ IsTagged tag s = hears (stage_of s.association.phase) ≡ true → s.association
 -- a rule does what moves do
 abbrev pub Does : (own far : Secrets) → (mark : ℕ) → (other : End) → State → Done → Type 0
 Does own far mark other s d = (e : End) → IsSound e other → Shows own far mark e s → Result own far mark other e d
+
+-- where the user may begin a try
+abbrev pub Starts : (own far : Secrets) → (mark : ℕ) → (other : End) → State → Done → Type 0
+Starts own far mark other s d =
+    (e : End) → IsSound e other → Shows own far mark e s → Outcome own far mark other e true (gifts e) d
+
+pub loosely : (own far : Secrets) (mark : ℕ) (other : End) (s : State) (d : Done) → Does own far mark other s d → Starts own far mark other s d
+loosely own far mark other s d does e sound h =
+    let r : Result own far mark other e d = does e sound h in
+    record {
+      list = r.list;
+      moves = r.moves;
+      shows = r.shows;
+      more = r.more;
+      sent = r.sent;
+      told = r.told;
+      given = r.given;
+      quiet = λ q. absurd (cc);
+    }
 
 -- and so does one that leaves the own tag, where it is looked at
 pub record Goes (own far : Secrets) (mark : ℕ) (other : End) (s : State) (d : Done) : Type 0 where
@@ -364,6 +386,7 @@ module _ (own far : Secrets) (mark : ℕ) (other : End) where
       sent = says e sound h;
       told = refl;
       given = refl;
+      quiet = λ q. tt;
     };
     tagged = λ tag t on. sym a.own_tag ∙ t (ap hears a.stage ∙ on);
   }
@@ -393,6 +416,7 @@ module _ (own far : Secrets) (mark : ℕ) (other : End) where
                   ∙ sym (told-append (receipts e) d.told (rule d.left).told);
               given = ap gifts is ∙ q.given ∙ ap (λ (lists : List (List Message)). opened_by lists (rule d.left).told) r.given
                   ∙ sym (opened-append (gifts e) d.told (rule d.left).told);
+              quiet = λ b. quiet-append e r.list q.list (r.quiet b) (q.quiet b);
             }
 
   pub also : (s : State) (d : Done) (rule : State → Done) → Goes own far mark other s d → Goes own far mark other d.left (rule d.left) →

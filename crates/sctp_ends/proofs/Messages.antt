@@ -174,6 +174,7 @@ module _ (own far : Secrets) (mark : ℕ) (other : End) where
             ∙ ap (λ (ms : List Message). ms ∷ map (λ (x : Epoch). x.sent) was.past) t.same.sent
             ∙ sym (ap (map (λ (x : Epoch). x.sent)) was.now)
             ∙ sym (opened-heards (gifts e) steps.told);
+        quiet = λ b. t.quiet;
       } in
       subst (λ (x : Done). Result own far mark other e x) (sym d-is) r
 
@@ -251,13 +252,14 @@ module _ (own far : Secrets) (mark : ℕ) (other : End) where
           sent = tt;
           told = sym (ap (map (λ (x : Epoch). x.received)) was.now);
           given = sym (ap (map (λ (x : Epoch). x.sent)) was.now);
+          quiet = λ b. ((λ n. (refl, n)), tt);
         }
 
   -- ---- a message is given
 
   pub given-goes : (m : outgoing.Message) (s : State) → is_established s.association.phase ≡ true → can_take s.association.sender m ≡ true →
       (e : End) → IsSound e other → Shows own far mark e s →
-      Outcome own far mark other e (with_last (text_given m) (gifts e))
+      Outcome own far mark other e false (with_last (text_given m) (gifts e))
       (silent (state.with_association s (record s.association { sender = given s.association.sender m })))
   given-goes m s up may e sound h =
       let a : Association = s.association in
@@ -331,4 +333,5 @@ module _ (own far : Secrets) (mark : ℕ) (other : End) where
         sent = tt;
         told = sym (ap (map (λ (x : Epoch). x.received)) was.now);
         given = ap (λ (lists : List (List Message)). with_last text lists) (sym (ap (map (λ (x : Epoch). x.sent)) was.now));
+        quiet = λ b. ((λ n. (refl, n)), ((λ n. (refl, n)), tt));
       }

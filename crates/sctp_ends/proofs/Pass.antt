@@ -48,7 +48,7 @@ use Rattle.sctp_moves.proofs.Keeping.{IsSound}
 use Rattle.sctp_moves.specs.Ends.{End}
 use Rattle.sctp_moves.specs.Moves.{MayOpen}
 use Rattle.sctp_ends.specs.Told.{with_last, text_given, told_by, opened_by, given_by}
-use Rattle.sctp_ends.specs.Theorems.{Heeds}
+use Rattle.sctp_ends.specs.Theorems.{begins, Heeds}
 use Rattle.sctp_ends.specs.Said.{Each, since, young, never, cookie_of, IsAnswer, IsEcho, IsData, IsAck, Bundles, Begins, IsSaid, AreSaid}
 use Rattle.sctp_ends.specs.Shown.{Stage, Off, Waiting, Echoing, There, stage_of, IsIn, IsOff, IsWaiting, IsEchoing, IsPresent}
 use Rattle.sctp_ends.specs.Shown.{AreGood, IsPlain, Waits, Shows}
@@ -56,7 +56,7 @@ use Rattle.sctp_ends.proofs.Said.{each-append, each-weaker, more-same}
 use Rattle.sctp_ends.proofs.Said.{waits-bundled, said-bundled, never-any}
 use Rattle.sctp_ends.proofs.Sent.{sack-confirms, shutdown-confirms, gone-only, going-same, going-said, timed-same}
 use Rattle.sctp_ends.proofs.Messages.{data-does, confirmed-goes, given-goes}
-use Rattle.sctp_ends.proofs.Alike.{receipts, gifts, Outcome, out-same, in-same, ack-said, Does, Goes, Alike, Stands, itself, alike-behind, plain-stands, alike-shows, alike-goes, also-does, also, hears, IsTagged}
+use Rattle.sctp_ends.proofs.Alike.{receipts, gifts, Outcome, Starts, loosely, out-same, in-same, ack-said, Does, Goes, Alike, Stands, itself, alike-behind, plain-stands, alike-shows, alike-goes, also-does, also, hears, IsTagged}
 use Rattle.sctp_ends.proofs.Steps.{puts, ended-goes, wants-goes, begun-goes, renewed-goes, answered-anew-goes, answered-alike-goes}
 use Rattle.sctp_ends.proofs.Steps.{echoed-goes, opened-by-ack-goes, opened-by-cookie-does}
 
@@ -401,8 +401,8 @@ module _ (own far : Secrets) (mark : ℕ) (other : End) (good : AreGood own) whe
   -- ---- opening
 
   begun : (b : Option Beginning) (c : Settings) (now failures : ℕ) (address : Address) (s : State) → own.beginning s.beginnings ≡ b →
-      stage_of s.association.phase ≡ Off → Can s (opening.begun_with c now failures address b s)
-  begun None c now failures address s is off = ended c losses.NoTag [] s tt
+      stage_of s.association.phase ≡ Off → Starts own far mark other s (opening.begun_with c now failures address b s)
+  begun None c now failures address s is off = loosely own far mark other s (ending.ended c losses.NoTag s) (ended c losses.NoTag [] s tt).result
   begun (Some b) c now failures address s is off = begun-goes own far mark other good c now failures address b s is off
 
   begun-anew : (b : Option Beginning) (c : Settings) (now failures : ℕ) (address : Address) (s : State) → own.beginning s.beginnings ≡ b →
@@ -410,17 +410,22 @@ module _ (own far : Secrets) (mark : ℕ) (other : End) (good : AreGood own) whe
   begun-anew None c now failures address s is echoing = ended c losses.NoTag [] s tt
   begun-anew (Some b) c now failures address s is echoing = renewed-goes own far mark other good c now failures address b s is echoing
 
-  opened-by-user : (c : Settings) (now : ℕ) (is_active : Bool) (s : State) → Can s (opening.opening c own now is_active s)
+  asked : (b : Bool) (s : State) (d e : Done) → (b ≡ true → Starts own far mark other s d) → (b ≡ false → Starts own far mark other s e) →
+      Starts own far mark other s (if b then d else e)
+  asked true s d e t u = t refl
+  asked false s d e t u = u refl
+
+  opened-by-user : (c : Settings) (now : ℕ) (is_active : Bool) (s : State) → Starts own far mark other s (opening.opening c own now is_active s)
   opened-by-user c now is_active s =
       let try : Done = opening.begun c own now 0 c.address s in
       let wait : Done = silent (record s { is_wanted = true }) in
-      either-so (opening.may_open is_active s) s (if is_active then try else wait) (silent s)
+      asked (opening.may_open is_active s) s (if is_active then try else wait) (silent s)
       (λ e.
       let off : stage_of s.association.phase ≡ Off =
       closed-off s.association.phase (both-true (opening.is_closed s.association.phase) (is_active || not s.is_wanted) e).0 in
-      either is_active s try wait
-      (begun (own.beginning s.beginnings) c now 0 c.address s refl off) (wants-goes own far mark other s off))
-      (λ e. stays s)
+      asked is_active s try wait (λ f. begun (own.beginning s.beginnings) c now 0 c.address s refl off)
+      (λ f. loosely own far mark other s wait (wants-goes own far mark other s off).result))
+      (λ e. loosely own far mark other s (silent s) (stays s).result)
 
   tried : (c : Settings) (now : ℕ) (t : Try) (s : State) → s.association.trying ≡ Some t → Can s (opening.tried_again c now t s)
   tried c now t s e =
@@ -795,6 +800,7 @@ module _ (own far : Secrets) (mark : ℕ) (other : End) (good : AreGood own) whe
         sent = tt;
         told = sym (told-none (receipts e) s.association.is_up);
         given = sym (given-none (gifts e) s.association.is_up);
+        quiet = λ b. tt;
       }
 
   shutdown-received : (c : Settings) (now : ℕ) (s : State) → stage_of s.association.phase ≡ There →
@@ -1301,7 +1307,7 @@ module _ (own far : Secrets) (mark : ℕ) (other : End) (good : AreGood own) whe
 
   sends : (b : Bool) (m : Message) (s : State) → (is_established s.association.phase && confirming.can_take s.association.sender m) ≡ b →
       (e : End) → IsSound e other → Shows own far mark e s →
-      Outcome own far mark other e (if b then with_last (text_given m) (gifts e) else gifts e)
+      Outcome own far mark other e false (if b then with_last (text_given m) (gifts e) else gifts e)
       (silent (if b then state.with_association s (record s.association { sender = given s.association.sender m }) else s))
   sends true m s q e sound h =
       let parts = both-true (is_established s.association.phase) (confirming.can_take s.association.sender m) q in
@@ -1309,9 +1315,9 @@ module _ (own far : Secrets) (mark : ℕ) (other : End) (good : AreGood own) whe
   sends false m s q e sound h = (stays s).result e sound h
 
   pub happens : (c : Settings) (what : Happening) (s : State) → Heeds own far other what → (e : End) → IsSound e other → Shows own far mark e s →
-      Outcome own far mark other e (given_by what s (gifts e)) (after c own what s)
+      Outcome own far mark other e (begins what) (given_by what s (gifts e)) (after c own what s)
   unfolding after
-  happens c (Opens now is_active) s h e sound x = (opened-by-user c now is_active s).result e sound x
+  happens c (Opens now is_active) s h e sound x = opened-by-user c now is_active s e sound x
   happens c (Came now source packet) s h e sound x = heard c now source packet s h e sound x
   happens c (Ticked now) s h e sound x = (ticked c now s).result e sound x
   happens c (Sends message) s h e sound x = sends (sending.may_send message s) message s refl e sound x

@@ -30,6 +30,7 @@ use Rattle.sctp_moves.specs.Ends.{Message, Name, Answer, Chunk, Acknowledgement,
 use Rattle.sctp_moves.specs.Ends as ends
 use Rattle.sctp_moves.specs.Moves.{IsFresh, IsTrying, MayOpen, EndMove, EndMoves, last_end}
 use Rattle.sctp_moves.specs.Moves as moves
+use Rattle.sctp_moves.specs.Openings.{IsCalm, IsQuiet}
 use Rattle.sctp_moves.proofs.Members.{In, in-from, contains-from}
 use Rattle.sctp_moves.proofs.Keeping.{IsSound}
 use Rattle.sctp_ends.specs.Told.{told_by, opened_by}
@@ -38,7 +39,7 @@ use Rattle.sctp_ends.specs.Shown.{Stage, Off, Waiting, Echoing, There, stage_of,
 use Rattle.sctp_ends.specs.Shown.{SendsOut, TakesIn, AreGood, IsPlain, Waits, Shows, IsDrawn}
 use Rattle.sctp_ends.proofs.Said.{each-append, each-weaker, first-in, more-in, IsMore, IsGrown, grows_from, grows_new, more-of, more-bundles, more-never, more-waits}
 use Rattle.sctp_ends.proofs.Said.{plain-bundled, waits-bundled, said-bundled}
-use Rattle.sctp_ends.proofs.Alike.{receipts, gifts, Result, Does, Goes, itself, alike-goes, hears}
+use Rattle.sctp_ends.proofs.Alike.{receipts, gifts, Outcome, Result, Does, Goes, Starts, itself, alike-goes, hears}
 
 -- ---- ends that differ in what was put out alone
 
@@ -174,6 +175,7 @@ module _ (own far : Secrets) (mark : ℕ) (other : End) where
               (each-weaker IsPlain (Bundles (since mark f) f s.association.far_tag) (plain-bundled (since mark f) f s.association.far_tag) chunks p));
           told = sym (told-end (receipts e) s.association.is_up s.is_wanted why);
           given = sym (given-end (gifts e) s.association.is_up s.is_wanted why);
+          quiet = λ b. ((λ n. (refl, tt)), tt);
         }
 
   -- ---- the user wants an association
@@ -206,6 +208,7 @@ module _ (own far : Secrets) (mark : ℕ) (other : End) where
           sent = tt;
           told = refl;
           given = refl;
+          quiet = λ b. ((λ n. (refl, n)), tt);
         }
 
   -- ---- a try begins
@@ -227,8 +230,9 @@ module _ (own far : Secrets) (mark : ℕ) (other : End) where
       own.beginning s.beginnings ≡ Some b →
       (e : End) → Shows own far mark e s → (generation step : ℕ) → generation ≡ s.generation + step →
       EndMoves other e (record e { wanted = true } ∷ tries e generation (named b.tag b.first) ∷ []) →
-      Result own far mark other e (opening.begun_with c now failures address (Some b) (record s { generation = s.generation + step }))
-  tries-so good c now failures address b s is e h generation step counted mv =
+      (begins : Bool) → (begins ≡ false → IsQuiet e (record e { wanted = true } ∷ tries e generation (named b.tag b.first) ∷ [])) →
+      Outcome own far mark other e begins (gifts e) (opening.begun_with c now failures address (Some b) (record s { generation = s.generation + step }))
+  tries-so good c now failures address b s is e h generation step counted mv begins quiet =
       let name : Name = named b.tag b.first in
       let f : End = tries e generation name in
       let m : IsMore e f = more-of e f refl (λ n i. more-in name e.inits n i) (λ n i. i) (λ n i. i) (λ n i. i) (λ n i. i) (λ n i. i) in
@@ -251,14 +255,15 @@ module _ (own far : Secrets) (mark : ℕ) (other : End) where
         sent = (said, tt);
         told = refl;
         given = refl;
+        quiet = quiet;
       }
 
   module _ (good : AreGood own) where
     pub begun-goes : (c : Settings) (now failures : ℕ) (address : Address) (b : Beginning) (s : State) →
         own.beginning s.beginnings ≡ Some b → stage_of s.association.phase ≡ Off →
-        Goes own far mark other s (opening.begun_with c now failures address (Some b) s)
-    begun-goes c now failures address b s is off = record { result = begun-so; tagged = λ tag t on. absurd (cc) } where
-      begun-so : (e : End) → IsSound e other → Shows own far mark e s → Result own far mark other e (opening.begun_with c now failures address (Some b) s)
+        Starts own far mark other s (opening.begun_with c now failures address (Some b) s)
+    begun-goes c now failures address b s is off e sound h = begun-so e sound h where
+      begun-so : (e : End) → IsSound e other → Shows own far mark e s → Outcome own far mark other e true (gifts e) (opening.begun_with c now failures address (Some b) s)
       begun-so e sound h =
           let was : IsOff e s.is_wanted = subst (λ (stage : Stage). IsIn stage e s.is_wanted s.association) off h.stage in
           let mv : EndMoves other e (record e { wanted = true } ∷ tries e e.generation (named b.tag b.first) ∷ []) = (
@@ -276,10 +281,10 @@ module _ (own far : Secrets) (mark : ℕ) (other : End) where
               tt,
             ),
           ) in
-          let r : Result own far mark other e (opening.begun_with c now failures address (Some b) (record s { generation = s.generation + 0 })) =
-          tries-so good c now failures address b s is e h e.generation 0 (omega (arith, h.generation)) mv in
+          let r : Outcome own far mark other e true (gifts e) (opening.begun_with c now failures address (Some b) (record s { generation = s.generation + 0 })) =
+          tries-so good c now failures address b s is e h e.generation 0 (omega (arith, h.generation)) mv true (λ q. absurd (cc)) in
           let zero-more : s.generation + 0 ≡ s.generation = omega arith in
-          subst (λ (g : ℕ). Result own far mark other e (opening.begun_with c now failures address (Some b) (record s { generation = g }))) zero-more r
+          subst (λ (g : ℕ). Outcome own far mark other e true (gifts e) (opening.begun_with c now failures address (Some b) (record s { generation = g }))) zero-more r
 
     pub renewed-goes : (c : Settings) (now failures : ℕ) (address : Address) (b : Beginning) (s : State) →
         own.beginning s.beginnings ≡ Some b → stage_of s.association.phase ≡ Echoing →
@@ -304,7 +309,9 @@ module _ (own far : Secrets) (mark : ℕ) (other : End) where
               tt,
             ),
           ) in
-          tries-so good c now failures address b s is e h (e.generation + 1) 1 (omega (arith, h.generation)) mv
+          let tried : IsCalm e.phase → ⊥ = λ n. subst IsCalm was.phase n in
+          tries-so good c now failures address b s is e h (e.generation + 1) 1 (omega (arith, h.generation)) mv false
+          (λ q. ((λ n. (refl, n)), ((λ n. absurd (tried n)), tt)))
 
   -- ---- INIT is answered
 
@@ -342,6 +349,7 @@ module _ (own far : Secrets) (mark : ℕ) (other : End) where
         sent = ((record { cookie = made; signed = refl; there = there }, tt), tt);
         told = refl;
         given = refl;
+        quiet = λ b. ((λ n. (refl, n)), tt);
       }
 
   module _ (good : AreGood own) where
@@ -446,6 +454,7 @@ module _ (own far : Secrets) (mark : ℕ) (other : End) where
           sent = (echo-said (since mark f) f _ octets (complained_of init.parameters) echo, tt);
           told = refl;
           given = refl;
+          quiet = λ b. ((λ n. absurd (subst IsCalm was.phase n)), tt);
         }
 
   -- ---- an association opens
@@ -557,6 +566,7 @@ module _ (own far : Secrets) (mark : ℕ) (other : End) where
         sent = tt;
         told = refl;
         given = refl;
+        quiet = λ b. ((λ n. (refl, tt)), ((λ n. (refl, n)), ((λ n. (refl, n)), tt)));
       }
 
   pub opened-by-ack-goes : (c : Settings) (now : ℕ) (s : State) → stage_of s.association.phase ≡ Echoing →

@@ -24,6 +24,8 @@ use Rattle.sctp_moves.specs.Ends.{Message, Name, Answer, Cookie, Chunk, Acknowle
 use Rattle.sctp_moves.specs.Ends as ends
 use Rattle.sctp_moves.specs.Moves as moves
 use Rattle.sctp_moves.specs.Moves.{EndMove, EndMoves, last_end, chunk_of, ack_of}
+use Rattle.sctp_moves.specs.Openings.{IsQuiet}
+use Rattle.sctp_moves.proofs.Standing.{quiet-append}
 use Rattle.sctp_moves.proofs.Keeping.{IsSound}
 use Rattle.sctp_ends.specs.Said.{young, IsData, chunk_in}
 use Rattle.sctp_ends.specs.Shown.{TakesIn, IsWhole, IsHeard, text_of}
@@ -136,6 +138,8 @@ pub record Takes (other e : End) (epoch : Epoch) (past : List Epoch) (steps : St
   pub received : after.received ≡ epoch.received ++ heard_in steps.told
   pub fine : AreFine steps.told
   pub takes : TakesIn (last_end e list) after steps.left
+  -- nothing is tried
+  pub quiet : IsQuiet e list
 
 -- ---- numbers
 
@@ -261,6 +265,7 @@ module _ (other : End) (past : List Epoch) where
     received = sym (ap (λ (ms : List Message). epoch.received ++ ms) none ∙ nothing-behind epoch.received);
     fine = fine;
     takes = h;
+    quiet = tt;
   } where
     nothing-behind : (ms : List Message) → ms ++ [] ≡ ms
     nothing-behind [] = refl
@@ -300,6 +305,7 @@ module _ (other : End) (past : List Epoch) where
             ∙ append_assoc epoch.received (heard_in (told ∷ [])) (heard_in steps.told)
             ∙ ap (λ (ms : List Message). epoch.received ++ ms) (sym (told-behind told steps));
         fine = fine-behind told steps t.fine u.fine;
+        quiet = quiet-append e t.list u.list t.quiet u.quiet;
         takes = subst (λ (f : End). TakesIn f u.after steps.left) (sym is) u.takes;
       }
 
@@ -359,6 +365,7 @@ module _ (other : End) (past : List Epoch) where
           held = nearer epoch m held r.cumulative holds free;
           acknowledged = first-in (ack_of later) e.acks;
         };
+        quiet = ((λ n. (refl, n)), ((λ n. (refl, n)), tt));
       }
 
   -- ---- what is held behind
@@ -494,6 +501,7 @@ module _ (other : End) (past : List Epoch) where
             same = record { own = refl; far = refl; sent = refl; acked = refl };
             received = sym (nothing-behind epoch.received);
             fine = tt;
+            quiet = ((λ n. (refl, n)), tt);
             takes = record {
               streams = h.streams;
               partial = h.partial;
@@ -556,6 +564,7 @@ module _ (other : End) (past : List Epoch) where
             received = u.received;
             fine = u.fine;
             takes = u.takes;
+            quiet = ((λ n. (refl, n)), u.quiet);
           },
         )
 

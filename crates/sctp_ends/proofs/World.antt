@@ -23,7 +23,7 @@ use Rattle.sctp_ends.specs.Shown.{AreGood, Waits, Stage, stage_of, own_name, far
 use Rattle.sctp_ends.specs.Told.{with_last, text_told, told_by, opened_by, given_by}
 use Rattle.sctp_ends.specs.Theorems.{GoesOn, steps_go_on}
 use Rattle.sctp_ends.specs.Worlds.{Site, new_site, count, messages_at, marked_by, emitted, with_done, World, Make, new_world, MayHappen, at_near, at_far, Step, Steps, last_world}
-use Rattle.sctp_ends.specs.Theorems.{Heeds, received_in, sent_in, AreReached, steps_are_moves, IsEmitted, ShowsSite, IsShown, worlds_are_shown}
+use Rattle.sctp_ends.specs.Theorems.{begins, Heeds, received_in, sent_in, AreReached, steps_are_moves, IsEmitted, ShowsSite, IsShown, worlds_are_shown}
 use Rattle.sctp_ends.specs.Theorems.{Delivers, told_messages_were_given, AreTogether, HasOpened, OpensTogether, associations_have_the_laws}
 use Rattle.sctp_ends.proofs.Said.{each-append, each-weaker, each-contains, more-said, said-older, Older}
 use Rattle.sctp_ends.proofs.Alike.{Outcome, told-append}
@@ -38,9 +38,9 @@ reached-sound e other (inr r) =
 
 pub are-moves : steps_are_moves
 are-moves c own far mark other e what s good reached h shown =
-    let r : Outcome own far mark other e (given_by what s (sent_in e)) (after c own what s) =
+    let r : Outcome own far mark other e (begins what) (given_by what s (sent_in e)) (after c own what s) =
     happens own far mark other good c what s h e (reached-sound e other reached) shown in
-    record { list = r.list; moves = r.moves; shows = r.shows; sent = r.sent; told = r.told; given = r.given }
+    record { list = r.list; moves = r.moves; shows = r.shows; sent = r.sent; told = r.told; given = r.given; quiet = r.quiet }
 
 -- ---- how many messages
 
@@ -84,7 +84,7 @@ module _ (own far : Secrets) where
   }
 
   -- what may happen was put out by the other end
-  heeds : (other : End) (site : Site) (what : Happening) → ShowsSite far own other site → MayHappen site what → Heeds own far other what
+  pub heeds : (other : End) (site : Site) (what : Happening) → ShowsSite far own other site → MayHappen site what → Heeds own far other what
   heeds other site (Opens now is_active) shown may = tt
   heeds other site (Came now source packet) shown may =
       let one : IsEmitted far own other may.one = each-contains (IsEmitted far own other) site.packets shown.packets may.one may.there in
@@ -119,8 +119,8 @@ module _ (own far : Secrets) where
   marked c Aborts s site f l h = h
   marked c (ShutsDown now) s site f l h = h
 
-  site-after : (c : Settings) (other e : End) (what : Happening) (site : Site) → ShowsSite own far e site →
-      (r : Outcome own far site.mark other e (given_by what site.state (sent_in e)) (after c own what site.state)) →
+  pub site-after : (c : Settings) (other e : End) (what : Happening) (site : Site) → ShowsSite own far e site →
+      (r : Outcome own far site.mark other e (begins what) (given_by what site.state (sent_in e)) (after c own what site.state)) →
       ShowsSite own far (last_end e r.list) (with_done what (after c own what site.state) site)
   site-after c other e what site shown r =
       let d : Done = after c own what site.state in
@@ -141,7 +141,7 @@ module _ (own far : Secrets) where
         given = r.given ∙ ap (λ (lists : List (List Message)). opened_by (given_by what site.state lists) d.told) shown.given;
       }
 
-  new-shown : (c : Settings) → ShowsSite own far new_end (new_site c)
+  pub new-shown : (c : Settings) → ShowsSite own far new_end (new_site c)
   new-shown c = record {
     state = record {
       generation = refl;
@@ -178,7 +178,7 @@ goes-on near far w v h good fine (at_near what may is) =
     let l : Secrets = far.secrets in
     let x : End = h.ends.near in
     let y : End = h.ends.far in
-    let r : Outcome k l w.near.mark y x (given_by what w.near.state (sent_in x)) (after near.settings k what w.near.state) =
+    let r : Outcome k l w.near.mark y x (begins what) (given_by what w.near.state (sent_in x)) (after near.settings k what w.near.state) =
     happens k l w.near.mark y good near.settings what w.near.state (heeds k l y w.far what h.far_end may) x (shown-sound near far w h) h.near_end.state in
     let m : AreMoves h.ends (map (λ (e : End). both e y) r.list) (both (last_end x r.list) y) = near-moves x y r.list r.moves in
     let all : AreMoves new_ends (h.list ++ map (λ (e : End). both e y) r.list) (both (last_end x r.list) y) =
@@ -202,7 +202,7 @@ goes-on near far w v h good fine (at_far what may is) =
     let l : Secrets = near.secrets in
     let x : End = h.ends.far in
     let y : End = h.ends.near in
-    let r : Outcome k l w.far.mark y x (given_by what w.far.state (sent_in x)) (after far.settings k what w.far.state) =
+    let r : Outcome k l w.far.mark y x (begins what) (given_by what w.far.state (sent_in x)) (after far.settings k what w.far.state) =
     happens k l w.far.mark y fine far.settings what w.far.state (heeds k l y w.near what h.near_end may) x
     (turned-sound y x (shown-sound near far w h)) h.far_end.state in
     let m : AreMoves h.ends (map (λ (e : End). both y e) r.list) (both y (last_end x r.list)) = far-moves y x r.list r.moves in
@@ -311,7 +311,7 @@ opens-together near far w v h good fine (at_near what may is) =
     let x : End = h.ends.near in
     let y : End = h.ends.far in
     let sound : IsSound x y = shown-sound near far w h in
-    let r : Outcome k l w.near.mark y x (given_by what w.near.state (sent_in x)) (after near.settings k what w.near.state) =
+    let r : Outcome k l w.near.mark y x (begins what) (given_by what w.near.state (sent_in x)) (after near.settings k what w.near.state) =
     happens k l w.near.mark y good near.settings what w.near.state (heeds k l y w.far what h.far_end may) x sound h.near_end.state in
     let left : Site = with_done what (after near.settings k what w.near.state) w.near in
     subst (λ (u : World). OpensTogether w u) (sym is)
@@ -325,7 +325,7 @@ opens-together near far w v h good fine (at_far what may is) =
     let x : End = h.ends.far in
     let y : End = h.ends.near in
     let sound : IsSound x y = turned-sound y x (shown-sound near far w h) in
-    let r : Outcome k l w.far.mark y x (given_by what w.far.state (sent_in x)) (after far.settings k what w.far.state) =
+    let r : Outcome k l w.far.mark y x (begins what) (given_by what w.far.state (sent_in x)) (after far.settings k what w.far.state) =
     happens k l w.far.mark y fine far.settings what w.far.state (heeds k l y w.near what h.near_end may) x sound h.far_end.state in
     let left : Site = with_done what (after far.settings k what w.far.state) w.far in
     subst (λ (u : World). OpensTogether w u) (sym is)

@@ -1,13 +1,14 @@
 -- Each step of an endpoint is a list of moves of the end that it shows; and what holds of two endpoints after every
 -- list of steps.
-use Rattle.std.specs.Prelude.{◌≡◌, ◌≢◌, ◌⊎◌, ◌<◌, ◌≤◌, ℕ, true, List, [], ◌++◌, length, map, slice_get, take, Some}
+use Rattle.std.specs.Prelude.{◌≡◌, ◌≢◌, ◌⊎◌, ◌<◌, ◌≤◌, ℕ, Bool, true, false, List, [], ◌++◌, length, map, slice_get, take, Some}
 use Rattle.sctp_rules.specs.Settings.{Settings, Secrets}
 use Rattle.sctp_rules.specs.State.{State, Done}
-use Rattle.sctp_rules.specs.Endpoint.{Happening, Came, after}
+use Rattle.sctp_rules.specs.Endpoint.{Happening, Opens, Came, after}
 use Rattle.sctp_rules.specs.Openings.{openings}
 use Rattle.sctp_moves.specs.Ends.{Message, End, Ends, new_ends}
 use Rattle.sctp_moves.specs.Moves.{EndMoves, last_end, Moves, last_of}
 use Rattle.sctp_moves.specs.Theorems.{BothWays, CarriesOver, OwnTagsDiffer, FarTagsDiffer, AreInOrder, both}
+use Rattle.sctp_moves.specs.Openings.{IsQuiet}
 use Rattle.sctp_ends.specs.Said.{Each, load, since, young, IsSaid, AreSaid}
 use Rattle.sctp_ends.specs.Shown.{AreGood, Waiting, Echoing, There, stage_of, Shows}
 use Rattle.sctp_ends.specs.Told.{told_by, opened_by, given_by}
@@ -27,8 +28,14 @@ received_in e = map (λ epoch. epoch.received) e.epochs
 abbrev pub sent_in : End → List (List Message)
 sent_in e = map (λ epoch. epoch.sent) e.epochs
 
+-- whether the user may begin a try
+abbrev pub begins : Happening → Bool
+begins (Opens now is_active) = true
+begins what = false
+
 -- what a rule does are moves: they lead to an end that shows the state that it leaves, and that put out what it puts
--- out. Its epochs are what the user was told and gave: Up begins one, and the messages behind it are those it received
+-- out. Its epochs are what the user was told and gave: Up begins one, and the messages behind it are those it received.
+-- Unless the user asks for it, an end that tries nothing begins no try
 pub record AreMovesOf (own far : Secrets) (mark : ℕ) (other e : End) (what : Happening) (s : State) (d : Done) :
     Type 0 where
   pub list : List End
@@ -37,6 +44,7 @@ pub record AreMovesOf (own far : Secrets) (mark : ℕ) (other e : End) (what : H
   pub sent : AreSaid own far mark (last_end e list) d.sent
   pub told : received_in (last_end e list) ≡ told_by (received_in e) d.told
   pub given : sent_in (last_end e list) ≡ opened_by (given_by what s (sent_in e)) d.told
+  pub quiet : begins what ≡ false → IsQuiet e list
 
 -- two ends to which moves lead
 pub record IsReached (p : Ends) : Type 0 where

@@ -15,7 +15,7 @@ use Rattle.sctp_moves.proofs.Opened.{IsOpening, opening-cookie, opening-ack, tie
 use Rattle.sctp_moves.proofs.Carried.{IsFlow, HasFar}
 use Rattle.sctp_moves.proofs.Keeping.{IsSound, turned-sound, sound-always}
 
-always : (Statement : Ends → Type 0) → ((p : Ends) → IsSound p.near p.far → Statement p) → Always Statement
+pub always : (Statement : Ends → Type 0) → ((p : Ends) → IsSound p.near p.far → Statement p) → Always Statement
 always Statement each list m =
     let h : IsSound (last_of new_ends list).near (last_of new_ends list).far = sound-always list m in
     record {

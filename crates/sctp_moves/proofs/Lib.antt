@@ -9,3 +9,5 @@ pub mod Concluded
 pub mod Happening
 pub mod Joining
 pub mod Turns
+pub mod Standing
+pub mod Openings

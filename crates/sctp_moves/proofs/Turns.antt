@@ -1,9 +1,7 @@
 -- Moves of one end that open an association, and what the other end is in then.
-use Rattle.std.proofs.Common.{◌≡◌, ◌≢◌, ◌⊎◌, inl, inr, ◌<◌, ◌≤◌, ℕ, suc, ◌+◌, arith, true, List, [], ◌∷◌, length, map, slice_get, Some, refl, ap, sym, ◌∙◌, subst}
-use Rattle.std.specs.List.{Contains}
+use Rattle.std.proofs.Common.{◌≡◌, ◌≢◌, ◌⊎◌, inl, inr, ◌<◌, ◌≤◌, ℕ, suc, arith, true, List, [], ◌∷◌, length, map, slice_get, Some, refl, ap, sym, ◌∙◌, subst}
 use Rattle.std.proofs.Math.Logic.{⊎_elim}
 use Rattle.std.proofs.lemmas.Bool.{cases_lt, cases_eq}
-use Rattle.std.proofs.lemmas.Grind.{common_steps}
 use Rattle.sctp_moves.specs.Ends.{Name, Epoch, new_epoch, Phase, CookieWait, CookieEchoed, Established, End}
 use Rattle.sctp_moves.specs.Moves as moves
 use Rattle.sctp_moves.specs.Moves.{IsTrying, EndMove, EndMoves, last_end}
@@ -22,13 +20,13 @@ pub record Meets (y : End) (e : Epoch) : Type 0 where
   pub echoing : (own far : Name) → y.phase ≡ CookieEchoed own far → own.tag ≡ e.far.tag → far.tag ≡ e.own.tag
   pub waiting : (own : Name) → y.phase ≡ CookieWait own → own.tag ≢ e.far.tag
 
-abbrev HasOne : List Epoch → Epoch → Type 0
+abbrev pub HasOne : List Epoch → Epoch → Type 0
 HasOne es e = (f : Epoch) × In f es × AreOne e f
 
-abbrev HasNone : List Epoch → Epoch → Type 0
+abbrev pub HasNone : List Epoch → Epoch → Type 0
 HasNone es e = (f : Epoch) → In f es → AreOne e f → ⊥
 
-find-one : (e : Epoch) (es : List Epoch) → HasOne es e ⊎ HasNone es e
+pub find-one : (e : Epoch) (es : List Epoch) → HasOne es e ⊎ HasNone es e
 find-one e [] = inr (λ f i one. i)
 find-one e (g ∷ es) = by (find-one e es) where
   by : HasOne es e ⊎ HasNone es e → HasOne (g ∷ es) e ⊎ HasNone (g ∷ es) e
@@ -95,7 +93,7 @@ meets x y z e past h m down up now = by (find-one e y.epochs) where
 
 -- ---- a move opens an association, or the names of all stay
 
-data Turn (p q : End) : Type 0 where
+pub data Turn (p q : End) : Type 0 where
   keeps : map tie q.epochs ≡ map tie p.epochs → Turn p q
   opens : (e : Epoch) → p.phase ≢ Established → q.phase ≡ Established → q.epochs ≡ e ∷ p.epochs → Turn p q
 
@@ -105,7 +103,7 @@ same-ties p q after e t = keeps (ap (λ (w : End). map tie w.epochs) e ∙ t)
 echoed-down : (s : Phase) (own far : Name) → s ≡ CookieEchoed own far → s ≢ Established
 echoed-down s own far e up = let x : CookieEchoed own far ≡ Established = sym e ∙ up in absurd (cc)
 
-turn : (y p q : End) → EndMove y p q → Turn p q
+pub turn : (y p q : End) → EndMove y p q → Turn p q
 turn y p q (moves.wants m) = same-ties p q _ m.after refl
 turn y p q (moves.begins m) = same-ties p q _ m.after refl
 turn y p q (moves.renews m) = same-ties p q _ m.after refl
@@ -132,10 +130,10 @@ ties-long : (es : List Epoch) → length (map tie es) ≡ length es
 ties-long [] = refl
 ties-long (e ∷ es) = ap suc (ties-long es)
 
-kept-long : (p q : End) → map tie q.epochs ≡ map tie p.epochs → length q.epochs ≡ length p.epochs
+pub kept-long : (p q : End) → map tie q.epochs ≡ map tie p.epochs → length q.epochs ≡ length p.epochs
 kept-long p q e = sym (ties-long q.epochs) ∙ ap (λ (ts : List Tie). length ts) e ∙ ties-long p.epochs
 
-opened-long : (p q : End) (e : Epoch) → q.epochs ≡ e ∷ p.epochs → length q.epochs ≡ suc (length p.epochs)
+pub opened-long : (p q : End) (e : Epoch) → q.epochs ≡ e ∷ p.epochs → length q.epochs ≡ suc (length p.epochs)
 opened-long p q e now = ap (λ (es : List Epoch). length es) now
 
 never-fewer : (y p q : End) → EndMove y p q → length p.epochs ≤ length q.epochs
@@ -144,7 +142,7 @@ never-fewer y p q m = by (turn y p q m) where
   by (keeps k) = omega (arith, kept-long p q k)
   by (opens e down up now) = omega (arith, opened-long p q e now)
 
-none-fewer : (y p : End) (list : List End) → EndMoves y p list → length p.epochs ≤ length (last_end p list).epochs
+pub none-fewer : (y p : End) (list : List End) → EndMoves y p list → length p.epochs ≤ length (last_end p list).epochs
 none-fewer y p [] m = omega arith
 none-fewer y p (q ∷ rest) m =
     let a : length p.epochs ≤ length q.epochs = never-fewer y p q m.0 in

@@ -8,6 +8,7 @@ ghost use Rattle.sctp_moves.specs.Theorems.{own_tags_differ, far_tags_differ};
 ghost use Rattle.sctp_moves.specs.Theorems.{first_finds_other_waiting, second_enters_latest};
 ghost use Rattle.sctp_moves.specs.Theorems.{associations_come_in_order};
 ghost use Rattle.sctp_moves.specs.Theorems.{near_moves_are_moves, far_moves_are_moves, moves_join};
+ghost use Rattle.sctp_moves.specs.Openings.{openings_come_in_turn, established_ends_are_spent, cookies_are_not_revived};
 ghost use Rattle.sctp_moves.specs.Example.{Happens};
 
 /// "Prefix" and "confirmed": where both ends had an association, what one received in it is the
@@ -43,6 +44,17 @@ pub fn second_end_enters_latest()
 /// "Order": the associations that both ends had come in the same order at both.
 pub fn both_ends_have_the_same_order()
     ensures { associations_come_in_order }
+{}
+
+/// Openings come in turn. An end opens an association first by a cookie that the other one echoed, and
+/// the other may follow into that one alone: not once either end opened another, and not once it was
+/// ahead itself. A cookie is spent once an end has an association: what that end echoed before opens
+/// nothing at the other end but this association, also when it has fallen. And nothing that the other
+/// end does makes a cookie good again.
+pub fn openings_come_in_turn()
+    ensures turns { openings_come_in_turn }
+    ensures spent { established_ends_are_spent }
+    ensures revived { cookies_are_not_revived }
 {}
 
 /// Moves of one end, while the other stands still, are moves of both; and moves behind moves are

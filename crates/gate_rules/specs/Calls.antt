@@ -1,0 +1,88 @@
+-- What a gate does, as steps of a node.
+use Rattle.std.specs.Prelude.{◌≡◌, ◌<◌, ℕ, Bool, true, false, List, [], ◌∷◌, Some, None, length, map}
+use Rattle.std.specs.List.{Contains}
+use Rattle.sctp_codec.specs.Packets.{PacketValue}
+use Rattle.sctp_rules.specs.State.{Datagram}
+use Rattle.sctp_rules.specs.Wishing.{Wish, Idle, Seeking, Served}
+use Rattle.sctp_ends.specs.Worlds as ends
+use Rattle.sctp_endpoint.specs.Endpoints.{secrets_of}
+use Rattle.exchange_rules.specs.Queues.{WholeQueues, whole}
+use Rattle.sctp_gate.specs.Gates.{Gate, Did, new_gate}
+use Rattle.sctp_gate.specs.Calling.{Call, Hears, Ticks, Settles, Fills, called}
+use Rattle.node_rules.specs.Worlds.{Make, Node, new_node, Doing, did, MayDo, World}
+use Rattle.node_rules.specs.Promises.{Always}
+
+-- ---- a gate beside a node
+
+abbrev pub is_served : Wish → Bool
+is_served Idle = false
+is_served Seeking = false
+is_served Served = true
+
+abbrev pub is_seeking : Wish → Bool
+is_seeking Idle = false
+is_seeking Seeking = true
+is_seeking Served = false
+
+-- a gate is that of a link of a node: it has the link's endpoint, and knows what its user wants
+pub record Shows (m : Make) (n : Node) (link : ℕ) (g : Gate) : Type 0 where
+  pub link_is : g.link ≡ link
+  pub settings : (m.endpoints link).settings ≡ g.endpoint.settings
+  pub secrets : (m.endpoints link).secrets ≡ secrets_of g.endpoint
+  pub state : (n.ports link).site.state ≡ g.endpoint.state
+  pub up : g.standing.is_up ≡ is_served (n.ports link).wish
+  pub seeking : g.standing.is_seeking ≡ is_seeking (n.ports link).wish
+
+-- ---- steps of a node, one after another
+
+abbrev pub dids : Make → List Doing → Node → Node
+dids m [] n = n
+dids m (what ∷ more) n = dids m more (did m what n)
+
+-- each may be done, while the other node stands still
+abbrev pub MayAll : Make → (other : Node) → List Doing → Node → Type 0
+MayAll m other [] n = Unit {0}
+MayAll m other (what ∷ more) n = MayDo m other what n × MayAll m other more (did m what n)
+
+-- all packets that the endpoint of a link put out
+abbrev pub packets_of : Node → (link : ℕ) → List PacketValue
+packets_of n link = map (λ e. e.packet) (n.ports link).site.packets
+
+-- what a call does is what steps do: the gate and the exchange afterwards are those of the node, and the endpoint put out
+-- what the call puts out
+pub record AreSteps (m : Make) (other n : Node) (link : ℕ) (d : Did WholeQueues) : Type 0 where
+  pub steps : List Doing
+  pub may : MayAll m other steps n
+  pub shows : Shows m (dids m steps n) link d.gate
+  pub exchange : (dids m steps n).books.exchange ≡ d.exchange
+  pub sent : (x : Datagram) → Contains d.sent x → Contains (packets_of (dids m steps n) link) x.packet
+
+-- ---- calls, but for fills
+
+-- a packet that comes was put out at the other end of the link, and isn't too old
+abbrev pub MayCall : (other : Node) → (link : ℕ) → Call → Type 0
+MayCall other link (Hears now None source) = Unit {0}
+MayCall other link (Hears now (Some packet) source) = ends.Arrives (other.ports link).site packet
+MayCall other link (Ticks now) = Unit {0}
+MayCall other link (Settles now) = Unit {0}
+MayCall other link (Fills now) = ⊥
+
+-- of a node and the other one, whatever was done before
+abbrev pub CallsAreSteps : (m : Make) → (other n : Node) → Type 0
+CallsAreSteps m other n =
+    (link : ℕ) (g : Gate) (call : Call) → link < length m.configuration.links → Shows m n link g →
+    MayCall other link call → AreSteps m other n link (called whole call g n.books.exchange)
+
+pub record BothCall (near far : Make) (w : World) : Type 0 where
+  pub near_calls : CallsAreSteps near w.far w.near
+  pub far_calls : CallsAreSteps far w.near w.far
+
+abbrev pub calls_are_steps : Type 0
+calls_are_steps = Always BothCall
+
+-- a new gate is that of a link of a new node
+abbrev pub new_gates_show : Type 0
+new_gates_show =
+    (m : Make) (link : ℕ) (g : Gate) (tries : Bool) (tag_key cookie_key : List ℕ) →
+    g ≡ new_gate link tries (m.endpoints link).settings tag_key cookie_key →
+    (m.endpoints link).secrets ≡ secrets_of g.endpoint → Shows m (new_node m) link g

@@ -1,0 +1,10 @@
+pub mod Staying
+pub mod Flights
+pub mod PairSteps
+pub mod Telling
+pub mod Linked
+pub mod Walk
+pub mod Associating
+pub mod Sending
+pub mod Runs
+pub mod Promised

@@ -1,0 +1,21 @@
+//! What two nodes promise each other over any network. The statements are those of `specs/Promises.antt`.
+
+ghost use Rattle.node_rules.specs.Promises.{runs_are_runs_of_pairs, each_message_once, each_flow_in_order};
+
+/// Whatever the network does, what two nodes do is what two exchanges do with frames in flight between them.
+pub fn runs_of_two_nodes_are_runs_of_pairs()
+    ensures { runs_are_runs_of_pairs }
+{}
+
+/// "Exactly once" over datagrams, in both directions. While neither exchange may have lost a message, as many user
+/// messages of any kind were accepted at one node as the other received and as wait between them.
+pub fn each_message_comes_once()
+    ensures { each_message_once }
+{}
+
+/// "Order" over datagrams, in both directions. While neither exchange may have lost a message, and no timer of the
+/// accepting node ended a hold, the user messages of a flow that one node accepted are, in order, those that the other
+/// received, and then those that wait.
+pub fn each_flow_keeps_its_order()
+    ensures { each_flow_in_order }
+{}
