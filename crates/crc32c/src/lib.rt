@@ -21,6 +21,7 @@ pub fn crc32c(octets: &[u8]) -> u32
 
 /// The remainder after the octets, from the remainder before them. Octets may come in pieces of any
 /// length: the remainder after one is that before the next. Eight octets take one step.
+#[inline(always)]
 pub fn remainder(before: u32, octets: &[u8]) -> u32
     ensures { result ≡ after_octets before octets.now }
 {
