@@ -206,6 +206,7 @@ pub enum Chunk<'a> {
 
 impl<'a> Chunk<'a> {
     /// What the item says as a chunk.
+    #[inline(never)]
     #[tactic(auto, unfolding(crate::specs::Reading::chunk_of))]
     pub(crate) fn read(item: Item<'a>) -> Chunk<'a>
         ensures { chunk_value result ≡ chunk_in (item_of item.entry) }

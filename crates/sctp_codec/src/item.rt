@@ -16,6 +16,7 @@ pub struct Item<'a> {
 }
 
 /// The first item of the octets, and what stands behind its padding. None where they don't begin with a whole item.
+#[inline(always)]
 pub(crate) fn first(octets: &[u8]) -> Option<(Item<'_>, &[u8])>
     ensures { MatchOption result (begins_whole octets.now ≡ false) (λ found.
         (begins_whole octets.now ≡ true) × (item_of found.0 ≡ first_item octets.now)

@@ -48,6 +48,7 @@ impl<'a> Iterator for Items<'a> {
 
     ghost remaining = { item_count items_of };
 
+    #[inline(always)]
     fn next(&mut self) -> Option<Item<'a>> {
         let Some((item, behind)) = first(self.octets) else {
             return None;

@@ -1,6 +1,6 @@
 //! Packets, read from their octets.
 
-ghost use Rattle.std.specs.Prelude.{◌≡◌, ◌==◌, ◌<◌, ◌≤◌, length, take, drop, slice_index};
+ghost use Rattle.std.specs.Prelude.{◌≡◌, ◌==◌, ◌||◌, ◌<◌, ◌≤◌, length, take, drop, slice_index};
 ghost use Rattle.sctp_codec.specs.Items.{read_items};
 ghost use Rattle.sctp_codec.specs.Reading.{read_packet, chunk_in, checksum_of, checksum_field};
 ghost use Rattle.sctp_codec.specs.Reading.{is_bundled_well, has_type};
@@ -69,6 +69,7 @@ impl<'a> Iterator for Chunks<'a> {
 
     ghost remaining = { item_count chunks_of };
 
+    #[inline(always)]
     fn next(&mut self) -> Option<Chunk<'a>> {
         let item = self.items.next()?;
         Some(Chunk::read(item))
@@ -98,13 +99,26 @@ fn checksum(octets: &[u8]) -> u32
 fn is_bundled_well(tag: Tag, items: Items<'_>) -> bool
     ensures { result ≡ is_bundled_well tag (items_of items.entry) }
 {
-    if has_type(INIT, items) {
-        is_alone(items) && tag == 0
-    } else if has_type(INIT_ACK, items) {
-        is_alone(items)
-    } else {
+    if !has_beginning(items) {
         true
+    } else if has_type(INIT, items) {
+        is_alone(items) && tag == 0
+    } else {
+        is_alone(items)
     }
+}
+
+/// Whether one of the chunks is INIT or INIT ACK. All are looked at once, since few packets have either.
+fn has_beginning(items: Items<'_>) -> bool
+    ensures { result ≡ (has_type INIT (items_of items.entry) || has_type INIT_ACK (items_of items.entry)) }
+{
+    'each_item: for item in items {
+        let [kind, _] = item.kind.to_be_bytes();
+        if kind == INIT || kind == INIT_ACK {
+            return true;
+        }
+    }
+    false
 }
 
 /// Whether there is one item.
