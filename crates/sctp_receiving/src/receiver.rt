@@ -1,7 +1,7 @@
 //! The receiving half of an association.
 
-ghost use Rattle.std.specs.Prelude.{◌≡◌, ℕ, ◌+◌, ◌-◌, ◌%◌, ◌<◌, ◌≤◌, ◌^◌, ◌++◌, ◌∷◌, [], length, IsTrue, IfOk};
-ghost use Rattle.std.specs.Prelude.{Some, None, ◌&&◌, not, take, is_some, if◌then◌else◌, replicate, slice_index_or};
+ghost use Rattle.std.specs.Prelude.{◌≡◌, ◌==◌, ℕ, ◌+◌, ◌-◌, ◌%◌, ◌<◌, ◌≤◌, ◌^◌, ◌++◌, ◌∷◌, [], length, IsTrue, IfOk};
+ghost use Rattle.std.specs.Prelude.{Some, None, true, ◌&&◌, not, take, is_some, if◌then◌else◌, replicate, slice_index_or};
 ghost use Rattle.std.specs.Prelude.{slice_set, sum_by};
 ghost use Rattle.std.specs.Option.{option_map};
 ghost use Rattle.sctp_receiving.specs.Tsn.{next_tsn, steps_between};
@@ -23,6 +23,7 @@ ghost use Rattle.sctp_receiving.specs.Receiver.{
   next_held,
   take_next,
 };
+ghost use Rattle.sctp_receiving.specs.Room.{held_count};
 ghost use Rattle.sctp_receiving.specs.Sack.{blocks, block_from, is_held_ahead, reported};
 
 use crate::assembly::Assembly;
@@ -154,6 +155,14 @@ impl Receiver {
             return ArrayVec::new();
         }
         self.blocks_held()
+    }
+
+    /// Whether no chunk is held. Then a SACK has no gap blocks.
+    pub fn holds_none(&self) -> bool
+        ensures held { result ≡ (sum_by held_count self.now.held == 0) }
+        ensures gaps { result ≡ true → blocks self.now ≡ [] }
+    {
+        self.count == 0
     }
 
     // The gap blocks of a SACK.
