@@ -4,6 +4,7 @@ ghost use Rattle.std.specs.Prelude.{◌≡◌, ◌+◌, ◌*◌, ◌/◌, ◌≤
 ghost use Rattle.sctp_codec.specs.Packets.{ChunkValue, DataChunk, ShutdownChunk};
 ghost use Rattle.sctp_codec.specs.Values.{data_of};
 ghost use Rattle.sctp_sending.specs.Cells.{given_as};
+ghost use Rattle.sctp_receiving.specs.Sack.{blocks};
 ghost use Rattle.sctp_rules.specs.Data.{sack_of};
 ghost use Rattle.sctp_rules.specs.Sending.{closed};
 ghost use Rattle.sctp_bundling.specs.Bundling.{Adds, HasMadeRoom, carried_as, draft_of};
@@ -57,14 +58,21 @@ impl Model for Draft {
 
 impl Draft {
     /// A packet that begins with these chunks.
+    #[inline(always)]
     pub fn beginning(way: Way, chunks: &Chunks) -> Draft
         ensures way { result.way ≡ way_of way }
         ensures text { result.text ≡ draft_of (way_of way) chunks.now }
     {
-        let mut out = blank();
-        let at = begin(&mut out, way.source, way.destination, way.tag);
-        let end = write_at(&mut out, at, chunks.octets());
-        Draft { out, end, way }
+        // written in its place: a packet isn't moved
+        let mut draft = Draft {
+            out: blank(),
+            end: HEADER_OCTETS,
+            way,
+        };
+        let at = begin(&mut draft.out, way.source, way.destination, way.tag);
+        let end = write_at(&mut draft.out, at, chunks.octets());
+        draft.end = end;
+        draft
     }
 
     /// A message goes out behind what waits, as DATA.
@@ -90,6 +98,34 @@ impl Draft {
 
     /// SACK goes out behind what waits: what a receiver has.
     pub fn add_sack<W: Watch>(&mut self, receiver: &Receiver, watch: &mut W)
+        ensures { Adds W.has watch.old watch.new self.old self.new (sack_of receiver.now ∷ []) }
+    {
+        if receiver.holds_none() {
+            self.add_sack_without_gaps(receiver, watch);
+        } else {
+            self.add_sack_with_gaps(receiver, watch);
+        }
+    }
+
+    /// The same where no chunk is held.
+    fn add_sack_without_gaps<W: Watch>(&mut self, receiver: &Receiver, watch: &mut W)
+        requires { blocks receiver.now ≡ [] }
+        ensures { Adds W.has watch.old watch.new self.old self.new (sack_of receiver.now ∷ []) }
+    {
+        let duplicates = receiver.duplicates();
+        self.make_room(SACK_OCTETS + NUMBER_OCTETS * duplicates.len(), watch);
+        self.end = write_sack(
+            &mut self.out,
+            self.end,
+            receiver.cumulative(),
+            window_of(receiver),
+            &[],
+            duplicates,
+        );
+    }
+
+    /// The same with the chunks that are held.
+    fn add_sack_with_gaps<W: Watch>(&mut self, receiver: &Receiver, watch: &mut W)
         ensures { Adds W.has watch.old watch.new self.old self.new (sack_of receiver.now ∷ []) }
     {
         let mut blocks = [NO_BLOCK; BLOCKS];

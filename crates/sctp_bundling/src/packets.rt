@@ -71,6 +71,7 @@ pub(crate) fn write_at(out: &mut PacketBuffer, at: usize, octets: &[u8]) -> usiz
 }
 
 /// A buffer with zeros.
+#[inline(always)]
 pub(crate) fn blank() -> PacketBuffer {
     [0; PACKET_OCTETS]
 }

@@ -27,6 +27,7 @@ impl Endpoint {
     }
 
     /// A packet begins with the answers that wait.
+    #[inline(always)]
     fn begin_draft(&self) -> Draft
         ensures few { sum_by size_of self.now.state.association.control ≤ 1024 }
         ensures way { result.way ≡ way_of_peer self.now }

@@ -6,7 +6,7 @@ use Rattle.sctp_bundling.specs.Bundling.{Adds}
 use Rattle.sctp_bundling.specs.Drafts.{draft_in}
 use Rattle.sctp_bundling.proofs.Bundling.{chunk-added}
 use Rattle.sctp_bundling.proofs.Sacks.{sack-size, sack-said, sack_with, block-count}
-use Rattle.sctp_bundling.proofs.draft.Draft.add_sack.Goals as goal
+use Rattle.sctp_bundling.proofs.draft.Draft.add_sack_with_gaps.Goals as goal
 
 pub returns : goal.returns
 returns g c =
