@@ -11,21 +11,24 @@ const CHUNKS_OCTETS: usize = 1_188;
 /// Octets of a DATA chunk in front of its message.
 const DATA_OCTETS: usize = 16;
 
+/// Datagrams that a SACK confirms.
+pub const CONFIRMED: u32 = 2;
+
 /// What the words behind the program's name ask for.
 #[derive(Clone, Copy)]
 pub struct Arguments {
     /// Octets of each message.
     pub octets: usize,
-    /// How many messages are given at once: those of two datagrams.
-    pub at_once: u32,
-    /// How often they are.
+    /// How many messages go in a datagram: one, or as many as it takes.
+    pub in_each: u32,
+    /// How often so many datagrams go as a SACK confirms.
     pub rounds: u32,
 }
 
 impl Arguments {
-    /// Reads the two words. None where one of them is missing, or out of range.
+    /// Reads the three words. None where one of them is missing, unknown or out of range.
     pub fn read(words: &[String]) -> Option<Arguments> {
-        let [octets, count] = words else {
+        let [kind, octets, count] = words else {
             return None;
         };
         let octets = octets.as_str().parse::<usize>().ok()?;
@@ -33,12 +36,23 @@ impl Arguments {
         if octets == 0 || octets > MESSAGE_OCTETS {
             return None;
         }
-        let chunk = DATA_OCTETS + (octets + 3) / 4 * 4;
-        let at_once = 2 * (CHUNKS_OCTETS / chunk) as u32;
+        let in_each = match kind.as_str() {
+            "one" => 1,
+            "full" => most_in_each(octets),
+            _ => return None,
+        };
         Some(Arguments {
             octets,
-            at_once,
-            rounds: count / at_once.max(1),
+            in_each,
+            rounds: count / CONFIRMED / in_each.max(1),
         })
     }
+}
+
+/// How many messages of so many octets a datagram takes.
+fn most_in_each(octets: usize) -> u32
+    requires { octets ≤ MESSAGE_OCTETS }
+{
+    let chunk = DATA_OCTETS + (octets + 3) / 4 * 4;
+    (CHUNKS_OCTETS / chunk) as u32
 }
