@@ -57,22 +57,31 @@ impl Model for Draft {
 }
 
 impl Draft {
-    /// A packet that begins with these chunks.
-    #[inline(always)]
-    pub fn beginning(way: Way, chunks: &Chunks) -> Draft
-        ensures way { result.way ≡ way_of way }
-        ensures text { result.text ≡ draft_of (way_of way) chunks.now }
+    /// A packet that hasn't begun: `begin_with` has to be called first. It is made in its place, and not moved.
+    #[inline(never)]
+    pub fn new(way: Way) -> Draft
+        ensures { result.way ≡ way_of way }
     {
-        // written in its place: a packet isn't moved
-        let mut draft = Draft {
+        Draft {
             out: blank(),
             end: HEADER_OCTETS,
             way,
-        };
-        let at = begin(&mut draft.out, way.source, way.destination, way.tag);
-        let end = write_at(&mut draft.out, at, chunks.octets());
-        draft.end = end;
-        draft
+        }
+    }
+
+    /// A packet begins with these chunks. What it had before is dropped.
+    pub fn begin_with(&mut self, chunks: &Chunks)
+        ensures way { self.new.way ≡ self.old.way }
+        ensures text { self.new.text ≡ draft_of self.old.way chunks.now }
+    {
+        let at = begin(
+            &mut self.out,
+            self.way.source,
+            self.way.destination,
+            self.way.tag,
+        );
+        let end = write_at(&mut self.out, at, chunks.octets());
+        self.end = end;
     }
 
     /// A message goes out behind what waits, as DATA.

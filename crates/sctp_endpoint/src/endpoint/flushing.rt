@@ -19,22 +19,30 @@ impl Endpoint {
         ensures { Does W.has watch.old watch.new self.old self.new
             (flush self.old.settings now self.old.state) }
     {
-        let mut draft = self.begin_draft();
+        let mut draft = self.blank_draft();
+        self.begin_draft(&mut draft);
         self.bundle_acknowledgement(&mut draft, now, watch);
         self.bundle_messages(&mut draft, now, watch);
         draft.put_rest(watch);
         self.control.clear();
     }
 
-    /// A packet begins with the answers that wait.
+    /// A packet to the peer that hasn't begun.
     #[inline(always)]
-    fn begin_draft(&self) -> Draft
-        ensures few { sum_by size_of self.now.state.association.control ≤ 1024 }
-        ensures way { result.way ≡ way_of_peer self.now }
-        ensures text { result.text ≡ draft_of (way_of_peer self.now) self.now.state.association.control }
+    fn blank_draft(&self) -> Draft
+        ensures { result.way ≡ way_of_peer self.now }
     {
-        let way = self.way(&self.address, self.far_tag);
-        Draft::beginning(way, &self.control)
+        Draft::new(self.way(&self.address, self.far_tag))
+    }
+
+    /// A packet to the peer begins with the answers that wait.
+    fn begin_draft(&self, draft: &mut Draft)
+        requires { draft.old.way ≡ way_of_peer self.now }
+        ensures few { sum_by size_of self.now.state.association.control ≤ 1024 }
+        ensures way { draft.new.way ≡ way_of_peer self.now }
+        ensures text { draft.new.text ≡ draft_of (way_of_peer self.now) self.now.state.association.control }
+    {
+        draft.begin_with(&self.control);
     }
 
     /// Where SACK counts, the messages that may go out do.
