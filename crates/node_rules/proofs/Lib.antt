@@ -8,3 +8,4 @@ pub mod Associating
 pub mod Sending
 pub mod Runs
 pub mod Promised
+pub mod Happening

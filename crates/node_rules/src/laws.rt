@@ -1,5 +1,6 @@
 //! What two nodes promise each other over any network. The statements are those of `specs/Promises.antt`.
 
+ghost use Rattle.node_rules.specs.Example.{Happens};
 ghost use Rattle.node_rules.specs.Promises.{runs_are_runs_of_pairs, each_message_once, each_flow_in_order};
 
 /// Whatever the network does, what two nodes do is what two exchanges do with frames in flight between them.
@@ -18,4 +19,10 @@ pub fn each_message_comes_once()
 /// received, and then those that wait.
 pub fn each_flow_keeps_its_order()
     ensures { each_flow_in_order }
+{}
+
+/// These laws aren't empty: in a run of 11 steps a link opens at one node and then at the other, and a link status of the
+/// one crosses in a datagram that comes twice, once.
+pub fn a_link_opens_over_datagrams()
+    ensures { Happens }
 {}

@@ -21,7 +21,7 @@ use Rattle.sctp_ends.specs.Worlds.{Emitted, Site, messages_at, Arrives, at_near,
 use Rattle.sctp_ends.specs.Example as run
 use Rattle.sctp_ends.specs.Example.{fitting, make_from, packet_at, no_packet, Happens, given_twice_told_thrice}
 
-arrives : (s : Site) (place many messages : ℕ) → length s.packets ≡ many → place < many → messages_at s ≡ messages → messages ≤ 1000 →
+pub arrives : (s : Site) (place many messages : ℕ) → length s.packets ≡ many → place < many → messages_at s ≡ messages → messages ≤ 1000 →
     Arrives s (packet_at s place)
 arrives s place many messages l p m few =
     let one : Emitted = slice_index_or s.packets place no_packet in
@@ -51,7 +51,7 @@ opens (Some cookie) signed opened q e = by (nat_lt cookie.own_first_tsn modulus)
   by true e = sym (some-is cookie opened e) ∙ some-is cookie signed q
   by false e = absurd (cc)
 
-good : (number : ℕ) → AreGood (make_from number).secrets
+pub good : (number : ℕ) → AreGood (make_from number).secrets
 good number = record {
   fresh = λ i j a b p q same.
       let x : number + i ≡ number + j =
