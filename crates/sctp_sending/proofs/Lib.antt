@@ -4,3 +4,4 @@ pub mod Leaving
 pub mod Timing
 pub mod Naming
 pub mod Rooms
+pub mod Together

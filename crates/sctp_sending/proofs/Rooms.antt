@@ -10,18 +10,18 @@ use Rattle.sctp_sending.specs.Sending.{Sending, most_messages, most_octets, unde
 use Rattle.sctp_sending.proofs.Windows.{blank}
 
 -- behind a new one the others are as lost as before
-lost-same : (out : List Outgoing) (o : Outgoing) (place left : ℕ) → place + left ≤ length out → lost_from (out ++ o ∷ []) place left ≡ lost_from out place left
+pub lost-same : (out : List Outgoing) (o : Outgoing) (place left : ℕ) → place + left ≤ length out → lost_from (out ++ o ∷ []) place left ≡ lost_from out place left
 unfolding lost_from
 lost-same out o place zero b = refl
 lost-same out o place (suc left) b =
     ap (λ (p : Outgoing). cond p.lost (Some place) (lost_from (out ++ o ∷ []) (place + 1) left)) (get_or_append_left out (o ∷ []) blank place (omega (arith, b)))
     ∙ ap (λ (rest : Option ℕ). cond (outgoing_at out place).lost (Some place) rest) (lost-same out o (place + 1) left (omega (arith, b)))
 
-both : (x y : Bool) → (x && y) ≡ true → (x ≡ true) × (y ≡ true)
+pub both : (x y : Bool) → (x && y) ≡ true → (x ≡ true) × (y ≡ true)
 both true y e = (refl, e)
 both false y e = absurd (cc)
 
-none-of : (found : Option ℕ) → not (is_some found) ≡ true → found ≡ None
+pub none-of : (found : Option ℕ) → not (is_some found) ≡ true → found ≡ None
 none-of None e = refl
 none-of (Some place) e = absurd (cc)
 

@@ -10,6 +10,7 @@ pub mod Outbox
 pub mod Tallies
 pub mod Tallied
 pub mod Sending
+pub mod Waiting
 pub mod Gaps
 pub mod Naming
 pub mod Acknowledging

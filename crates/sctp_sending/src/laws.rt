@@ -1,6 +1,6 @@
 //! Laws of what an end sends. Each function says its law by its contract, and does nothing.
 
-ghost use Rattle.std.specs.Prelude.{◌≡◌, ◌≤◌, ℕ, ◌∷◌, ◌++◌, [], drop, length, Bool, true, Option, Some};
+ghost use Rattle.std.specs.Prelude.{◌≡◌, ◌≤◌, ◌+◌, ℕ, ◌∷◌, ◌++◌, [], drop, length, Bool, true, Option, Some};
 ghost use Rattle.sctp_sending.specs.declared.confirmation.Confirmation.{Confirmation};
 ghost use Rattle.sctp_sending.specs.Outgoing.{Message};
 ghost use Rattle.sctp_sending.specs.Sending.{
@@ -16,6 +16,7 @@ ghost use Rattle.sctp_sending.specs.Sending.{
   has_room,
   next_place,
 };
+ghost use Rattle.sctp_sending.specs.Waiting.{waiting_octets, has_room_behind, after_going};
 
 /// A message that is given goes behind the others, and only a cumulative TSN takes messages away: as many as it
 /// confirms, from the front. Nothing else changes which messages there are.
@@ -33,4 +34,12 @@ pub fn messages_leave_from_the_front()
 pub fn a_message_that_finds_room_goes_out_next()
     ensures { (s : Sending) (m : Message) → has_room s ≡ true → length m.octets ≤ most_octets
         → next_place (given s m) ≡ Some (length s.out) }
+{}
+
+/// Where there is room behind what didn't go out yet, a message of at most 290 octets that is given goes out behind it,
+/// and nothing holds any of it up: as packets are asked for next, all goes out in order, one message after another.
+pub fn messages_that_find_room_behind_others_go_out_with_them()
+    ensures { (s : Sending) (m : Message) (octets now place : ℕ) → waiting_octets s ≤ octets
+        → has_room_behind s octets ≡ true → length m.octets ≤ most_octets → s.went + place ≤ length s.out
+        → next_place (after_going place now (given s m)) ≡ Some (s.went + place) }
 {}

@@ -13,6 +13,7 @@ ghost use Rattle.sctp_sending.specs.Sending.{
   after_t3,
   stopped,
 };
+ghost use Rattle.sctp_sending.specs.Waiting.{has_room_behind};
 
 mod acknowledging;
 mod confirming;
@@ -111,6 +112,20 @@ impl Sender {
             && self.outbox.len() == self.outbox.went()
             && self.has_credit()
             && self.finds_window(MOST_OCTETS)
+    }
+
+    /// Whether a message that is sent now goes out as soon as packets are asked for, behind those that didn't go out yet
+    /// and have so many octets, or fewer.
+    #[tactic(auto, unfolding(crate::specs::Waiting::has_room_behind))]
+    pub fn has_room_behind(&self, octets: u32) -> bool
+        ensures { result ≡ has_room_behind self.now octets }
+    {
+        let ahead = u64::from(self.outbox.under_way()) + u64::from(octets);
+        self.outbox.len() < CELLS
+            && self.outbox.first_lost().is_none()
+            && ahead < u64::from(self.congestion.window())
+            && (u64::from(octets) + u64::from(MOST_OCTETS) <= u64::from(self.peer_window)
+                || ahead == 0)
     }
 
     /// How many messages were taken and aren't confirmed.
