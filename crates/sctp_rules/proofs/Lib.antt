@@ -1,5 +1,6 @@
 pub mod Rows
 pub mod Telling
+pub mod GoingTogether
 pub mod Wishing
 pub mod GivenMessages
 pub mod Halves

@@ -8,6 +8,7 @@ pub mod Data
 pub mod Packets
 pub mod Timers
 pub mod Sending
+pub mod Waiting
 pub mod Endpoint
 pub mod Rows
 pub mod Telling

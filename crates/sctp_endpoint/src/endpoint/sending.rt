@@ -2,6 +2,7 @@
 
 ghost use Rattle.std.specs.Prelude.{◌≡◌};
 ghost use Rattle.sctp_rules.specs.Sending.{has_room};
+ghost use Rattle.sctp_rules.specs.Waiting.{has_room_behind};
 ghost use Rattle.sctp_rules.specs.Timers.{deadline, earlier, t1_of};
 
 use crate::endpoint::Endpoint;
@@ -14,6 +15,14 @@ impl Endpoint {
         ensures { result ≡ has_room self.now.state }
     {
         matches!(self.phase, Phase::Established) && self.sender.has_room()
+    }
+
+    /// Whether a message that is sent now goes out with the next `flush`, behind those that were taken since the last one
+    /// and have so many octets in all, or fewer.
+    pub fn has_room_behind(&self, octets: u32) -> bool
+        ensures { result ≡ has_room_behind self.now.state octets }
+    {
+        matches!(self.phase, Phase::Established) && self.sender.has_room_behind(octets)
     }
 
     /// When the next timer runs out, in milliseconds; None while none runs (RFC 9260 §5.1, §6.3, §8.3, §9.2).
