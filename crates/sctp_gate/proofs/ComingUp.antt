@@ -1,14 +1,12 @@
 -- Where a link wants to open, its association comes up.
-use Rattle.std.proofs.Common.{◌≡◌, ◌∙◌, ◌<◌, ℕ, arith, Bool, true, false, List, [], ◌∷◌, Option, Some, None, refl, ap, sym, length}
-use Rattle.std.specs.Prelude.{◌&&◌, not, nat_lt, slice_index_or, if◌then◌else◌}
+use Rattle.std.proofs.Common.{◌≡◌, ◌∙◌, ◌<◌, ℕ, arith, Bool, true, false, List, [], ◌∷◌, Option, Some, None, refl, ap, length}
+use Rattle.std.specs.Prelude.{◌&&◌, not, slice_index_or, if◌then◌else◌}
 use Rattle.std.proofs.lemmas.Bool.Decides.{nat_tests}
 use Rattle.std.proofs.lemmas.List.{get_or-set_same}
 use Rattle.signalling_types.specs.Message.{Message, flow_of}
 use Rattle.signalling_types.specs.declared.cause.Cause.{Cause}
-use Rattle.signalling_types.specs.declared.outcome.Outcome.{Outcome}
 use Rattle.signalling_types.specs.declared.outcome.Outcome.TheVariants.{Handled}
 use Rattle.exchange_rules.specs.declared.wants.Wants.TheVariants.{Nothing, Open, Close}
-use Rattle.exchange_rules.specs.declared.wants.Wants.{Wants}
 use Rattle.exchange_rules.specs.State.{QueueKind, Node, State, Done, CameUp, unless◌then◌else◌, answer, with_parts, is_link, link_at, links_with, down}
 use Rattle.exchange_rules.specs.Routing.{link_of, no_room, waits, facts}
 use Rattle.exchange_rules.specs.Telling as telling

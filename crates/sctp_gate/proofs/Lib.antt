@@ -5,4 +5,5 @@ pub mod Agreeing
 pub mod Suiting
 pub mod ComingUp
 pub mod Rising
+pub mod GoingOut
 pub mod Filling

@@ -1,21 +1,20 @@
 -- No AssociationUp of a gate is refused: its endpoint tells Up only while its standing is that it seeks one, and then, once
 -- it is settled, the link wants to open.
 use Rattle.std.proofs.Common.{◌≡◌, ◌∙◌, ℕ, zero, suc, Bool, true, false, List, [], ◌∷◌, ◌++◌, Option, Some, None, refl, sym, ap, subst}
-use Rattle.std.specs.Prelude.{if◌then◌else◌}
+use Rattle.std.specs.Prelude.{◌+◌, ◌&&◌, length, if◌then◌else◌}
 use Rattle.std.specs.Option.{option_map}
 use Rattle.m2pa_codec.specs.Frames.{FrameValue, spelled}
-use Rattle.sctp_codec.specs.Packets.{PacketValue}
 use Rattle.sctp_receiving.specs.Pieces.{Message}
 use Rattle.sctp_rules.specs.declared.loss.Loss.{Loss}
 use Rattle.sctp_rules.specs.declared.loss.Loss.TheVariants.{Local}
-use Rattle.sctp_rules.specs.Settings.{Settings, Address}
 use Rattle.sctp_rules.specs.State as rules
 use Rattle.sctp_rules.specs.State.{Told, Up, Heard, Down, Done, silent}
 use Rattle.sctp_rules.specs.Ending.{abort}
 use Rattle.sctp_rules.specs.Opening.{opening}
 use Rattle.sctp_rules.specs.Sending.{has_room, send, flush}
+use Rattle.sctp_rules.specs.Waiting.{has_room_behind}
 use Rattle.sctp_rules.specs.Timers.{ticked}
-use Rattle.sctp_rules.specs.Wishing.{Wish, Idle, Seeking, Served, wish_after, wish_by, Fits, and_then}
+use Rattle.sctp_rules.specs.Wishing.{Wish, Idle, Seeking, Served, wish_after, Fits}
 use Rattle.sctp_rules.proofs.Passing.{Right, none-right}
 use Rattle.sctp_endpoint.specs.Dispatching.{heard_datagram}
 use Rattle.sctp_endpoint.specs.Endpoints.{Endpoint, secrets_of}
@@ -27,12 +26,11 @@ use Rattle.exchange_rules.specs.declared.wants.Wants.TheVariants.{Nothing, Open,
 use Rattle.sctp_gate.specs.declared.standing.Standing.{Standing}
 use Rattle.sctp_gate.specs.declared.gate.filling.TheConstants.{MOST_FRAMES}
 use Rattle.sctp_gate.specs.Standing.{idle, seeking, stands_by, stands_after}
-use Rattle.sctp_gate.specs.Watching.{Sight, Rose, CameIn, Dropped, Fell, Failed, WentOut}
+use Rattle.sctp_gate.specs.Watching.{Sight, CameIn, Dropped}
 use Rattle.sctp_gate.specs.Handing.{is_frame, after_one, sight_of, after_told, sights_of}
-use Rattle.sctp_gate.specs.Gates.{Gate, Did, nothing, followed_by, behind, with_state, is_lasting, may_try, handed, does, does_as, aborted, opened, wanted, settled_by, settled, between, heard, timed, flushed, text_to_take, message_of, with_given, given, put, taken_by, taken_all, filled, new_gate}
+use Rattle.sctp_gate.specs.Gates.{Gate, Did, nothing, followed_by, is_lasting, may_try, handed, does, does_as, aborted, opened, wanted, settled_by, settled, between, flushed, text_to_take, message_of, with_given, given, taken_by, taken_all, taken_if, filled, new_gate}
 use Rattle.sctp_gate.specs.Calling.{Call, Visit, Hears, Ticks, Settles, Fills, called, visited}
-use Rattle.sctp_gate.specs.Rising.{ComesUp, after_sight, after_seen, ComesUpIf, ComesUpEach, calls_are_seen, associations_come_up}
-use Rattle.sctp_gate.specs.Laws.{Agrees}
+use Rattle.sctp_gate.specs.Rising.{after_sight, after_seen, ComesUpIf, ComesUpEach, calls_are_seen, associations_come_up}
 use Rattle.sctp_gate.proofs.Agreeing.{agrees}
 use Rattle.sctp_gate.proofs.ComingUp.{comes-up}
 use Rattle.sctp_gate.proofs.Suiting.{Suits, heard-suits, ticked-suits, sent-suits, flushed-suits, opened-suits}
@@ -363,57 +361,52 @@ module _ {Q : Type 0} (q : QueueKind Q) where
       tracks : (g : Gate) (s : State Q) → Tracks g s (rest g s)
       keeps : (g : Gate) (s : State Q) → Good g → Keeps g s (rest g s)
 
-    -- a frame is taken and given
-    put-tracks : (frame : List ℕ) (g : Gate) (s : State Q) → Tracks g s (put q now frame g (taken q s g.link))
-    put-tracks frame g s =
-        let d : Did Q = given frame g (taken q s g.link) in
-        then-tracks g s d (λ h t. flushed q now h t) (record { link_is = refl; exchange_is = refl }) (does-tracks (λ e. flush e.settings now e.state) d.gate d.exchange)
-
-    put-keeps : (frame : List ℕ) (g : Gate) (s : State Q) → Good g → Keeps g s (put q now frame g (taken q s g.link))
-    put-keeps frame g s h =
-        let d : Did Q = given frame g (taken q s g.link) in
-        let k : Good d.gate = given-good frame g h in
-        then-keeps g s d (λ h t. flushed q now h t) (record { link_is = refl; exchange_is = refl }) (record { good = k; up = (tt, tt) })
-        (flushed-keeps d.gate d.exchange k)
-
-    taken_by-takes : (rest : Gate → State Q → Did Q) (text : Option (List ℕ)) (g : Gate) (s : State Q) → Takes rest → text_to_take q s g.link ≡ text
-        → Tracks g s (taken_by q now rest text g s) × (Good g → Keeps g s (taken_by q now rest text g s))
+    taken_by-takes : (rest : List ℕ → Gate → State Q → Did Q) (text : Option (List ℕ)) (g : Gate) (s : State Q) → ((frame : List ℕ) → Takes (rest frame))
+        → text_to_take q s g.link ≡ text → Tracks g s (taken_by q rest text g s) × (Good g → Keeps g s (taken_by q rest text g s))
     taken_by-takes rest None g s t e =
         let same : taken q s g.link ≡ s = none-taken g.link s e in
         (record { link_is = refl; exchange_is = same }, λ h. record { good = h; up = tt })
     taken_by-takes rest (Some frame) g s t e =
-        let d : Did Q = put q now frame g (taken q s g.link) in (
-          then-tracks g s d rest (put-tracks frame g s) (t.tracks d.gate d.exchange),
+        let d : Did Q = given frame g (taken q s g.link) in
+        let one : Tracks g s d = record { link_is = refl; exchange_is = refl } in
+        let more : Takes (rest frame) = t frame in (
+          then-tracks g s d (rest frame) one (more.tracks d.gate d.exchange),
           λ h.
-              let k : Keeps g s d = put-keeps frame g s h in
-              then-keeps g s d rest (put-tracks frame g s) k (t.keeps d.gate d.exchange k.good),
+              let k : Good d.gate = given-good frame g h in
+              then-keeps g s d (rest frame) one (record { good = k; up = (tt, tt) }) (more.keeps d.gate d.exchange k),
         )
 
-    all-takes : (most : ℕ) → Takes (λ g s. taken_all q now most g s)
+    all-takes : (most octets : ℕ) → Takes (λ g s. taken_all q most octets g s)
     unfolding taken_all
-    all-takes zero = record { tracks = nothing-tracks; keeps = nothing-keeps }
-    all-takes (suc most) = record {
-      tracks = λ g s.
-          if-tracks (has_room g.endpoint.state) g s _ _
-          (taken_by-takes (λ h t. taken_all q now most h t) (text_to_take q s g.link) g s (all-takes most) refl).0 (nothing-tracks g s);
-      keeps = λ g s h.
-          if-keeps (has_room g.endpoint.state) g s _ _
-          (λ room. (taken_by-takes (λ h t. taken_all q now most h t) (text_to_take q s g.link) g s (all-takes most) refl).1 h)
-          (λ full. nothing-keeps g s h);
-    }
+    all-takes zero octets = record { tracks = nothing-tracks; keeps = nothing-keeps }
+    all-takes (suc most) octets =
+        let rest : List ℕ → Gate → State Q → Did Q = λ frame h t. taken_all q most (octets + length frame) h t in
+        record {
+          tracks = λ g s.
+              if-tracks (has_room_behind g.endpoint.state octets) g s _ _
+              (taken_by-takes rest (text_to_take q s g.link) g s (λ frame. all-takes most (octets + length frame)) refl).0 (nothing-tracks g s);
+          keeps = λ g s h.
+              if-keeps (has_room_behind g.endpoint.state octets) g s _ _
+              (λ room. (taken_by-takes rest (text_to_take q s g.link) g s (λ frame. all-takes most (octets + length frame)) refl).1 h)
+              (λ full. nothing-keeps g s h);
+        }
+
+    taken_if-tracks : (g : Gate) (s : State Q) → Tracks g s (taken_if q now g s)
+    taken_if-tracks g s =
+        let t : Takes (λ h u. taken_all q MOST_FRAMES 0 h u) = all-takes MOST_FRAMES 0 in
+        if-tracks (is_lasting now g.endpoint && has_room g.endpoint.state) g s _ _ (t.tracks g s) (nothing-tracks g s)
 
     filled-tracks : (g : Gate) (s : State Q) → Tracks g s (filled q now g s)
     filled-tracks g s =
-        let d : Did Q = taken_all q now MOST_FRAMES g s in
-        let t : Takes (λ h u. taken_all q now MOST_FRAMES h u) = all-takes MOST_FRAMES in
-        then-tracks g s d (λ h u. flushed q now h u) (t.tracks g s) (does-tracks (λ e. flush e.settings now e.state) d.gate d.exchange)
+        let d : Did Q = taken_if q now g s in
+        then-tracks g s d (λ h u. flushed q now h u) (taken_if-tracks g s) (does-tracks (λ e. flush e.settings now e.state) d.gate d.exchange)
 
     filled-keeps : (g : Gate) (s : State Q) → Good g → Keeps g s (filled q now g s)
     filled-keeps g s h =
-        let d : Did Q = taken_all q now MOST_FRAMES g s in
-        let t : Takes (λ h u. taken_all q now MOST_FRAMES h u) = all-takes MOST_FRAMES in
-        let k : Keeps g s d = t.keeps g s h in
-        then-keeps g s d (λ h u. flushed q now h u) (t.tracks g s) k (flushed-keeps d.gate d.exchange k.good)
+        let d : Did Q = taken_if q now g s in
+        let t : Takes (λ h u. taken_all q MOST_FRAMES 0 h u) = all-takes MOST_FRAMES 0 in
+        let k : Keeps g s d = if-keeps (is_lasting now g.endpoint && has_room g.endpoint.state) g s _ _ (λ e. t.keeps g s h) (λ e. nothing-keeps g s h) in
+        then-keeps g s d (λ h u. flushed q now h u) (taken_if-tracks g s) k (flushed-keeps d.gate d.exchange k.good)
 
   -- ---- every call
 

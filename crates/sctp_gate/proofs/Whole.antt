@@ -1,6 +1,6 @@
 -- What a call does on what is kept of an exchange is what it does on the abstract exchange.
 use Rattle.std.proofs.Common.{◌≡◌, ◌∙◌, ℕ, zero, suc, Bool, true, false, List, [], ◌∷◌, ◌++◌, Option, Some, None, refl, sym, ap, subst}
-use Rattle.std.specs.Prelude.{map, if◌then◌else◌}
+use Rattle.std.specs.Prelude.{◌+◌, ◌&&◌, length, map, if◌then◌else◌}
 use Rattle.std.specs.Option.{option_map}
 use Rattle.m2pa_codec.specs.Frames.{FrameValue, spelled}
 use Rattle.signalling_types.specs.declared.outcome.Outcome.{Outcome}
@@ -11,6 +11,7 @@ use Rattle.sctp_rules.specs.State as told
 use Rattle.sctp_rules.specs.Ending.{abort}
 use Rattle.sctp_rules.specs.Opening.{opening}
 use Rattle.sctp_rules.specs.Sending.{has_room, flush}
+use Rattle.sctp_rules.specs.Waiting.{has_room_behind}
 use Rattle.sctp_rules.specs.Timers.{ticked}
 use Rattle.sctp_endpoint.specs.Dispatching.{heard_datagram}
 use Rattle.sctp_endpoint.specs.Endpoints.{Endpoint, secrets_of}
@@ -29,7 +30,7 @@ use Rattle.sctp_gate.specs.declared.standing.Standing.{Standing}
 use Rattle.sctp_gate.specs.Standing.{idle, seeking}
 use Rattle.sctp_gate.specs.Watching.{Sight, Gives, CameIn, Dropped}
 use Rattle.sctp_gate.specs.Handing.{is_frame, after_one, sight_of, after_told, sights_of}
-use Rattle.sctp_gate.specs.Gates.{Gate, Did, nothing, followed_by, is_lasting, may_try, handed, does, does_as, aborted, settled_by, settled, between, heard, timed, flushed, text_to_take, given, put, taken_by, taken_all, filled}
+use Rattle.sctp_gate.specs.Gates.{Gate, Did, nothing, followed_by, is_lasting, may_try, handed, does, does_as, aborted, settled_by, settled, between, heard, timed, flushed, text_to_take, given, taken_by, taken_all, taken_if, filled}
 use Rattle.sctp_gate.specs.Making.{Makes, MakesWhole}
 
 -- ---- what is handed in
@@ -151,33 +152,33 @@ module _ (now : ℕ) where
   same-flushed : (g : Gate) (k : Kept) (a : Abstract) → StandsFor k a → Same (flushed kept now g k) (flushed whole now g a)
   same-flushed g k a s = same-does (λ e. flush e.settings now e.state) g k a s
 
-  same-put : (frame : List ℕ) (g : Gate) (k : Kept) (a : Abstract) → StandsFor k a → Same (put kept now frame g k) (put whole now frame g a)
-  same-put frame g k a s =
-      same-then (given frame g k) (given frame g a) (λ h t. flushed kept now h t) (λ h t. flushed whole now h t)
-      (record { sent_is = refl; seen_is = refl; gate_is = refl; stands = s }) same-flushed
-
-  same-taken_by : (f : Gate → Kept → Did KeptQueues) (h : Gate → Abstract → Did WholeQueues)
-      → ((g : Gate) (k : Kept) (a : Abstract) → StandsFor k a → Same (f g k) (h g a)) → (text : Option (List ℕ)) (g : Gate) (k : Kept) (a : Abstract) → StandsFor k a
-      → Same (taken_by kept now f text g k) (taken_by whole now h text g a)
+  same-taken_by : (f : List ℕ → Gate → Kept → Did KeptQueues) (h : List ℕ → Gate → Abstract → Did WholeQueues)
+      → ((frame : List ℕ) (g : Gate) (k : Kept) (a : Abstract) → StandsFor k a → Same (f frame g k) (h frame g a)) → (text : Option (List ℕ)) (g : Gate) (k : Kept) (a : Abstract)
+      → StandsFor k a → Same (taken_by kept f text g k) (taken_by whole h text g a)
   same-taken_by f h t None g k a s = same-nothing g (taken kept k g.link) (taken whole a g.link) (stands-taken g.link k a s)
   same-taken_by f h t (Some frame) g k a s =
-      same-then (put kept now frame g (taken kept k g.link)) (put whole now frame g (taken whole a g.link)) f h
-      (same-put frame g (taken kept k g.link) (taken whole a g.link) (stands-taken g.link k a s)) t
+      same-then (given frame g (taken kept k g.link)) (given frame g (taken whole a g.link)) (f frame) (h frame)
+      (record { sent_is = refl; seen_is = refl; gate_is = refl; stands = stands-taken g.link k a s }) (t frame)
 
   same-text : (link : ℕ) (k : Kept) (a : Abstract) → StandsFor k a → text_to_take kept k link ≡ text_to_take whole a link
   same-text link k a s = ap (λ (f : Option FrameValue). option_map spelled f) (stands-frame link k a s)
 
-  same-taken_all : (most : ℕ) (g : Gate) (k : Kept) (a : Abstract) → StandsFor k a → Same (taken_all kept now most g k) (taken_all whole now most g a)
+  same-taken_all : (most octets : ℕ) (g : Gate) (k : Kept) (a : Abstract) → StandsFor k a → Same (taken_all kept most octets g k) (taken_all whole most octets g a)
   unfolding taken_all
-  same-taken_all zero g k a s = same-nothing g k a s
-  same-taken_all (suc most) g k a s =
-      same-if (has_room g.endpoint.state) _ _ _ _
-      (subst (λ (text : Option (List ℕ)). Same (taken_by kept now (λ h t. taken_all kept now most h t) text g k) (taken_by whole now (λ h t. taken_all whole now most h t) (text_to_take whole a g.link) g a))
-      (sym (same-text g.link k a s))
-      (same-taken_by (λ h t. taken_all kept now most h t) (λ h t. taken_all whole now most h t) (same-taken_all most) (text_to_take whole a g.link) g k a s))
+  same-taken_all zero octets g k a s = same-nothing g k a s
+  same-taken_all (suc most) octets g k a s =
+      let rest : List ℕ → Gate → Kept → Did KeptQueues = λ frame h t. taken_all kept most (octets + length frame) h t in
+      let also : List ℕ → Gate → Abstract → Did WholeQueues = λ frame h t. taken_all whole most (octets + length frame) h t in
+      same-if (has_room_behind g.endpoint.state octets) _ _ _ _
+      (subst (λ (text : Option (List ℕ)). Same (taken_by kept rest text g k) (taken_by whole also (text_to_take whole a g.link) g a)) (sym (same-text g.link k a s))
+      (same-taken_by rest also (λ frame. same-taken_all most (octets + length frame)) (text_to_take whole a g.link) g k a s))
       (same-nothing g k a s)
+
+  same-taken_if : (g : Gate) (k : Kept) (a : Abstract) → StandsFor k a → Same (taken_if kept now g k) (taken_if whole now g a)
+  same-taken_if g k a s =
+      same-if (is_lasting now g.endpoint && has_room g.endpoint.state) _ _ _ _ (same-taken_all MOST_FRAMES 0 g k a s) (same-nothing g k a s)
 
   pub same-filled : (g : Gate) (k : Kept) (a : Abstract) → StandsFor k a → Same (filled kept now g k) (filled whole now g a)
   same-filled g k a s =
-      same-then (taken_all kept now MOST_FRAMES g k) (taken_all whole now MOST_FRAMES g a) (λ h t. flushed kept now h t) (λ h t. flushed whole now h t)
-      (same-taken_all MOST_FRAMES g k a s) same-flushed
+      same-then (taken_if kept now g k) (taken_if whole now g a) (λ h t. flushed kept now h t) (λ h t. flushed whole now h t)
+      (same-taken_if g k a s) same-flushed

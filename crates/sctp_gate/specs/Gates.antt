@@ -1,6 +1,6 @@
 -- The abstract gate: an endpoint beside an exchange. Each call is a list of the endpoint's rules, whose events are
 -- handed in to the exchange as they are told.
-use Rattle.std.specs.Prelude.{ℕ, zero, suc, Bool, ◌^◌, ◌&&◌, List, [], ◌∷◌, ◌++◌}
+use Rattle.std.specs.Prelude.{ℕ, zero, suc, ◌+◌, length, Bool, ◌^◌, ◌&&◌, List, [], ◌∷◌, ◌++◌}
 use Rattle.std.specs.Prelude.{Option, Some, None, slice_index, nat_eq, nat_lt, nat_le, if◌then◌else◌}
 use Rattle.std.specs.Option.{option_map}
 use Rattle.m2pa_codec.specs.Frames.{spelled, link_status}
@@ -12,6 +12,7 @@ use Rattle.sctp_rules.specs.State.{Datagram, Done, first_state}
 use Rattle.sctp_rules.specs.Ending.{abort}
 use Rattle.sctp_rules.specs.Opening.{opening}
 use Rattle.sctp_rules.specs.Sending.{has_room, send, flush}
+use Rattle.sctp_rules.specs.Waiting.{has_room_behind}
 use Rattle.sctp_rules.specs.Timers.{ticked, deadline}
 use Rattle.sctp_endpoint.specs.Dispatching.{heard_datagram}
 use Rattle.sctp_endpoint.specs.Endpoints.{Endpoint, secrets_of}
@@ -161,27 +162,29 @@ with_given frame g = record g {
 abbrev pub given : {Q : Type 0} → List ℕ → Gate → State Q → Did Q
 given frame g s = record { sent = []; seen = WentOut frame ∷ []; gate = with_given frame g; exchange = s }
 
-module _ {Q : Type 0} (q : QueueKind Q) (now : ℕ) where
-  -- and goes out
-  abbrev pub put : List ℕ → Gate → State Q → Did Q
-  put frame g s = followed_by (given frame g s) (λ h t. flushed q now h t)
-
-  -- the next frame of the link is taken, and goes out; a take that gives none ends it
-  abbrev pub taken_by : (Gate → State Q → Did Q) → Option (List ℕ) → Gate → State Q → Did Q
+module _ {Q : Type 0} (q : QueueKind Q) where
+  -- the next frame of the link is taken and given; a take that gives none ends it
+  abbrev pub taken_by : (List ℕ → Gate → State Q → Did Q) → Option (List ℕ) → Gate → State Q → Did Q
   taken_by rest None g s = nothing g (taken q s g.link)
-  taken_by rest (Some frame) g s = followed_by (put frame g (taken q s g.link)) rest
+  taken_by rest (Some frame) g s = followed_by (given frame g (taken q s g.link)) (rest frame)
 
-  -- frames are taken one after another, so many at most, while each can go out at once
-  unfoldable pub taken_all : (most : ℕ) → Gate → State Q → Did Q
-  taken_all zero g s = nothing g s
-  taken_all (suc most) g s =
-      if has_room g.endpoint.state
-      then taken_by (λ h t. taken_all most h t) (text_to_take q s g.link) g s
+  -- frames are taken one after another, so many at most, while each can go out with those before it, of so many octets
+  unfoldable pub taken_all : (most octets : ℕ) → Gate → State Q → Did Q
+  taken_all zero octets g s = nothing g s
+  taken_all (suc most) octets g s =
+      if has_room_behind g.endpoint.state octets
+      then taken_by (λ frame h t. taken_all most (octets + length frame) h t) (text_to_take q s g.link) g s
       else nothing g s
 
-  -- then what else is due goes out
+module _ {Q : Type 0} (q : QueueKind Q) (now : ℕ) where
+  -- none is taken where something else still waits to go out
+  abbrev pub taken_if : Gate → State Q → Did Q
+  taken_if g s =
+      if is_lasting now g.endpoint && has_room g.endpoint.state then taken_all q MOST_FRAMES 0 g s else nothing g s
+
+  -- then all that is due goes out
   abbrev pub filled : Gate → State Q → Did Q
-  filled g s = followed_by (taken_all MOST_FRAMES g s) (λ h t. flushed q now h t)
+  filled g s = followed_by (taken_if g s) (λ h t. flushed q now h t)
 
 -- ---- when to call again
 

@@ -6,7 +6,7 @@ use Rattle.exchange_rules.specs.State.{QueueKind, State, CameUp, WentDown, Frame
 use Rattle.exchange_rules.specs.Exchange.{outcome_of, after, taken, wants_of}
 use Rattle.exchange_rules.specs.declared.wants.Wants.TheVariants.{Open}
 use Rattle.sctp_gate.specs.Watching.{Sight, Rose, CameIn, Dropped, Fell, Failed, WentOut}
-use Rattle.sctp_gate.specs.Gates.{Gate, Did, new_gate}
+use Rattle.sctp_gate.specs.Gates.{Gate, new_gate}
 use Rattle.sctp_gate.specs.Calling.{Call, Visit, called, visited}
 
 module _ {Q : Type 0} (q : QueueKind Q) (link : ℕ) where

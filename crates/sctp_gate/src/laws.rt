@@ -3,6 +3,7 @@
 ghost use Rattle.exchange.specs.KeptQueues.{kept};
 ghost use Rattle.exchange_rules.specs.Queues.{whole};
 ghost use Rattle.sctp_gate.specs.Laws.{frames_have_their_streams, settling_agrees};
+ghost use Rattle.sctp_gate.specs.Laws.{taken_frames_are_given, taken_frames_go_out};
 ghost use Rattle.sctp_gate.specs.Rising.{associations_come_up, calls_are_seen};
 
 /// Behind each settling, with which each datagram and each tick ends: where an association is up, the link asks for
@@ -28,6 +29,15 @@ pub fn calls_do_what_is_seen_of_them()
     ensures whole { calls_are_seen whole }
     // The same on what is kept.
     ensures kept { calls_are_seen kept }
+{}
+
+/// A frame is taken only where it goes out at once. Behind a fill that took one, all that was ever given and isn't
+/// confirmed went out; and a frame of 1 to 290 octets that finds room is given, behind all others.
+pub fn frames_that_are_taken_go_out()
+    ensures whole { taken_frames_go_out whole }
+    // The same on what is kept.
+    ensures kept { taken_frames_go_out kept }
+    ensures given { taken_frames_are_given }
 {}
 
 /// Link Status goes out on stream 0, and User Data on stream 1 (RFC 4165 §4.1.3).

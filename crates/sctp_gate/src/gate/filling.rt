@@ -1,11 +1,12 @@
 //! Frames that go out.
 
-ghost use Rattle.std.specs.Prelude.{◌≡◌, [], ◌∷◌};
+ghost use Rattle.std.specs.Prelude.{◌≡◌, ◌≤◌, [], ◌∷◌, length};
+ghost use Rattle.sctp_sending.specs.Sending.{most_octets};
 ghost use Rattle.exchange.specs.KeptQueues.{kept};
 ghost use Rattle.exchange.specs.Calls.{StandsFor};
 ghost use Rattle.exchange_rules.specs.Queues.{whole};
 ghost use Rattle.exchange_rules.specs.First.{Abstract};
-ghost use Rattle.sctp_gate.specs.Gates.{filled, taken_all, put, with_given, stream_of};
+ghost use Rattle.sctp_gate.specs.Gates.{filled, taken_if, taken_all, with_given, stream_of};
 ghost use Rattle.sctp_gate.specs.Making.{Makes, MakesWhole};
 ghost use Rattle.sctp_gate.specs.Watching.{WentOut, Gives};
 
@@ -32,46 +33,50 @@ const DATA_STREAM: u16 = 1;
 const MOST_FRAMES: usize = 256;
 
 impl Gate {
-    /// Takes frames of the link, one after another, each only while it can go out at once, and sends it: Link Status on
-    /// stream 0, and User Data on stream 1 (RFC 4165 §4.1.3). The others stay in the node, for a changeover. Then what
-    /// else is due goes out, such as SACK. The watch sees each frame.
+    /// Takes frames of the link, one after another, each only while it can go out at once, behind those before it. Then
+    /// they go out together, as many in a datagram as fit: Link Status on stream 0, and User Data on stream 1 (RFC 4165
+    /// §4.1.3); and what else is due, such as SACK. The other frames stay in the node, for a changeover. The watch sees
+    /// each frame that is taken.
     pub fn fill<W: Watch>(&mut self, exchange: &mut Exchange, now: u64, watch: &mut W)
         ensures kept { Makes W.has watch.old watch.new self.new exchange.new (filled kept now self.old exchange.old) }
         ensures whole { (a : Abstract) → StandsFor exchange.old a → MakesWhole W.has watch.old watch.new self.new
             exchange.new (filled whole now self.old a) }
     {
-        self.take_all(exchange, now, watch);
+        self.take_if_room(exchange, now, watch);
         self.act(Doing::Flush, exchange, now, watch);
     }
 
-    /// Takes frames while each can go out at once, and sends them.
-    fn take_all<W: Watch>(&mut self, exchange: &mut Exchange, now: u64, watch: &mut W)
+    /// Takes frames where nothing else waits to go out.
+    fn take_if_room<W: Watch>(&mut self, exchange: &mut Exchange, now: u64, watch: &mut W)
+        ensures { Makes W.has watch.old watch.new self.new exchange.new (taken_if kept now self.old exchange.old) }
+    {
+        if self.is_lasting(now) && self.endpoint.has_room() {
+            self.take_all(exchange, watch);
+        }
+    }
+
+    /// Takes frames while each can go out behind those before it.
+    fn take_all<W: Watch>(&mut self, exchange: &mut Exchange, watch: &mut W)
         ensures { Makes W.has watch.old watch.new self.new exchange.new
-            (taken_all kept now MOST_FRAMES self.old exchange.old) }
+            (taken_all kept MOST_FRAMES 0 self.old exchange.old) }
     {
         let mut frame = [0; BUFFER_OCTETS];
+        let mut octets = 0;
         'each_frame: for _ in 0..MOST_FRAMES {
-            if !self.endpoint.has_room() {
+            if !self.endpoint.has_room_behind(octets) {
                 return;
             }
             match exchange.take(self.link, &mut frame) {
-                Some(count) => self.put(&frame[..count], exchange, now, watch),
+                Some(count) => octets += self.give(&frame[..count], watch),
                 None => return,
             }
         }
     }
 
-    /// A frame that was taken goes out.
-    fn put<W: Watch>(&mut self, frame: &[u8], exchange: &mut Exchange, now: u64, watch: &mut W)
-        ensures { Makes W.has watch.old watch.new self.new exchange.new
-            (put kept now frame.now self.old exchange.old) }
-    {
-        self.give(frame, watch);
-        self.act(Doing::Flush, exchange, now, watch);
-    }
-
-    /// A frame that was taken is given to the endpoint.
-    fn give<W: Watch>(&mut self, frame: &[u8], watch: &mut W)
+    /// A frame that was taken is given to the endpoint. Answers how many octets it has.
+    fn give<W: Watch>(&mut self, frame: &[u8], watch: &mut W) -> u32
+        requires { length frame.now ≤ most_octets }
+        ensures octets { result ≡ length frame.now }
         ensures gate { self.new ≡ with_given frame.now self.old }
         ensures seen { Gives W.has watch.old watch.new [] (WentOut frame.now ∷ []) }
     {
@@ -81,6 +86,7 @@ impl Gate {
             octets: frame,
         });
         watch.went_out(frame);
+        frame.len() as u32
     }
 }
 
