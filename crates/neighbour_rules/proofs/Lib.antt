@@ -1,0 +1,9 @@
+pub mod Asked
+pub mod Staying
+pub mod Special
+pub mod World
+pub mod Good
+pub mod Lines
+pub mod Placing
+pub mod Messages
+pub mod Unseen
