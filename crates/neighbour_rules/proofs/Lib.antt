@@ -7,3 +7,11 @@ pub mod Lines
 pub mod Placing
 pub mod Messages
 pub mod Unseen
+pub mod Made
+pub mod Telling
+pub mod Bringing
+pub mod Routes
+pub mod Falling
+pub mod Events
+pub mod Lates
+pub mod UserLists
