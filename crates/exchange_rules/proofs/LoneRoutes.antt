@@ -103,7 +103,7 @@ module _ (f : Facts) (r : Route) where
       let c : Choice = choice_among f (r ∷ []) in
       linked-in (serves f.in_service (sets_of (taken_by f c))) sls link c.group group-of e
 
-lone-chosen : (c : Configuration) (p : Parts) (set destination sls link : ℕ) → slice_index_or p.routes destination [] ≡ first_route set ∷ []
+pub lone-chosen : (c : Configuration) (p : Parts) (set destination sls link : ℕ) → slice_index_or p.routes destination [] ≡ first_route set ∷ []
     → chosen_link (facts c p) destination sls ≡ Some link → set_of c link ≡ set
 lone-chosen c p set destination sls link route e =
     (set-exact c.links (length c.sets) set link

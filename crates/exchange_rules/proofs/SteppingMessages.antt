@@ -51,7 +51,7 @@ module _ {c : Configuration} {R : Node WholeQueues → Node WholeQueues → Type
 module _ {c : Configuration} {Own Counts : ℕ → Type 0} {R : Node WholeQueues → Node WholeQueues → Type 0} (s : IsOfRules c Own Counts R) where
   -- ---- what adjacent points are told
 
-  told_parts-steps : (o : Owed) (n : Node WholeQueues) → R n (with_parts n (told_parts c o n.parts))
+  pub told_parts-steps : (o : Owed) (n : Node WholeQueues) → R n (with_parts n (told_parts c o n.parts))
   told_parts-steps o n =
       s.sends.both _ _ _ (s.told (told.with_told o.set o.destination o.status n.parts.told) n (record { shape = told_shape n.parts.told o.set o.destination o.status; adjacents = refl }))
       (s.timed _ _ (timed_telling-quiet c o.set o.destination o.status n.parts.timers))
@@ -69,7 +69,7 @@ module _ {c : Configuration} {Own Counts : ℕ → Type 0} {R : Node WholeQueues
   unfolding tell_owed
   tell_owed-steps n = tell_each-steps (owed (facts c n.parts) n.parts.told) n
 
-  inhibited-steps : (set destination : ℕ) (n : Node WholeQueues) → R n (with_parts n (inhibited c set destination n.parts))
+  pub inhibited-steps : (set destination : ℕ) (n : Node WholeQueues) → R n (with_parts n (inhibited c set destination n.parts))
   inhibited-steps set destination n = s.timed _ n (set-quiet (name.T8 set destination) c.timers.t8 n.parts.timers (λ link e. cc) refl refl)
 
   prohibit-steps : (set destination : ℕ) (n : Node WholeQueues) → R n (prohibit whole c set destination n)

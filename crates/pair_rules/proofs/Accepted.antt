@@ -129,7 +129,7 @@ pub record Books (c z : Configuration) (p : PairState) : Type 0 where
   pub there : All (IsUserMessageTo z.own) p.near.accepted
   pub back : All (IsUserMessageTo c.own) p.far.accepted
 
-books-turned : (c z : Configuration) (p : PairState) → Books c z p → Books z c (turned p)
+pub books-turned : (c z : Configuration) (p : PairState) → Books c z p → Books z c (turned p)
 books-turned c z p b = record { there = b.back; back = b.there }
 
 module _ (c z : Configuration) (f : AreFacing c z) (p : PairState) (s : Stands c z p) (b : Books c z p) where
@@ -143,7 +143,7 @@ module _ (c z : Configuration) (f : AreFacing c z) (p : PairState) (s : Stands c
   more : (ms : List Message) → All (IsUserMessageTo z.own) ms → All (IsUserMessageTo z.own) (p.near.accepted ++ ms)
   more ms is = All-append (IsUserMessageTo z.own) p.near.accepted ms b.there is
 
-  submitted : (m : Message) → All (IsUserMessageTo z.own) (brought_in (Submitted m) a)
+  pub submitted : (m : Message) → All (IsUserMessageTo z.own) (brought_in (Submitted m) a)
   submitted m =
       subst (λ (x : Configuration). All (IsUserMessageTo z.own) (brought_in (Submitted m) (record { settings = x; node = a.node }))) (sym s.near_settings)
       (subst (λ (o : Outcome). All (IsUserMessageTo z.own) (brought_to (whither_goes c m) o c m a.node)) (sym (outcome-same c (Submitted m) a.node))
@@ -160,7 +160,7 @@ module _ (c z : Configuration) (f : AreFacing c z) (p : PairState) (s : Stands c
       subst (λ (o : Outcome). All (IsUserMessageTo z.own) (brought_to (whither_goes c m) o c m (accept_text link (read_frame text) at_rest))) (sym (outcome-same c (FrameCame link text) a.node))
       (received-as c link m (λ o n. All (IsUserMessageTo z.own) (brought_to (whither_goes c m) o c m n)) (λ n. delivered c z.own only link m is.label n is.here) text a.node e)
 
-  heard : (link : ℕ) (text : List ℕ) → ((m : Message) → new_message link text at_rest ≡ Some m → IsBetween z c m) → All (IsUserMessageTo z.own) (brought_in (FrameCame link text) a)
+  pub heard : (link : ℕ) (text : List ℕ) → ((m : Message) → new_message link text at_rest ≡ Some m → IsBetween z c m) → All (IsUserMessageTo z.own) (brought_in (FrameCame link text) a)
   heard link text between =
       subst (λ (x : Configuration). All (IsUserMessageTo z.own) (brought_in (FrameCame link text) (record { settings = x; node = a.node }))) (sym s.near_settings)
       (came link text between (new_message link text at_rest) refl)
@@ -226,12 +226,12 @@ module _ (c z : Configuration) (f : AreFacing c z) (p : PairState) (s : Stands c
   books-did (OpensSecond link) = second (wants_of p.near.exchange link) (may_follow p.near link) link
 
 module _ (c z : Configuration) (f : AreFacing c z) where
-  books-turn : (step : Step) (p : PairState) → Stands c z p → Books c z p → Books c z (turn step p).left
+  pub books-turn : (step : Step) (p : PairState) → Stands c z p → Books c z p → Books c z (turn step p).left
   books-turn (AtNear what) p s b = books-did c z f p s b what
   books-turn (AtFar what) p s b =
       books-turned z c (did what (turned p)).left (books-did z c (facing-back c z f) (turned p) (stands-turned c z f p s) (books-turned c z p b) what)
 
-  books-steps : (steps : List Step) (p : PairState) → Stands c z p → Books c z p → Books c z (after_steps steps p)
+  pub books-steps : (steps : List Step) (p : PairState) → Stands c z p → Books c z p → Books c z (after_steps steps p)
   books-steps [] p s b = b
   books-steps (step ∷ steps) p s b = books-steps steps (turn step p).left (turn-stands c z f step p s) (books-turn step p s b)
 

@@ -1,0 +1,108 @@
+-- What holds of a node at work that shares a set with another, whatever neighbours it has besides, and of what is in flight to it; and that a rule goes by
+-- moves and keeps that.
+use Rattle.pair_rules.proofs.Basics.{◌≡◌, ◌≢◌, ℕ, true, false, List, [], ◌∷◌, Some, Ok, slice_index_or}
+use Rattle.pair_rules.proofs.Definitions.{Message, is_management, service_indicator, dpc_of, opc_of, Configuration, destination_place, Label, FrameValue, EmptyFrame, MessageFrame, IsSayable, read_management, Management, ExtendedChangeoverOrder, ExtendedChangeoverAcknowledgement, ChangebackDeclaration, ChangebackAcknowledgement, Node, Fits, WholeQueues, queue_at, changeover_of, down, link_at, set_of, whither_goes, first_route, IsWell}
+use Rattle.std.proofs.Common.{◌<◌, length}
+use Rattle.mtp3_codec.specs.declared.discrimination.Discrimination.TheVariants as whither
+use Rattle.settings.specs.Sharing.{SharesSet}
+use Rattle.pair_moves.specs.Sayings.{Other}
+use Rattle.pair_rules.proofs.World.{Flying, World}
+use Rattle.pair_rules.proofs.Good.{Each, IsSilent, IsTelling}
+use Rattle.pair_rules.proofs.Going.{Goes, goes-none, goes-both}
+use Rattle.neighbour_rules.proofs.World.{code_of, says_of, shown}
+
+-- ---- messages from one node to the other, and past it
+
+-- a word about changeovers and changebacks of the links of a set
+pub data IsWord (c : Configuration) (set : ℕ) : Management → Type 0 where
+  orders : (link number : ℕ) → link < length c.links → set_of c link ≡ set → IsWord c set (ExtendedChangeoverOrder (code_of c link) number)
+  answers : (link number : ℕ) → link < length c.links → set_of c link ≡ set → IsWord c set (ExtendedChangeoverAcknowledgement (code_of c link) number)
+  declares : (slc code : ℕ) → slc < 16 → code < 256 → IsWord c set (ChangebackDeclaration slc code)
+  confirms : (slc code : ℕ) → IsWord c set (ChangebackAcknowledgement slc code)
+
+-- a word that one makes for the other, which reads it as it was written
+pub record IsMade (c z : Configuration) (set : ℕ) (m : Message) : Type 0 where
+  pub management : is_management m ≡ true
+  pub indicator : service_indicator m ≡ 0
+  pub from : opc_of m ≡ c.own
+  pub to : dpc_of m ≡ z.own
+  pub word : Management
+  pub reads : read_management m.sif ≡ Ok word
+  pub is : IsWord c set word
+  pub label : Label
+  pub here : whither_goes z m ≡ whither.Here label
+
+-- a user message that one accepted for the other
+pub record IsAccepted (z : Configuration) (m : Message) : Type 0 where
+  pub user : is_management m ≡ false
+  pub to : dpc_of m ≡ z.own
+  pub label : Label
+  pub here : whither_goes z m ≡ whither.Here label
+
+-- whatever stands on a link between the two, or in Held, or goes from one to the other
+pub data IsSent (c z : Configuration) (set : ℕ) (m : Message) : Type 0 where
+  made : IsMade c z set m → IsSent c z set m
+  accepted : IsAccepted z m → IsSent c z set m
+  passes_by : says_of c.own z.own m ≡ Other → IsSent c z set m
+
+-- User Data in flight from the node with settings c
+pub data IsFlying (c z : Configuration) (set : ℕ) : FrameValue → Type 0 where
+  empty : (bsn fsn : ℕ) → IsSayable (EmptyFrame bsn fsn) → IsFlying c z set (EmptyFrame bsn fsn)
+  carrying : (bsn fsn sio : ℕ) (sif : List ℕ) → IsSayable (MessageFrame bsn fsn sio sif) → IsSent c z set (record { sio = sio; sif = sif }) → IsFlying c z set (MessageFrame bsn fsn sio sif)
+
+-- all that is in flight to a node from the one with settings c
+pub record AreFlying (c z : Configuration) (set : ℕ) (f : Flying) : Type 0 where
+  pub user_data : (link : ℕ) → Each (IsFlying c z set) (f.user_data link)
+  pub statuses : (link : ℕ) → Each IsTelling (f.statuses link)
+
+-- ---- a node at work
+
+-- the settings of the two, and what the pass needs of them
+pub record Joint (c z : Configuration) : Type 0 where
+  pub near_well : IsWell c
+  pub far_well : IsWell z
+  pub apart : c.own ≢ z.own
+  pub shares : SharesSet c z
+  pub destination : ℕ
+  pub place : destination_place c z.own ≡ Some destination
+  pub there : destination < length c.destinations
+
+module _ (c z : Configuration) (j : Joint c z) where
+  abbrev pub set : ℕ
+  set = j.shares.near_set
+
+  pub record Good (w : World) : Type 0 where
+    pub fits : Fits c w.near.node
+    -- the only route to the other is allowed
+    pub route : slice_index_or w.near.node.parts.routes j.destination [] ≡ first_route set ∷ []
+    -- no answer is awaited about a link that isn't down, and where a link is down nothing waits to go out
+    pub unawaited : (link : ℕ) → down w.near.node.parts link ≡ false → (changeover_of w.near.node.parts link).awaited ≡ false
+    pub silent : (link : ℕ) → IsSilent (link_at w.near.node.parts link)
+    -- what stands on the links of the set, on others, in Held, and nowhere yet
+    pub queued : (link : ℕ) → Each (IsSent c z set) (queue_at w.near.node.queues link).all
+    pub elsewhere : (link : ℕ) → set_of c link ≢ set → Each (λ m. says_of c.own z.own m ≡ Other) (queue_at w.near.node.queues link).all
+    pub held : Each (IsSent c z set) w.near.node.queues.held
+    pub loose : Each (IsSent c z set) w.near.loose
+    -- what comes from the other
+    pub arrived : Each (IsSent z c j.shares.far_set) w.near.arrived
+    pub coming : AreFlying z c j.shares.far_set w.to_near
+
+  -- one goes by moves to another, and stays good
+  pub record Passes (v w : World) : Type 0 where
+    pub goes : Good v → Goes (says_of c.own z.own) (shown c z set j.shares.far_set v) (shown c z set j.shares.far_set w)
+    pub good : Good v → Good w
+
+  pub passes-none : (w : World) → Passes w w
+  passes-none w = record { goes = λ g. goes-none (says_of c.own z.own) (shown c z set j.shares.far_set w); good = λ g. g }
+
+  pub passes-both : (u v w : World) → Passes u v → Passes v w → Passes u w
+  passes-both u v w p q = record {
+    goes = λ g.
+        goes-both (says_of c.own z.own) (shown c z set j.shares.far_set u) (shown c z set j.shares.far_set v) (shown c z set j.shares.far_set w)
+        (p.goes g) (q.goes (p.good g));
+    good = λ g. q.good (p.good g);
+  }
+
+  -- the near node at work
+  abbrev pub at : World → Node WholeQueues → (arrived loose : List Message) → World
+  at w n arrived loose = record w { near = record w.near { node = n; arrived = arrived; loose = loose } }

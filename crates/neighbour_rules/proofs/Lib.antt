@@ -1,0 +1,17 @@
+pub mod Asked
+pub mod Staying
+pub mod Special
+pub mod World
+pub mod Good
+pub mod Lines
+pub mod Placing
+pub mod Messages
+pub mod Unseen
+pub mod Made
+pub mod Telling
+pub mod Bringing
+pub mod Routes
+pub mod Falling
+pub mod Events
+pub mod Lates
+pub mod UserLists

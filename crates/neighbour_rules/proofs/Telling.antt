@@ -1,0 +1,64 @@
+-- What adjacent points are told of routes passes by: by moves.
+use Rattle.pair_rules.proofs.Basics.{◌≡◌, ℕ, Bool, true, false, not, ◌&&◌, List, [], ◌∷◌, Option, Some, None, refl, if◌then◌else◌}
+use Rattle.pair_rules.proofs.Definitions.{Message, Configuration, Node, with_parts, WholeQueues, whole, facts, set_of, is_management, fit-steps, send_routed, RouteStatus}
+use Rattle.routes.specs.declared.route.RouteStatus.TheVariants.{Prohibited}
+use Rattle.route_management.specs.Told.{Owed, owed}
+use Rattle.exchange_rules.specs.Telling.{answer_no_route, inhibited, is_inhibited, may_tell, prohibit, route_message, tell, tell_each, tell_if, tell_owed, telling, told_parts}
+use Rattle.exchange_rules.specs.Routing.{adjacent_of, point_of}
+use Rattle.exchange_rules.proofs.MadeManagement.{made-management}
+use Rattle.exchange_rules.proofs.SteppingMessages.{told_parts-steps, inhibited-steps}
+use Rattle.exchange_rules.proofs.Rules.{rules-of}
+use Rattle.pair_rules.proofs.World.{World}
+use Rattle.neighbour_rules.proofs.Good.{Joint, Passes, at, passes-both, passes-none}
+use Rattle.neighbour_rules.proofs.Messages.{making, send_routed-passes}
+use Rattle.neighbour_rules.proofs.Unseen.{aside-passes}
+use Rattle.neighbour_rules.proofs.Made.{route-other}
+
+module _ (c z : Configuration) (j : Joint c z) (w : World) (arrived rest : List Message) where
+  abbrev Pass : Node WholeQueues → Node WholeQueues → Type 0
+  Pass n o = Passes c z j (at c z j w n arrived rest) (at c z j w o arrived rest)
+
+  both : (n m o : Node WholeQueues) → Pass n m → Pass m o → Pass n o
+  both n m o p q = passes-both c z j _ _ _ p q
+
+  either : (b : Bool) (n o : Node WholeQueues) → Pass n o → Pass n (if b then o else n)
+  either true n o p = p
+  either false n o p = passes-none c z j (at c z j w n arrived rest)
+
+  -- what tells a status of a point is made, and goes out
+  telling-route : (n : Node WholeQueues) (its destination : ℕ) (status : RouteStatus) → Pass n (send_routed whole c (route_message c its destination status) n)
+  telling-route n its destination status =
+      let m : Message = route_message c its destination status in
+      passes-both c z j _ _ _ (making c z j w n arrived m rest (route-other c z j its destination status)) (send_routed-passes c z j w n arrived m rest (telling-management status))
+    where
+      telling-management : (s : RouteStatus) → is_management (route_message c its destination s) ≡ true
+      telling-management s = made-management c j.near_well (adjacent_of c its) (telling s (point_of c destination))
+
+  tell-passes : (o : Owed) (n : Node WholeQueues) → Pass n (tell whole c o n)
+  tell-passes o n =
+      both _ _ _
+      (aside-passes c z j w n arrived rest (told_parts c o n.parts) (told_parts-steps (rules-of (fit-steps c)) o n) refl refl refl refl refl refl (λ e. e))
+      (telling-route (with_parts n (told_parts c o n.parts)) o.set o.destination o.status)
+
+  tell_each-passes : (os : List Owed) (n : Node WholeQueues) → Pass n (tell_each whole c os n)
+  tell_each-passes [] n = passes-none c z j (at c z j w n arrived rest)
+  tell_each-passes (o ∷ os) n = both _ _ _ (either (may_tell whole c n) n (tell whole c o n) (tell-passes o n)) (tell_each-passes os (tell_if whole c o n))
+
+  -- the end of each event
+  pub tell_owed-passes : (n : Node WholeQueues) → Pass n (tell_owed whole c n)
+  unfolding tell_owed
+  tell_owed-passes n = tell_each-passes (owed (facts c n.parts) n.parts.told) n
+
+  prohibit-passes : (its destination : ℕ) (n : Node WholeQueues) → Pass n (prohibit whole c its destination n)
+  prohibit-passes its destination n =
+      both _ _ _
+      (aside-passes c z j w n arrived rest (inhibited c its destination n.parts) (inhibited-steps (rules-of (fit-steps c)) its destination n) refl refl refl refl refl refl (λ e. e))
+      (telling-route (with_parts n (inhibited c its destination n.parts)) its destination Prohibited)
+
+  -- a message that has no route
+  pub answer_no_route-passes : (link destination : Option ℕ) (n : Node WholeQueues) → Pass n (answer_no_route whole c link destination n)
+  answer_no_route-passes (Some link) (Some destination) n =
+      let its : ℕ = set_of c link in
+      either (may_tell whole c n && not (is_inhibited its destination n.parts)) n (prohibit whole c its destination n) (prohibit-passes its destination n)
+  answer_no_route-passes (Some link) None n = passes-none c z j (at c z j w n arrived rest)
+  answer_no_route-passes None destination n = passes-none c z j (at c z j w n arrived rest)

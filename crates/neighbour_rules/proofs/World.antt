@@ -1,0 +1,142 @@
+-- Two nodes that share a link set, in the midst of an event at the near one, and the machine of moves as it shows them. Its lines are the links between
+-- the two, by their signalling link codes: each node finds its own link by its set and the code.
+use Rattle.pair_rules.proofs.Basics.{◌≡◌, ℕ, Bool, true, false, ◌&&◌, ◌||◌, Option, Some, None, Result, Ok, Err, length, nat_eq, nat_lt, refl, ap, ◌∙◌, if◌then◌else◌, option_map}
+use Rattle.std.specs.List.{position_or_len}
+use Rattle.std.specs.Prelude.{map}
+use Rattle.pair_rules.proofs.Definitions.{SELECTIONS, Message, dpc_of, is_management, Flow, Configuration, read_management, MgmtFault, Management, Procedure, is_outstanding, Parts, lost_any, late_any, destination_place, entry_of, link_of, Saying, UserMessage, Order, Answer, Declaration, Confirmation, LinkEnd, Line, Side, Pair}
+use Rattle.settings.specs.Sharing.{is_link_of}
+use Rattle.mtp3_codec.specs.declared.management.Management.TheVariants as says
+use Rattle.flow_hold.specs.Holds as hold
+use Rattle.flow_hold.specs.declared.procedure.Procedure.TheVariants as held_by
+use Rattle.pair_moves.specs.Ends as ends
+use Rattle.pair_moves.specs.Sayings.{Other}
+use Rattle.pair_rules.proofs.World.{Mid, World, end_of, frame_of, turned_world}
+use Rattle.neighbour_rules.specs.Neighbours.{is_management_between}
+
+-- ---- what messages say to the two
+
+abbrev pub management_says : Management → Saying
+management_says (says.ExtendedChangeoverOrder slc number) = Order slc number
+management_says (says.ExtendedChangeoverAcknowledgement slc number) = Answer slc number
+management_says (says.ChangebackDeclaration slc code) = Declaration code
+management_says (says.ChangebackAcknowledgement slc code) = Confirmation code
+management_says _ = Other
+
+abbrev pub read_says : Result Management MgmtFault → Saying
+read_says (Ok m) = management_says m
+read_says (Err fault) = Other
+
+-- management from either to the other, and user messages for either
+abbrev pub is_between : (one two : ℕ) → Message → Bool
+is_between one two m = is_management_between one two m || is_management_between two one m
+
+abbrev pub is_for_either : (one two : ℕ) → Message → Bool
+is_for_either one two m = nat_eq (dpc_of m) one || nat_eq (dpc_of m) two
+
+abbrev pub says_by : (management between for_either : Bool) → Message → Saying
+says_by true true for_either m = read_says (read_management m.sif)
+says_by true false for_either m = Other
+says_by false between true m = UserMessage
+says_by false between false m = Other
+
+abbrev pub says_of : (one two : ℕ) → Message → Saying
+says_of one two m = says_by (is_management m) (is_between one two m) (is_for_either one two m) m
+
+-- it is the same by either
+or-swapped : (a b : Bool) → (a || b) ≡ (b || a)
+or-swapped true true = refl
+or-swapped true false = refl
+or-swapped false true = refl
+or-swapped false false = refl
+
+each-alike : (one two : ℕ) (m : Message) → says_of one two m ≡ says_of two one m
+each-alike one two m =
+    ap (λ (b : Bool). says_by (is_management m) b (is_for_either one two m) m) (or-swapped (is_management_between one two m) (is_management_between two one m))
+    ∙ ap (λ (b : Bool). says_by (is_management m) (is_between two one m) b m) (or-swapped (nat_eq (dpc_of m) one) (nat_eq (dpc_of m) two))
+
+pub says-alike : (one two : ℕ) → says_of one two ≡ says_of two one
+says-alike one two = λ i. λ m. each-alike one two m i
+
+-- ---- lines
+
+-- so many signalling link codes there are (Q.704 §15.2)
+abbrev pub codes : ℕ
+codes = 16
+
+-- the link of a set with a code; a number that no link has, where there is none
+abbrev pub link_at_code : Configuration → (set code : ℕ) → ℕ
+link_at_code c set code = position_or_len (is_link_of set code) c.links
+
+abbrev pub code_of : Configuration → (link : ℕ) → ℕ
+code_of c link = (entry_of c link).slc
+
+-- ---- what is shown of a node
+
+-- of one with a set that leads to the other
+module _ (c z : Configuration) (set : ℕ) where
+  abbrev pub procedure_of : ends.Procedure → Procedure
+  procedure_of (ends.Changeover code) = held_by.Changeover (link_at_code c set code)
+  procedure_of (ends.Code code) = held_by.Code set code
+  procedure_of (ends.Time code) = held_by.Time (link_at_code c set code)
+
+  abbrev pub holds_at : Option ℕ → Parts → ends.Procedure → (sls : ℕ) → Bool
+  holds_at (Some destination) p procedure sls = hold.holds p.holds (procedure_of procedure) destination sls
+  holds_at None p procedure sls = false
+
+  -- of the flows to the other alone
+  abbrev pub holds_of : Parts → ends.Procedure → Flow → Bool
+  holds_of p procedure flow = nat_eq flow.point z.own && holds_at (destination_place c z.own) p procedure flow.sls
+
+  abbrev pub route_of : Parts → Flow → Option ℕ
+  route_of p flow = if nat_eq flow.point z.own && nat_lt flow.sls SELECTIONS then option_map (code_of c) (link_of c p flow) else None
+
+  abbrev pub side_by : (Flow → Option ℕ) → Mid → Side
+  side_by route m = record {
+    accepted = m.accepted;
+    received = m.received;
+    arrived = m.arrived;
+    held = m.node.queues.held;
+    loose = m.loose;
+    route = route;
+    holds = holds_of m.node.parts;
+    outstanding = λ code. is_outstanding m.node.parts.codes set code;
+    lost = lost_any m.node.parts;
+    late = late_any m.node.parts;
+  }
+
+  abbrev pub end_at : Mid → (code : ℕ) → LinkEnd
+  end_at m code = end_of m.node (link_at_code c set code)
+
+-- ---- a pair
+
+module _ (c z : Configuration) (near_set far_set : ℕ) where
+  abbrev pub line_of : World → (code : ℕ) → Line
+  line_of w code =
+      let near : ℕ = link_at_code c near_set code in
+      let far : ℕ = link_at_code z far_set code in
+      record {
+        near = end_of w.near.node near;
+        far = end_of w.far.node far;
+        to_far = map frame_of (w.to_far.user_data far);
+        to_near = map frame_of (w.to_near.user_data near);
+        told_far = length (w.to_far.statuses far);
+        told_near = length (w.to_near.statuses near);
+        near_may_follow = w.near_may near;
+        far_may_follow = w.far_may far;
+      }
+
+  -- where the near node's flows take these lines
+  abbrev pub shown_by : (Flow → Option ℕ) → World → Pair
+  shown_by route w = record {
+    links = codes;
+    line = line_of w;
+    near = side_by c z near_set route w.near;
+    far = side_by z c far_set (route_of z c far_set w.far.node.parts) w.far;
+  }
+
+  abbrev pub shown : World → Pair
+  shown w = shown_by (route_of c z near_set w.near.node.parts) w
+
+-- what is shown, as the far node sees it
+pub shown-turned : (c z : Configuration) (near_set far_set : ℕ) (w : World) → shown z c far_set near_set (turned_world w) ≡ ends.turned (shown c z near_set far_set w)
+shown-turned c z near_set far_set w = refl

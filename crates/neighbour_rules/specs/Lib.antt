@@ -1,0 +1,5 @@
+pub mod Neighbours
+pub mod Promises
+pub mod Laws
+pub mod Awaiting
+pub mod Alone

@@ -1,0 +1,92 @@
+-- What two nodes that share a link set are to promise each other, whatever neighbours each has besides: each message for
+-- the other once, each flow in order. These two are stated, and not proved yet; what holds whatever has been lost is.
+use Rattle.std.specs.Prelude.{◌≡◌, ◌+◌, ℕ, Bool, true, List, [], ◌++◌, All, count_by, drop, length, unwrap_or, Option, Some, None}
+use Rattle.signalling_types.specs.Message.{Message}
+use Rattle.signalling_types.specs.declared.point.Flow.{Flow}
+use Rattle.settings_rows.specs.Configuration.{Configuration}
+use Rattle.settings.specs.Readings.{destination_place}
+use Rattle.routes.specs.Routes.{chosen_link}
+use Rattle.link.specs.Queue.{named_count, last_accepted}
+use Rattle.exchange_rules.specs.Routing.{facts, peer_of}
+use Rattle.pair_moves.specs.Order.{join_to}
+use Rattle.pair_rules.specs.Pairs.{PairState, first_pair}
+use Rattle.pair_rules.specs.Promises.{BothWays, LostNothing, IsPunctual, queue_of, user, of_flow}
+use Rattle.pair_rules.specs.Accepting.{IsUserMessageTo}
+use Rattle.pair_rules.specs.Sharing.{AreSharing}
+use Rattle.neighbour_rules.specs.Neighbours.{Step, after_steps, far_end, leads_elsewhere, users_to}
+
+-- how many of the near end's messages on a link the far end of it accepted, as its number names them; where that names
+-- none, those that it confirmed
+abbrev pub accepted_there : PairState → (link other : ℕ) → ℕ
+accepted_there p link other =
+    unwrap_or
+    (named_count (queue_of p.near link) (last_accepted (queue_of p.far other)))
+    (queue_of p.near link).confirmed
+
+-- the user messages for the far point that wait on a link: those behind that count. None stands on a link that leads
+-- elsewhere
+abbrev pub waiting_by : PairState → (link : ℕ) → (other : Option ℕ) → List Message
+waiting_by p link (Some other) =
+    users_to p.far.exchange.settings.own (drop (accepted_there p link other) (queue_of p.near link).all)
+waiting_by p link None = []
+
+abbrev pub waiting_on : PairState → (link : ℕ) → List Message
+waiting_on p link = waiting_by p link (far_end p link)
+
+-- all that wait at the near end: those of each link, and then those of Held
+abbrev pub waiting : PairState → List Message
+waiting p =
+    join_to (waiting_on p) (length p.near.exchange.settings.links)
+    ++ users_to p.far.exchange.settings.own p.near.exchange.node.queues.held
+
+-- of every kind of user message, as many were accepted at the near end as came to the far end and wait
+abbrev pub EachOnce : PairState → Type 0
+EachOnce p =
+    (test : Message → Bool) →
+    count_by (user test) p.near.accepted ≡ count_by (user test) p.far.received + count_by (user test) (waiting p)
+
+-- the messages of each flow come in the order in which they were accepted, and then those that wait
+abbrev pub InOrder : PairState → Type 0
+InOrder p =
+    (flow : Flow) → of_flow flow p.near.accepted ≡ of_flow flow p.far.received ++ of_flow flow (waiting p)
+
+-- ---- always
+
+-- after every list of steps, from two exchanges on that were just booted, with settings that share a set
+abbrev pub Always : (PairState → Type 0) → Type 0
+Always Statement =
+    (near far : Configuration) (steps : List Step) → AreSharing near far →
+    Statement (after_steps steps (first_pair near far))
+
+-- "Exactly once", not proved yet
+abbrev pub each_message_once : Type 0
+each_message_once = Always (λ p. LostNothing p → BothWays EachOnce p)
+
+-- "Order", where besides no timer of the accepting end ended a hold; not proved yet
+abbrev pub each_flow_in_order : Type 0
+each_flow_in_order = Always (λ p. LostNothing p → BothWays (λ q. IsPunctual q → InOrder q) p)
+
+-- ---- whatever has been lost
+
+-- the books of the near end
+pub record AreBooked (p : PairState) : Type 0 where
+  -- all that the near end accepted is for the far point, and all that it received for its own, and all are user messages
+  pub accepted : All (IsUserMessageTo p.far.exchange.settings.own) p.near.accepted
+  pub received : All (IsUserMessageTo p.near.exchange.settings.own) p.near.received
+
+abbrev pub books_are_of_the_two : Type 0
+books_are_of_the_two = Always (λ p. BothWays AreBooked p)
+
+-- the route to the far point is allowed; each flow there that has a link has one that leads there; and no user message
+-- for the far point stands on a link that leads elsewhere
+pub record StaysBetween (p : PairState) : Type 0 where
+  pub destination : ℕ
+  pub known : destination_place p.near.exchange.settings p.far.exchange.settings.own ≡ Some destination
+  pub flows : (sls link : ℕ) →
+      chosen_link (facts p.near.exchange.settings p.near.exchange.node.parts) destination sls ≡ Some link →
+      peer_of p.near.exchange.settings link ≡ p.far.exchange.settings.own
+  pub elsewhere : (link : ℕ) → leads_elsewhere p link ≡ true →
+      users_to p.far.exchange.settings.own (queue_of p.near link).all ≡ []
+
+abbrev pub flows_stay_between : Type 0
+flows_stay_between = Always (λ p. BothWays StaysBetween p)
