@@ -88,16 +88,41 @@ class Link:
         )
 
 
-def settings(own: int, links: Sequence[Link], *, window: int = 128, pool: int = 1000, tick_ms: int = 50,
-             console: int | None = None, capture: str | None = None, points: str | None = None, **timers: int) -> str:
+@dataclass(frozen=True)
+class SctpLink:
+    """A link over SCTP: its name, the adjacent point, its code, the UDP port of the peer, and the SCTP ports of both."""
+
+    name: str
+    adjacent: int
+    code: int
+    remote: int
+    own_port: int
+    far_port: int
+    tries: bool = True
+
+    def text(self) -> str:
+        return (
+            f'[[link]]\nname = "{self.name}"\nset = "to-{self.adjacent}"\nslc = {self.code}\n'
+            f'remote = "{HOST}:{self.remote}"\nsctp_port = {self.own_port}\n'
+            f"remote_sctp_port = {self.far_port}\ntries = {str(self.tries).lower()}\n"
+        )
+
+
+def settings(own: int, links: Sequence[Link | SctpLink], *, window: int = 128, pool: int = 1000, tick_ms: int = 50,
+             console: int | None = None, page: int | None = None, capture: str | None = None,
+             points: str | None = None, udp: int | None = None, sctp: dict[str, int] | None = None, **timers: int) -> str:
     """The settings of a node with these links. Timers that aren't named are LONG, but for the proving period."""
     adjacents = list(dict.fromkeys(link.adjacent for link in links))
     ticks = {**dict.fromkeys(TIMERS, LONG), "l4": 1, **timers}
     lines = ["version = 2", f"own = {own}", "network = 2", f"window = {window}", f"pool = {pool}"]
     lines += ["users = [5]", "subsystems = [8]", "[serve]", f"tick_ms = {tick_ms}"]
     lines += [f'console = "{HOST}:{console}"'] * (console is not None)
+    lines += [f'page = "{HOST}:{page}"'] * (page is not None)
     lines += [f'capture = "{capture}"'] * (capture is not None)
     lines += [f'points = "{points}"'] * (points is not None)
+    lines += [f'udp = "{HOST}:{udp}"'] * (udp is not None)
+    if sctp is not None:
+        lines += ["[serve.sctp]", *(f"{name} = {value}" for name, value in sctp.items())]
     lines += ["[timers]", *(f"{name} = {count}" for name, count in ticks.items())]
     lines += [f'[[set]]\nname = "to-{point}"\nadjacent = {point}' for point in adjacents]
     lines += [link.text() for link in links]
@@ -163,7 +188,7 @@ class Caller:
 class Node:
     """A node that `stp serve` runs, in a folder of its own."""
 
-    def __init__(self, folder: Path, text: str, console: int, links: Sequence[Link]) -> None:
+    def __init__(self, folder: Path, text: str, console: int, links: Sequence[Link | SctpLink]) -> None:
         folder.mkdir()
         self.folder, self.console, self.link_names = folder, console, [link.name for link in links]
         (folder / "node.toml").write_text(text)
@@ -225,10 +250,15 @@ class Node:
     def counters(self) -> dict[str, Counter[str]]:
         """The counters of each link."""
         rows: dict[str, Counter[str]] = {name: Counter() for name in self.link_names}
-        for line in self.ask("show counters"):
-            _, name, link, value = line.split()
-            rows[link][name] = int(value)
+        for _, name, *link, value in map(str.split, self.ask("show counters")):
+            if link:
+                rows[link[0]][name] = int(value)
         return rows
+
+    def datagrams(self) -> Counter[str]:
+        """The counters of datagrams."""
+        words = [line.split() for line in self.ask("show counters")]
+        return Counter({it[1]: int(it[2]) for it in words if len(it) == 3})
 
     def signal(self, number: int) -> None:
         assert self.process is not None
@@ -277,7 +307,7 @@ class NodeTest(unittest.TestCase):
     def _give_up(self, number: int, frame: object) -> None:
         raise AssertionError(f"it took longer than {self.LIMIT} s")
 
-    def node(self, own: int, links: Sequence[Link], **more: Any) -> Node:
+    def node(self, own: int, links: Sequence[Link | SctpLink], **more: Any) -> Node:
         """A node with these links, which isn't started."""
         console = free_port()
         text = settings(own, links, console=console, **more)

@@ -11,6 +11,7 @@ FAULTS = (
     ("version = 2", "version =", "fault 1", ""),
     ("tick_ms = 50", "tick_ms = 5", "fault 4 serve.tick_ms", "serve.tick_ms is 5, must be 10 to 10000"),
     ("slc = 0", "slc = 16", "fault 4 link[0].slc", 'link[0] "e0": slc is 16, must be 0 to 15'),
+    ("listen =", "remote =", "fault 2 serve.udp", "serve.udp is missing, and a link has remote"),
 )
 
 # Scripts whose octets no transcript holds, and what is printed of them. A line feed alone ends a line.
@@ -65,9 +66,10 @@ class Words(NodeTest):
             with self.subTest(new):
                 self.assertIn(old, text)
                 (self.folder / "node.toml").write_text(text.replace(old, new, 1))
-                ended = run("serve", "node.toml", folder=self.folder)
-                self.assertEqual((ended.returncode, ended.stdout), (2, fault + "\n"))
-                self.assertIn("node.toml: " + sentence, ended.stderr)
+                for word in ("serve", "check"):
+                    ended = run(word, "node.toml", folder=self.folder)
+                    self.assertEqual((ended.returncode, ended.stdout), (2, fault + "\n"))
+                    self.assertIn("node.toml: " + sentence, ended.stderr)
 
     def test_a_script(self) -> None:
         for script, status, printed in (("show links\n", 0, ""), ("show links\ntik 3\n", 3, "fault 2\n")):

@@ -2,12 +2,18 @@
  * shares no code with the rest of this repository.
  *
  *   m2pa_end UDP_PORT FAR_UDP_PORT SCTP_PORT FAR_SCTP_PORT connect|listen OPC DPC COUNT
+ *            [stay FIRST [abort|shutdown AFTER]]
  *
  * It opens or awaits an association with an end of this machine, aligns and proves the link, sends COUNT messages, and
  * ends with status 0 once each of them is acknowledged and COUNT messages came, each once and in order. Each message is
- * User Data whose field has the routing label and the message's number. */
+ * User Data whose field has the routing label and the message's number.
+ *
+ * With `stay` it outlives its associations: where one is lost, it gives up what isn't acknowledged, and opens or awaits
+ * the next. Its messages are numbered from FIRST on. What comes has to have rising numbers, so nothing may come twice.
+ * It ends at SIGTERM. With `abort` or `shutdown` it ends its first association so once AFTER messages came. */
 #include <arpa/inet.h>
 #include <errno.h>
+#include <signal.h>
 #include <stdarg.h>
 #include <stdio.h>
 #include <stdlib.h>
@@ -28,9 +34,18 @@ static sctp_assoc_t association;
 static enum stage stage = DOWN;
 static int peer_ready, owes_acknowledgement;
 static long proving_until, repeat_at;
-static unsigned opc, dpc, count;
+static unsigned opc, dpc, count, first;
 static unsigned sent, acknowledged, received; /* of messages, in all */
+static unsigned given_up, skipped;            /* of ours, and of the peer's */
+static unsigned before;                       /* how many were sent before this association */
+static unsigned next_number;                  /* of the next message that comes */
 static unsigned last_accepted = NUMBERS - 1;  /* the BSN that goes out */
+static int stays;
+static const char *ending;
+static unsigned ends_after;
+static volatile sig_atomic_t is_over;
+static unsigned own_far_port;
+static const char *own_mode;
 
 static long now_ms(void) {
 	struct timespec t;
@@ -52,8 +67,8 @@ static void fail(const char *why) {
 	_exit(1);
 }
 
-/* the FSN of the last of so many messages: the first one has 0 */
-static unsigned number_of(unsigned messages) { return (messages + NUMBERS - 1) % NUMBERS; }
+/* the FSN of the last of so many messages: the first one of an association has 0 */
+static unsigned number_of(unsigned messages) { return (messages - before + NUMBERS - 1) % NUMBERS; }
 
 /* RFC 4165 §2.1, §2.2 */
 static void head(unsigned char *out, int type, unsigned length, unsigned bsn, unsigned fsn) {
@@ -88,12 +103,13 @@ static unsigned field_length(unsigned number) { return 8 + number * 7919u % (MOS
 
 static int send_message(void) {
 	unsigned char out[HEADER + 2 + MOST_FIELD] = {0};
-	unsigned length = field_length(sent), label = dpc | opc << 14 | (sent & 15) << 28, number = htonl(sent);
+	unsigned own = first + sent, number = htonl(own);
+	unsigned length = field_length(own), label = dpc | opc << 14 | (own & 15) << 28;
 	head(out, USER_DATA, HEADER + 2 + length, last_accepted, number_of(sent + 1));
-	out[HEADER + 1] = 0x85; /* national, ISUP */
+	out[HEADER + 1] = 0x8f; /* national, a spare user part: no reader knows its fields */
 	for (unsigned i = 0; i < LABEL; i++) out[HEADER + 2 + i] = label >> 8 * i;
 	memcpy(out + HEADER + 2 + LABEL, &number, sizeof number);
-	for (unsigned i = 8; i < length; i++) out[HEADER + 2 + i] = i + sent;
+	for (unsigned i = 8; i < length; i++) out[HEADER + 2 + i] = i + own;
 	if (!put(out, HEADER + 2 + length, DATA_STREAM)) return 0;
 	sent++;
 	owes_acknowledgement = 0;
@@ -145,10 +161,14 @@ static void hear_field(const unsigned char *field, unsigned length) {
 	unsigned number;
 	if (length < 8) fail("a field that is too short");
 	memcpy(&number, field + LABEL, sizeof number);
-	if (ntohl(number) != received) fail("a message out of order");
-	if (length != field_length(received)) fail("a message of another length");
+	number = ntohl(number);
+	if (number < next_number) fail("a message that came before");
+	if (number != next_number && !stays) fail("a message out of order");
+	skipped += number - next_number;
+	if (length != field_length(number)) fail("a message of another length");
 	for (unsigned i = 8; i < length; i++)
-		if (field[i] != (unsigned char)(i + received)) fail("other octets");
+		if (field[i] != (unsigned char)(i + number)) fail("other octets");
+	next_number = number + 1;
 	received++;
 }
 
@@ -178,6 +198,31 @@ static void hear_frame(const unsigned char *text, unsigned length, int stream) {
 	hear_field(text + HEADER + 2, length - HEADER - 2);
 }
 
+static void begin(const char *mode, unsigned far_port);
+
+/* the association is over. Where this end stays, it gives up what isn't acknowledged, and goes on with the next */
+static void lose(const char *why) {
+	if (!stays) fail(why);
+	say("lost: %s", why);
+	stage = DOWN;
+	association = 0;
+	given_up += sent - acknowledged;
+	before = acknowledged = sent;
+	last_accepted = NUMBERS - 1;
+	owes_acknowledgement = 0;
+	if (!strcmp(own_mode, "connect")) begin(own_mode, own_far_port);
+}
+
+static void end_association(void) {
+	struct sctp_sndinfo info;
+	memset(&info, 0, sizeof info);
+	info.snd_assoc_id = association;
+	info.snd_flags = !strcmp(ending, "abort") ? SCTP_ABORT : SCTP_EOF;
+	ending = NULL;
+	if (usrsctp_sendv(sock, "", 0, NULL, 0, &info, sizeof info, SCTP_SENDV_SNDINFO, 0) < 0) fail(strerror(errno));
+	stage = DOWN;
+}
+
 static void note(const union sctp_notification *n) {
 	if (n->sn_header.sn_type != SCTP_ASSOC_CHANGE) return;
 	switch (n->sn_assoc_change.sac_state) {
@@ -186,10 +231,14 @@ static void note(const union sctp_notification *n) {
 		say("up");
 		align();
 		break;
-	case SCTP_RESTART: fail("the peer restarted the association");
-	case SCTP_COMM_LOST: fail("the association was lost");
-	case SCTP_SHUTDOWN_COMP: fail("the association was shut down");
-	case SCTP_CANT_STR_ASSOC: fail("no association came to be");
+	case SCTP_RESTART:
+		lose("the peer restarted the association");
+		association = n->sn_assoc_change.sac_assoc_id;
+		align();
+		break;
+	case SCTP_COMM_LOST: lose("the association was lost"); break;
+	case SCTP_SHUTDOWN_COMP: lose("the association was shut down"); break;
+	case SCTP_CANT_STR_ASSOC: lose("no association came to be"); break;
 	}
 }
 
@@ -222,6 +271,10 @@ static void act(void) {
 		repeat_at = now + REPEAT_MS;
 	}
 	if (stage != IN_SERVICE) return;
+	if (ending && received >= ends_after) {
+		end_association();
+		return;
+	}
 	while (sent < count && sent - acknowledged < WINDOW && send_message()) {}
 	if (owes_acknowledgement) acknowledge();
 }
@@ -266,8 +319,23 @@ static void begin(const char *mode, unsigned far_port) {
 	} else if (usrsctp_connect(sock, (struct sockaddr *)&far, sizeof far) < 0 && errno != EINPROGRESS) fail("connect");
 }
 
+static void over(int number) { is_over = number; }
+
+static void read_more(int argc, char **argv) {
+	if (argc < 11) return;
+	stays = !strcmp(argv[9], "stay");
+	first = atoi(argv[10]);
+	if (argc < 13) return;
+	ending = argv[11];
+	ends_after = atoi(argv[12]);
+}
+
 int main(int argc, char **argv) {
-	if (argc != 9) return 2;
+	if (argc < 9) return 2;
+	read_more(argc, argv);
+	signal(SIGTERM, over);
+	own_mode = argv[5];
+	own_far_port = atoi(argv[4]);
 	opc = atoi(argv[6]);
 	dpc = atoi(argv[7]);
 	count = atoi(argv[8]);
@@ -281,7 +349,12 @@ int main(int argc, char **argv) {
 		while (heard < 64 && hear()) heard++;
 		act();
 		/* the peer may still need acknowledgements: it is given some time */
-		int done = stage == IN_SERVICE && acknowledged == count && received == count;
+		if (is_over) {
+			say("over: sent %u acknowledged %u given up %u received %u skipped %u", sent, acknowledged - given_up,
+			    given_up, received, skipped);
+			_exit(0);
+		}
+		int done = !stays && stage == IN_SERVICE && acknowledged == count && received == count;
 		if (done && !done_at) done_at = now_ms();
 		if (done_at && now_ms() >= done_at + LINGER_MS) break;
 		if (now_ms() >= start + LIMIT_MS) fail("time is up");

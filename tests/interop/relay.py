@@ -2,11 +2,12 @@
 
     relay.py NEAR_PORT FAR_PORT NEAR_END FAR_END LOSS DOUBLING JITTER_MS SEED
 
-What comes at NEAR_PORT goes on from FAR_PORT to the end at FAR_END, and back.
+What comes at NEAR_PORT goes on from FAR_PORT to the end at FAR_END, and back. From SIGUSR1 to SIGUSR2 all is lost.
 """
 import heapq
 import random
 import select
+import signal
 import socket
 import sys
 import time
@@ -31,10 +32,22 @@ def received(sock):
             return
 
 
+class Cut:
+    """Whether all is lost now."""
+
+    def __init__(self):
+        self.is_on = False
+        signal.signal(signal.SIGUSR1, lambda *_: self.set(True))
+        signal.signal(signal.SIGUSR2, lambda *_: self.set(False))
+
+    def set(self, is_on):
+        self.is_on = is_on
+
+
 def run(near_port, far_port, near_end, far_end, loss, doubling, jitter_ms, seed):
     near, far = socket_at(int(near_port)), socket_at(int(far_port))
     ways = {near: (far, int(far_end)), far: (near, int(near_end))}
-    chance = random.Random(int(seed))
+    chance, cut = random.Random(int(seed)), Cut()
     waiting, number = [], 0
     while True:
         wait = max(0.0, waiting[0][0] - time.monotonic()) if waiting else None
@@ -42,7 +55,7 @@ def run(near_port, far_port, near_end, far_end, loss, doubling, jitter_ms, seed)
         for sock in ready:
             for octets in received(sock):
                 for _ in range(1 + (chance.random() < float(doubling))):
-                    if chance.random() < float(loss):
+                    if cut.is_on or chance.random() < float(loss):
                         continue
                     number += 1
                     when = time.monotonic() + chance.random() * float(jitter_ms) / 1000

@@ -1,9 +1,9 @@
--- The counters of all links, as a client is shown them.
+-- The counters of a node, as a client is shown them.
 use Rattle.std.specs.Prelude.{ℕ, zero, suc, List, [], ◌++◌, codes, length, slice_get, Option, Some, None}
 use Rattle.exchange.specs.Calls.{Kept}
 use Rattle.console.specs.Names.{name_in}
-use Rattle.served_link.specs.Counting.{value_of}
-use Rattle.served_link.specs.Lines.{counter_line}
+use Rattle.served_link.specs.Counting.{NodeCounters, value_of}
+use Rattle.served_link.specs.Lines.{counter_line, datagrams_text}
 use Rattle.served_link.specs.declared.counter.Counter.{Counter}
 use Rattle.served_link.specs.declared.counter.TheConstants.Counter.{ALL}
 use Rattle.served_link.specs.declared.row.LinkCounters.{LinkCounters}
@@ -36,6 +36,10 @@ row_text name (Some row) = link_text name row
 row_text name None = []
 
 -- the counters of all links, in the order of the settings
-abbrev pub counters_text : Kept → List LinkCounters → List ℕ
-counters_text s rows =
+abbrev pub rows_text : Kept → List LinkCounters → List ℕ
+rows_text s rows =
     first_texts (λ k. row_text (name_in s.settings k) (slice_get rows k)) (length s.settings.links)
+
+-- and behind them those of datagrams
+abbrev pub counters_text : Kept → NodeCounters → List ℕ
+counters_text s counters = rows_text s counters.links ++ datagrams_text counters.datagrams

@@ -10,7 +10,7 @@ use Rattle.console_session.specs.Clients.{ClientState, begun, OnlyOutboxChanges,
 use Rattle.console_session.specs.Counters.{counters_text}
 use Rattle.console_session.specs.declared.help.TheConstants.{HELP}
 use Rattle.console_session.specs.declared.client.TheConstants.{MALFORMED, WATCHING, STOPPING}
-use Rattle.served_link.specs.declared.row.LinkCounters.{LinkCounters}
+use Rattle.served_link.specs.Counting.{NodeCounters}
 use Rattle.point_format.specs.declared.point.PointFormat.{PointFormat}
 use Rattle.console_session.specs.declared.client.Ending.{Ending}
 use Rattle.console_session.specs.declared.client.Ending.TheVariants.{Stays, Closes, Stops}
@@ -68,30 +68,30 @@ IsRefused is_first Stops old new = ⊥
 -- What a line does to the node and to its client, and what becomes of the client. Only a line of a script changes the
 -- node, and only `stop` asks it to stop.
 abbrev pub DoesHeard :
-    Heard → (is_first : Bool) → List LinkCounters → Ending → (s after : Kept) → (old new : ClientState) → Type 0
-DoesHeard HearsNothing is_first rows ending s after old new = (ending ≡ Stays) × (after ≡ s) × (new ≡ old)
-DoesHeard (HearsScript asked) is_first rows ending s after old new =
+    Heard → (is_first : Bool) → NodeCounters → Ending → (s after : Kept) → (old new : ClientState) → Type 0
+DoesHeard HearsNothing is_first counters ending s after old new = (ending ≡ Stays) × (after ≡ s) × (new ≡ old)
+DoesHeard (HearsScript asked) is_first counters ending s after old new =
     IsDone asked ending s after old.outbox new.outbox × OnlyOutboxChanges old new
-DoesHeard HearsCounters is_first rows ending s after old new =
-    (after ≡ s) × IsShown (counters_text s rows) ending old new
-DoesHeard HearsHelp is_first rows ending s after old new = (after ≡ s) × IsTold HELP.now Stays ending old new
-DoesHeard HearsUsers is_first rows ending s after old new =
+DoesHeard HearsCounters is_first counters ending s after old new =
+    (after ≡ s) × IsShown (counters_text s counters) ending old new
+DoesHeard HearsHelp is_first counters ending s after old new = (after ≡ s) × IsTold HELP.now Stays ending old new
+DoesHeard HearsUsers is_first counters ending s after old new =
     (after ≡ s) × IsTold WATCHING.now Stays ending (told_of old Message) new
-DoesHeard HearsNotices is_first rows ending s after old new =
+DoesHeard HearsNotices is_first counters ending s after old new =
     (after ≡ s) × IsTold WATCHING.now Stays ending (told_of old Notice) new
-DoesHeard HearsFrames is_first rows ending s after old new =
+DoesHeard HearsFrames is_first counters ending s after old new =
     (after ≡ s) × IsTold WATCHING.now Stays ending (told_of old Frame) new
-DoesHeard HearsStop is_first rows ending s after old new = (after ≡ s) × IsTold STOPPING.now Stops ending old new
-DoesHeard HearsNoLine is_first rows ending s after old new = (after ≡ s) × IsRefused is_first ending old new
+DoesHeard HearsStop is_first counters ending s after old new = (after ≡ s) × IsTold STOPPING.now Stops ending old new
+DoesHeard HearsNoLine is_first counters ending s after old new = (after ≡ s) × IsRefused is_first ending old new
 
 -- what a line of a client does that is its first or isn't, with points in this format
-abbrev pub DoesLineAt : PointFormat → (is_first : Bool) → List ℕ → List LinkCounters → Ending → (s after : Kept)
+abbrev pub DoesLineAt : PointFormat → (is_first : Bool) → List ℕ → NodeCounters → Ending → (s after : Kept)
     → (old new : ClientState) → Type 0
-DoesLineAt points is_first line rows ending s after old new =
-    DoesHeard (heard points line) is_first rows ending s after old new
+DoesLineAt points is_first line counters ending s after old new =
+    DoesHeard (heard points line) is_first counters ending s after old new
 
 -- what a line of a client does. Behind it no line is the client's first
 abbrev pub DoesLine :
-    PointFormat → List ℕ → List LinkCounters → Ending → (s after : Kept) → (old new : ClientState) → Type 0
-DoesLine points line rows ending s after old new =
-    DoesLineAt points old.is_first line rows ending s after (begun old) new
+    PointFormat → List ℕ → NodeCounters → Ending → (s after : Kept) → (old new : ClientState) → Type 0
+DoesLine points line counters ending s after old new =
+    DoesLineAt points old.is_first line counters ending s after (begun old) new

@@ -3,18 +3,20 @@
 ghost use Rattle.std.specs.Prelude.{◌++◌, ◌≤◌, ◌≡◌, codes, length, OnOk, OnErr};
 ghost use Rattle.std.specs.Io.KnownBytes.{Appends};
 ghost use Rattle.script.specs.Streams.{AppendsFirst, failures_after};
-ghost use Rattle.console_session.specs.Counters.{counters_text, each_counter, link_text, row_text};
+ghost use Rattle.console_session.specs.Counters.{counters_text, each_counter, link_text, row_text, rows_text};
 ghost use Rattle.std.specs.Option.{option_copied};
-ghost use Rattle.served_link.specs.Lines.{counter_line};
+ghost use Rattle.served_link.specs.Lines.{counter_line, datagrams_text};
 
 use arrayvec::ArrayString;
 use console::link_name;
 use exchange::Exchange;
 use script::{Sink, WriteFailed};
-use served_link::{Counter, Counters, LINE_OCTETS, LinkCounters, write_counter};
+use served_link::{
+    Counter, Counters, DATAGRAMS_OCTETS, DatagramCounters, LINE_OCTETS, LinkCounters, write_counter,
+};
 use settings::{Limits, LinkId};
 
-/// Prints the counters of each link, in the order of the settings: a line for each counter.
+/// Prints the counters of each link, in the order of the settings, and then those of datagrams: a line for each counter.
 pub fn print_counters<W: Sink>(
     exchange: &Exchange,
     counters: &Counters,
@@ -24,6 +26,35 @@ pub fn print_counters<W: Sink>(
         (counters_text exchange.now counters.now)) }
     ensures first { OnErr result (AppendsFirst (W.output writer.old).written (W.output writer.new).written
         (counters_text exchange.now counters.now)) }
+    ensures counted { (W.output writer.new).failures ≡ failures_after (W.output writer.old).failures result }
+{
+    print_rows(exchange, counters, writer)?;
+    print_datagrams(counters.datagrams(), writer)
+}
+
+/// Prints the counters of datagrams.
+fn print_datagrams<W: Sink>(datagrams: &DatagramCounters, writer: &mut W) -> Result<(), WriteFailed>
+    ensures all { OnOk result (Appends (W.output writer.old).written (W.output writer.new).written
+        (datagrams_text datagrams.now)) }
+    ensures first { OnErr result (AppendsFirst (W.output writer.old).written (W.output writer.new).written
+        (datagrams_text datagrams.now)) }
+    ensures counted { (W.output writer.new).failures ≡ failures_after (W.output writer.old).failures result }
+{
+    let mut lines = ArrayString::<DATAGRAMS_OCTETS>::new();
+    datagrams.write(&mut lines);
+    writer.write(lines.as_bytes())
+}
+
+/// Prints the counters of each link, in the order of the settings.
+fn print_rows<W: Sink>(
+    exchange: &Exchange,
+    counters: &Counters,
+    writer: &mut W,
+) -> Result<(), WriteFailed>
+    ensures all { OnOk result (Appends (W.output writer.old).written (W.output writer.new).written
+        (rows_text exchange.now counters.now.links)) }
+    ensures first { OnErr result (AppendsFirst (W.output writer.old).written (W.output writer.new).written
+        (rows_text exchange.now counters.now.links)) }
     ensures counted { (W.output writer.new).failures ≡ failures_after (W.output writer.old).failures result }
 {
     let settings = exchange.settings();

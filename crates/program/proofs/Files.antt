@@ -1,5 +1,5 @@
 -- What the program does with a file of settings, by what its document says.
-use Rattle.std.proofs.Common.{◌≡◌, ◌⊎◌, ℕ, List, Ok, Err, refl, subst, inl, inr, codes}
+use Rattle.std.proofs.Common.{◌≡◌, ◌⊎◌, ℕ, List, Ok, Err, refl, subst, inl, inr}
 use Rattle.std.proofs.lemmas.Option.{none-some}
 use Rattle.std.specs.Str.{IsUtf8}
 use Rattle.settings_rows.specs.Configuration.{Configuration}
@@ -13,10 +13,9 @@ use Rattle.settings_file.proofs.Readings.{none-parsed}
 use Rattle.script.specs.Streams.{Input, Output}
 use Rattle.program.specs.Explaining.{IsToldOf, IsFaultExplained}
 use Rattle.program.specs.Folders.{FileRead, IsFault}
-use Rattle.program.specs.Program.{Streams, streams, EndsWith, HasNoMemory, RunsScript, RunsFile, ChecksFile, HasSettings, EndsAtFile, ServesFile}
+use Rattle.program.specs.Program.{Streams, streams, EndsWith, HasNoMemory, RunsScript, RunsFile, ChecksServer, ChecksFile, HasSettings, EndsAtFile, ServesFile}
 use Rattle.program.specs.declared.folder.FileFault.TheVariants.{Unread, NoMemory}
 use Rattle.program.specs.declared.program.Status.{Status}
-use Rattle.program.specs.declared.program.Status.TheVariants.{Done}
 
 -- ---- faults
 
@@ -55,6 +54,12 @@ serves-from file octets output_mid output output_new errors_mid errors errors_ne
     subst (λ (o : Output). ServesFile file (Ok octets) o output_new errors errors_new ended) w
     (subst (λ (o : Output). ServesFile file (Ok octets) output_mid output_new o errors_new ended) e h)
 
+pub checks-from : (file octets : List ℕ) (output_mid output output_new errors_mid errors errors_new : Output) (ended : Status) → output_mid ≡ output → errors_mid ≡ errors
+    → ChecksFile file (Ok octets) output_mid output_new errors_mid errors_new ended → ChecksFile file (Ok octets) output output_new errors errors_new ended
+checks-from file octets output_mid output output_new errors_mid errors errors_new ended w e h =
+    subst (λ (o : Output). ChecksFile file (Ok octets) o output_new errors errors_new ended) w
+    (subst (λ (o : Output). ChecksFile file (Ok octets) output_mid output_new o errors_new ended) e h)
+
 -- ---- a file that has settings
 
 pub ran-file : (file : List ℕ) (read : FileRead) (settings : Configuration) (input : Input) (output output_mid errors warned : Output) (new : Streams) (ended : Status)
@@ -68,12 +73,11 @@ ran-file file (Ok octets) settings input output output_mid errors warned new end
     (warned, has.1, inr (no_memory, inl refl, told.0, told.1, inr told.2))
 ran-file file (Err fault) settings input output output_mid errors warned new ended has same ran = absurd has
 
-pub checked-file : (file : List ℕ) (read : FileRead) (settings : Configuration) (output output_mid output_new errors warned : Output) (ended : Status)
-    → HasSettings file read settings errors warned → output_mid ≡ output → EndsWith Done (codes "ok\n") output_mid output_new ended
-    → ChecksFile file read output output_new errors warned ended
-checked-file file (Ok octets) settings output output_mid output_new errors warned ended has same ends =
-    (warned, has.1, inl (settings, has.0, subst (λ (o : Output). EndsWith Done (codes "ok\n") o output_new ended) same ends, refl))
-checked-file file (Err fault) settings output output_mid output_new errors warned ended has same ends = absurd has
+pub checked-document : (file octets : List ℕ) (settings : Configuration) (output output_mid output_new errors warned errors_new : Output) (ended : Status)
+    → HasSettings file (Ok octets) settings errors warned → output_mid ≡ output → ChecksServer file octets output_mid output_new warned errors_new ended
+    → ChecksFile file (Ok octets) output output_new errors errors_new ended
+checked-document file octets settings output output_mid output_new errors warned errors_new ended has same checks =
+    (warned, has.1, inl (settings, has.0, subst (λ (o : Output). ChecksServer file octets o output_new warned errors_new ended) same checks))
 
 -- ---- a file that has none
 

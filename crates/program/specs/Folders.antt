@@ -7,6 +7,12 @@ use Rattle.settings_file.specs.Faults.{no_memory}
 use Rattle.settings_file.specs.Reading.{IsReadAs, IsFirstFault}
 use Rattle.settings_file.specs.declared.fault.SettingsFault.{SettingsFault}
 use Rattle.settings_file.specs.declared.fault.SettingsFault.TheVariants.{Text}
+use Rattle.settings_file.specs.Parsed.{AreDocument}
+use Rattle.serve_settings.specs.Addresses.{Spelling}
+use Rattle.serve_settings.specs.Reading.{checked}
+use Rattle.serve_settings.specs.declared.fault.ServeFault.{ServeFault}
+use Rattle.serve_settings.specs.declared.fault.ServeFault.TheVariants.{NoMemory}
+use Rattle.toml.specs.Data.{Members}
 use Rattle.program.specs.declared.folder.FileFault.{FileFault}
 
 -- what a read of a file came to: its octets, or why there are none
@@ -29,3 +35,15 @@ IsFileFault octets why = (¬ (IsUtf8 octets) × (why ≡ Text)) ⊎ (IsUtf8 octe
 -- or memory ran out
 abbrev pub IsFault : List ℕ → SettingsFault → Type 0
 IsFault octets why = (why ≡ no_memory) ⊎ IsFileFault octets why
+
+-- the document that octets are says nothing of a server, or its settings of one have no fault
+pub record AreServed (octets : List ℕ) : Type 0 where
+  pub document : Members
+  pub are : AreDocument octets document
+  pub well : (s : Spelling) → checked s document ≡ Ok tt
+
+-- its settings of a server have this first fault, or memory ran out
+pub record IsServerFault (octets : List ℕ) (why : ServeFault) : Type 0 where
+  pub document : Members
+  pub are : AreDocument octets document
+  pub first : (s : Spelling) → (why ≡ NoMemory) ⊎ (checked s document ≡ Err why)

@@ -13,7 +13,10 @@ use Rattle.script.specs.BuiltIn.{built_in_settings}
 use Rattle.settings_file.specs.Sentences.{Explains}
 use Rattle.program.specs.Explaining.{IsTold, IsToldOf, usage_text, unread_sentence, IsWarned, IsEndExplained, strangers_sentence, IsLabEndExplained}
 use Rattle.script.specs.Faults.{Counts}
-use Rattle.program.specs.Folders.{FileRead, AreSettings, IsFault}
+use Rattle.program.specs.Folders.{FileRead, AreSettings, IsFault, AreServed, IsServerFault}
+use Rattle.serve_settings.specs.Faults as server
+use Rattle.serve_settings.specs.Sentences as server_sentences
+use Rattle.serve_settings.specs.declared.fault.ServeFault.{ServeFault}
 use Rattle.script.specs.Runs.{Runs}
 use Rattle.script.specs.Streams.{Input, Output, AppendsFirst, counted}
 use Rattle.program.specs.declared.folder.FileFault.TheVariants as file_fault
@@ -52,6 +55,10 @@ status_after (Err fault.NoMemory) = status.Start
 -- a fault of settings, as it is printed
 abbrev pub told : SettingsFault → List ℕ
 told fault = fault_line fault ++ codes "\n"
+
+-- the same of a fault of a server's settings
+abbrev pub told_server : ServeFault → List ℕ
+told_server fault = server.fault_line fault ++ codes "\n"
 
 -- a last line was written, and the program ends so; or its write failed
 abbrev pub EndsWith : Status → List ℕ → Output → Output → Status → Type 0
@@ -100,12 +107,21 @@ RunsFile file (Err (file_fault.Unread why)) old new ended =
     × IsToldOf (λ text. text ≡ unread_sentence file why) old.errors new.errors
 RunsFile file (Err file_fault.NoMemory) old new ended = HasNoMemory old new ended
 
--- `ok` is printed of a file that has settings, and else the fault, which standard error explains, after warnings
+-- `ok` is printed of a file whose settings of a server have no fault, or that says nothing of one, and else their fault,
+-- which standard error explains
+abbrev pub ChecksServer : (file octets : List ℕ) → (output output_new errors errors_new : Output) → Status → Type 0
+ChecksServer file octets output output_new errors errors_new ended =
+    (AreServed octets × EndsWith status.Done (codes "ok\n") output output_new ended × (errors_new ≡ errors))
+    ⊎ ((why : ServeFault) × IsServerFault octets why × EndsWith status.Start (told_server why) output output_new ended
+    × IsToldOf (server_sentences.Explains file why) errors errors_new)
+
+-- of a file that has settings of a node those of its server are checked; else the fault is printed, which standard
+-- error explains; and warnings come before
 abbrev pub ChecksFile : (file : List ℕ) → FileRead → (output output_new errors errors_new : Output) → Status → Type 0
 ChecksFile file (Ok octets) output output_new errors errors_new ended =
     (warned : Output) × IsWarned file errors warned
     × (((settings : Configuration) × AreSettings octets settings
-    × EndsWith status.Done (codes "ok\n") output output_new ended × (errors_new ≡ warned))
+    × ChecksServer file octets output output_new warned errors_new ended)
     ⊎ ((why : SettingsFault) × IsFault octets why × EndsWith status.Start (told why) output output_new ended
     × IsToldOf (Explains file octets why) warned errors_new))
 ChecksFile file (Err (file_fault.Unread why)) output output_new errors errors_new ended =

@@ -3,12 +3,14 @@
 ghost use Rattle.std.specs.Prelude.{◌≡◌, ◌≢◌, ◌⊎◌, IfOk, string_bytes, codes};
 ghost use Rattle.std.specs.IoError.{error_kind};
 ghost use Rattle.settings_file.specs.Faults.{no_memory};
+ghost use Rattle.serve_settings.specs.Sentences as server;
 ghost use Rattle.program.specs.Explaining.{IsTold, IsToldOf, IsFaultExplained, usage_text};
-ghost use Rattle.program.specs.Program.{told, EndsWith};
+ghost use Rattle.program.specs.Program.{told, told_server, EndsWith};
 
-use crate::explaining::{explain_fault, explain_no_document, explain_words};
+use crate::explaining::{explain_fault, explain_no_document, explain_server, explain_words};
 use crate::program::Status;
 use script::Sink;
+use serve_settings::ServeFault;
 use settings_file::SettingsFault;
 use std::alloc::{AllocError, Global};
 use std::io::{Error, ErrorKind};
@@ -96,6 +98,37 @@ pub(crate) fn tell_file_fault<W: Sink, E: Sink>(
 /// The line of a fault of settings.
 fn told(alloc: Global, fault: SettingsFault) -> Result<String, AllocError>
     ensures { IfOk result (λ line. string_bytes line ≡ told fault) }
+{
+    format!(in alloc; "{fault}\n")
+}
+
+/// Prints what is wrong with the settings of a server in the document that a file is, and explains it; or prints that
+/// memory ran out.
+pub(crate) fn tell_server_fault<W: Sink, E: Sink>(
+    alloc: Global,
+    file: &str,
+    document: &Table,
+    fault: ServeFault,
+    writer: &mut W,
+    errors: &mut E,
+) -> Status
+    ensures { (EndsWith Status.Start (told_server fault) (W.output writer.old) (W.output writer.new) result
+        × IsToldOf (server.Explains file.now fault) (E.output errors.old) (E.output errors.new))
+        ⊎ (EndsWith Status.Start (told no_memory) (W.output writer.old) (W.output writer.new) result
+        × (E.output errors.new ≡ E.output errors.old)) }
+{
+    match told_server(alloc, fault) {
+        Ok(line) => {
+            explain_server(alloc, file, document, fault, errors);
+            end_with(Status::Start, line.as_bytes(), writer)
+        }
+        Err(_) => tell_no_memory(writer),
+    }
+}
+
+/// The line of a fault of a server's settings.
+fn told_server(alloc: Global, fault: ServeFault) -> Result<String, AllocError>
+    ensures { IfOk result (λ line. string_bytes line ≡ told_server fault) }
 {
     format!(in alloc; "{fault}\n")
 }

@@ -1,6 +1,7 @@
 //! What goes to standard error: why the program doesn't do what was meant.
 
 ghost use Rattle.std.specs.Prelude.{◌≡◌};
+ghost use Rattle.serve_settings.specs.Sentences as server;
 ghost use Rattle.program.specs.Explaining.{IsTold, IsToldMade, IsToldOf, usage_text, unread_text, unread_sentence};
 ghost use Rattle.program.specs.Explaining.{IsWarned, IsFaultExplained};
 ghost use Rattle.program.specs.Explaining.{IsEndExplained, IsScriptExplained, IsLabEndExplained};
@@ -9,6 +10,7 @@ ghost use Rattle.program.specs.Explaining.{strangers_sentence, lab_line_sentence
 use crate::folder::Unread;
 use crate::sentences::sentence;
 use script::{LineFault, ScriptFault, Sink};
+use serve_settings::ServeFault;
 use settings_file::SettingsFault;
 use std::alloc::{AllocError, Global};
 use toml::Table;
@@ -92,6 +94,22 @@ pub(crate) fn explain_fault<E: Sink>(
 {
     tell_made(
         settings_file::sentence(alloc, file, document, fault),
+        errors,
+    );
+}
+
+/// Tells what is wrong with the settings of a server in the document that a file is.
+pub(crate) fn explain_server<E: Sink>(
+    alloc: Global,
+    file: &str,
+    document: &Table,
+    fault: ServeFault,
+    errors: &mut E,
+)
+    ensures { IsToldOf (server.Explains file.now fault) (E.output errors.old) (E.output errors.new) }
+{
+    tell_made(
+        serve_settings::sentence(alloc, file, document, fault),
         errors,
     );
 }

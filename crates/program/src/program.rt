@@ -1,27 +1,31 @@
 //! The program around scripts: what it does for its words, and how it ends.
 
-ghost use Rattle.std.specs.Prelude.{◌≡◌, ◌⊎◌, IfOk, IfErr};
+ghost use Rattle.std.specs.Prelude.{◌≡◌, ◌⊎◌, ℕ, List, Ok, IfOk, IfErr};
+ghost use Rattle.toml.specs.View.{table_view};
+ghost use Rattle.settings_file.specs.Parsed.{AreDocument};
 ghost use Rattle.settings_rows.specs.Configuration.{Configuration};
 ghost use Rattle.exchange.specs.Calls.{StandsFor};
 ghost use Rattle.exchange_rules.specs.First.{first_state};
 ghost use Rattle.script.specs.BuiltIn.{built_in_settings};
 ghost use Rattle.program.specs.Folders.{FileRead};
 ghost use Rattle.settings_file.specs.Faults.{no_memory};
-ghost use Rattle.program.specs.Program.{status_number, status_after, streams, NoText, RunsScript, HasNoMemory, RunsNode, RunsFile, ChecksFile, Does};
+ghost use Rattle.program.specs.Program.{status_number, status_after, streams, NoText, RunsScript, HasNoMemory, RunsNode, RunsFile, ChecksServer, ChecksFile, Does};
 
-use crate::ending::{end_with, tell_no_memory, tell_usage};
+use crate::ending::{end_with, tell_no_memory, tell_server_fault, tell_usage};
 use crate::explaining::explain_end;
 use crate::folder::Folder;
 use crate::serving::serve_file;
-use crate::settings_files::settings_of;
+use crate::settings_files::{document_of, settings_in, settings_of};
 use crate::two_nodes::run_files;
 use command_line::{Words, read_words};
 use exchange::{Exchange, NoMemory};
 use lab::Joiner;
 use script::{OpenLine, ScriptFault, Sink, Source, built_in, run_pieces};
+use serve_settings::check_server;
 use settings::Settings;
 use settings_file::SettingsFault;
 use std::alloc::Global;
+use toml::Table;
 
 /// How the program ends. The numbers are its exit statuses.
 #[derive(Clone, Copy, Debug, PartialEq, Eq)]
@@ -114,7 +118,7 @@ fn run_file<F: Folder, R: Source, W: Sink, E: Sink>(
     }
 }
 
-/// Tells whether the settings of a file have a fault.
+/// Tells whether the settings of a file have a fault: those of a node, and those of its server, if it says any.
 fn check_file<F: Folder, W: Sink, E: Sink>(
     alloc: Global,
     folder: &F,
@@ -125,12 +129,49 @@ fn check_file<F: Folder, W: Sink, E: Sink>(
     ensures { (read : FileRead) × F.reads folder.now file.now read × ChecksFile file.now read
         (W.output writer.old) (W.output writer.new) (E.output errors.old) (E.output errors.new) result }
 {
-    match settings_of(alloc, folder, file, writer, errors) {
+    let document = match document_of(alloc, folder, file, writer, errors) {
+        Ok(document) => document,
+        Err(status) => return status,
+    };
+    let status = check_document(alloc, file, &document, writer, errors);
+    drop(document);
+    status
+}
+
+/// Tells whether the settings in the document that a file is have a fault.
+fn check_document<W: Sink, E: Sink>(
+    alloc: Global,
+    file: &str,
+    document: &Table,
+    writer: &mut W,
+    errors: &mut E,
+) -> Status
+    ensures { (octets : List ℕ) → AreDocument octets (table_view document.now) → ChecksFile file.now (Ok octets)
+        (W.output writer.old) (W.output writer.new) (E.output errors.old) (E.output errors.new) result }
+{
+    match settings_in(alloc, file, document, writer, errors) {
         Ok(settings) => {
             drop(settings);
-            end_with(Status::Done, b"ok\n", writer)
+            check_server_in(alloc, file, document, writer, errors)
         }
         Err(status) => status,
+    }
+}
+
+/// Tells whether the settings of a server in the document that a file is have a fault.
+fn check_server_in<W: Sink, E: Sink>(
+    alloc: Global,
+    file: &str,
+    document: &Table,
+    writer: &mut W,
+    errors: &mut E,
+) -> Status
+    ensures { (octets : List ℕ) → AreDocument octets (table_view document.now) → ChecksServer file.now octets
+        (W.output writer.old) (W.output writer.new) (E.output errors.old) (E.output errors.new) result }
+{
+    match check_server(alloc, document) {
+        Ok(()) => end_with(Status::Done, b"ok\n", writer),
+        Err(fault) => tell_server_fault(alloc, file, document, fault, writer, errors),
     }
 }
 

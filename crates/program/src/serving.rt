@@ -6,12 +6,12 @@ ghost use Rattle.settings_file.specs.Parsed.{AreDocument};
 ghost use Rattle.program.specs.Folders.{FileRead};
 ghost use Rattle.program.specs.Program.{ServesFile};
 
-use crate::ending::{end_with, tell_no_memory};
+use crate::ending::{tell_no_memory, tell_server_fault};
 use crate::folder::Folder;
 use crate::program::Status;
 use crate::settings_files::{document_of, settings_in};
 use script::Sink;
-use serve_settings::{ServeFault, ServeSettings, read_server};
+use serve_settings::{ServeSettings, read_server};
 use settings::Settings;
 use std::alloc::Global;
 use stp_server::{OpenFault, ServeFailure};
@@ -69,7 +69,7 @@ fn serve_checked<W: Sink, E: Sink>(
         Ok(serve) => serve_with(rt, settings, &serve, writer, errors),
         Err(fault) => {
             drop(settings);
-            tell_serve_fault(rt.alloc(), file, document, fault, writer, errors)
+            tell_server_fault(rt.alloc(), file, document, fault, writer, errors)
         }
     }
 }
@@ -85,30 +85,6 @@ fn serve_with<W: Sink, E: Sink>(
     match stp_server::serve(rt, settings, serve, writer) {
         Ok(()) => Status::Done,
         Err(failure) => tell_failure(rt.alloc(), failure, serve.capture(), writer, errors),
-    }
-}
-
-/// Prints a fault of the server's settings in the document that a file is, and tells what is wrong there.
-fn tell_serve_fault<W: Sink, E: Sink>(
-    alloc: Global,
-    file: &str,
-    document: &Table,
-    fault: ServeFault,
-    writer: &mut W,
-    errors: &mut E,
-) -> Status {
-    let status = print_fault(alloc, fault, writer);
-    if let Ok(sentence) = serve_settings::sentence(alloc, file, document, fault) {
-        let _told = errors.write(sentence.as_bytes());
-    }
-    status
-}
-
-/// Prints a fault of the server's settings; or that memory ran out.
-fn print_fault<W: Sink>(alloc: Global, fault: ServeFault, writer: &mut W) -> Status {
-    match format!(in alloc; "{fault}\n") {
-        Ok(line) => end_with(Status::Start, line.as_bytes(), writer),
-        Err(_) => tell_no_memory(writer),
     }
 }
 
@@ -129,6 +105,9 @@ fn tell_failure<W: Sink, E: Sink>(
         }
         ServeFailure::Open(OpenFault::Poll) | ServeFailure::System => {
             let _told = errors.write(b"the system fails to tell of sockets or of the time\n");
+        }
+        ServeFailure::Open(OpenFault::Random) => {
+            let _told = errors.write(b"the system gives no random octets\n");
         }
         ServeFailure::Capture => {
             let file = capture.unwrap_or("");

@@ -119,7 +119,7 @@ module _ (now : ℕ) where
   same-does_as standing rule g k a s =
       same-if (is_lasting now g.endpoint) _ _ _ _ (same-handed (rule g.endpoint) (record g { standing = standing }) k a s) (same-nothing g k a s)
 
-  same-aborted : (g : Gate) (k : Kept) (a : Abstract) → StandsFor k a → Same (aborted kept now g k) (aborted whole now g a)
+  pub same-aborted : (g : Gate) (k : Kept) (a : Abstract) → StandsFor k a → Same (aborted kept now g k) (aborted whole now g a)
   same-aborted g k a s = same-does_as (idle g.standing) (λ e. abort e.settings e.state) g k a s
 
   same-settled_by : (wants : Wants) (g : Gate) (k : Kept) (a : Abstract) → StandsFor k a → Same (settled_by kept now wants g k) (settled_by whole now wants g a)

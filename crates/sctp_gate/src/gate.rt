@@ -120,6 +120,16 @@ impl Gate {
         self.do_as_link_wants(exchange, now, watch);
     }
 
+    /// This end ends the association by ABORT, or the try of one, or the wish for one. What is called behind it begins
+    /// anew, if the link wants that.
+    pub fn close<W: Watch>(&mut self, exchange: &mut Exchange, now: u64, watch: &mut W)
+        ensures kept { Makes W.has watch.old watch.new self.new exchange.new (aborted kept now self.old exchange.old) }
+        ensures whole { (a : Abstract) → StandsFor exchange.old a → MakesWhole W.has watch.old watch.new self.new
+            exchange.new (aborted whole now self.old a) }
+    {
+        self.abort(exchange, now, watch);
+    }
+
     /// The same on what is kept.
     fn do_as_link_wants<W: Watch>(&mut self, exchange: &mut Exchange, now: u64, watch: &mut W)
         ensures { Makes W.has watch.old watch.new self.new exchange.new (settled kept now self.old exchange.old) }

@@ -59,7 +59,11 @@ impl Station {
     ) -> Option<Station> {
         let places = Places {
             links: serve.links(),
+            udp: serve.udp(),
+            sctp: serve.sctp(),
             console: None,
+            page: None,
+            is_page_open: false,
             points: PointFormat::Plain,
         };
         let server = Server::open(rt, rt.alloc(), settings, places, &mut Unlogged).ok()?;

@@ -8,7 +8,7 @@ use Rattle.signalling_types.specs.declared.cause.Cause.TheVariants.{WrongNetwork
 use Rattle.signalling_types.specs.declared.notice.FailureReason.{FailureReason}
 use Rattle.signalling_types.specs.declared.notice.FailureReason.TheVariants.{Association}
 use Rattle.signalling_types.specs.declared.outcome.Outcome.TheVariants.{Queued, Held, Local, Refused}
-use Rattle.served_link.specs.Counting.{Counted, FrameCame, FrameWent, Failure, Retry, reason_number, saturated, no_counts, one_more_at, counted, counted_at, row_at, value_of}
+use Rattle.served_link.specs.Counting.{Counted, FrameCame, FrameWent, Failure, Retry, reason_number, saturated, no_counts, one_more_at, counted, row_counted_at, row_at, value_of}
 use Rattle.served_link.specs.Laws.{one_if, frame_adds, adds, counted_each, counted_all, adds_of}
 use Rattle.served_link.specs.declared.counter.TheConstants.{CAUSES, REASONS}
 use Rattle.served_link.specs.declared.counter.Counter.{Counter}
@@ -134,7 +134,7 @@ record IsAt (counter : Counter) (rows : List LinkCounters) (link s : ℕ) : Type
   value : value_of counter (row_at rows link) ≡ saturated s
 
 at-adds : (counter : Counter) (rows : List LinkCounters) (link s : ℕ) (entry : ℕ × Counted) → IsAt counter rows link s
-    → IsAt counter (counted_at entry.0 entry.1 rows) link (s + adds_of link counter entry)
+    → IsAt counter (row_counted_at entry.0 entry.1 rows) link (s + adds_of link counter entry)
 at-adds counter rows link s entry h =
     let l = entry.0 in
     let what = entry.1 in
@@ -166,7 +166,7 @@ all-adds : (counter : Counter) (whats : List (ℕ × Counted)) (rows : List Link
     → value_of counter (row_at (counted_all whats rows) link) ≡ saturated (s + sum_by (adds_of link counter) whats)
 all-adds counter [] rows link s h = stays (value_of counter (row_at rows link)) s h.value
 all-adds counter (entry ∷ whats) rows link s h =
-    all-adds counter whats (counted_at entry.0 entry.1 rows) link (s + adds_of link counter entry) (at-adds counter rows link s entry h)
+    all-adds counter whats (row_counted_at entry.0 entry.1 rows) link (s + adds_of link counter entry) (at-adds counter rows link s entry h)
     ∙ ap saturated (omega (arith, sum_by-cons (adds_of link counter) entry whats))
 
 pub links-sums : (links link : ℕ) (counter : Counter) (whats : List (ℕ × Counted)) → link < links

@@ -15,6 +15,7 @@ use Rattle.served_link.specs.declared.counter.Counter.TheVariants.{FramesIn, Oct
 use Rattle.served_link.specs.declared.counter.Counter.TheVariants.{Forwarded, Delivered, Refused as RefusedBy}
 use Rattle.served_link.specs.declared.counter.Counter.TheVariants.{Failed, Retries}
 use Rattle.served_link.specs.declared.row.LinkCounters.{LinkCounters}
+use Rattle.served_link.specs.declared.datagrams.DatagramCounters.{DatagramCounters}
 
 -- what is counted of a link
 pub data Counted : Type 0 where
@@ -105,9 +106,45 @@ counted Retry row = record row { retries = saturated (row.retries + 1) }
 abbrev pub row_at : List LinkCounters → ℕ → LinkCounters
 row_at rows link = slice_index_or rows link no_counts
 
--- one thing more is counted of a link; of a link that isn't there nothing is
-abbrev pub counted_at : (link : ℕ) → Counted → List LinkCounters → List LinkCounters
-counted_at link what rows = slice_set rows link (counted what (row_at rows link))
+-- in the counters of all links, one thing more is counted of a link; of a link that isn't there nothing is
+abbrev pub row_counted_at : (link : ℕ) → Counted → List LinkCounters → List LinkCounters
+row_counted_at link what rows = slice_set rows link (counted what (row_at rows link))
+
+-- ---- the counters of a node
+
+pub record NodeCounters : Type 0 where
+  -- of each link
+  pub links : List LinkCounters
+  -- of datagrams
+  pub datagrams : DatagramCounters
+
+abbrev pub no_datagrams : DatagramCounters
+no_datagrams = record { incoming = 0; outgoing = 0; strangers = 0 }
+
+-- nothing is counted yet of so many links
+abbrev pub first_counters : (links : ℕ) → NodeCounters
+first_counters links = record { links = replicate links no_counts; datagrams = no_datagrams }
+
+-- one thing more is counted of a link
+abbrev pub counted_at : (link : ℕ) → Counted → NodeCounters → NodeCounters
+counted_at link what counters = record counters { links = row_counted_at link what counters.links }
+
+-- what is counted of datagrams
+pub data CountedDatagram : Type 0 where
+  -- one of a link came, or went out
+  DatagramCame : CountedDatagram
+  DatagramWent : CountedDatagram
+  -- one came that is no link's
+  StrangerCame : CountedDatagram
+
+abbrev pub datagrams_after : CountedDatagram → DatagramCounters → DatagramCounters
+datagrams_after DatagramCame d = record d { incoming = saturated (d.incoming + 1) }
+datagrams_after DatagramWent d = record d { outgoing = saturated (d.outgoing + 1) }
+datagrams_after StrangerCame d = record d { strangers = saturated (d.strangers + 1) }
+
+-- one datagram more is counted
+abbrev pub counted_datagram : CountedDatagram → NodeCounters → NodeCounters
+counted_datagram what counters = record counters { datagrams = datagrams_after what counters.datagrams }
 
 -- ---- the value of each counter
 

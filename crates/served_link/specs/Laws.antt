@@ -5,7 +5,7 @@ use Rattle.signalling_types.specs.declared.cause.Cause.{Cause}
 use Rattle.signalling_types.specs.declared.outcome.Outcome.{Outcome}
 use Rattle.signalling_types.specs.declared.outcome.Outcome.TheVariants.{Queued, Held, Local, Refused}
 use Rattle.served_link.specs.Counting.{Counted, FrameCame, FrameWent, Failure, Retry, reason_number, saturated}
-use Rattle.served_link.specs.Counting.{no_counts, counted, counted_at, row_at, value_of}
+use Rattle.served_link.specs.Counting.{no_counts, counted, row_counted_at, row_at, value_of}
 use Rattle.served_link.specs.declared.counter.Counter.{Counter}
 use Rattle.served_link.specs.declared.counter.Counter.TheVariants.{FramesIn, OctetsIn, FramesOut, OctetsOut}
 use Rattle.served_link.specs.declared.counter.Counter.TheVariants.{Forwarded, Delivered, Refused as RefusedBy, Failed}
@@ -64,7 +64,7 @@ counted_each (what ∷ more) row = counted_each more (counted what row)
 -- the counters of all links after some things are counted, each of its link
 abbrev pub counted_all : List (ℕ × Counted) → List LinkCounters → List LinkCounters
 counted_all [] rows = rows
-counted_all (entry ∷ more) rows = counted_all more (counted_at entry.0 entry.1 rows)
+counted_all (entry ∷ more) rows = counted_all more (row_counted_at entry.0 entry.1 rows)
 
 -- what is counted of one link
 abbrev pub adds_of : (link : ℕ) → Counter → ℕ × Counted → ℕ

@@ -1,9 +1,11 @@
-//! The counters of all links.
+//! The counters of a node: of each of its links, and of its datagrams.
 
-ghost use Rattle.std.specs.Prelude.{◌≡◌, replicate, slice_get, IfOk};
+ghost use Rattle.std.specs.Prelude.{◌≡◌, slice_get, IfOk};
 ghost use Rattle.std.specs.Option.{option_copied};
-ghost use Rattle.served_link.specs.Counting.{Failure, Retry, came, counted_at, no_counts, went};
+ghost use Rattle.served_link.specs.Counting.{DatagramCame, DatagramWent, StrangerCame, counted_datagram};
+ghost use Rattle.served_link.specs.Counting.{Failure, Retry, came, counted_at, first_counters, went};
 
+use crate::datagrams::DatagramCounters;
 use crate::frame::has_user_message;
 use crate::row::LinkCounters;
 use signalling_types::{FailureReason, LinkId, Outcome};
@@ -11,34 +13,36 @@ use std::alloc::{AllocError, Global};
 use std::marker::Model;
 use trace::ObservedFrame;
 
-/// The counters of each link since start. What is counted of a link that isn't there is ignored.
+/// The counters of a node since start: of each link, and of datagrams. What is counted of a link that isn't there is
+/// ignored.
 #[derive(Drop)]
 pub struct Counters {
     rows: Vec<LinkCounters>,
+    datagrams: DatagramCounters,
 }
 
 impl Model for Counters {
-    ghost use Rattle.std.specs.Prelude.{List};
-    ghost use Rattle.served_link.specs.declared.row.LinkCounters.{LinkCounters};
+    ghost use Rattle.served_link.specs.Counting.{NodeCounters};
 
-    ghost Value = { List LinkCounters };
+    ghost Value = { NodeCounters };
 
-    ghost view = { λ c. c.rows.items };
+    ghost view = { λ c. record { links = c.rows.items; datagrams = c.datagrams } };
 }
 
 impl Counters {
     /// The counters of `links` links, all 0. The error means that memory ran out.
     pub fn new(alloc: Global, links: usize) -> Result<Counters, AllocError>
-        ensures { IfOk result (λ counters. counters ≡ replicate links no_counts) }
+        ensures { IfOk result (λ counters. counters ≡ first_counters links) }
     {
         Ok(Counters {
             rows: vec![in alloc; LinkCounters::new(); links]?,
+            datagrams: DatagramCounters::new(),
         })
     }
 
     /// The counters of a link, if there is one.
     pub fn row(&self, link: LinkId) -> Option<&LinkCounters>
-        ensures { option_copied result ≡ slice_get self.now link }
+        ensures { option_copied result ≡ slice_get self.now.links link }
     {
         self.rows.get(link.index())
     }
@@ -77,5 +81,33 @@ impl Counters {
         if let Some(row) = self.rows.get_mut(link.index()) {
             row.count_retry();
         }
+    }
+
+    /// The counters of datagrams.
+    pub fn datagrams(&self) -> &DatagramCounters
+        ensures { result.now ≡ self.now.datagrams }
+    {
+        &self.datagrams
+    }
+
+    /// A datagram of a link came.
+    pub fn count_datagram_in(&mut self)
+        ensures { self.new ≡ counted_datagram DatagramCame self.old }
+    {
+        self.datagrams.incoming = self.datagrams.incoming.saturating_add(1);
+    }
+
+    /// A datagram of a link went out.
+    pub fn count_datagram_out(&mut self)
+        ensures { self.new ≡ counted_datagram DatagramWent self.old }
+    {
+        self.datagrams.outgoing = self.datagrams.outgoing.saturating_add(1);
+    }
+
+    /// A datagram came that is no link's.
+    pub fn count_stranger(&mut self)
+        ensures { self.new ≡ counted_datagram StrangerCame self.old }
+    {
+        self.datagrams.strangers = self.datagrams.strangers.saturating_add(1);
     }
 }

@@ -6,6 +6,7 @@
 pub mod association;
 pub mod counter;
 pub mod counters;
+pub mod datagrams;
 mod filling;
 mod frame;
 pub mod laws;
@@ -20,6 +21,7 @@ pub mod watch;
 pub use association::{Association, Broken};
 pub use counter::Counter;
 pub use counters::Counters;
+pub use datagrams::{DATAGRAMS_OCTETS, DatagramCounters};
 pub use line::{LINE_OCTETS, write_counter};
 pub use outgoing::OUTPUT_OCTETS;
 pub use retrying::{LONGEST_WAIT, Retry};

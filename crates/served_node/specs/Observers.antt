@@ -1,9 +1,7 @@
 -- What the frames that pass add to the counters.
-use Rattle.std.specs.Prelude.{List}
 use Rattle.served_link.specs.Watching.{Sight, CameIn, WentOut}
-use Rattle.served_link.specs.Counting.{came, counted_at, went}
-use Rattle.served_link.specs.declared.row.LinkCounters.{LinkCounters}
+use Rattle.served_link.specs.Counting.{NodeCounters, came, counted_at, went}
 
-abbrev pub counted_sight : Sight → List LinkCounters → List LinkCounters
-counted_sight (CameIn link frame outcome) rows = counted_at link (came frame outcome) rows
-counted_sight (WentOut link frame) rows = counted_at link (went frame) rows
+abbrev pub counted_sight : Sight → NodeCounters → NodeCounters
+counted_sight (CameIn link frame outcome) counters = counted_at link (came frame outcome) counters
+counted_sight (WentOut link frame) counters = counted_at link (went frame) counters

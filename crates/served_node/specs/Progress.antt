@@ -1,5 +1,7 @@
 -- What a read or a write of a socket may come to.
 use Rattle.std.specs.Prelude.{ℕ, ◌<◌, ◌≤◌}
+use Rattle.served_node.specs.declared.datagram_socket.Received.{Received}
+use Rattle.served_node.specs.declared.datagram_socket.Received.TheVariants.{Datagram, Error, NoDatagram}
 use Rattle.served_node.specs.declared.socket.Progress.{Progress}
 use Rattle.served_node.specs.declared.socket.Progress.TheVariants.{Octets, Later, Again, End, Failed}
 
@@ -10,3 +12,9 @@ IsWithin Later most = Unit {0}
 IsWithin Again most = Unit {0}
 IsWithin End most = Unit {0}
 IsWithin Failed most = Unit {0}
+
+-- a datagram came, of no more octets than this, or none did
+abbrev pub IsDatagramWithin : Received → (most : ℕ) → Type 0
+IsDatagramWithin (Datagram count source) most = count ≤ most
+IsDatagramWithin NoDatagram most = Unit {0}
+IsDatagramWithin Error most = Unit {0}

@@ -12,6 +12,8 @@ pub enum OpenFault {
     NoMemory,
     /// The system has no poll to give, or the poll takes no further socket.
     Poll,
+    /// The system has no random octets to give.
+    Random,
     /// It can't listen at this address, for this reason.
     Listen(SocketAddr, ErrorKind),
 }

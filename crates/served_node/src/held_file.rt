@@ -1,6 +1,6 @@
 //! The file of a capture, which holds nobody up.
 
-ghost use Rattle.std.specs.Prelude.{◌≡◌, ◌-◌, [], length, nat_le, IfOk};
+ghost use Rattle.std.specs.Prelude.{◌≡◌, ◌-◌, ◌&&◌, [], length, nat_le, IfOk};
 
 use crate::readiness::{AT_ONCE, Readiness, is_ready};
 use std::alloc::{AllocError, Global};
@@ -10,7 +10,6 @@ use std::io::Write;
 use std::marker::Model;
 use std::net::Net;
 use std::os::fd::AsRawFd;
-use trace::PACKET_OCTETS;
 
 /// Octets that wait to be written to the file, at most.
 const HELD_OCTETS: usize = 1 << 20;
@@ -49,11 +48,11 @@ impl HeldFile {
         })
     }
 
-    /// Whether the longest packet finds room.
-    pub(crate) fn has_room(&self) -> bool
-        ensures { result ≡ nat_le (length self.now) (HELD_OCTETS - PACKET_OCTETS) }
+    /// Whether so many octets more find room.
+    pub(crate) fn has_room(&self, octets: usize) -> bool
+        ensures { result ≡ (nat_le octets HELD_OCTETS && nat_le (length self.now) (HELD_OCTETS - octets)) }
     {
-        self.held.len() <= HELD_OCTETS - PACKET_OCTETS
+        octets <= HELD_OCTETS && self.held.len() <= HELD_OCTETS - octets
     }
 
     /// Writes some octets, the first ones that wait: to a pipe no more than it takes at once.

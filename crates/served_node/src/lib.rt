@@ -4,6 +4,7 @@
 
 mod client_socket;
 pub mod clients;
+pub mod datagram_socket;
 pub mod dropping;
 pub mod fault;
 pub mod held_file;
@@ -13,11 +14,13 @@ pub mod naming;
 pub mod node;
 mod noticing;
 pub mod observers;
+mod packets;
 mod readiness;
 pub mod socket;
 mod telling;
 
 pub use clients::ConsoleClients;
+pub use datagram_socket::{DatagramSocket, Received};
 pub use dropping::DroppingLog;
 pub use fault::OpenFault;
 pub use held_file::HeldFile;

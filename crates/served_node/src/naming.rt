@@ -20,6 +20,8 @@ pub enum SocketName {
     Client(u8),
     /// The listener of the console.
     Console,
+    /// The socket of the node's datagrams.
+    Datagrams,
     /// The listener of the status page.
     Page,
     /// The connection of the page's client in this place.
@@ -36,6 +38,7 @@ impl SocketName {
             SocketName::Link(link) => Token(KIND + usize::from(link)),
             SocketName::Client(place) => Token(2 * KIND + usize::from(place)),
             SocketName::Console => Token(3 * KIND),
+            SocketName::Datagrams => Token(3 * KIND + 1),
             SocketName::Page => Token(3 * KIND + 2),
             SocketName::PageClient(place) => Token(4 * KIND + usize::from(place)),
         }
@@ -44,8 +47,7 @@ impl SocketName {
     /// The socket of a token, if one has it.
     pub fn of(token: Token) -> Option<SocketName>
         ensures named { IfSome result (λ name. number_of name ≡ token.0) }
-        ensures found { token.0 ≤ number_of SocketName.Console → IsSome result }
-        ensures page { token.0 ≡ number_of SocketName.Page → IsSome result }
+        ensures found { token.0 ≤ number_of SocketName.Page → IsSome result }
         ensures clients { number_of (SocketName.PageClient 0) ≤ token.0 → token.0 < number_of (SocketName.PageClient KIND)
             → IsSome result }
     {
@@ -55,6 +57,7 @@ impl SocketName {
             1 => Some(SocketName::Link(number)),
             2 => Some(SocketName::Client(number)),
             3 if number == 0 => Some(SocketName::Console),
+            3 if number == 1 => Some(SocketName::Datagrams),
             3 if number == 2 => Some(SocketName::Page),
             4 => Some(SocketName::PageClient(number)),
             _ => None,

@@ -1,11 +1,11 @@
 //! The node of a server.
 
-ghost use Rattle.std.specs.Prelude.{◌≡◌, IfOk, replicate, length};
+ghost use Rattle.std.specs.Prelude.{◌≡◌, IfOk, length};
 ghost use Rattle.exchange.specs.KeptQueues.{kept};
 ghost use Rattle.exchange.specs.Calls.{kept_of, happened};
 ghost use Rattle.exchange_rules.specs.Exchange.{outcome_of, after};
 ghost use Rattle.exchange_rules.specs.First.{first_state};
-ghost use Rattle.served_link.specs.Counting.{no_counts};
+ghost use Rattle.served_link.specs.Counting.{first_counters};
 
 use crate::fault::OpenFault;
 use crate::log::Log;
@@ -32,7 +32,7 @@ impl Node {
     pub fn boot(alloc: Global, settings: Settings, points: PointFormat) -> Result<Node, OpenFault>
         ensures first { IfOk result (λ node. node.exchange ≡ kept_of (first_state settings)) }
         ensures counters { IfOk result (λ node.
-            node.observers.counters ≡ replicate (length settings.links) no_counts) }
+            node.observers.counters ≡ first_counters (length settings.links)) }
     {
         let exchange = Exchange::boot(alloc, settings)?;
         match Observers::new(alloc, exchange.settings(), points) {

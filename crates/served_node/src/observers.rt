@@ -1,7 +1,7 @@
 //! Who is told of what passes: the counters, the capture, and the clients of the console.
 
-ghost use Rattle.std.specs.Prelude.{◌≡◌, ◌≤◌, length, replicate, IfOk};
-ghost use Rattle.served_link.specs.Counting.{no_counts};
+ghost use Rattle.std.specs.Prelude.{◌≡◌, ◌≤◌, length, IfOk};
+ghost use Rattle.served_link.specs.Counting.{first_counters};
 ghost use Rattle.served_node.specs.Observers.{counted_sight};
 
 use crate::clients::ConsoleClients;
@@ -16,11 +16,17 @@ use settings::{Limits, LinkId, MsuRef, Outcome, Settings};
 use std::alloc::{AllocError, Global};
 use std::fmt::Write;
 use std::time::Duration;
-use trace::{Capture, Direction, ObservedFrame, PointFormat, UntilFailure, frame_words};
+use trace::{
+    Capture, Direction, ObservedFrame, PACKET_OCTETS, PointFormat, RECORD_HEADER_OCTETS,
+    UntilFailure, WIRE_OCTETS, frame_words,
+};
 
 /// Octets of the line of a message for this point, at most: its link, two digits for each octet of the longest message,
 /// and the word in front.
 const MESSAGE_OCTETS: usize = 640;
+
+/// Octets of a packet in the capture with its header, at most.
+const LONGEST_PACKET: usize = RECORD_HEADER_OCTETS + WIRE_OCTETS;
 
 /// A capture into a file.
 pub type FileCapture = Capture<UntilFailure<HeldFile>>;
@@ -37,8 +43,8 @@ pub struct Observers {
     pub(crate) points: PointFormat,
     pub(crate) seen: Seen,
     names: Vec<String>,
-    capture: Option<FileCapture>,
-    missed_frames: u64,
+    pub(crate) capture: Option<FileCapture>,
+    pub(crate) missed_frames: u64,
 }
 
 impl Observers {
@@ -48,7 +54,7 @@ impl Observers {
         settings: &Settings,
         points: PointFormat,
     ) -> Result<Observers, AllocError>
-        ensures { IfOk result (λ observers. observers.counters ≡ replicate (length settings.now.links) no_counts) }
+        ensures { IfOk result (λ observers. observers.counters ≡ first_counters (length settings.now.links)) }
     {
         let names = names_of(alloc, settings)?;
         let counters = Counters::new(alloc, settings.link_count())?;
@@ -105,6 +111,18 @@ impl Observers {
         ensures { self.new.counters ≡ self.old.counters }
     {
         self.capture_frame(link, direction, frame);
+        self.show_frame(link, direction, frame);
+    }
+
+    /// Clients that watch frames are told of one.
+    pub(crate) fn show_frame(
+        &mut self,
+        link: LinkId,
+        direction: Direction,
+        frame: &ObservedFrame<'_>,
+    )
+        ensures { self.new.counters ≡ self.old.counters }
+    {
         if self.clients.asked.frames {
             self.tell_frame(link, direction, frame);
         }
@@ -117,7 +135,7 @@ impl Observers {
         let Some(capture) = &mut self.capture else {
             return;
         };
-        if capture.output().writer().has_room() {
+        if capture.output().writer().has_room(PACKET_OCTETS) {
             capture.write(self.now, link, direction, frame);
         } else {
             self.missed_frames = self.missed_frames.saturating_add(1);
@@ -133,7 +151,8 @@ impl Observers {
             return;
         };
         capture.flush();
-        let (has_failed, has_room) = (capture.has_failed(), capture.output().writer().has_room());
+        let has_failed = capture.has_failed();
+        let has_room = capture.output().writer().has_room(LONGEST_PACKET);
         if has_failed {
             log.tell(&"capture failed");
             self.capture_to(None);
@@ -164,7 +183,7 @@ impl Observers {
     }
 
     /// A message for this point came: clients that asked for such are told.
-    fn delivered(&mut self, link: LinkId, frame: &ObservedFrame<'_>)
+    pub(crate) fn delivered(&mut self, link: LinkId, frame: &ObservedFrame<'_>)
         ensures { self.new.counters ≡ self.old.counters }
     {
         if self.clients.asked.messages {

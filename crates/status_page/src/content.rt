@@ -33,7 +33,7 @@ pub struct StatusPage<'a> {
 }
 
 impl Content for StatusPage<'_> {
-    ghost content = { λ shown page. page_text kept shown.points shown.exchange.now shown.counters.now shown.uptime_ms page };
+    ghost content = { λ shown page. page_text kept shown.points shown.exchange.now shown.counters.now.links shown.uptime_ms page };
 
     fn write(&self, page: Page, body: &mut Rope) -> Result<(), AllocError> {
         match page {
@@ -48,7 +48,7 @@ impl StatusPage<'_> {
     /// Puts the state of the node behind what a body holds.
     fn write_state(&self, body: &mut Rope) -> Result<(), AllocError>
         ensures { OnOk result (body.new.items ≡ body.old.items ++ print (state_tokens kept self.now.points
-            self.now.exchange.now self.now.counters.now self.now.uptime_ms)) }
+            self.now.exchange.now self.now.counters.now.links self.now.uptime_ms)) }
     {
         let text = state_text(
             self.alloc,

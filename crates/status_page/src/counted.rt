@@ -8,7 +8,7 @@ use signalling_types::LinkId;
 
 /// The counters of a link; of a link that isn't there all are 0.
 pub(crate) fn counters_of(counters: &Counters, link: LinkId) -> LinkCounters
-    ensures { result ≡ counters_at counters.now link }
+    ensures { result ≡ counters_at counters.now.links link }
 {
     counters.row(link).copied().unwrap_or(LinkCounters::new())
 }

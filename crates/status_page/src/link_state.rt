@@ -73,7 +73,7 @@ pub(crate) fn put_link(
     link: LinkId,
     out: &mut Writer,
 ) -> Result<(), AllocError>
-    ensures { Adds result out.old out.new (link_tokens kept exchange.now counters.now link) }
+    ensures { Adds result out.old out.new (link_tokens kept exchange.now counters.now.links link) }
 {
     match exchange.link(link) {
         Some(view) => put_shown(exchange, counters, link, view, out),
@@ -89,7 +89,7 @@ fn put_shown(
     view: LinkView,
     out: &mut Writer,
 ) -> Result<(), AllocError>
-    ensures { Adds result out.old out.new (link_object kept exchange.now counters.now link view) }
+    ensures { Adds result out.old out.new (link_object kept exchange.now counters.now.links link view) }
 {
     out.begin_object()?;
     put_names(exchange.settings(), link, out)?;

@@ -45,7 +45,7 @@ pub(crate) fn link_value(
     counters: &Counters,
     link: LinkId,
 ) -> u64
-    ensures { result ≡ link_value kept metric exchange.now counters.now link }
+    ensures { result ≡ link_value kept metric exchange.now counters.now.links link }
 {
     match metric {
         LinkMetric::InService => bit(is_in_service(exchange, link)),

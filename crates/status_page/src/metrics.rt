@@ -24,7 +24,7 @@ pub(crate) fn put_metrics(
     body: &mut Rope,
 ) -> Result<(), AllocError>
     ensures { OnOk result (body.new.items
-        ≡ body.old.items ++ metrics_text kept exchange.now counters.now uptime_ms) }
+        ≡ body.old.items ++ metrics_text kept exchange.now counters.now.links uptime_ms) }
 {
     put_families(&Family::ALL, exchange, counters, uptime_ms, body)
 }
@@ -38,7 +38,7 @@ fn put_families(
     body: &mut Rope,
 ) -> Result<(), AllocError>
     ensures { OnOk result (body.new.items
-        ≡ body.old.items ++ families_text kept exchange.now counters.now uptime_ms families.now) }
+        ≡ body.old.items ++ families_text kept exchange.now counters.now.links uptime_ms families.now) }
 {
     for family in families {
         put_family(*family, exchange, counters, uptime_ms, body)?;
@@ -55,7 +55,7 @@ fn put_family(
     body: &mut Rope,
 ) -> Result<(), AllocError>
     ensures { OnOk result (body.new.items
-        ≡ body.old.items ++ family_text kept exchange.now counters.now uptime_ms family) }
+        ≡ body.old.items ++ family_text kept exchange.now counters.now.links uptime_ms family) }
 {
     put_head(family, body)?;
     put_each(
@@ -78,7 +78,7 @@ fn put_each(
     body: &mut Rope,
 ) -> Result<(), AllocError>
     ensures { OnOk result (body.new.items ≡ body.old.items
-        ++ flat_map (metric_text kept exchange.now counters.now uptime_ms family) metrics.now) }
+        ++ flat_map (metric_text kept exchange.now counters.now.links uptime_ms family) metrics.now) }
 {
     for metric in metrics {
         put_metric(family, metric, exchange, counters, uptime_ms, body)?;
@@ -97,7 +97,7 @@ fn put_metric(
     body: &mut Rope,
 ) -> Result<(), AllocError>
     ensures { OnOk result (body.new.items
-        ≡ body.old.items ++ metric_text kept exchange.now counters.now uptime_ms family metric.now) }
+        ≡ body.old.items ++ metric_text kept exchange.now counters.now.links uptime_ms family metric.now) }
 {
     match metric {
         Metric::Node(metric) => put_sample(
@@ -119,7 +119,7 @@ fn put_link_samples(
     body: &mut Rope,
 ) -> Result<(), AllocError>
     ensures { OnOk result (body.new.items
-        ≡ body.old.items ++ link_samples kept exchange.now counters.now family metric) }
+        ≡ body.old.items ++ link_samples kept exchange.now counters.now.links family metric) }
 {
     for k in 0..exchange.settings().link_count() {
         put_link_sample(
@@ -145,7 +145,7 @@ fn put_link_sample(
     body: &mut Rope,
 ) -> Result<(), AllocError>
     ensures { OnOk result (body.new.items
-        ≡ body.old.items ++ link_sample kept exchange.now counters.now family metric link) }
+        ≡ body.old.items ++ link_sample kept exchange.now counters.now.links family metric link) }
 {
     let labels = link_labels(metric, link_name(exchange.settings(), link));
     put_sample(

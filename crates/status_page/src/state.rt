@@ -30,7 +30,7 @@ pub(crate) fn state_text(
     uptime_ms: u64,
 ) -> Result<Vec<u8>, AllocError>
     ensures { IfOk result (λ text. text.items
-        ≡ print (state_tokens kept points exchange.now counters.now uptime_ms)) }
+        ≡ print (state_tokens kept points exchange.now counters.now.links uptime_ms)) }
 {
     let mut out = Writer::new(Vec::new(alloc));
     put_state(exchange, counters, points, uptime_ms, &mut out)?;
@@ -45,7 +45,7 @@ fn put_state(
     uptime_ms: u64,
     out: &mut Writer,
 ) -> Result<(), AllocError>
-    ensures { Adds result out.old out.new (state_tokens kept points exchange.now counters.now uptime_ms) }
+    ensures { Adds result out.old out.new (state_tokens kept points exchange.now counters.now.links uptime_ms) }
 {
     out.begin_object()?;
     put_members(exchange, counters, points, uptime_ms, out)?;
@@ -60,7 +60,7 @@ fn put_members(
     uptime_ms: u64,
     out: &mut Writer,
 ) -> Result<(), AllocError>
-    ensures { Adds result out.old out.new (state_members kept points exchange.now counters.now uptime_ms) }
+    ensures { Adds result out.old out.new (state_members kept points exchange.now counters.now.links uptime_ms) }
 {
     put_node(exchange, points, uptime_ms, out)?;
     put_sets(exchange, points, out)?;
@@ -145,7 +145,7 @@ fn put_set(set: &SetRow, points: PointFormat, out: &mut Writer) -> Result<(), Al
 /// Puts the array of the links behind what was written.
 fn put_links(exchange: &Exchange, counters: &Counters, out: &mut Writer) -> Result<(), AllocError>
     ensures { Adds result out.old out.new (array_member (codes "links")
-        (each (link_tokens kept exchange.now counters.now) (length exchange.now.settings.links))) }
+        (each (link_tokens kept exchange.now counters.now.links) (length exchange.now.settings.links))) }
 {
     out.key("links")?;
     out.begin_array()?;
@@ -160,7 +160,7 @@ fn put_each_link(
     out: &mut Writer,
 ) -> Result<(), AllocError>
     ensures { Adds result out.old out.new
-        (each (link_tokens kept exchange.now counters.now) (length exchange.now.settings.links)) }
+        (each (link_tokens kept exchange.now counters.now.links) (length exchange.now.settings.links)) }
 {
     for k in 0..exchange.settings().link_count() {
         put_link(exchange, counters, LinkId::new(k as u8), out)?;

@@ -1,9 +1,7 @@
-//! A node on sockets: its links over TCP, its clock, and the loop that serves it.
+//! A node on sockets: its links over TCP and over SCTP, its clock, and the loop that serves it.
 #![tactic(auto)]
 
-mod connection;
 mod failure;
-mod link_socket;
 mod server;
 mod serving;
 

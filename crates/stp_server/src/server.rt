@@ -1,42 +1,55 @@
 //! A node on sockets.
 
 mod opening;
+mod showing;
 mod waiting;
 
-use crate::link_socket::LinkSocket;
 use exchange::{Event, Exchange};
 use mio::{Events, Poll};
 use script::Sink;
-use serve_settings::Endpoint;
+use sctp_links::SctpSockets;
+use serve_settings::{Endpoint, SctpTimes};
 use served_link::Watch;
 use served_node::{FileCapture, Log, Node};
+use served_page::ServedPage;
 use settings::{FailureReason, Outcome};
 use std::alloc::Global;
 use std::marker::Model;
 use std::net::{Net, SocketAddr};
 use std::time::Duration;
+use tcp_links::TcpLinks;
 use trace::PointFormat;
 
 /// Where a server is reached, and how it shows points.
 #[derive(Clone, Copy)]
 pub struct Places<'a> {
-    /// How the connection of each link comes about, in the order of the settings.
+    /// How the association of each link comes about, in the order of the settings.
     pub links: &'a [Endpoint],
+    /// Where the datagrams of its links over SCTP come and go, if it has such links.
+    pub udp: Option<SocketAddr>,
+    /// The times of these links.
+    pub sctp: SctpTimes,
     /// Where the console listens, if it does.
     pub console: Option<SocketAddr>,
+    /// Where its status page is, if it has one.
+    pub page: Option<SocketAddr>,
+    /// Whether the page may be asked for by any name.
+    pub is_page_open: bool,
     /// How point codes are read and shown.
     pub points: PointFormat,
 }
 
-/// A node whose links are TCP connections: an association of a link is a connection.
+/// A node on sockets. An association of a link is a TCP connection, or one of SCTP in UDP.
 ///
 /// It has no clock: `tick` lets a tick pass, and `now` is the time since the start, as the client reads it.
 #[derive(Drop)]
 pub struct Server {
     alloc: Global,
     node: Node,
-    links: Vec<LinkSocket>,
-    buffer: Vec<u8>,
+    tcp: TcpLinks,
+    sctp: Option<SctpSockets>,
+    page: Option<ServedPage>,
+    points: PointFormat,
     poll: Poll,
     events: Events,
     is_busy: bool,
@@ -81,10 +94,20 @@ impl Server {
             FailureReason::Timer,
             &mut Log { sink: log, now },
         );
-        for socket in self.links.iter_mut() {
-            socket.listener.mark();
-        }
+        self.tcp.mark_listeners();
         self.node.observers.clients.listener.mark();
+        if let Some(page) = &mut self.page {
+            page.mark_listener();
+        }
+    }
+
+    /// Its associations over SCTP end by ABORT, and what was captured goes out.
+    pub fn stop<W: Sink>(&mut self, now: Duration, log: &mut W) {
+        let mut log = Log { sink: log, now };
+        if let Some(sctp) = &mut self.sctp {
+            sctp.close(&mut self.node, &mut log);
+            self.node.observers.flush_capture(&mut log);
+        }
     }
 
     /// Closes its sockets. Only this drops a server: its parts are many, and so are the states of a body that drops
@@ -109,17 +132,16 @@ impl Server {
         self.read(&mut log, user);
         self.take_connections(&mut log);
         self.read_clients(&mut log);
-        self.settle(net, &mut log);
+        self.settle(net, &mut log, user);
         self.write(&mut log, user);
+        self.show_page(now);
         self.node.observers.flush_capture(&mut log);
     }
 
     /// Takes the connections that came.
     fn take_connections<W: Sink>(&mut self, log: &mut Log<'_, W>) {
         let registry = self.poll.registry();
-        for socket in self.links.iter_mut() {
-            socket.accept(&mut self.node, registry, log);
-        }
+        self.tcp.accept(&mut self.node, registry, log);
         self.node
             .observers
             .clients
@@ -128,8 +150,9 @@ impl Server {
 
     /// Reads what came on the links.
     fn read<W: Sink, U: Watch>(&mut self, log: &mut Log<'_, W>, user: &mut U) {
-        for socket in self.links.iter_mut() {
-            socket.read(&mut self.buffer, &mut self.node, log, user);
+        self.tcp.read(&mut self.node, log, user);
+        if let Some(sctp) = &mut self.sctp {
+            sctp.read(&mut self.node, log, user);
         }
     }
 
@@ -141,19 +164,21 @@ impl Server {
         self.node.look(FailureReason::Operator, log);
     }
 
-    /// Opens and closes connections as the links want.
-    fn settle<N: Net, W: Sink>(&mut self, net: &N, log: &mut Log<'_, W>) {
+    /// Opens and closes connections and associations as the links want. Timers of SCTP that are due run out.
+    fn settle<N: Net, W: Sink, U: Watch>(&mut self, net: &N, log: &mut Log<'_, W>, user: &mut U) {
         let registry = self.poll.registry();
-        for socket in self.links.iter_mut() {
-            socket.settle(net, &mut self.node, registry, log);
+        self.tcp.settle(net, &mut self.node, registry, log);
+        if let Some(sctp) = &mut self.sctp {
+            sctp.settle(&mut self.node, log, user);
         }
     }
 
     /// Writes to the links and to the clients.
     fn write<W: Sink, U: Watch>(&mut self, log: &mut Log<'_, W>, user: &mut U) {
-        for socket in self.links.iter_mut() {
-            let has_more = socket.write(&mut self.node, log, user);
-            self.is_busy = self.is_busy || has_more || socket.is_busy();
+        self.is_busy = self.tcp.write(&mut self.node, log, user) || self.is_busy;
+        if let Some(sctp) = &mut self.sctp {
+            sctp.write(&mut self.node, log, user);
+            self.is_busy = self.is_busy || sctp.is_busy();
         }
         self.node.observers.clients.write(log);
         self.is_busy = self.is_busy || self.node.observers.clients.is_busy();

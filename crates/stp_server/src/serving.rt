@@ -40,7 +40,11 @@ fn serve_logged<W: Sink>(
     );
     let places = Places {
         links: serve.links(),
+        udp: serve.udp(),
+        sctp: serve.sctp(),
         console: serve.console(),
+        page: serve.page(),
+        is_page_open: serve.is_page_open(),
         points: serve.points(),
     };
     match Server::open(rt, rt.alloc(), settings, places, log) {
@@ -107,6 +111,7 @@ fn run<W: Sink>(
         server.turn(rt, elapsed, log, &mut Unwatched);
         was_behind = pass_tick(&mut clock, was_behind, server, elapsed, log);
         if server.is_stopping() {
+            server.stop(elapsed, log);
             tell(&"stop", elapsed, log);
             return Ok(());
         }

@@ -1,38 +1,38 @@
 -- The octets of a capture, as frames pass and are written.
-use Rattle.std.proofs.Common.{◌≡◌, ℕ, List, [], ◌∷◌, ◌++◌, ◌∙◌, Option, None, Some, length, take, refl, ap, sym, subst, append_assoc}
+use Rattle.std.proofs.Common.{◌≡◌, ℕ, ◌+◌, ◌<◌, List, [], ◌∷◌, ◌++◌, ◌∙◌, Option, None, Some, length, take, refl, ap, sym, subst, append_assoc, arith}
 use Rattle.std.specs.Prelude.{Bool, true, false}
 use Rattle.std.specs.declared.time.Duration.{Duration}
 use Rattle.std.specs.Duration.{as_nanos}
 use Rattle.trace.specs.declared.direction.Direction.{Direction}
 use Rattle.std.specs.Io.KnownBytes.{Appends, Keeps}
-use Rattle.std.proofs.lemmas.List.{append-nil}
-use Rattle.std.proofs.Math.Seq.{take-length}
+use Rattle.std.proofs.lemmas.List.{append-nil, length-append, take-append-le}
+use Rattle.std.proofs.Math.Seq.{take-length, take-append-add}
 use Rattle.trace.proofs.Written.{written_kept}
-use Rattle.trace.specs.Packets.{file_header, packet_octets}
-use Rattle.trace.specs.Captures.{Seen, packet_behind, packets_behind, captured, since_1970, next_number, CaptureOf, IsBehind, Captures, AppendsPart}
+use Rattle.trace.specs.Packets.{file_header, packet_octets, record_header}
+use Rattle.trace.specs.Captures.{Seen, Passed, FramePassed, PacketPassed, packet_behind, wire_packet, entry_behind, packets_behind, captured, since_1970, next_number, CaptureOf, IsBehind, Captures, AppendsPart}
 
 -- ---- one frame more
 
-packets-more : (started : Duration) (before frames : List Seen) (seen : Seen) →
+packets-more : (started : Duration) (before frames : List Passed) (seen : Passed) →
     packets_behind started before (frames ++ seen ∷ [])
-    ≡ packets_behind started before frames ++ packet_behind started (before ++ frames) seen
+    ≡ packets_behind started before frames ++ entry_behind started (before ++ frames) seen
 packets-more started before [] seen =
-    append-nil (packet_behind started before seen)
-    ∙ ap (λ (bs : List Seen). packet_behind started bs seen) (sym (append-nil before))
+    append-nil (entry_behind started before seen)
+    ∙ ap (λ (bs : List Passed). entry_behind started bs seen) (sym (append-nil before))
 packets-more started before (frame ∷ frames) seen =
-    ap (λ (xs : List ℕ). packet_behind started before frame ++ xs)
+    ap (λ (xs : List ℕ). entry_behind started before frame ++ xs)
     (packets-more started (before ++ frame ∷ []) frames seen)
-    ∙ ap (λ (bs : List Seen). packet_behind started before frame
-    ++ (packets_behind started (before ++ frame ∷ []) frames ++ packet_behind started bs seen))
+    ∙ ap (λ (bs : List Passed). entry_behind started before frame
+    ++ (packets_behind started (before ++ frame ∷ []) frames ++ entry_behind started bs seen))
     (append_assoc before (frame ∷ []) frames)
-    ∙ sym (append_assoc (packet_behind started before frame) (packets_behind started (before ++ frame ∷ []) frames)
-    (packet_behind started (before ++ frame ∷ frames) seen))
+    ∙ sym (append_assoc (entry_behind started before frame) (packets_behind started (before ++ frame ∷ []) frames)
+    (entry_behind started (before ++ frame ∷ frames) seen))
 
-pub captured_more : (started : Duration) (frames : List Seen) (seen : Seen) →
-    captured started (frames ++ seen ∷ []) ≡ captured started frames ++ packet_behind started frames seen
+pub captured_more : (started : Duration) (frames : List Passed) (seen : Passed) →
+    captured started (frames ++ seen ∷ []) ≡ captured started frames ++ entry_behind started frames seen
 captured_more started frames seen =
     ap (λ (xs : List ℕ). file_header ++ xs) (packets-more started [] frames seen)
-    ∙ sym (append_assoc file_header (packets_behind started [] frames) (packet_behind started frames seen))
+    ∙ sym (append_assoc file_header (packets_behind started [] frames) (entry_behind started frames seen))
 
 pub captured_none : (started : Duration) → captured started [] ≡ file_header
 captured_none started = append-nil file_header
@@ -91,7 +91,7 @@ front_kept old mid new xs ys e front keeps =
 
 -- the packet of a frame was written
 pub packet_written : (old new : Option (List ℕ)) (started time sum : Duration) (link : ℕ) (direction : Direction)
-    (number : ℕ) (frames : List Seen) (frame text : List ℕ) → as_nanos sum ≡ since_1970 started time →
+    (number : ℕ) (frames : List Passed) (frame text : List ℕ) → as_nanos sum ≡ since_1970 started time →
     number ≡ next_number link direction frames →
     text ≡ packet_octets (as_nanos sum) link direction number frame → Appends old new text →
     Appends old new (packet_behind started frames (record { time = time; link = link; direction = direction; frame = frame }))
@@ -99,6 +99,53 @@ packet_written old new started time sum link direction number frames frame text 
     subst (λ (xs : List ℕ). Appends old new xs)
     (is ∙ ap (λ (n : ℕ). packet_octets n link direction number frame) at
     ∙ ap (λ (n : ℕ). packet_octets (since_1970 started time) link direction n frame) counted) h
+
+-- ---- a packet that was on the wire
+
+-- the header and then the packet are both
+pub wire_written : (a b c : Option (List ℕ)) (started time sum : Duration) (header octets : List ℕ) →
+    as_nanos sum ≡ since_1970 started time → header ≡ record_header (as_nanos sum) (length octets) →
+    Appends a b header → Appends b c octets → Appends a c (wire_packet started time octets)
+wire_written a b c started time sum header octets at is first second =
+    subst (λ (xs : List ℕ). Appends a c (xs ++ octets))
+    (is ∙ ap (λ (n : ℕ). record_header n (length octets)) at) (grown_twice a b c header octets first second)
+
+-- the first of a front are the first of all
+pub part_of_front : (a b : Option (List ℕ)) (xs ys : List ℕ) → AppendsPart a b xs → AppendsPart a b (xs ++ ys)
+part_of_front a b xs ys h = (
+  h.0,
+  omega (arith, length-append xs ys, h.1),
+  subst (λ (zs : List ℕ). Appends a b zs) (sym (take-append-le h.0 xs ys (omega (arith, h.1)))) h.2,
+)
+
+-- a front and the first of the rest are the first of all
+pub part_of_rest : (a b c : Option (List ℕ)) (xs ys : List ℕ) → Appends a b xs → AppendsPart b c ys →
+    AppendsPart a c (xs ++ ys)
+part_of_rest a b c xs ys h k = (
+  length xs + k.0,
+  omega (arith, length-append xs ys, k.1),
+  subst (λ (zs : List ℕ). Appends a c zs) (sym (take-append-add xs ys k.0)) (grown_twice a b c xs (take k.0 ys) h k.2),
+)
+
+-- both writes of an output, of which one failed
+pub wire_cut : {O : Type 0} (written : O → Option (List ℕ)) (failed : O → Bool) (old mid new : O)
+    (started time sum : Duration) (header octets : List ℕ) →
+    as_nanos sum ≡ since_1970 started time → header ≡ record_header (as_nanos sum) (length octets) →
+    failed old ≡ false → failed new ≡ true →
+    (failed mid ≡ false → Appends (written old) (written mid) header) →
+    (failed old ≡ false → failed mid ≡ true → AppendsPart (written old) (written mid) header) →
+    (failed mid ≡ false → failed new ≡ true → AppendsPart (written mid) (written new) octets) →
+    (failed mid ≡ true → new ≡ mid) → AppendsPart (written old) (written new) (wire_packet started time octets)
+wire_cut {O = O} written failed old mid new started time sum header octets at is going failing all part rest ended =
+    subst (λ (xs : List ℕ). AppendsPart (written old) (written new) (xs ++ octets))
+    (is ∙ ap (λ (n : ℕ). record_header n (length octets)) at) (by_test (failed mid) refl)
+  where
+    by_test : (b : Bool) → failed mid ≡ b → AppendsPart (written old) (written new) (header ++ octets)
+    by_test false e =
+        part_of_rest (written old) (written mid) (written new) header octets (all e) (rest e failing)
+    by_test true e =
+        part_of_front (written old) (written new) header octets
+        (subst (λ (o : O). AppendsPart (written old) (written o) header) (sym (ended e)) (part going e))
 
 -- ---- a capture
 
@@ -111,12 +158,12 @@ begun written before capture octets numbers = record {
 }
 
 pub gone_on : {O : Type 0} (written : O → Option (List ℕ)) (before : Option (List ℕ)) (old new : CaptureOf O)
-    (frames : List Seen) (seen : Seen) → Captures written before old frames → new.started ≡ old.started →
-    Appends (written old.output) (written new.output) (packet_behind old.started frames seen) →
+    (frames : List Passed) (seen : Passed) → Captures written before old frames → new.started ≡ old.started →
+    Appends (written old.output) (written new.output) (entry_behind old.started frames seen) →
     IsBehind new.numbers (frames ++ seen ∷ []) → Captures written before new (frames ++ seen ∷ [])
 gone_on written before old new frames seen h started octets numbers = record {
   octets = rw (started, captured_more old.started frames seen)
       (grown_twice before (written old.output) (written new.output) (captured old.started frames)
-      (packet_behind old.started frames seen) h.octets octets);
+      (entry_behind old.started frames seen) h.octets octets);
   numbers = numbers;
 }

@@ -7,11 +7,12 @@ use Rattle.std.proofs.lemmas.List.{get_or-set_same, get_or-set_other, get_or-rep
 use Rattle.std.proofs.lemmas.List.Sums.{sum_by_push}
 use Rattle.std.proofs.lemmas.Bool.{and_right}
 use Rattle.std.proofs.lemmas.Bool.Decides.{eqb_tells}
+use Rattle.std.specs.declared.time.Duration.{Duration}
 use Rattle.std.specs.Prelude.{cond, count_by, slice_index, slice_set}
 use Rattle.trace.specs.declared.direction.Direction.{Direction}
 use Rattle.trace.specs.declared.direction.Direction.TheVariants.{In, Out}
 use Rattle.trace.specs.declared.packet_numbers.PacketNumbers.{PacketNumbers}
-use Rattle.trace.specs.Captures.{Seen, is_same, passed_on, next_number, number_at, IsBehind}
+use Rattle.trace.specs.Captures.{Seen, Passed, FramePassed, PacketPassed, is_same, passed_on, next_number, number_at, IsBehind}
 
 -- ---- before any frame
 
@@ -51,7 +52,7 @@ at-place numbers link other passed b (inr h) few e =
 
 -- a frame of the direction counts where it passed on the link
 passed-there : (seen : Seen) (link other : ℕ) (direction : Direction) → is_same direction direction ≡ true →
-    seen.link ≡ link → seen.direction ≡ direction → passed_on other direction seen ≡ (link == other)
+    seen.link ≡ link → seen.direction ≡ direction → passed_on other direction (FramePassed seen) ≡ (link == other)
 passed-there seen link other direction itself at way =
     ap (λ (l : ℕ). (l == other) && is_same seen.direction direction) at
     ∙ ap (λ (d : Direction). (link == other) && is_same d direction) way
@@ -59,22 +60,22 @@ passed-there seen link other direction itself at way =
 
 -- one of the other direction doesn't
 passed-elsewhere : (seen : Seen) (other : ℕ) (direction its : Direction) → is_same its direction ≡ false →
-    seen.direction ≡ its → passed_on other direction seen ≡ false
+    seen.direction ≡ its → passed_on other direction (FramePassed seen) ≡ false
 passed-elsewhere seen other direction its apart way =
     ap (λ (d : Direction). (seen.link == other) && is_same d direction) way
     ∙ ap (λ (t : Bool). (seen.link == other) && t) apart ∙ and_right (seen.link == other) false refl
 
 -- the number behind one frame more
-numbered : (other : ℕ) (direction : Direction) (frames : List Seen) (seen : Seen) (b : Bool) →
+numbered : (other : ℕ) (direction : Direction) (frames : List Passed) (seen : Passed) (b : Bool) →
     passed_on other direction seen ≡ b →
     next_number other direction (frames ++ seen ∷ [])
     ≡ (count_by (passed_on other direction) frames + cond b 1 0) % 2 ^ 32
 numbered other direction frames seen b e =
-    let counted = λ (s : Seen). cond (passed_on other direction s) 1 0 in
+    let counted = λ (s : Passed). cond (passed_on other direction s) 1 0 in
     ap (λ (n : ℕ). n % 2 ^ 32) (sum_by_push counted frames seen)
     ∙ ap (λ (t : Bool). (count_by (passed_on other direction) frames + cond t 1 0) % 2 ^ 32) e
 
-same-number : (other : ℕ) (direction : Direction) (frames : List Seen) (seen : Seen) →
+same-number : (other : ℕ) (direction : Direction) (frames : List Passed) (seen : Passed) →
     passed_on other direction seen ≡ false →
     next_number other direction frames ≡ next_number other direction (frames ++ seen ∷ [])
 same-number other direction frames seen e =
@@ -93,30 +94,38 @@ with_outgoing numbers link = record {
   outgoing = slice_set numbers.outgoing link ((slice_index numbers.outgoing link + 1) % 2 ^ 32);
 }
 
-pub behind_incoming : (numbers : PacketNumbers) (link : ℕ) (frames : List Seen) (seen : Seen) →
+pub behind_incoming : (numbers : PacketNumbers) (link : ℕ) (frames : List Passed) (seen : Seen) →
     link < length numbers.incoming → IsBehind numbers frames → seen.link ≡ link → seen.direction ≡ In →
-    IsBehind (with_incoming numbers link) (frames ++ seen ∷ [])
+    IsBehind (with_incoming numbers link) (frames ++ FramePassed seen ∷ [])
 behind_incoming numbers link frames seen few h at way = record { each = each }
   where
     each : (other : ℕ) (direction : Direction) → other < 256 →
-        number_at other direction (with_incoming numbers link) ≡ next_number other direction (frames ++ seen ∷ [])
+        number_at other direction (with_incoming numbers link) ≡ next_number other direction (frames ++ FramePassed seen ∷ [])
     each other In fits =
         at-place numbers.incoming link other (count_by (passed_on other In) frames) (link == other)
         (eqb_tells link other) few (h.each other In fits)
-        ∙ sym (numbered other In frames seen (link == other) (passed-there seen link other In refl at way))
+        ∙ sym (numbered other In frames (FramePassed seen) (link == other) (passed-there seen link other In refl at way))
     each other Out fits =
-        h.each other Out fits ∙ same-number other Out frames seen (passed-elsewhere seen other Out In refl way)
+        h.each other Out fits ∙ same-number other Out frames (FramePassed seen) (passed-elsewhere seen other Out In refl way)
 
-pub behind_outgoing : (numbers : PacketNumbers) (link : ℕ) (frames : List Seen) (seen : Seen) →
+pub behind_outgoing : (numbers : PacketNumbers) (link : ℕ) (frames : List Passed) (seen : Seen) →
     link < length numbers.outgoing → IsBehind numbers frames → seen.link ≡ link → seen.direction ≡ Out →
-    IsBehind (with_outgoing numbers link) (frames ++ seen ∷ [])
+    IsBehind (with_outgoing numbers link) (frames ++ FramePassed seen ∷ [])
 behind_outgoing numbers link frames seen few h at way = record { each = each }
   where
     each : (other : ℕ) (direction : Direction) → other < 256 →
-        number_at other direction (with_outgoing numbers link) ≡ next_number other direction (frames ++ seen ∷ [])
+        number_at other direction (with_outgoing numbers link) ≡ next_number other direction (frames ++ FramePassed seen ∷ [])
     each other Out fits =
         at-place numbers.outgoing link other (count_by (passed_on other Out) frames) (link == other)
         (eqb_tells link other) few (h.each other Out fits)
-        ∙ sym (numbered other Out frames seen (link == other) (passed-there seen link other Out refl at way))
+        ∙ sym (numbered other Out frames (FramePassed seen) (link == other) (passed-there seen link other Out refl at way))
     each other In fits =
-        h.each other In fits ∙ same-number other In frames seen (passed-elsewhere seen other In Out refl way)
+        h.each other In fits ∙ same-number other In frames (FramePassed seen) (passed-elsewhere seen other In Out refl way)
+
+-- a packet that was on the wire takes no number
+pub behind_packet : (numbers : PacketNumbers) (frames : List Passed) (time : Duration) (octets : List ℕ) →
+    IsBehind numbers frames → IsBehind numbers (frames ++ PacketPassed time octets ∷ [])
+behind_packet numbers frames time octets h = record {
+  each = λ other direction fits.
+      h.each other direction fits ∙ same-number other direction frames (PacketPassed time octets) refl;
+}

@@ -15,7 +15,7 @@ use std::time::Duration;
 pub const FILE_HEADER_OCTETS: usize = 24;
 
 /// Octets of the header of a packet in a capture file.
-const RECORD_HEADER_OCTETS: usize = 16;
+pub const RECORD_HEADER_OCTETS: usize = 16;
 
 /// Octets of the common header of SCTP (RFC 9260 §3.1).
 const COMMON_HEADER_OCTETS: usize = 12;
@@ -28,6 +28,9 @@ pub const PACKET_OCTETS: usize = RECORD_HEADER_OCTETS
     + COMMON_HEADER_OCTETS
     + CHUNK_HEADER_OCTETS
     + Limits::FRAME_OCTETS;
+
+/// Octets of a packet of SCTP that passed, at most: those that a datagram of UDP may have.
+pub const WIRE_OCTETS: usize = 65_535;
 
 /// The port of this node: that of M2PA (RFC 4165 §7).
 const NODE_PORT: u16 = 3565;
@@ -85,7 +88,7 @@ pub fn packet(
     ensures text { take result buffer.new ≡ packet_octets (as_nanos time) link direction number frame.now }
 {
     let octets = frame.octets();
-    let at = write_record_header(buffer, time, packet_length(octets.len()));
+    let at = write_at(buffer, 0, &record_header(time, packet_length(octets.len())));
     let at = write_common_header(buffer, at, link, direction);
     let at = write_chunk_header(buffer, at, number, frame);
     let at = write_at(buffer, at, octets);
@@ -110,15 +113,20 @@ fn packet_length(octets: usize) -> u32
     (COMMON_HEADER_OCTETS + CHUNK_HEADER_OCTETS + octets + padding(octets)) as u32
 }
 
-/// Writes the header of a packet of so many octets at the front, and answers the place behind it.
-fn write_record_header(out: &mut [u8; PACKET_OCTETS], time: Duration, octets: u32) -> usize
-    ensures count { result ≡ 16 }
-    ensures text { take result out.new ≡ record_header (as_nanos time) octets }
+/// The header of a packet of so many octets, which passed so long after 1970.
+pub(crate) fn record_header(time: Duration, octets: u32) -> [u8; RECORD_HEADER_OCTETS]
+    ensures { result ≡ record_header (as_nanos time) octets }
 {
-    let at = write_at(out, 0, &((time.as_secs() % (1 << 32)) as u32).to_le_bytes());
-    let at = write_at(out, at, &time.subsec_micros().to_le_bytes());
-    let at = write_at(out, at, &octets.to_le_bytes());
-    write_at(out, at, &octets.to_le_bytes())
+    let mut header = [0; RECORD_HEADER_OCTETS];
+    let at = write_at(
+        &mut header,
+        0,
+        &((time.as_secs() % (1 << 32)) as u32).to_le_bytes(),
+    );
+    let at = write_at(&mut header, at, &time.subsec_micros().to_le_bytes());
+    let at = write_at(&mut header, at, &octets.to_le_bytes());
+    let _end = write_at(&mut header, at, &octets.to_le_bytes());
+    header
 }
 
 /// Writes the common header of SCTP, and answers the place behind it.

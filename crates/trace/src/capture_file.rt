@@ -1,11 +1,12 @@
-//! A capture of the frames that pass, packet by packet.
+//! A capture of the frames and packets that pass, packet by packet.
 
 ghost use Rattle.std.specs.Prelude.{◌≡◌, ◌<◌, ◌≤◌, ◌∷◌, ◌++◌, [], ℕ, List, Option, true, false, length, take};
 ghost use Rattle.std.specs.Io.KnownBytes.{Appends, Keeps};
 ghost use Rattle.trace.specs.Packets.{file_header};
-ghost use Rattle.trace.specs.Captures.{AppendsPart, Captures, Seen, packet_behind};
+ghost use Rattle.trace.specs.Captures.{AppendsPart, Captures, Passed, FramePassed, PacketPassed, packet_behind};
+ghost use Rattle.trace.specs.Captures.{wire_packet};
 
-use crate::capture::{PACKET_OCTETS, file_header, packet};
+use crate::capture::{PACKET_OCTETS, WIRE_OCTETS, file_header, packet, record_header};
 use crate::capture_output::CaptureOutput;
 use crate::direction::Direction;
 use crate::observed_frame::ObservedFrame;
@@ -14,7 +15,8 @@ use signalling_types::{Limits, LinkId};
 use std::marker::Model;
 use std::time::Duration;
 
-/// A capture of the frames that pass on the links of a node. A write that fails ends it.
+/// A capture of what passes on the links of a node: of frames over TCP, for each of which a packet of SCTP is made, and
+/// of the packets of SCTP as they are on the wire. A write that fails ends it.
 #[derive(Drop)]
 pub struct Capture<O> {
     output: O,
@@ -81,14 +83,19 @@ impl<O: CaptureOutput> Capture<O> {
         direction: Direction,
         frame: &ObservedFrame<'_>,
     )
-        ensures captured { (before : Option (List ℕ)) (frames : List Seen) → Captures O.written before self.old frames
+        ensures captured { (before : Option (List ℕ)) (passed : List Passed) → Captures O.written before self.old passed
             → length frame.now ≤ Limits.FRAME_OCTETS → O.failed self.new.output ≡ false
             → Captures O.written before self.new
-            (frames ++ record { time = now; link = link; direction = direction; frame = frame.now } ∷ []) }
+            (passed ++ FramePassed (record {
+              time = now;
+              link = link;
+              direction = direction;
+              frame = frame.now;
+            }) ∷ []) }
         // A write that fails writes the first octets of the packet, but not all.
-        ensures part { (before : Option (List ℕ)) (frames : List Seen) → Captures O.written before self.old frames
+        ensures part { (before : Option (List ℕ)) (passed : List Passed) → Captures O.written before self.old passed
             → O.failed self.old.output ≡ false → O.failed self.new.output ≡ true
-            → AppendsPart (O.written self.old.output) (O.written self.new.output) (packet_behind self.old.started frames
+            → AppendsPart (O.written self.old.output) (O.written self.new.output) (packet_behind self.old.started passed
             (record { time = now; link = link; direction = direction; frame = frame.now })) }
         ensures started { self.new.started ≡ self.old.started }
         ensures ended { O.failed self.old.output ≡ true → self.new ≡ self.old }
@@ -104,11 +111,34 @@ impl<O: CaptureOutput> Capture<O> {
         self.output.write(&buffer[..count]);
     }
 
+    /// Writes a packet of SCTP that passed so long after the node's start, as it was on the wire. Where that fails, no
+    /// more is written. One of more than 65,535 octets is left out.
+    #[inline(never)]
+    pub fn write_packet(&mut self, now: Duration, packet: &[u8])
+        ensures captured { (before : Option (List ℕ)) (passed : List Passed) → Captures O.written before self.old passed
+            → length packet.now ≤ WIRE_OCTETS → O.failed self.new.output ≡ false
+            → Captures O.written before self.new (passed ++ PacketPassed now packet.now ∷ []) }
+        // A write that fails writes the first octets of the packet, but not all.
+        ensures part { O.failed self.old.output ≡ false → O.failed self.new.output ≡ true
+            → AppendsPart (O.written self.old.output) (O.written self.new.output)
+            (wire_packet self.old.started now packet.now) }
+        ensures started { self.new.started ≡ self.old.started }
+        ensures ended { O.failed self.old.output ≡ true → self.new ≡ self.old }
+        ensures too_long { WIRE_OCTETS < length packet.now → self.new ≡ self.old }
+    {
+        if self.output.has_failed() || packet.len() > WIRE_OCTETS {
+            return;
+        }
+        let time = self.started.saturating_add(now);
+        self.output.write(&record_header(time, packet.len() as u32));
+        self.output.write(packet);
+    }
+
     /// Flushes what was written. Where that fails, the capture has failed.
     pub fn flush(&mut self)
         ensures octets { Keeps (O.written self.old.output) (O.written self.new.output) }
-        ensures captured { (before : Option (List ℕ)) (frames : List Seen) → Captures O.written before self.old frames
-            → Captures O.written before self.new frames }
+        ensures captured { (before : Option (List ℕ)) (passed : List Passed) → Captures O.written before self.old passed
+            → Captures O.written before self.new passed }
         ensures started { self.new.started ≡ self.old.started }
         ensures ended { O.failed self.old.output ≡ true → self.new ≡ self.old }
     {

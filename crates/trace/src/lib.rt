@@ -10,7 +10,9 @@ mod packet_numbers;
 pub mod words;
 mod writing;
 
-pub use capture::{FILE_HEADER_OCTETS, PACKET_OCTETS, file_header, packet};
+pub use capture::{
+    FILE_HEADER_OCTETS, PACKET_OCTETS, RECORD_HEADER_OCTETS, WIRE_OCTETS, file_header, packet,
+};
 pub use capture_file::Capture;
 pub use capture_output::{CaptureOutput, UntilFailure};
 pub use direction::Direction;

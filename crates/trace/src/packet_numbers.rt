@@ -1,7 +1,7 @@
 //! The numbers of the packets of a capture.
 
 ghost use Rattle.std.specs.Prelude.{◌≡◌, ◌+◌, ◌%◌, ◌^◌, ◌<◌, [], ◌∷◌, ◌++◌, List, slice_index, slice_set};
-ghost use Rattle.trace.specs.Captures.{IsBehind, Seen, next_number};
+ghost use Rattle.trace.specs.Captures.{IsBehind, Passed, FramePassed, Seen, next_number};
 
 use crate::direction::Direction;
 use signalling_types::LinkId;
@@ -29,9 +29,10 @@ impl PacketNumbers {
 
     /// Counts a frame that passes on a link, and answers the number of its packet.
     pub(crate) fn take(&mut self, link: LinkId, direction: Direction) -> u32
-        ensures number { (frames : List Seen) → IsBehind self.old frames → result ≡ next_number link direction frames }
-        ensures behind { (frames : List Seen) (seen : Seen) → IsBehind self.old frames → seen.link ≡ link
-            → seen.direction ≡ direction → IsBehind self.new (frames ++ seen ∷ []) }
+        ensures number { (passed : List Passed) → IsBehind self.old passed
+            → result ≡ next_number link direction passed }
+        ensures behind { (passed : List Passed) (seen : Seen) → IsBehind self.old passed → seen.link ≡ link
+            → seen.direction ≡ direction → IsBehind self.new (passed ++ FramePassed seen ∷ []) }
     {
         let place = link.index();
         match direction {

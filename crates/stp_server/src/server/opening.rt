@@ -1,38 +1,43 @@
-//! Opening a server: its sockets that listen.
+//! Opening a server: its sockets that listen, and the one of its datagrams.
+
+ghost use Rattle.std.specs.Prelude.{◌≤◌};
 
 use super::{Places, Server};
-use crate::link_socket::LinkSocket;
 use mio::{Events, Poll};
 use script::Sink;
-use serve_settings::Endpoint;
+use sctp_links::{Keys, SctpSockets};
+use serve_settings::{Endpoint, SctpTimes};
 use served_node::{Listener, Log, Node, OpenFault, SocketName};
 use settings::{LinkId, Settings};
 use std::alloc::Global;
 use std::net::{Net, SocketAddr};
+use std::random::RandomSource;
 use std::time::Duration;
+use tcp_links::TcpLinks;
 use trace::PointFormat;
 
 /// Sockets that one wait tells of, at most. Further ones are told of by the next.
 const EVENTS: usize = 128;
 
-/// Octets that one read of a link asks for.
-const READ_OCTETS: usize = 65_536;
-
 impl Server {
     /// A server of a node with these settings. It listens from now on, and no connection is there yet.
-    pub fn open<N: Net, W: Sink>(
+    pub fn open<N: Net + RandomSource, W: Sink>(
         net: &N,
         alloc: Global,
         settings: Settings,
         places: Places<'_>,
         log: &mut W,
-    ) -> Result<Server, OpenFault> {
+    ) -> Result<Server, OpenFault>
+        requires initial { places.sctp.rto_initial_ms ≤ places.sctp.rto_max_ms }
+        requires least { places.sctp.rto_min_ms ≤ places.sctp.rto_max_ms }
+        requires most { places.sctp.rto_max_ms ≤ 60000 }
+    {
         let mut log = Log {
             sink: log,
             now: Duration::ZERO,
         };
         let mut server = Server::boot(net, alloc, settings, places.points)?;
-        match server.add_listeners(net, places, &mut log) {
+        match server.add_sockets(net, places, &mut log) {
             Ok(()) => Ok(server),
             Err(fault) => {
                 server.close();
@@ -41,18 +46,27 @@ impl Server {
         }
     }
 
-    /// Adds the sockets of all links, and the console.
-    fn add_listeners<N: Net, W: Sink>(
+    /// Adds the sockets of all links, the console and the status page.
+    fn add_sockets<N: Net + RandomSource, W: Sink>(
         &mut self,
         net: &N,
         places: Places<'_>,
         log: &mut Log<'_, W>,
-    ) -> Result<(), OpenFault> {
+    ) -> Result<(), OpenFault>
+        requires initial { places.sctp.rto_initial_ms ≤ places.sctp.rto_max_ms }
+        requires least { places.sctp.rto_min_ms ≤ places.sctp.rto_max_ms }
+        requires most { places.sctp.rto_max_ms ≤ 60000 }
+    {
+        if let Some(address) = places.udp {
+            let registry = self.poll.registry();
+            self.sctp = Some(SctpSockets::open(net, self.alloc, registry, address, log)?);
+        }
         for (k, endpoint) in places.links.iter().enumerate() {
             let link = LinkId::new(u8::try_from(k).unwrap_or(u8::MAX));
-            self.add_link_socket(net, link, *endpoint, log)?;
+            self.add_link(net, link, *endpoint, &places.sctp, log)?;
         }
-        self.add_console(net, places.console, log)
+        self.add_console(net, places.console, log)?;
+        self.add_page(net, places, log)
     }
 
     /// A server of a node with these settings that has no sockets of links, and no console.
@@ -63,13 +77,15 @@ impl Server {
         points: PointFormat,
     ) -> Result<Server, OpenFault> {
         match polled(net, alloc) {
-            Ok((poll, events, buffer)) => {
+            Ok((poll, events, tcp)) => {
                 let node = Node::boot(alloc, settings, points)?;
                 Ok(Server {
                     alloc,
                     node,
-                    links: Vec::new(alloc),
-                    buffer,
+                    tcp,
+                    sctp: None,
+                    page: None,
+                    points,
                     poll,
                     events,
                     is_busy: true,
@@ -83,38 +99,31 @@ impl Server {
         }
     }
 
-    /// Adds the socket of the next link.
-    fn add_link_socket<N: Net, W: Sink>(
+    /// Adds the next link.
+    fn add_link<N: Net + RandomSource, W: Sink>(
         &mut self,
         net: &N,
         link: LinkId,
         endpoint: Endpoint,
+        times: &SctpTimes,
         log: &mut Log<'_, W>,
-    ) -> Result<(), OpenFault> {
-        let listener = match endpoint {
-            Endpoint::Listen(address) => self.listen(net, link, address, log)?,
-            Endpoint::Connect(address) => {
-                log.tell_at("connect", self.node.observers.name(link), address);
-                Listener::none()
+    ) -> Result<(), OpenFault>
+        requires initial { times.now.rto_initial_ms ≤ times.now.rto_max_ms }
+        requires least { times.now.rto_min_ms ≤ times.now.rto_max_ms }
+        requires most { times.now.rto_max_ms ≤ 60000 }
+    {
+        match (endpoint, &mut self.sctp) {
+            (Endpoint::Remote(remote), Some(sctp)) => {
+                let Ok(keys) = Keys::draw(net) else {
+                    return Err(OpenFault::Random);
+                };
+                sctp.add(self.alloc, link, &remote, times, &keys, &self.node, log)
             }
-            Endpoint::Remote(_) => Listener::none(),
-        };
-        self.links.push(LinkSocket::new(link, endpoint, listener))?;
-        Ok(())
-    }
-
-    /// The listener of a link.
-    fn listen<N: Net, W: Sink>(
-        &self,
-        net: &N,
-        link: LinkId,
-        address: SocketAddr,
-        log: &mut Log<'_, W>,
-    ) -> Result<Listener, OpenFault> {
-        let name = SocketName::Listener(link.index() as u8);
-        let (listener, address) = Listener::open(net, self.poll.registry(), address, name)?;
-        log.tell_at("listen", self.node.observers.name(link), address);
-        Ok(listener)
+            _ => {
+                let registry = self.poll.registry();
+                self.tcp.add(net, registry, link, endpoint, &self.node, log)
+            }
+        }
     }
 
     /// Adds the console, if it has an address.
@@ -135,12 +144,12 @@ impl Server {
     }
 }
 
-/// A poll, and room for what it tells and for what is read.
-fn polled<N: Net>(net: &N, alloc: Global) -> Result<(Poll, Events, Vec<u8>), OpenFault> {
+/// A poll, room for what it tells, and no links over TCP yet.
+fn polled<N: Net>(net: &N, alloc: Global) -> Result<(Poll, Events, TcpLinks), OpenFault> {
     let events = Events::with_capacity(alloc, EVENTS)?;
-    let buffer = vec![in alloc; 0; READ_OCTETS]?;
+    let tcp = TcpLinks::new(alloc)?;
     match Poll::new(net) {
-        Ok(poll) => Ok((poll, events, buffer)),
+        Ok(poll) => Ok((poll, events, tcp)),
         Err(_) => Err(OpenFault::Poll),
     }
 }

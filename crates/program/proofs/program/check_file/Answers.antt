@@ -1,10 +1,11 @@
-use Rattle.program.proofs.Files.{checked-file, ends-check}
+use Rattle.std.proofs.Common.{Ok}
+use Rattle.program.proofs.Files.{checks-from, ends-check}
 use Rattle.program.proofs.program.check_file.Goals as goal
 
-pub returns-in-Ok : goal.returns-in-Ok
-returns-in-Ok g c =
-    let found = c.in-Ok.ensures.settings in
-    (found.0, found.1, checked-file c.args.file.now found.0 c.in-Ok.settings _ _ _ _ _ _ found.2 found.3 c.end_with.ensures)
+pub returns : goal.returns
+returns g c =
+    let d = c.in-Ok.ensures.document in
+    (Ok d.0, d.1, checks-from c.args.file.now d.0 _ _ _ _ _ _ _ c.in-Ok.ensures.unwritten c.in-Ok.ensures.untold (c.check_document-status.ensures d.0 d.2))
 
 pub returns-in-Err : goal.returns-in-Err
 returns-in-Err g c =

@@ -7,4 +7,4 @@ use Rattle.status_page.proofs.metrics.put_link_samples.Given as goal
 
 abbrev pub invariant-loop-k : goal.invariant-loop-k
 invariant-loop-k l =
-    l.body.items ≡ l.fn.body.items ++ each (link_sample kept l.fn.exchange l.fn.counters l.fn.family l.fn.metric) l.k
+    l.body.items ≡ l.fn.body.items ++ each (link_sample kept l.fn.exchange l.fn.counters.links l.fn.family l.fn.metric) l.k

@@ -7,6 +7,6 @@ use Rattle.status_page.proofs.state.put_each_link.Given as goal
 
 abbrev pub invariant-loop-k : goal.invariant-loop-k
 invariant-loop-k l = record {
-  tokens : l.out.tokens ≡ l.fn.out.tokens ++ each (link_tokens kept l.fn.exchange l.fn.counters) l.k;
+  tokens : l.out.tokens ≡ l.fn.out.tokens ++ each (link_tokens kept l.fn.exchange l.fn.counters.links) l.k;
   before : l.out.before ≡ l.fn.out.before;
 }

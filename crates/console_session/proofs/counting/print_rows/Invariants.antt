@@ -3,12 +3,12 @@ use Rattle.std.proofs.Common.{◌≡◌, slice_get}
 use Rattle.std.specs.Io.KnownBytes.{Appends}
 use Rattle.console.specs.Names.{name_in}
 use Rattle.console_session.specs.Counters.{first_texts, row_text}
-use Rattle.console_session.proofs.counting.print_counters.Given as goal
+use Rattle.console_session.proofs.counting.print_rows.Given as goal
 
 abbrev pub invariant-loop-k : goal.invariant-loop-k
 invariant-loop-k g l = record {
   written :
       Appends (g.W.Sink.output l.fn.writer).written (g.W.Sink.output l.writer).written
-      (first_texts (λ k. row_text (name_in l.fn.exchange.settings k) (slice_get l.fn.counters k)) l.k);
+      (first_texts (λ k. row_text (name_in l.fn.exchange.settings k) (slice_get l.fn.counters.links k)) l.k);
   failures : (g.W.Sink.output l.writer).failures ≡ (g.W.Sink.output l.fn.writer).failures;
 }

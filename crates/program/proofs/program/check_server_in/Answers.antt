@@ -1,0 +1,27 @@
+use Rattle.std.proofs.Common.{inl, inr, refl}
+use Rattle.toml.specs.View.{table_view}
+use Rattle.serve_settings.specs.declared.fault.ServeFault.TheVariants.{NoMemory}
+use Rattle.program.proofs.program.check_server_in.Goals as goal
+
+pub returns-in-Ok : goal.returns-in-Ok
+returns-in-Ok g c = λ octets are. inl (
+  record { document = table_view c.args.document.now; are = are; well = λ s. c.in-Ok.ensures s },
+  c.end_with.ensures,
+  refl,
+)
+
+pub returns-in-Err : goal.returns-in-Err
+returns-in-Err g c = λ octets are. elim c.tell_server_fault.ensures [
+  | inl told ↦ inr (
+    c.in-Err.fault,
+    record { document = table_view c.args.document.now; are = are; first = λ s. c.in-Err.ensures s },
+    told.0,
+    told.1,
+  )
+  | inr told ↦ inr (
+    NoMemory,
+    record { document = table_view c.args.document.now; are = are; first = λ s. inl refl },
+    told.0,
+    inr told.1,
+  )
+]

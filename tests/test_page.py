@@ -1,0 +1,329 @@
+"""The status page of a node: what it shows, what else it answers, and clients that are slow or want too much.
+
+Two nodes exchange messages all the while. Whatever clients of the page do, no link fails, and each message comes once
+and in order.
+"""
+
+from __future__ import annotations
+
+import contextlib
+import json
+import re
+import socket
+import time
+from collections.abc import Iterable, Iterator
+from http.client import HTTPConnection, HTTPResponse
+
+from harness import HOST, PATIENCE, NodeTest, free_port, wait_until
+from test_hostile_peers import allow_sockets
+from traffic import FAR, Pair
+
+MESSAGES = 64
+PLACES = 32
+ANSWERS_A_SECOND = 64
+SLOW_CLIENTS = 1000
+PATHS = {"/": "text/html; charset=utf-8", "/state.json": "application/json",
+         "/metrics": "text/plain; version=0.0.4; charset=utf-8"}
+
+# Seconds that a client has for its first request.
+REQUEST_SECONDS = 5
+
+# Requests of a client that never reads. What its sockets hold is less than the answers.
+UNREAD = 2000
+
+Series = tuple[str, frozenset[tuple[str, str]]]
+
+
+def parse_metrics(text: str) -> tuple[dict[Series, float], dict[str, str]]:
+    """Reads Prometheus' text format 0.0.4: the value of each series, and the kind of each family. In front of the samples
+    of a family are its HELP and its TYPE, once each; its samples are in one row, and no series comes twice."""
+    assert text.endswith("\n"), "the last line has no line feed"
+    values: dict[Series, float] = {}
+    helps: dict[str, str] = {}
+    kinds: dict[str, str] = {}
+    family = None
+    for line in text[:-1].split("\n"):
+        if found := re.fullmatch(r"# HELP ([a-zA-Z_:][a-zA-Z0-9_:]*) ((?:[^\\\n]|\\\\|\\n)+)", line):
+            family = found[1]
+            assert family not in helps, f"two HELP lines of {family}"
+            helps[family] = found[2]
+        elif found := re.fullmatch(r"# TYPE ([a-zA-Z_:][a-zA-Z0-9_:]*) (counter|gauge)", line):
+            assert found[1] == family and family not in kinds, f"TYPE of {found[1]} isn't behind its HELP"
+            kinds[family] = found[2]
+        else:
+            series, value = parse_sample(line)
+            assert series[0] == family and family in kinds, f"no HELP and TYPE in front of {line}"
+            assert series not in values, f"twice: {line}"
+            values[series] = value
+    assert set(helps) == set(kinds)
+    return values, kinds
+
+
+def parse_sample(line: str) -> tuple[Series, float]:
+    """Reads the line of a sample."""
+    found = re.fullmatch(r"([a-zA-Z_:][a-zA-Z0-9_:]*)(?:\{(.*)\})? ([0-9]+)", line)
+    assert found, f"no sample: {line!r}"
+    pairs = [*parse_labels(found[2] or "")]
+    assert len(dict(pairs)) == len(pairs), f"a label comes twice: {line!r}"
+    return (found[1], frozenset(pairs)), float(found[3])
+
+
+def parse_labels(text: str) -> Iterator[tuple[str, str]]:
+    """Reads the labels of a sample; in a value `\\\\`, `\\"` and `\\n` are escapes."""
+    while text:
+        found = re.match(r'([a-zA-Z_][a-zA-Z0-9_]*)="((?:[^"\\\n]|\\\\|\\"|\\n)*)"(?:,|$)', text)
+        assert found, f"no label: {text!r}"
+        yield found[1], re.sub(r"\\(.)", lambda it: "\n" if it[1] == "n" else it[1], found[2])
+        text = text[found.end():]
+
+
+class Client:
+    """A client of the page that writes and reads octets."""
+
+    def __init__(self, port: int, receive_octets: int | None = None) -> None:
+        self.socket = socket.socket()
+        if receive_octets is not None:
+            self.socket.setsockopt(socket.SOL_SOCKET, socket.SO_RCVBUF, receive_octets)
+        self.socket.settimeout(PATIENCE)
+        self.socket.connect((HOST, port))
+
+    def send(self, text: str) -> None:
+        """Sends a text, if the node hasn't closed the connection."""
+        with contextlib.suppress(ConnectionError):
+            self.socket.sendall(text.encode())
+
+    def read_rest(self) -> bytes:
+        """Reads until the node closes the connection."""
+        came = b""
+        with contextlib.suppress(ConnectionResetError):
+            while piece := self.socket.recv(1 << 16):
+                came += piece
+        return came
+
+    def close(self) -> None:
+        self.socket.close()
+
+
+class Page(NodeTest):
+    def setUp(self) -> None:
+        super().setUp()
+        self.port = free_port()
+        self.pair = Pair(self, near_page=self.port)
+        self.near = self.pair.near
+        self.addCleanup(self.check_links)
+
+    def check_links(self) -> None:
+        """Each message that was taken came once, and no link failed."""
+        self.pair.exchange(MESSAGES)
+        for node, flowing in ((self.pair.far, self.pair.forth), (self.near, self.pair.back)):
+            self.assertEqual(sum(row["delivered"] for row in node.counters().values()), flowing.count())
+        self.assertEqual(self.near.logged("(close|notice failed)"), 0)
+
+    def client(self, **how: int) -> Client:
+        client = Client(self.port, **how)
+        self.addCleanup(client.close)
+        return client
+
+    def get(self, path: str, method: str = "GET", hosts: Iterable[str] | None = None) -> tuple[HTTPResponse, bytes]:
+        """Asks on a connection of its own. The page's own name is the one Host, unless others are named."""
+        connection = HTTPConnection(HOST, self.port, timeout=PATIENCE)
+        self.addCleanup(connection.close)
+        connection.putrequest(method, path, skip_host=True)
+        for host in [f"{HOST}:{self.port}"] if hosts is None else hosts:
+            connection.putheader("Host", host)
+        connection.putheader("Connection", "close")
+        connection.endheaders()
+        response = connection.getresponse()
+        return response, response.read()
+
+    def status(self, path: str, method: str = "GET", hosts: Iterable[str] | None = None) -> int:
+        return self.get(path, method, hosts)[0].status
+
+    def status_of(self, request: str) -> int:
+        """The status of the first answer to what is sent."""
+        client = self.client()
+        client.send(request)
+        answer = client.read_rest()
+        client.close()
+        found = re.match(rb"HTTP/1\.1 (\d{3}) ", answer)
+        assert found, f"no answer: {answer[:80]!r}"
+        return int(found[1])
+
+    def state(self) -> dict:
+        response, body = self.get("/state.json")
+        self.assertEqual(response.status, 200)
+        return json.loads(body)
+
+    def metrics(self) -> tuple[dict[Series, float], dict[str, str]]:
+        response, body = self.get("/metrics")
+        self.assertEqual(response.status, 200)
+        return parse_metrics(body.decode())
+
+    # ---- what is shown
+
+    def test_the_state(self) -> None:
+        """What the console shows is in the state, to the same values."""
+        self.pair.exchange(MESSAGES)
+        self.near.await_log(f"page {HOST}:{self.port}$")
+        wait_until(lambda: self.near.is_at_rest(), "nothing is under way")
+        state = self.state()
+        links = [f"link {it['name']} {it['state']} waiting {it['waiting']} fsn {it['fsn']} bsn {it['bsn']}"
+                 for it in state["links"]]
+        self.assertEqual(links, self.near.ask("show links"))
+        routes = [f"route {it['point']} {' '.join(it['sets'])} {it['status']}" for it in state["routes"]]
+        self.assertEqual(routes, self.near.ask("show routes"))
+        flags = [f"flag lost_any {state['times_lost']}", f"flag late_any {state['times_late']}"]
+        self.assertEqual(flags, self.near.ask("show flags"))
+        counted = {link["name"]: dict(counted_of(link)) for link in state["links"]}
+        self.assertEqual(counted, {name: dict(row) for name, row in self.near.counters().items()})
+        self.assertEqual(state["notices"], [])
+
+    def test_the_metrics(self) -> None:
+        """The metrics are in the text format, with the values of the console, and counters never fall."""
+        self.pair.exchange(MESSAGES)
+        wait_until(lambda: self.near.is_at_rest(), "nothing is under way")
+        before, kinds = self.metrics()
+        rows = self.near.counters()
+        for (family, counter) in (("frames_received", "frames_in"), ("octets_sent", "octets_out"),
+                                  ("messages_delivered", "delivered")):
+            for name, row in rows.items():
+                value = before[f"stp_{family}_total", frozenset({("link", name)})]
+                self.assertEqual(value, row[counter], f"{family} of {name}")
+        for name in self.pair.names:
+            self.assertEqual(before["stp_link_in_service", frozenset({("link", name)})], 1)
+        self.pair.exchange(MESSAGES)
+        after, _ = self.metrics()
+        self.assertEqual(set(before), set(after))
+        for series, value in before.items():
+            if kinds[series[0]] == "counter":
+                self.assertGreaterEqual(after[series], value, series)
+        delivered = [(after, 1), (before, -1)]
+        grown = sum(sign * values["stp_messages_delivered_total", frozenset({("link", name)})]
+                    for values, sign in delivered for name in self.pair.names)
+        self.assertEqual(grown, MESSAGES)
+
+    def test_kinds_of_text(self) -> None:
+        for path, kind in PATHS.items():
+            response, body = self.get(path)
+            self.assertEqual((response.status, response.getheader("content-type")), (200, kind))
+            self.assertEqual(response.getheader("cache-control"), "no-store")
+            self.assertEqual(response.getheader("content-length"), str(len(body)))
+            self.assertTrue(body)
+
+    def test_head(self) -> None:
+        response, body = self.get("/", "HEAD")
+        self.assertEqual((response.status, body), (200, b""))
+        self.assertEqual(response.getheader("content-length"), str(len(self.get("/")[1])))
+
+    # ---- what is refused
+
+    def test_refusals(self) -> None:
+        own = f"{HOST}:{self.port}"
+        self.assertEqual(self.status("/", hosts=[]), 400)
+        self.assertEqual(self.status("/", hosts=[own, own]), 400)
+        self.assertEqual(self.status(f"http://{own}/"), 400)
+        self.assertEqual(self.status("/", hosts=[f"localhost:{self.port}"]), 200)
+        for foreign in ("example.org", f"example.org:{self.port}", "localhost", HOST, f"{HOST}:1"):
+            self.assertEqual(self.status("/", hosts=[foreign]), 403, foreign)
+        for path in ("/index.html", "/state.json/", "//", "/../state.json"):
+            self.assertEqual(self.status(path), 404, path)
+        for method in ("POST", "PUT", "DELETE", "OPTIONS", "PATCH"):
+            response, _ = self.get("/state.json", method)
+            self.assertEqual((response.status, response.getheader("allow")), (405, "GET, HEAD"), method)
+
+    def test_no_order_is_given(self) -> None:
+        """Nothing that is sent to the page is a line of the console."""
+        body = "deactivate e1\nstop\n"
+        request = f"POST / HTTP/1.1\r\nHost: {HOST}:{self.port}\r\nContent-Length: {len(body)}\r\n\r\n{body}"
+        self.assertEqual(self.status_of(request), 413)
+        self.assertEqual(self.status_of(body), 400)
+        self.assertEqual([state for state, _ in self.near.links().values()], ["InService"] * 3)
+
+    def test_a_long_head(self) -> None:
+        start = f"GET / HTTP/1.1\r\nHost: {HOST}:{self.port}\r\nConnection: close\r\nX: "
+        self.assertEqual(self.status_of(f"{start}{'x' * 7000}\r\n\r\n"), 200)
+        self.assertEqual(self.status_of(f"{start}{'x' * 10_000}\r\n\r\n"), 431)
+        self.assertEqual(self.status_of(f"GET /{'x' * 10_000}"), 414)
+
+    # ---- clients that are slow, or want too much
+
+    def test_a_thousand_slow_clients(self) -> None:
+        allow_sockets(SLOW_CLIENTS + 100)
+        clients = []
+        for number in range(SLOW_CLIENTS):
+            client = self.client()
+            client.send("GET / HTTP/1.1\r\nHost: "[: 1 + number % 24])
+            clients.append(client)
+            if number % 100 == 0:
+                self.pair.exchange(MESSAGES)
+        self.pair.exchange(MESSAGES)
+        for client in clients:
+            client.read_rest()
+        self.assertEqual(self.status("/state.json"), 200)
+
+    def test_a_client_that_never_reads(self) -> None:
+        """It is cut off, while others are answered."""
+        deaf = self.client(receive_octets=4096)
+        request = f"GET /metrics HTTP/1.1\r\nHost: {HOST}:{self.port}\r\n\r\n"
+        deaf.socket.settimeout(1)
+        with contextlib.suppress(TimeoutError, ConnectionError):
+            for _ in range(UNREAD):
+                deaf.socket.sendall(request.encode())
+        self.assertEqual(self.status("/state.json"), 200)
+        self.pair.exchange(MESSAGES)
+        deaf.socket.settimeout(PATIENCE)
+        wait_until(lambda: is_cut(deaf.socket), "the client is cut off")
+
+    def test_one_too_many(self) -> None:
+        clients = [self.client() for _ in range(PLACES)]
+        start = time.monotonic()
+        last = self.client()
+        self.assertEqual(last.read_rest(), b"")
+        self.assertLess(time.monotonic() - start, REQUEST_SECONDS, "it is closed before the others' time is over")
+        self.pair.exchange(MESSAGES)
+        clients[-1].close()
+        wait_until(self.is_answered, "a place is free")
+
+    def is_answered(self) -> bool:
+        with contextlib.suppress(OSError):
+            return self.status("/state.json") == 200
+        return False
+
+    def test_a_silent_client(self) -> None:
+        client = self.client()
+        start = time.monotonic()
+        self.assertEqual(client.read_rest(), b"")
+        self.assertGreater(time.monotonic() - start, REQUEST_SECONDS - 1)
+
+    def test_many_requests(self) -> None:
+        """So many are answered in a second; the others wait for the next."""
+        connection = HTTPConnection(HOST, self.port, timeout=PATIENCE)
+        self.addCleanup(connection.close)
+        start = time.monotonic()
+        for _ in range(4 * ANSWERS_A_SECOND):
+            connection.request("GET", "/state.json")
+            response = connection.getresponse()
+            response.read()
+            self.assertEqual(response.status, 200)
+        # They are answered in four seconds of the node's clock, of which the two in the middle are whole.
+        self.assertGreater(time.monotonic() - start, 2)
+
+
+def counted_of(link: dict) -> Iterator[tuple[str, int]]:
+    """The counters of a link as the console names them."""
+    for name in ("frames_in", "octets_in", "frames_out", "octets_out", "forwarded", "delivered", "retries"):
+        yield name, link[name]
+    for group in ("refused", "failed"):
+        for name, value in link[group].items():
+            yield f"{group}_{name}", value
+
+
+def is_cut(it: socket.socket) -> bool:
+    """Whether the other end has closed a connection of which nothing is read."""
+    try:
+        it.send(b"\r\n", socket.MSG_DONTWAIT)
+    except BlockingIOError:
+        return False
+    except OSError:
+        return True
+    return False

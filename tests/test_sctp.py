@@ -1,0 +1,231 @@
+"""Two nodes over SCTP in UDP: links, strangers, nodes that end and come back, the capture and the stop."""
+
+from __future__ import annotations
+
+import random
+import socket
+
+from harness import HOST, Node, NodeTest, SctpLink, free_port, wait_until
+from packets import ABORT, DATA, INIT, chunk, crc32c, is_whole, kinds, packet, read_packets
+from traffic import FAR, NEAR, Flowing
+
+CAPTURE = "node.pcap"
+MESSAGES = 200
+
+# Another address of this machine.
+OTHER_HOST = "127.0.0.2"
+
+# In ticks of 50 ms: a changeover ends soon where no link is left, as nobody answers it.
+SOON = {"t1": 4, "t2": 6}
+
+# An end that isn't answered says so soon.
+IMPATIENT = {"rto_initial_ms": 50, "rto_min_ms": 50, "rto_max_ms": 100, "init_tries": 2, "heartbeat_ms": 200}
+
+# SCTP ports: those of the near end and of the far one, for each link.
+NEAR_PORT, FAR_PORT = 3565, 4565
+
+
+class SctpPair:
+    """Two nodes with links over SCTP between them, of which both ends try to open each."""
+
+    def __init__(self, test: NodeTest, *, links: int = 3, is_begun: bool = True, **more) -> None:
+        self.near_udp, self.far_udp = free_port(), free_port()
+        self.names = [f"e{number}" for number in range(links)]
+        self.near = test.node(NEAR, self.links_to(FAR, self.far_udp, NEAR_PORT, FAR_PORT), udp=self.near_udp, **more)
+        self.far = test.node(FAR, self.links_to(NEAR, self.near_udp, FAR_PORT, NEAR_PORT), udp=self.far_udp, **more)
+        if is_begun:
+            self.near.start()
+            self.far.start()
+            self.begin()
+
+    def links_to(self, adjacent: int, udp: int, own_port: int, far_port: int) -> list[SctpLink]:
+        return [
+            SctpLink(name, adjacent, code, udp, own_port + code, far_port + code)
+            for code, name in enumerate(self.names)
+        ]
+
+    def begin(self) -> None:
+        self.await_service()
+        self.forth = Flowing(self.near, self.far, NEAR, FAR)
+        self.back = Flowing(self.far, self.near, FAR, NEAR)
+
+    def await_service(self) -> None:
+        in_turn = (self.near, self.far, self.near)
+        wait_until(lambda: all(node.is_at_rest(self.names) for node in in_turn), "the links are in service, and at rest")
+
+    def exchange(self, count: int) -> None:
+        self.forth.submit(count)
+        self.back.submit(count)
+        self.forth.settle()
+        self.back.settle()
+
+
+def words(node: Node) -> list[str]:
+    """The lines of a log without their times."""
+    return [line.split(" ", 1)[1] for line in node.log()]
+
+
+class Service(NodeTest):
+    def test_messages_each_way(self) -> None:
+        pair = SctpPair(self)
+        pair.exchange(MESSAGES)
+        pair.await_service()
+        self.assertIn(f"udp {HOST}:{pair.near_udp}", words(pair.near))
+        for node, udp in ((pair.near, pair.far_udp), (pair.far, pair.near_udp)):
+            for name in pair.names:
+                self.assertEqual(node.logged(f"remote {name} {HOST}:{udp}$"), 1)
+                self.assertEqual(node.logged(f"open {name} {HOST}:{udp}$"), 1)
+            self.assertEqual(node.logged("close|fail|notice"), 0)
+            self.assertEqual(sum(row["delivered"] for row in node.counters().values()), MESSAGES)
+        near, far = pair.near.counters(), pair.far.counters()
+        for name in pair.names:
+            self.assertEqual(near[name]["frames_out"], far[name]["frames_in"])
+            self.assertEqual(near[name]["octets_in"], far[name]["octets_out"])
+
+    def test_a_link_that_is_taken_out_comes_back(self) -> None:
+        pair = SctpPair(self)
+        pair.exchange(MESSAGES)
+        pair.near.ask("deactivate e1")
+        pair.near.await_log(f"close e1 {HOST}:{pair.far_udp} node$")
+        pair.far.await_log(f"close e1 {HOST}:{pair.near_udp} peer$")
+        pair.exchange(MESSAGES)
+        pair.near.ask("activate e1")
+        pair.await_service()
+        pair.exchange(MESSAGES)
+        for node in (pair.near, pair.far):
+            self.assertEqual(node.logged("notice"), 1)
+
+    def test_nobody_is_there(self) -> None:
+        pair = SctpPair(self, is_begun=False, sctp=IMPATIENT)
+        pair.near.start()
+        for name in pair.names:
+            pair.near.await_log(f"fail {name} {HOST}:{pair.far_udp}$")
+        pair.far.start()
+        pair.begin()
+        pair.exchange(MESSAGES)
+
+
+class Strangers(NodeTest):
+    def test_they_change_nothing(self) -> None:
+        """What comes from another host, or with other ports, or too short to have ports, is no link's: it is counted, and
+        nothing comes back. What has the peer's host and a link's ports, but no right checksum or tag, changes nothing."""
+        pair = SctpPair(self)
+        pair.exchange(MESSAGES)
+        draw = random.Random(1)
+        abort = chunk(ABORT)
+        init = chunk(INIT, draw.randbytes(16))
+        strangers = [
+            (OTHER_HOST, packet(FAR_PORT, NEAR_PORT, 0, init)),
+            (OTHER_HOST, packet(FAR_PORT, NEAR_PORT, draw.getrandbits(32), abort)),
+            (HOST, packet(FAR_PORT + 9, NEAR_PORT, 0, init)),
+            (HOST, packet(FAR_PORT, NEAR_PORT + 9, 0, init)),
+            (HOST, packet(NEAR_PORT, FAR_PORT, 0, init)),
+            (HOST, b""),
+            (HOST, b"\x11\xd5\x0d"),
+            (OTHER_HOST, draw.randbytes(60_000)),
+        ]
+        harmless = [
+            packet(FAR_PORT, NEAR_PORT, draw.getrandbits(32), abort),
+            packet(FAR_PORT, NEAR_PORT, draw.getrandbits(32), chunk(DATA, draw.randbytes(40), 3)),
+            packet(FAR_PORT, NEAR_PORT, 0, init)[:-1] + b"\xff",
+            packet(FAR_PORT, NEAR_PORT, 0, b"")[:4],
+            packet(FAR_PORT, NEAR_PORT, 0, b"")[:4] + draw.randbytes(60_000),
+        ]
+        before = pair.near.datagrams()
+        for source, octets in strangers:
+            self.assertFalse(self.is_answered(source, octets, pair.near_udp))
+        wait_until(lambda: pair.near.datagrams()["strangers"] >= before["strangers"] + len(strangers), "they are counted")
+        for octets in harmless:
+            self.assertFalse(self.is_answered(HOST, octets, pair.near_udp))
+        pair.exchange(MESSAGES)
+        pair.await_service()
+        after = pair.near.datagrams()
+        self.assertEqual(after["strangers"], before["strangers"] + len(strangers))
+        self.assertGreaterEqual(after["datagrams_in"], before["datagrams_in"] + len(harmless))
+        for node in (pair.near, pair.far):
+            self.assertEqual(node.logged("notice|close|fail"), 0)
+            self.assertEqual(node.logged("open"), 3)
+
+    def is_answered(self, source: str, octets: bytes, port: int) -> bool:
+        """Sends a datagram from a socket of its own, and says whether something comes back soon."""
+        with socket.socket(socket.AF_INET, socket.SOCK_DGRAM) as stranger:
+            stranger.bind((source, 0))
+            stranger.settimeout(0.1)
+            stranger.sendto(octets, (HOST, port))
+            try:
+                return bool(stranger.recv(1 << 16))
+            except TimeoutError:
+                return False
+
+
+class Restarts(NodeTest):
+    def test_the_near_node(self) -> None:
+        pair = SctpPair(self, **SOON)
+        self.end_and_start(pair, pair.near, pair.far)
+
+    def test_the_far_node(self) -> None:
+        pair = SctpPair(self, **SOON)
+        self.end_and_start(pair, pair.far, pair.near)
+
+    def end_and_start(self, pair: SctpPair, ended: Node, other: Node) -> None:
+        """A program is killed, and a new one begins: the other node loses its associations by that, and the links come
+        back and carry messages."""
+        pair.exchange(MESSAGES)
+        ended.kill()
+        ended.start()
+        for name in pair.names:
+            other.await_log(f"close {name} .* (restart|peer)$")
+            other.await_log(f"notice failed {name} association$")
+        pair.begin()
+        self.assertEqual(other.logged("open e"), 6)
+        pair.exchange(MESSAGES)
+
+    def test_one_that_stays_away(self) -> None:
+        """Heartbeats find out that nobody is there any more."""
+        pair = SctpPair(self, sctp={**IMPATIENT, "retransmissions": 3}, **SOON)
+        pair.exchange(MESSAGES)
+        pair.far.kill()
+        for name in pair.names:
+            pair.near.await_log(f"close {name} {HOST}:{pair.far_udp} silence$")
+
+
+class Ends(NodeTest):
+    def test_a_stop_aborts_each_association(self) -> None:
+        pair = SctpPair(self, **SOON)
+        pair.exchange(MESSAGES)
+        pair.near.stop()
+        for name in pair.names:
+            self.assertEqual(pair.near.logged(f"close {name} {HOST}:{pair.far_udp} node$"), 1)
+            pair.far.await_log(f"close {name} {HOST}:{pair.near_udp} peer$")
+
+
+class Captures(NodeTest):
+    def test_packets_are_as_they_were_on_the_wire(self) -> None:
+        pair = SctpPair(self, capture=CAPTURE)
+        pair.exchange(MESSAGES)
+        pair.near.stop()
+        packets = read_packets(pair.near.folder / CAPTURE)
+        self.assertTrue(all(is_whole(octets) for octets in packets))
+        carried = sum(kinds(octets).count(DATA) for octets in packets)
+        self.assertGreaterEqual(carried, 2 * MESSAGES)
+        self.assertEqual(sum(ABORT in kinds(octets) for octets in packets), 3)
+
+    def test_as_many_as_the_counters_say(self) -> None:
+        pair = SctpPair(self, capture=CAPTURE)
+        pair.exchange(MESSAGES)
+        pair.far.stop()
+        for name in pair.names:
+            pair.near.await_log(f"close {name} .* peer$")
+            pair.near.ask(f"deactivate {name}")
+        counted = pair.near.datagrams()
+        pair.near.stop()
+        packets = read_packets(pair.near.folder / CAPTURE)
+        came = sum(int.from_bytes(octets[:2], "big") >= FAR_PORT for octets in packets)
+        self.assertEqual(came, counted["datagrams_in"])
+        self.assertEqual(len(packets) - came, counted["datagrams_out"])
+
+
+class Checksums(NodeTest):
+    def test_crc32c(self) -> None:
+        """The value that is known of these digits."""
+        self.assertEqual(crc32c(b"123456789"), 0xE3069283)
