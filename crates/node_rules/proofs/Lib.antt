@@ -8,4 +8,6 @@ pub mod Associating
 pub mod Sending
 pub mod Runs
 pub mod Promised
+pub mod Fitting
 pub mod Happening
+pub mod Crossing

@@ -189,7 +189,7 @@ module _ (near far : Make) (n : ℕ) where
 
   module _ (near-many : length near.configuration.links ≡ n) (far-many : length far.configuration.links ≡ n)
       (near-good : (link : ℕ) → AreGood (near.endpoints link).secrets) (far-good : (link : ℕ) → AreGood (far.endpoints link).secrets) where
-    one-step : (w v : World) → worlds.Step near far w v → IsRun near far n w → IsRun near far n v
+    pub one-step : (w v : World) → worlds.Step near far w v → IsRun near far n w → IsRun near far n v
     one-step w v (at_near what may is) r =
         near-runs w v r
         (subst (λ (u : World). Reached near far n u (after_steps r.steps first)) (sym is)

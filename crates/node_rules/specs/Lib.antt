@@ -1,3 +1,4 @@
 pub mod Worlds
 pub mod Promises
 pub mod Example
+pub mod Crossing

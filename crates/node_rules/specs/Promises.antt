@@ -1,5 +1,9 @@
 -- What two nodes promise each other over any network.
-use Rattle.std.specs.Prelude.{◌≡◌, ℕ, List, []}
+use Rattle.std.specs.Prelude.{◌≡◌, ◌<◌, ◌≤◌, ℕ, List, [], Some, length}
+use Rattle.m2pa_codec.specs.Frames.{FrameValue, spelled}
+use Rattle.exchange_rules.specs.Exchange.{frame_to_take}
+use Rattle.exchange_rules.specs.Queues.{whole}
+use Rattle.sctp_sending.specs.Sending.{most_octets}
 use Rattle.sctp_ends.specs.Shown.{AreGood}
 use Rattle.pair_rules.specs.Pairs.{End, PairState, Step, first_pair, after_steps, nothing_in_flight}
 use Rattle.pair_rules.specs.Promises.{AreJoined, LostNothing, EachOnce, InOrder, IsPunctual, BothWays}
@@ -56,3 +60,23 @@ each_message_once = Always (λ near far w. LostNothing (ends_of w) → BothWays 
 abbrev pub each_flow_in_order : Type 0
 each_flow_in_order =
     Always (λ near far w. LostNothing (ends_of w) → BothWays (λ p. IsPunctual p → InOrder p) (ends_of w))
+
+-- ---- frames
+
+-- an endpoint takes a frame as a message: it has some octets, and no more than fit
+pub record IsShort (frame : FrameValue) : Type 0 where
+  pub some : 0 < length (spelled frame)
+  pub fits : length (spelled frame) ≤ most_octets
+
+-- any frame that a link has to go out next
+abbrev pub AreShort : Node → Type 0
+AreShort n =
+    (link : ℕ) (frame : FrameValue) → frame_to_take whole n.books.exchange link ≡ Some frame → IsShort frame
+
+pub record BothAreShort (w : World) : Type 0 where
+  pub near : AreShort w.near
+  pub far : AreShort w.far
+
+-- so at both nodes, whatever was done
+abbrev pub frames_are_short : Type 0
+frames_are_short = Always (λ near far w. BothAreShort w)
