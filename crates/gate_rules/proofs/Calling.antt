@@ -1,8 +1,8 @@
--- Each call of a gate, but for fills, is a list of steps of its node.
-use Rattle.std.proofs.Common.{◌≡◌, ◌≢◌, ◌⊎◌, inl, inr, ◌<◌, ℕ, Bool, true, false, List, [], ◌∷◌, ◌++◌, Option, Some, None, length, map, refl, ap, sym, ◌∙◌, subst, nat_eq, arith}
+-- Each call of a gate is a list of steps of its node.
+use Rattle.std.proofs.Common.{◌≡◌, ◌≢◌, ◌⊎◌, inl, inr, ◌<◌, ◌≤◌, ◌+◌, ℕ, Bool, true, false, List, [], ◌∷◌, ◌++◌, Option, Some, None, length, map, refl, ap, sym, ◌∙◌, subst, nat_eq, arith}
 use Rattle.std.proofs.lemmas.Bool.Decides.{nat_tests}
 use Rattle.std.specs.Prelude.{if◌then◌else◌}
-use Rattle.sctp_codec.specs.Packets.{PacketValue}
+use Rattle.m2pa_codec.specs.Frames.{FrameValue}
 use Rattle.sctp_rules.specs.declared.loss.Loss.{Loss}
 use Rattle.sctp_rules.specs.declared.loss.Loss.TheVariants.{Local}
 use Rattle.sctp_rules.specs.Settings.{Settings, Secrets}
@@ -13,26 +13,29 @@ use Rattle.sctp_rules.specs.Opening.{opening}
 use Rattle.sctp_rules.specs.Endpoint.{Happening, Opens, Aborts, after}
 use Rattle.sctp_rules.specs.Wishing.{Wish, Idle, Seeking, Served, wish_by_call, wish_after, Fits}
 use Rattle.sctp_rules.proofs.Passing.{Right}
-use Rattle.sctp_rules.proofs.Wishing.{happening-fits, still-right}
+use Rattle.sctp_rules.proofs.Wishing.{happening-fits}
 use Rattle.sctp_moves.proofs.Members.{In, in-map}
+use Rattle.sctp_ends.specs.Told.{given_by}
 use Rattle.sctp_ends.specs.Worlds as ends
+use Rattle.sctp_ends.specs.Worlds.{Emitted, emitted, messages_at}
 use Rattle.sctp_endpoint.specs.Endpoints.{secrets_of}
-use Rattle.exchange_rules.specs.State as exchange
-use Rattle.exchange_rules.specs.Exchange.{wants_of}
+use Rattle.exchange_rules.specs.Exchange.{frame_to_take, wants_of}
 use Rattle.exchange_rules.specs.First.{Abstract}
 use Rattle.exchange_rules.specs.Queues.{WholeQueues, whole}
 use Rattle.exchange_rules.specs.declared.wants.Wants.{Wants}
 use Rattle.exchange_rules.specs.declared.wants.Wants.TheVariants.{Nothing, Open, Close}
 use Rattle.sctp_gate.specs.declared.standing.Standing.{Standing}
 use Rattle.sctp_gate.specs.Standing.{idle, seeking, stands_after}
-use Rattle.sctp_gate.specs.Handing.{after_told}
+use Rattle.sctp_gate.specs.Watching.{Sight}
+use Rattle.sctp_gate.specs.Handing.{after_told, sights_of}
 use Rattle.sctp_gate.specs.Gates.{Gate, Did, nothing, followed_by, is_lasting, may_try, handed, does, aborted, opened, wanted, settled_by, settled, between}
 use Rattle.sctp_gate.specs.Laws.{Agrees}
 use Rattle.sctp_gate.proofs.Agreeing.{agrees}
-use Rattle.node_rules.specs.Worlds.{Make, Node, Books, Port, handed_all, is_frame, happened, associated, wish_left, wished, Doing, Associates, did, MayDo, MayAssociate}
+use Rattle.node_rules.specs.Worlds.{Make, Node, Books, Port, associated, wish_left, wished, Doing, Associates, did, MayDo, MayAssociate}
 use Rattle.node_rules.specs.Worlds as worlds
-use Rattle.node_rules.proofs.Telling.{aborts-idle}
-use Rattle.gate_rules.specs.Calls.{is_served, is_seeking, Shows, dids, MayAll, packets_of}
+use Rattle.node_rules.specs.Promises.{IsShort}
+use Rattle.gate_rules.specs.Calls.{is_served, is_seeking, Shows, seen_all, messages_in, dids, MayAll}
+use Rattle.gate_rules.proofs.Seen.{in-either, in-front, in-behind, seen-more, messages-more, handed-told, seen-told, rule-grows}
 
 -- ---- what a gate knows of its endpoint
 
@@ -64,109 +67,140 @@ alike-ended now true wanted why p = record { up = refl; seeks = refl }
 alike-ended now false true why p = record { up = refl; seeks = refl }
 alike-ended now false false why p = record { up = refl; seeks = refl }
 
--- ---- what is told is handed in alike
+-- ---- what holds of a node whatever it may do
 
-handed-told : (k : ℕ) (ts : List Told) (b : Books) → (handed_all k ts b).exchange ≡ after_told whole k ts b.exchange
-handed-told k [] b = refl
-handed-told k (Up ∷ more) b = handed-told k more (happened (exchange.CameUp k) b)
-handed-told k (Down why ∷ more) b = handed-told k more (happened (exchange.WentDown k) b)
-handed-told k (Failed why ∷ more) b = handed-told k more b
-handed-told k (Heard m ∷ more) b = handed-told k more (worlds.handed k (Heard m) b) ∙ ap (λ (x : Abstract). after_told whole k more x) (by (is_frame m)) where
-  by : (f : Bool) → (if f then happened (exchange.FrameCame k m.octets) b else b).exchange
-      ≡ (if f then (happened (exchange.FrameCame k m.octets) b).exchange else b.exchange)
-  by true = refl
-  by false = refl
-
--- ---- lists
-
-in-either : {X : Type 0} (x : X) (xs ys : List X) → In x (xs ++ ys) → In x xs ⊎ In x ys
-in-either x [] ys i = inr i
-in-either x (y ∷ xs) ys (inl e) = inl (inl e)
-in-either x (y ∷ xs) ys (inr i) = by (in-either x xs ys i) where
-  by : In x xs ⊎ In x ys → In x (y ∷ xs) ⊎ In x ys
-  by (inl j) = inl (inr j)
-  by (inr j) = inr j
-
-in-front : {X : Type 0} (x : X) (xs ys : List X) → In x xs → In x (xs ++ ys)
-in-front x [] ys i = absurd i
-in-front x (y ∷ xs) ys (inl e) = inl e
-in-front x (y ∷ xs) ys (inr i) = inr (in-front x xs ys i)
-
-in-behind : {X : Type 0} (x : X) (xs ys : List X) → In x ys → In x (xs ++ ys)
-in-behind x [] ys i = i
-in-behind x (y ∷ xs) ys i = inr (in-behind x xs ys i)
-
-map-behind : {X Y : Type 0} (f : X → Y) (xs ys : List X) → map f (xs ++ ys) ≡ map f xs ++ map f ys
-map-behind f [] ys = refl
-map-behind f (x ∷ xs) ys = ap (λ zs. f x ∷ zs) (map-behind f xs ys)
+-- by that the state of the link's endpoint is one that may be, and frames are short
+pub record Lasts (m : Make) (other : Node) (k : ℕ) (Holds : Node → Type 0) : Type 0 where
+  pub stays : (n : Node) (what : Doing) → Holds n → MayDo m other what n → Holds (did m what n)
+  pub right : (n : Node) → Holds n → Right (n.ports k).site.state
+  pub fits : (n : Node) → Holds n → Fits (Some (n.ports k).wish) (n.ports k).site.state
+  pub short : (n : Node) → Holds n → (frame : FrameValue) → frame_to_take whole n.books.exchange k ≡ Some frame → IsShort frame
 
 -- ---- steps
 
-module _ (m : Make) (other : Node) (k : ℕ) (k-in : k < length m.configuration.links) where
-  -- the endpoint's state is one that may be
-  pub record IsSane (n : Node) : Type 0 where
-    pub right : Right (n.ports k).site.state
-    pub fits : Fits (Some (n.ports k).wish) (n.ports k).site.state
+module _ (m : Make) (other : Node) (k : ℕ) (k-in : k < length m.configuration.links) (Holds : Node → Type 0) (lasts : Lasts m other k Holds) where
+  -- a node after what is done, with the mark that its endpoint is left with
+  pub record Leaves (n l : Node) (d : Did WholeQueues) (mark : ℕ) : Type 0 where
+    pub shows : Shows m l k d.gate
+    pub holds : Holds l
+    pub exchange : l.books.exchange ≡ d.exchange
+    pub books : l.books ≡ seen_all k d.seen n.books
+    pub sent : (x : Datagram) → In x d.sent → In (emitted (n.ports k).site.mark x) (l.ports k).site.packets
+    pub kept : (x : Emitted) → In x (n.ports k).site.packets → In x (l.ports k).site.packets
+    pub grown : messages_at (l.ports k).site ≤ messages_at (n.ports k).site + messages_in d.seen
+    pub mark_is : (l.ports k).site.mark ≡ mark
+    pub others : (j : ℕ) → nat_eq j k ≡ false → l.ports j ≡ n.ports j
 
-  pub record AreDone (n : Node) (d : Did WholeQueues) : Type 0 where
+  pub record AreDone (n : Node) (d : Did WholeQueues) (mark : ℕ) : Type 0 where
     pub steps : List Doing
     pub may : MayAll m other steps n
-    pub shows : Shows m (dids m steps n) k d.gate
-    pub sane : IsSane (dids m steps n)
-    pub exchange : (dids m steps n).books.exchange ≡ d.exchange
-    pub sent : (x : Datagram) → In x d.sent → In x.packet (packets_of (dids m steps n) k)
-    pub kept : (x : PacketValue) → In x (packets_of n k) → In x (packets_of (dids m steps n) k)
+    pub leaves : Leaves n (dids m steps n) d mark
 
-  dids-append : (list more : List Doing) (n : Node) → dids m (list ++ more) n ≡ dids m more (dids m list n)
+  -- where the mark stays
+  abbrev pub AreQuiet : Node → Did WholeQueues → Type 0
+  AreQuiet n d = AreDone n d (n.ports k).site.mark
+
+  -- where a call asks for packets, the mark is no less than what was given and told by then; else it stays
+  abbrev pub IsMark : Bool → (n l : Node) → ℕ → Type 0
+  IsMark true n l mark = messages_at (l.ports k).site ≤ mark
+  IsMark false n l mark = mark ≡ (n.ports k).site.mark
+
+  pub record AreCalled (n : Node) (d : Did WholeQueues) (flushes : Bool) : Type 0 where
+    pub steps : List Doing
+    pub may : MayAll m other steps n
+    pub mark : ℕ
+    pub leaves : Leaves n (dids m steps n) d mark
+    pub is_mark : IsMark flushes n (dids m steps n) mark
+
+  pub quiet-called : (n : Node) (d : Did WholeQueues) → AreQuiet n d → AreCalled n d false
+  quiet-called n d f = record { steps = f.steps; may = f.may; mark = (n.ports k).site.mark; leaves = f.leaves; is_mark = refl }
+
+  pub dids-append : (list more : List Doing) (n : Node) → dids m (list ++ more) n ≡ dids m more (dids m list n)
   dids-append [] more n = refl
   dids-append (what ∷ list) more n = dids-append list more (did m what n)
 
-  may-append : (list more : List Doing) (n : Node) → MayAll m other list n → MayAll m other more (dids m list n) → MayAll m other (list ++ more) n
+  pub may-append : (list more : List Doing) (n : Node) → MayAll m other list n → MayAll m other more (dids m list n) → MayAll m other (list ++ more) n
   may-append [] more n h g = g
   may-append (what ∷ list) more n h g = (h.0, may-append list more (did m what n) h.1 g)
 
   -- nothing is done
-  pub idle-done : (n : Node) (g : Gate) (s : Abstract) → Shows m n k g → IsSane n → n.books.exchange ≡ s → AreDone n (nothing g s)
-  idle-done n g s h z e = record { steps = []; may = tt; shows = h; sane = z; exchange = e; sent = λ x i. absurd i; kept = λ x i. i }
+  pub idle-done : (n : Node) (g : Gate) (s : Abstract) → Shows m n k g → Holds n → n.books.exchange ≡ s → AreQuiet n (nothing g s)
+  idle-done n g s h z e = record {
+    steps = [];
+    may = tt;
+    leaves = record {
+      shows = h;
+      holds = z;
+      exchange = e;
+      books = refl;
+      sent = λ x i. absurd i;
+      kept = λ x i. i;
+      grown = omega arith;
+      mark_is = refl;
+      others = λ j e. refl;
+    };
+  }
 
   -- one thing, and then another
-  sent-behind : (n l : Node) (d e : Did WholeQueues) → (f : AreDone n d) → (g : AreDone l e) → dids m f.steps n ≡ l → (x : Datagram)
-      → In x d.sent ⊎ In x e.sent → In x.packet (packets_of (dids m g.steps l) k)
-  sent-behind n l d e f g is x (inl i) = g.kept x.packet (subst (λ (y : Node). In x.packet (packets_of y k)) is (f.sent x i))
-  sent-behind n l d e f g is x (inr i) = g.sent x i
+  pub leaves-both : (n l o : Node) (d e : Did WholeQueues) (mark : ℕ) → Leaves n l d (n.ports k).site.mark → Leaves l o e mark
+      → Leaves n o (record e { sent = d.sent ++ e.sent; seen = d.seen ++ e.seen }) mark
+  leaves-both n l o d e mark f g = record {
+    shows = g.shows;
+    holds = g.holds;
+    exchange = g.exchange;
+    books = g.books ∙ ap (seen_all k e.seen) f.books ∙ sym (seen-more k d.seen e.seen n.books);
+    sent = λ x i. by x (in-either x d.sent e.sent i);
+    kept = λ x i. g.kept x (f.kept x i);
+    grown =
+        (let a = f.grown in
+        let b = g.grown in
+        let c = messages-more d.seen e.seen in
+        omega (arith, a, b, c));
+    mark_is = g.mark_is;
+    others = λ j q. g.others j q ∙ f.others j q;
+  } where
+    by : (x : Datagram) → In x d.sent ⊎ In x e.sent → In (emitted (n.ports k).site.mark x) (o.ports k).site.packets
+    by x (inl i) = g.kept (emitted (n.ports k).site.mark x) (f.sent x i)
+    by x (inr i) = subst (λ (at : ℕ). In (emitted at x) (o.ports k).site.packets) f.mark_is (g.sent x i)
 
-  also-done : (n : Node) (d : Did WholeQueues) (call : Gate → Abstract → Did WholeQueues) → AreDone n d
-      → ((l : Node) → Shows m l k d.gate → IsSane l → l.books.exchange ≡ d.exchange → AreDone l (call d.gate d.exchange)) → AreDone n (followed_by d call)
-  also-done n d call f rest =
+  also-done : (n : Node) (d : Did WholeQueues) (call : Gate → Abstract → Did WholeQueues) (mark : Node → ℕ) → (f : AreQuiet n d)
+      → ((l : Node) → Shows m l k d.gate → Holds l → l.books.exchange ≡ d.exchange → AreDone l (call d.gate d.exchange) (mark l))
+      → AreDone n (followed_by d call) (mark (dids m f.steps n))
+  also-done n d call mark f rest =
       let l : Node = dids m f.steps n in
       let e : Did WholeQueues = call d.gate d.exchange in
-      let g : AreDone l e = rest l f.shows f.sane f.exchange in
-      let is : dids m (f.steps ++ g.steps) n ≡ dids m g.steps l = dids-append f.steps g.steps n in
+      let g : AreDone l e (mark l) = rest l f.leaves.shows f.leaves.holds f.leaves.exchange in
       record {
         steps = f.steps ++ g.steps;
         may = may-append f.steps g.steps n f.may g.may;
-        shows = subst (λ (x : Node). Shows m x k e.gate) (sym is) g.shows;
-        sane = subst IsSane (sym is) g.sane;
-        exchange = ap (λ (x : Node). x.books.exchange) is ∙ g.exchange;
-        sent = λ x i. subst (λ (y : Node). In x.packet (packets_of y k)) (sym is) (sent-behind n l d e f g refl x (in-either x d.sent e.sent i));
-        kept = λ x i. subst (λ (y : Node). In x (packets_of y k)) (sym is) (g.kept x (f.kept x i));
+        leaves = subst (λ (o : Node). Leaves n o (followed_by d call) (mark l)) (sym (dids-append f.steps g.steps n))
+            (leaves-both n l (dids m g.steps l) d e (mark l) f.leaves g.leaves);
       }
+
+  -- the mark stays by both
+  pub then-quiet : (n : Node) (d : Did WholeQueues) (call : Gate → Abstract → Did WholeQueues) → AreQuiet n d
+      → ((l : Node) → Shows m l k d.gate → Holds l → l.books.exchange ≡ d.exchange → AreQuiet l (call d.gate d.exchange)) → AreQuiet n (followed_by d call)
+  then-quiet n d call f rest =
+      subst (AreDone n (followed_by d call)) f.leaves.mark_is (also-done n d call (λ l. (l.ports k).site.mark) f rest)
 
   -- ---- one rule
 
-  module _ (n : Node) (g : Gate) (h : Shows m n k g) (z : IsSane n) where
+  module _ (n : Node) (g : Gate) (h : Shows m n k g) (z : Holds n) where
     abbrev site : ends.Site
     site = (n.ports k).site
 
     abbrev rule : Happening → Done
     rule what = after (m.endpoints k).settings (m.endpoints k).secrets what site.state
 
-    here : (port : Port) → (worlds.with_port k port n).ports k ≡ port
+    abbrev node-after : Happening → Node
+    node-after what = did m (Associates k what) n
+
+    pub here : (port : Port) → (worlds.with_port k port n).ports k ≡ port
     here port = ap (λ (b : Bool). if b then port else n.ports k) (same k) where
       same : (i : ℕ) → nat_eq i i ≡ true
       same i = grind (arith, nat_tests)
 
-    port-is : (what : Happening) → (did m (Associates k what) n).ports k ≡ associated m k what n
+    port-is : (what : Happening) → (node-after what).ports k ≡ associated m k what n
     port-is what = here (associated m k what n)
 
     wish-is : (v : Option Wish) (left : rules.State) → Fits v left → (w : Wish) × (v ≡ Some w)
@@ -174,52 +208,55 @@ module _ (m : Make) (other : Node) (k : ℕ) (k-in : k < length m.configuration.
     wish-is (Some w) left x = (w, refl)
 
     fits : (what : Happening) → Fits (wish_after (rule what).told (wish_by_call what (n.ports k).wish)) (rule what).left
-    fits what = happening-fits (m.endpoints k).settings (m.endpoints k).secrets what site.state (n.ports k).wish z.right z.fits
+    fits what =
+        happening-fits (m.endpoints k).settings (m.endpoints k).secrets what site.state (n.ports k).wish (lasts.right n z) (lasts.fits n z)
 
     told-wish : (what : Happening) → (w : Wish) × (wish_after (rule what).told (wish_by_call what (n.ports k).wish) ≡ Some w)
     told-wish what = wish-is (wish_after (rule what).told (wish_by_call what (n.ports k).wish)) (rule what).left (fits what)
 
-    -- in this wish the endpoint is afterwards
-    ends-in : (what : Happening) (w : Wish) → (associated m k what n).wish ≡ w → Fits (Some w) (rule what).left → IsSane (did m (Associates k what) n)
-    ends-in what w e x = record {
-      right = subst (λ (q : Port). Right q.site.state) (sym (port-is what)) (still-right (m.endpoints k).settings (m.endpoints k).secrets what site.state z.right);
-      fits = subst (λ (q : Port). Fits (Some q.wish) q.site.state) (sym (port-is what)) (subst (λ (v : Wish). Fits (Some v) (rule what).left) (sym e) x);
-    }
+    in-emitted : (x : Datagram) (xs : List Datagram) → In x xs → In (emitted site.mark x) (map (emitted site.mark) xs)
+    in-emitted x xs i = in-map (emitted site.mark) xs x i
 
-    packets-more : (what : Happening) → packets_of (did m (Associates k what) n) k ≡ map (λ (x : ends.Emitted). x.packet) (map (ends.emitted site.mark) (rule what).sent) ++ packets_of n k
-    packets-more what =
-        ap (λ (q : Port). map (λ (x : ends.Emitted). x.packet) q.site.packets) (port-is what)
-        ∙ map-behind (λ (x : ends.Emitted). x.packet) (map (ends.emitted site.mark) (rule what).sent) site.packets
-
-    in-emitted : (x : Datagram) (xs : List Datagram) → In x xs → In x.packet (map (λ (y : ends.Emitted). y.packet) (map (ends.emitted site.mark) xs))
-    in-emitted x xs i = in-map (λ (y : ends.Emitted). y.packet) (map (ends.emitted site.mark) xs) (ends.emitted site.mark x) (in-map (ends.emitted site.mark) xs x i)
-
-    -- a rule, with its events handed in, where the gate knows what the user wants then
+    -- a rule, with its events handed in, where the gate knows what the user wants then; it gives no message
     one-done : (what : Happening) (now : ℕ) (p : Standing) (d : Done) (w : Wish) → d ≡ rule what → MayDo m other (Associates k what) n
-        → (associated m k what n).wish ≡ w → Fits (Some w) (rule what).left → Alike (stands_after now d.told p) w
-        → (s : Abstract) → n.books.exchange ≡ s → AreDone n (handed whole now d (record g { standing = p }) s)
-    one-done what now p d w d-is may e x alike s s-is = record {
+        → given_by what site.state site.given ≡ site.given
+        → (associated m k what n).wish ≡ w → Alike (stands_after now d.told p) w
+        → (s : Abstract) → n.books.exchange ≡ s → AreDone n (handed whole now d (record g { standing = p }) s) (ends.marked_by what site)
+    one-done what now p d w d-is may quiet e alike s s-is = record {
       steps = Associates k what ∷ [];
       may = (may, tt);
-      shows = record {
-        link_is = h.link_is;
-        settings = h.settings;
-        secrets = h.secrets;
-        state = ap (λ (q : Port). q.site.state) (port-is what) ∙ ap (λ (y : Done). y.left) (sym d-is);
-        up = alike.up ∙ ap (λ (v : Wish). is_served v) (sym (ap (λ (q : Port). q.wish) (port-is what) ∙ e));
-        seeking = alike.seeks ∙ ap (λ (v : Wish). is_seeking v) (sym (ap (λ (q : Port). q.wish) (port-is what) ∙ e));
+      leaves = record {
+        shows = record {
+          link_is = h.link_is;
+          settings = h.settings;
+          secrets = h.secrets;
+          state = ap (λ (q : Port). q.site.state) (port-is what) ∙ ap (λ (y : Done). y.left) (sym d-is);
+          up = alike.up ∙ ap (λ (v : Wish). is_served v) (sym (ap (λ (q : Port). q.wish) (port-is what) ∙ e));
+          seeking = alike.seeks ∙ ap (λ (v : Wish). is_seeking v) (sym (ap (λ (q : Port). q.wish) (port-is what) ∙ e));
+        };
+        holds = lasts.stays n (Associates k what) z may;
+        exchange = handed-told k (rule what).told n.books
+            ∙ ap (λ (y : Done). after_told whole k y.told n.books.exchange) (sym d-is)
+            ∙ ap (λ (y : Abstract). after_told whole k d.told y) s-is
+            ∙ ap (λ (j : ℕ). after_told whole j d.told s) (sym h.link_is);
+        books = seen-told k (rule what).told n.books ∙ ap (λ (xs : List Sight). seen_all k xs n.books) (sym seen-is);
+        sent = λ y i. subst (λ (q : Port). In (emitted site.mark y) q.site.packets) (sym (port-is what))
+            (in-front (emitted site.mark y) (map (emitted site.mark) (rule what).sent) site.packets
+            (in-emitted y (rule what).sent (subst (λ (u : Done). In y u.sent) d-is i)));
+        kept = λ y i. subst (λ (q : Port). In y q.site.packets) (sym (port-is what))
+            (in-behind y (map (emitted site.mark) (rule what).sent) site.packets i);
+        grown = subst (λ (xs : List Sight). messages_at ((node-after what).ports k).site ≤ messages_at site + messages_in xs) (sym seen-is)
+            (subst (λ (q : Port). messages_at q.site ≤ messages_at site + messages_in (sights_of whole k (rule what).told n.books.exchange)) (sym (port-is what))
+            (rule-grows k what (rule what) site n.books.exchange quiet));
+        mark_is = ap (λ (q : Port). q.site.mark) (port-is what);
+        others = λ j q. ap (λ (b : Bool). if b then associated m k what n else n.ports j) q;
       };
-      sane = ends-in what w e x;
-      exchange = handed-told k (rule what).told n.books
-          ∙ ap (λ (y : Done). after_told whole k y.told n.books.exchange) (sym d-is)
-          ∙ ap (λ (y : Abstract). after_told whole k d.told y) s-is
-          ∙ ap (λ (j : ℕ). after_told whole j d.told s) (sym h.link_is);
-      sent = λ y i. subst (In y.packet) (sym (packets-more what))
-          (in-front y.packet (map (λ (u : ends.Emitted). u.packet) (map (ends.emitted site.mark) (rule what).sent)) (packets_of n k)
-          (in-emitted y (rule what).sent (subst (λ (u : Done). In y u.sent) d-is i)));
-      kept = λ y i. subst (In y) (sym (packets-more what))
-          (in-behind y (map (λ (u : ends.Emitted). u.packet) (map (ends.emitted site.mark) (rule what).sent)) (packets_of n k) i);
-    }
+    } where
+      seen-is : sights_of whole g.link d.told s ≡ sights_of whole k (rule what).told n.books.exchange
+      seen-is =
+          ap (λ (j : ℕ). sights_of whole j d.told s) h.link_is
+          ∙ ap (λ (y : Done). sights_of whole k y.told s) d-is
+          ∙ ap (λ (y : Abstract). sights_of whole k (rule what).told y) (sym s-is)
 
     -- the rule of the gate's endpoint is that of the node's
     rule-is : (f : Settings → Secrets → rules.State → Done) → f g.endpoint.settings (secrets_of g.endpoint) g.endpoint.state ≡ f (m.endpoints k).settings (m.endpoints k).secrets site.state
@@ -238,20 +275,19 @@ module _ (m : Make) (other : Node) (k : ℕ) (k-in : k < length m.configuration.
     unfolding after
     abort-is c r t = refl
 
-    abort-done : (now : ℕ) (s : Abstract) → n.books.exchange ≡ s → AreDone n (handed whole now (abort g.endpoint.settings g.endpoint.state) (record g { standing = idle g.standing }) s)
+    abort-done : (now : ℕ) (s : Abstract) → n.books.exchange ≡ s → AreQuiet n (handed whole now (abort g.endpoint.settings g.endpoint.state) (record g { standing = idle g.standing }) s)
     abort-done now s e =
         let d-is : abort g.endpoint.settings g.endpoint.state ≡ rule Aborts =
         abort-is g.endpoint.settings (secrets_of g.endpoint) g.endpoint.state ∙ rule-is (λ c r t. after c r Aborts t) in
-        one-done Aborts now (idle g.standing) (abort g.endpoint.settings g.endpoint.state) Idle d-is (k-in, tt) refl
-        (aborts-idle (m.endpoints k).settings (m.endpoints k).secrets site.state)
+        one-done Aborts now (idle g.standing) (abort g.endpoint.settings g.endpoint.state) Idle d-is (k-in, tt) refl refl
         (subst (λ (d : Done). Alike (stands_after now d.told (idle g.standing)) Idle) (sym d-is)
         (aborts-told (m.endpoints k).settings (m.endpoints k).secrets now site.state g.standing)) s e
 
-    either-done : (b : Bool) (d e : Did WholeQueues) → (b ≡ true → AreDone n d) → (b ≡ false → AreDone n e) → AreDone n (if b then d else e)
+    either-done : (b : Bool) (d e : Did WholeQueues) → (b ≡ true → AreQuiet n d) → (b ≡ false → AreQuiet n e) → AreQuiet n (if b then d else e)
     either-done true d e f t = f refl
     either-done false d e f t = t refl
 
-    aborted-done : (now : ℕ) (s : Abstract) → n.books.exchange ≡ s → AreDone n (aborted whole now g s)
+    pub aborted-done : (now : ℕ) (s : Abstract) → n.books.exchange ≡ s → AreQuiet n (aborted whole now g s)
     aborted-done now s e =
         either-done (is_lasting now g.endpoint) _ _ (λ l. abort-done now s e) (λ l. idle-done n g s h z e)
 
@@ -270,7 +306,7 @@ module _ (m : Make) (other : Node) (k : ℕ) (k-in : k < length m.configuration.
     asked-alike now active Served e = absurd cc
 
     open-done : (now : ℕ) (s : Abstract) → n.books.exchange ≡ s → wants_of s g.link ≡ Open → g.standing.is_up ≡ false
-        → AreDone n (handed whole now (opening g.endpoint.settings (secrets_of g.endpoint) now (may_try now g) g.endpoint.state) (record g { standing = seeking g.standing }) s)
+        → AreQuiet n (handed whole now (opening g.endpoint.settings (secrets_of g.endpoint) now (may_try now g) g.endpoint.state) (record g { standing = seeking g.standing }) s)
     open-done now s e wants down =
         let active : Bool = may_try now g in
         let d : Done = opening g.endpoint.settings (secrets_of g.endpoint) now active g.endpoint.state in
@@ -282,24 +318,23 @@ module _ (m : Make) (other : Node) (k : ℕ) (k-in : k < length m.configuration.
         let wants-here : wants_of n.books.exchange k ≡ Open =
         ap (λ (x : Abstract). wants_of x k) e ∙ ap (λ (j : ℕ). wants_of s j) (sym h.link_is) ∙ wants in
         one-done (Opens now active) now (seeking g.standing) d w.0 d-is
-        (k-in, record { wants = wants-here; down = not-served (n.ports k).wish unserved })
+        (k-in, record { wants = wants-here; down = not-served (n.ports k).wish unserved }) refl
         (ap (λ (v : Option Wish). wished v (n.ports k).wish) w.1)
-        (subst (λ (v : Option Wish). Fits v (rule (Opens now active)).left) w.1 (fits (Opens now active)))
         (alike-on now d.told (seeking g.standing) Seeking w.0 (record { up = down; seeks = refl })
         (ap (λ (x : Done). wish_after x.told Seeking) d-is ∙ ap (λ (v : Wish). wish_after (rule (Opens now active)).told v) (sym seeks) ∙ w.1)) s e
 
-    opened-done : (now : ℕ) (s : Abstract) → n.books.exchange ≡ s → wants_of s g.link ≡ Open → g.standing.is_up ≡ false → AreDone n (opened whole now g s)
+    opened-done : (now : ℕ) (s : Abstract) → n.books.exchange ≡ s → wants_of s g.link ≡ Open → g.standing.is_up ≡ false → AreQuiet n (opened whole now g s)
     opened-done now s e wants down =
         either-done (is_lasting now g.endpoint) _ _ (λ l. open-done now s e wants down) (λ l. idle-done n g s h z e)
 
     -- ---- as the link wants it
 
-    settled-by : (now : ℕ) (s : Abstract) → n.books.exchange ≡ s → (v : Wants) → wants_of s g.link ≡ v → AreDone n (settled_by whole now v g s)
+    settled-by : (now : ℕ) (s : Abstract) → n.books.exchange ≡ s → (v : Wants) → wants_of s g.link ≡ v → AreQuiet n (settled_by whole now v g s)
     settled-by now s e Close is = aborted-done now s e
     settled-by now s e Open is = either-done g.standing.is_up _ _ (λ up. aborted-done now s e) (λ down. opened-done now s e is down)
     settled-by now s e Nothing is = either-done g.standing.is_seeking _ _ (λ seeks. aborted-done now s e) (λ quiet. idle-done n g s h z e)
 
-    pub settled-done : (now : ℕ) (s : Abstract) → n.books.exchange ≡ s → AreDone n (settled whole now g s)
+    pub settled-done : (now : ℕ) (s : Abstract) → n.books.exchange ≡ s → AreQuiet n (settled whole now g s)
     settled-done now s e = settled-by now s e (wants_of s g.link) refl
 
     -- ---- a rule in between
@@ -308,25 +343,28 @@ module _ (m : Make) (other : Node) (k : ℕ) (k-in : k < length m.configuration.
     pub record IsPlain (what : Happening) : Type 0 where
       pub same : (w : Wish) → wish_by_call what w ≡ w
       pub left : (o : Option Wish) (w : Wish) → wish_left what o w ≡ wished o w
+      pub quiet : given_by what site.state site.given ≡ site.given
 
     pub plain-done : (what : Happening) → IsPlain what → (now : ℕ) (f : Settings → Secrets → rules.State → Done)
-        → ((c : Settings) (r : Secrets) (t : rules.State) → f c r t ≡ after c r what t)
-        → ((wish_by_call what (n.ports k).wish ≡ Seeking → wants_of n.books.exchange k ≡ Open) → MayAssociate other k what n)
-        → (s : Abstract) → n.books.exchange ≡ s → (g.standing.is_seeking ≡ true → wants_of s g.link ≡ Open)
-        → AreDone n (handed whole now (f g.endpoint.settings (secrets_of g.endpoint) g.endpoint.state) g s)
-    plain-done what plain now f f-is may s e agrees-so =
+        → ((c : Settings) (r : Secrets) (t : rules.State) → f c r t ≡ after c r what t) → MayAssociate other k what n
+        → (s : Abstract) → n.books.exchange ≡ s
+        → AreDone n (handed whole now (f g.endpoint.settings (secrets_of g.endpoint) g.endpoint.state) g s) (ends.marked_by what site)
+    plain-done what plain now f f-is may s e =
         let d : Done = f g.endpoint.settings (secrets_of g.endpoint) g.endpoint.state in
         let d-is : d ≡ rule what = rule-is f ∙ f-is (m.endpoints k).settings (m.endpoints k).secrets site.state in
         let w = told-wish what in
-        let looked : wish_by_call what (n.ports k).wish ≡ Seeking → wants_of n.books.exchange k ≡ Open = λ q.
-        ap (λ (x : Abstract). wants_of x k) e ∙ ap (λ (j : ℕ). wants_of s j) (sym h.link_is)
-        ∙ agrees-so (h.seeking ∙ ap (λ (v : Wish). is_seeking v) (sym (plain.same (n.ports k).wish) ∙ q)) in
-        one-done what now g.standing d w.0 d-is (k-in, may looked)
+        one-done what now g.standing d w.0 d-is (k-in, may) plain.quiet
         (plain.left (wish_after (rule what).told (wish_by_call what (n.ports k).wish)) (n.ports k).wish ∙ ap (λ (v : Option Wish). wished v (n.ports k).wish) w.1)
-        (subst (λ (v : Option Wish). Fits v (rule what).left) w.1 (fits what))
         (alike-on now d.told g.standing (n.ports k).wish w.0 (record { up = h.up; seeks = h.seeking })
         (ap (λ (x : Done). wish_after x.told (n.ports k).wish) d-is
         ∙ ap (λ (v : Wish). wish_after (rule what).told v) (sym (plain.same (n.ports k).wish)) ∙ w.1)) s e
+
+    -- where the gate agrees with its link, an endpoint that seeks an association has a link that wants to open
+    pub looks : (what : Happening) → IsPlain what → (s : Abstract) → n.books.exchange ≡ s → (g.standing.is_seeking ≡ true → wants_of s g.link ≡ Open)
+        → wish_by_call what (n.ports k).wish ≡ Seeking → wants_of n.books.exchange k ≡ Open
+    looks what plain s e agrees-so q =
+        ap (λ (x : Abstract). wants_of x k) e ∙ ap (λ (j : ℕ). wants_of s j) (sym h.link_is)
+        ∙ agrees-so (h.seeking ∙ ap (λ (v : Wish). is_seeking v) (sym (plain.same (n.ports k).wish) ∙ q))
 
   -- ---- a call
 
@@ -358,13 +396,13 @@ module _ (m : Make) (other : Node) (k : ℕ) (k-in : k < length m.configuration.
         let no : false ≡ true = sym e ∙ ap (λ (d : Did WholeQueues). is_lasting now d.gate.endpoint) (sym is) ∙ l in
         absurd cc
 
-  pub between-done : (n : Node) (g : Gate) (s : Abstract) (now : ℕ) (f : Settings → Secrets → rules.State → Done) → Shows m n k g → IsSane n → n.books.exchange ≡ s
-      → ((l : Node) (j : Gate) (t : Abstract) → Shows m l k j → IsSane l → l.books.exchange ≡ t → (j.standing.is_seeking ≡ true → wants_of t j.link ≡ Open)
-      → AreDone l (handed whole now (f j.endpoint.settings (secrets_of j.endpoint) j.endpoint.state) j t))
-      → AreDone n (between whole now (λ e. f e.settings (secrets_of e) e.state) g s)
+  pub between-done : (n : Node) (g : Gate) (s : Abstract) (now : ℕ) (f : Settings → Secrets → rules.State → Done) → Shows m n k g → Holds n → n.books.exchange ≡ s
+      → ((l : Node) (j : Gate) (t : Abstract) → Shows m l k j → Holds l → l.books.exchange ≡ t → (j.standing.is_seeking ≡ true → wants_of t j.link ≡ Open)
+      → AreQuiet l (handed whole now (f j.endpoint.settings (secrets_of j.endpoint) j.endpoint.state) j t))
+      → AreQuiet n (between whole now (λ e. f e.settings (secrets_of e) e.state) g s)
   between-done n g s now f h z e rule =
-      also-done n _ (λ j t. settled whole now j t)
-      (also-done n (settled whole now g s) (λ j t. does whole now (λ x. f x.settings (secrets_of x) x.state) j t) (settled-done n g h z now s e)
+      then-quiet n _ (λ j t. settled whole now j t)
+      (then-quiet n (settled whole now g s) (λ j t. does whole now (λ x. f x.settings (secrets_of x) x.state) j t) (settled-done n g h z now s e)
       (λ l shows sane q.
       either-done l (settled whole now g s).gate shows sane (is_lasting now (settled whole now g s).gate.endpoint) _ _
       (λ lasts. rule l (settled whole now g s).gate (settled whole now g s).exchange shows sane q (settled-agrees now g s lasts).seeking)

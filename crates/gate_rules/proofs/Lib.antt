@@ -1,2 +1,4 @@
+pub mod Seen
 pub mod Calling
+pub mod Filling
 pub mod Lawful

@@ -1,15 +1,18 @@
 -- What a gate does, as steps of a node.
-use Rattle.std.specs.Prelude.{◌≡◌, ◌<◌, ℕ, Bool, true, false, List, [], ◌∷◌, Some, None, length, map}
+use Rattle.std.specs.Prelude.{◌≡◌, ◌<◌, ◌+◌, ℕ, Bool, true, false, List, [], ◌∷◌, Some, None, length, map}
 use Rattle.std.specs.List.{Contains}
 use Rattle.sctp_codec.specs.Packets.{PacketValue}
 use Rattle.sctp_rules.specs.State.{Datagram}
 use Rattle.sctp_rules.specs.Wishing.{Wish, Idle, Seeking, Served}
 use Rattle.sctp_ends.specs.Worlds as ends
 use Rattle.sctp_endpoint.specs.Endpoints.{secrets_of}
+use Rattle.exchange_rules.specs.State.{CameUp, WentDown, FrameCame}
+use Rattle.exchange_rules.specs.Exchange.{taken}
 use Rattle.exchange_rules.specs.Queues.{WholeQueues, whole}
-use Rattle.sctp_gate.specs.Gates.{Gate, Did, new_gate}
-use Rattle.sctp_gate.specs.Calling.{Call, Hears, Ticks, Settles, Fills, called}
-use Rattle.node_rules.specs.Worlds.{Make, Node, new_node, Doing, did, MayDo, World}
+use Rattle.sctp_gate.specs.Watching.{Sight, Rose, CameIn, Dropped, Fell, Failed, WentOut}
+use Rattle.sctp_gate.specs.Gates.{Gate, Did, is_lasting, new_gate}
+use Rattle.sctp_gate.specs.Calling.{Call, Hears, Ticks, Settles, Fills, Closes, called}
+use Rattle.node_rules.specs.Worlds.{Books, happened, Make, Node, new_node, Doing, did, MayDo, World}
 use Rattle.node_rules.specs.Promises.{Always}
 
 -- ---- a gate beside a node
@@ -33,6 +36,34 @@ pub record Shows (m : Make) (n : Node) (link : ℕ) (g : Gate) : Type 0 where
   pub up : g.standing.is_up ≡ is_served (n.ports link).wish
   pub seeking : g.standing.is_seeking ≡ is_seeking (n.ports link).wish
 
+-- ---- what is seen of a call
+
+-- it tells what happened to the exchange, and so what that accepted and received
+abbrev pub seen_by : (link : ℕ) → Sight → Books → Books
+seen_by link Rose b = happened (CameUp link) b
+seen_by link (CameIn frame outcome) b = happened (FrameCame link frame) b
+seen_by link (Dropped message) b = b
+seen_by link (Fell why) b = happened (WentDown link) b
+seen_by link (Failed why) b = b
+seen_by link (WentOut frame) b = record b { exchange = taken whole b.exchange link }
+
+abbrev pub seen_all : (link : ℕ) → List Sight → Books → Books
+seen_all link [] b = b
+seen_all link (sight ∷ more) b = seen_all link more (seen_by link sight b)
+
+-- how many messages passed the gate
+abbrev pub one_if_message : Sight → ℕ
+one_if_message Rose = 0
+one_if_message (CameIn frame outcome) = 1
+one_if_message (Dropped message) = 1
+one_if_message (Fell why) = 0
+one_if_message (Failed why) = 0
+one_if_message (WentOut frame) = 1
+
+abbrev pub messages_in : List Sight → ℕ
+messages_in [] = 0
+messages_in (sight ∷ more) = one_if_message sight + messages_in more
+
 -- ---- steps of a node, one after another
 
 abbrev pub dids : Make → List Doing → Node → Node
@@ -48,24 +79,34 @@ MayAll m other (what ∷ more) n = MayDo m other what n × MayAll m other more (
 abbrev pub packets_of : Node → (link : ℕ) → List PacketValue
 packets_of n link = map (λ e. e.packet) (n.ports link).site.packets
 
--- what a call does is what steps do: the gate and the exchange afterwards are those of the node, and the endpoint put out
--- what the call puts out
+-- what a call does is what steps do: the gate and the exchange afterwards are those of the node, which accepted and
+-- received what is seen of the call; and the endpoint put out what the call puts out
 pub record AreSteps (m : Make) (other n : Node) (link : ℕ) (d : Did WholeQueues) : Type 0 where
   pub steps : List Doing
   pub may : MayAll m other steps n
   pub shows : Shows m (dids m steps n) link d.gate
   pub exchange : (dids m steps n).books.exchange ≡ d.exchange
+  pub books : (dids m steps n).books ≡ seen_all link d.seen n.books
   pub sent : (x : Datagram) → Contains d.sent x → Contains (packets_of (dids m steps n) link) x.packet
 
--- ---- calls, but for fills
+-- ---- calls
 
--- a packet that comes was put out at the other end of the link, and isn't too old
+-- a packet that comes was put out at the other end of the link, and isn't too old. All else may be called at any moment
 abbrev pub MayCall : (other : Node) → (link : ℕ) → Call → Type 0
 MayCall other link (Hears now None source) = Unit {0}
 MayCall other link (Hears now (Some packet) source) = ends.Arrives (other.ports link).site packet
 MayCall other link (Ticks now) = Unit {0}
 MayCall other link (Settles now) = Unit {0}
-MayCall other link (Fills now) = ⊥
+MayCall other link (Fills now) = Unit {0}
+MayCall other link (Closes now) = Unit {0}
+
+-- whether a call asks the endpoint for packets
+abbrev pub does_flush : Call → Gate → Bool
+does_flush (Hears now packet source) g = false
+does_flush (Ticks now) g = false
+does_flush (Settles now) g = false
+does_flush (Fills now) g = is_lasting now g.endpoint
+does_flush (Closes now) g = false
 
 -- of a node and the other one, whatever was done before
 abbrev pub CallsAreSteps : (m : Make) → (other n : Node) → Type 0

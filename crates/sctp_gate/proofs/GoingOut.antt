@@ -223,27 +223,30 @@ stream-there : (b : Bool) → nat_lt (if b then 0 else 1) 2 ≡ true
 stream-there true = refl
 stream-there false = refl
 
+pub may-give : (frame : List ℕ) (octets : ℕ) (g : Gate) → has_room_behind g.endpoint.state octets ≡ true → 0 < length frame → length frame ≤ most_octets
+    → sending.may_send (message_of frame) g.endpoint.state ≡ true
+may-give frame octets g room some fits =
+    let s : Sending = g.endpoint.state.association.sender in
+    let m : Message = message_of frame in
+    let ends = both (sending.is_established g.endpoint.state.association.phase) (half.has_room_behind s octets) room in
+    let below : length s.out < 256 = room-left s octets ends.1 in
+    let place : nat_lt (length s.out) 256 ≡ true = grind (arith, nat_tests, below) in
+    let any : nat_lt 0 (length frame) ≡ true = grind (arith, nat_tests, some) in
+    let short : nat_le (length frame) 290 ≡ true = grind (arith, nat_tests, fits) in
+    and_from (sending.is_established g.endpoint.state.association.phase) (can_take s m) ends.0
+    (and_from (nat_lt (length s.out) 256 && nat_lt 0 (length frame) && nat_le (length frame) 290) (nat_lt m.stream 2)
+    (and_from (nat_lt (length s.out) 256 && nat_lt 0 (length frame)) (nat_le (length frame) 290)
+    (and_from (nat_lt (length s.out) 256) (nat_lt 0 (length frame)) place any) short)
+    (stream-there (nat_eq (slice_index frame 3) link_status)))
+
 pub frames-given : taken_frames_are_given
-frames-given frame octets g room some fits = by (sending.may_send m g.endpoint.state) may
+frames-given frame octets g room some fits = by (sending.may_send m g.endpoint.state) (may-give frame octets g room some fits)
   where
     s : Sending
     s = g.endpoint.state.association.sender
 
     m : Message
     m = message_of frame
-
-    may : sending.may_send m g.endpoint.state ≡ true
-    may =
-        let ends = both (sending.is_established g.endpoint.state.association.phase) (half.has_room_behind s octets) room in
-        let below : length s.out < 256 = room-left s octets ends.1 in
-        let place : nat_lt (length s.out) 256 ≡ true = grind (arith, nat_tests, below) in
-        let any : nat_lt 0 (length frame) ≡ true = grind (arith, nat_tests, some) in
-        let short : nat_le (length frame) 290 ≡ true = grind (arith, nat_tests, fits) in
-        and_from (sending.is_established g.endpoint.state.association.phase) (can_take s m) ends.0
-        (and_from (nat_lt (length s.out) 256 && nat_lt 0 (length frame) && nat_le (length frame) 290) (nat_lt m.stream 2)
-        (and_from (nat_lt (length s.out) 256 && nat_lt 0 (length frame)) (nat_le (length frame) 290)
-        (and_from (nat_lt (length s.out) 256) (nat_lt 0 (length frame)) place any) short)
-        (stream-there (nat_eq (slice_index frame 3) link_status)))
 
     by : (b : Bool) → b ≡ true → messages_of (if b then rules.with_association g.endpoint.state (record g.endpoint.state.association { sender = given s m }) else g.endpoint.state).association.sender
         ≡ messages_of s ++ m ∷ []

@@ -2,6 +2,7 @@ pub mod HandedEvents
 pub mod Making
 pub mod Whole
 pub mod Agreeing
+pub mod Untaken
 pub mod Suiting
 pub mod ComingUp
 pub mod Rising

@@ -2,8 +2,6 @@
 -- it is settled, the link wants to open.
 use Rattle.std.proofs.Common.{◌≡◌, ◌∙◌, ℕ, zero, suc, Bool, true, false, List, [], ◌∷◌, ◌++◌, Option, Some, None, refl, sym, ap, subst}
 use Rattle.std.specs.Prelude.{◌+◌, ◌&&◌, length, if◌then◌else◌}
-use Rattle.std.specs.Option.{option_map}
-use Rattle.m2pa_codec.specs.Frames.{FrameValue, spelled}
 use Rattle.sctp_receiving.specs.Pieces.{Message}
 use Rattle.sctp_rules.specs.declared.loss.Loss.{Loss}
 use Rattle.sctp_rules.specs.declared.loss.Loss.TheVariants.{Local}
@@ -18,9 +16,8 @@ use Rattle.sctp_rules.specs.Wishing.{Wish, Idle, Seeking, Served, wish_after, Fi
 use Rattle.sctp_rules.proofs.Passing.{Right, none-right}
 use Rattle.sctp_endpoint.specs.Dispatching.{heard_datagram}
 use Rattle.sctp_endpoint.specs.Endpoints.{Endpoint, secrets_of}
-use Rattle.exchange_rules.specs.State.{QueueKind, State, with_node, CameUp, WentDown, FrameCame}
-use Rattle.exchange_rules.specs.Sending.{Outgoing, SendsStatus, SendsMessage, Acknowledges, SendsNothing, frame_from, goes_out, after_sending}
-use Rattle.exchange_rules.specs.Exchange.{outcome_of, frame_to_take, taken, after, wants_of}
+use Rattle.exchange_rules.specs.State.{QueueKind, State, CameUp, WentDown, FrameCame}
+use Rattle.exchange_rules.specs.Exchange.{outcome_of, taken, after, wants_of}
 use Rattle.exchange_rules.specs.declared.wants.Wants.{Wants}
 use Rattle.exchange_rules.specs.declared.wants.Wants.TheVariants.{Nothing, Open, Close}
 use Rattle.sctp_gate.specs.declared.standing.Standing.{Standing}
@@ -29,9 +26,10 @@ use Rattle.sctp_gate.specs.Standing.{idle, seeking, stands_by, stands_after}
 use Rattle.sctp_gate.specs.Watching.{Sight, CameIn, Dropped}
 use Rattle.sctp_gate.specs.Handing.{is_frame, after_one, sight_of, after_told, sights_of}
 use Rattle.sctp_gate.specs.Gates.{Gate, Did, nothing, followed_by, is_lasting, may_try, handed, does, does_as, aborted, opened, wanted, settled_by, settled, between, flushed, text_to_take, message_of, with_given, given, taken_by, taken_all, taken_if, filled, new_gate}
-use Rattle.sctp_gate.specs.Calling.{Call, Visit, Hears, Ticks, Settles, Fills, called, visited}
+use Rattle.sctp_gate.specs.Calling.{Call, Visit, Hears, Ticks, Settles, Fills, Closes, called, visited}
 use Rattle.sctp_gate.specs.Rising.{after_sight, after_seen, ComesUpIf, ComesUpEach, calls_are_seen, associations_come_up}
 use Rattle.sctp_gate.proofs.Agreeing.{agrees}
+use Rattle.sctp_gate.proofs.Untaken.{none-taken}
 use Rattle.sctp_gate.proofs.ComingUp.{comes-up}
 use Rattle.sctp_gate.proofs.Suiting.{Suits, heard-suits, ticked-suits, sent-suits, flushed-suits, opened-suits}
 
@@ -340,22 +338,6 @@ module _ {Q : Type 0} (q : QueueKind Q) where
         sent-suits g.endpoint.settings (secrets_of g.endpoint) g.endpoint.state h.right (message_of frame) (wish_of g.standing) h.fits in
         record { right = f.right; fits = f.fits }
 
-    -- a take that gives nothing leaves all as it is
-    no-frame : (last_accepted last_sent : ℕ) (next : Outgoing) (link : ℕ) (s : State Q) → frame_from last_accepted last_sent next ≡ None
-        → with_node s (after_sending q s.settings link s.node next) ≡ s
-    no-frame last_accepted last_sent (SendsStatus status) link s e = absurd cc
-    no-frame last_accepted last_sent (SendsMessage next) link s e = absurd cc
-    no-frame last_accepted last_sent Acknowledges link s e = absurd cc
-    no-frame last_accepted last_sent SendsNothing link s e = refl
-
-    no-text : (frame : Option FrameValue) → option_map spelled frame ≡ None → frame ≡ None
-    no-text (Some frame) e = absurd cc
-    no-text None e = refl
-
-    none-taken : (link : ℕ) (s : State Q) → text_to_take q s link ≡ None → taken q s link ≡ s
-    none-taken link s e =
-        no-frame (q.last_accepted s.node.queues link) (q.last_sent s.node.queues link) (goes_out q s.settings link s.node) link s (no-text (frame_to_take q s link) e)
-
     -- what takes further frames
     record Takes (rest : Gate → State Q → Did Q) : Type 0 where
       tracks : (g : Gate) (s : State Q) → Tracks g s (rest g s)
@@ -364,7 +346,7 @@ module _ {Q : Type 0} (q : QueueKind Q) where
     taken_by-takes : (rest : List ℕ → Gate → State Q → Did Q) (text : Option (List ℕ)) (g : Gate) (s : State Q) → ((frame : List ℕ) → Takes (rest frame))
         → text_to_take q s g.link ≡ text → Tracks g s (taken_by q rest text g s) × (Good g → Keeps g s (taken_by q rest text g s))
     taken_by-takes rest None g s t e =
-        let same : taken q s g.link ≡ s = none-taken g.link s e in
+        let same : taken q s g.link ≡ s = none-taken q g.link s e in
         (record { link_is = refl; exchange_is = same }, λ h. record { good = h; up = tt })
     taken_by-takes rest (Some frame) g s t e =
         let d : Did Q = given frame g (taken q s g.link) in
@@ -415,6 +397,7 @@ module _ {Q : Type 0} (q : QueueKind Q) where
   called-tracks (Ticks now) g s = between-tracks now (λ e. ticked e.settings (secrets_of e) now e.state) g s
   called-tracks (Settles now) g s = settled-tracks now g s
   called-tracks (Fills now) g s = filled-tracks now g s
+  called-tracks (Closes now) g s = settled_by-tracks now Close g s
 
   called-keeps : (call : Call) (g : Gate) (s : State Q) → Good g → Keeps g s (called q call g s)
   called-keeps (Hears now packet source) g s h =
@@ -424,6 +407,7 @@ module _ {Q : Type 0} (q : QueueKind Q) where
       between-keeps now (λ e. ticked e.settings (secrets_of e) now e.state) g s (λ e w r f. ticked-suits e.settings (secrets_of e) e.state r now w f) h
   called-keeps (Settles now) g s h = settled-keeps now g s h
   called-keeps (Fills now) g s h = filled-keeps now g s h
+  called-keeps (Closes now) g s h = aborted-keeps now g s h
 
   visited-good : (visits : List (Visit Q)) (g : Gate) → Good g → Good (visited q visits g)
   visited-good [] g h = h
