@@ -2,3 +2,4 @@ pub mod Seen
 pub mod Calling
 pub mod Filling
 pub mod Lawful
+pub mod Running

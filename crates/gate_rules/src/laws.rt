@@ -1,6 +1,7 @@
-//! Laws of gates beside nodes. The statements are those of `specs/Calls.antt`.
+//! Laws of gates. The statements are those of `specs/Calls.antt` and `specs/Promises.antt`.
 
 ghost use Rattle.gate_rules.specs.Calls.{calls_are_steps, new_gates_show};
+ghost use Rattle.gate_rules.specs.Promises.{runs_are_runs_of_nodes, each_message_once, each_flow_in_order};
 
 /// Whatever was done at two nodes before: each call of the gate of a link does what a list of steps of its node does,
 /// each of which that may do: where a datagram or the time comes, where the gate settles, where it takes frames, and
@@ -8,4 +9,23 @@ ghost use Rattle.gate_rules.specs.Calls.{calls_are_steps, new_gates_show};
 pub fn calls_of_gates_are_steps()
     ensures calls { calls_are_steps }
     ensures new { new_gates_show }
+{}
+
+/// Whatever the network does, what two nodes do that call their gates, as they like, is what two nodes of `node_rules`
+/// may do.
+pub fn runs_of_gates_are_runs_of_nodes()
+    ensures { runs_are_runs_of_nodes }
+{}
+
+/// "Exactly once" over datagrams, of two nodes with gates, in both directions. While neither exchange may have lost a
+/// message, as many user messages of any kind were accepted at one node as the other received and as wait between them.
+pub fn each_message_comes_once()
+    ensures { each_message_once }
+{}
+
+/// "Order" over datagrams, of two nodes with gates, in both directions. While neither exchange may have lost a message,
+/// and no timer of the accepting node ended a hold, the user messages of a flow that one node accepted are, in order,
+/// those that the other received, and then those that wait.
+pub fn each_flow_keeps_its_order()
+    ensures { each_flow_in_order }
 {}

@@ -1,5 +1,5 @@
-//! What a gate does about a link is what a node of `node_rules` may do: so the promises of two nodes over datagrams hold
-//! where gates call their endpoints. The crate has no code; docs/EXACTLY_ONCE.md tells it.
+//! What gates do about links is what nodes of `node_rules` may do. So the promises over datagrams hold of two nodes that
+//! have a gate for each link, however these are called. The crate has no code; docs/EXACTLY_ONCE.md tells it.
 #![tactic(auto)]
 
 pub mod laws;

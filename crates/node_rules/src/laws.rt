@@ -2,7 +2,8 @@
 
 ghost use Rattle.node_rules.specs.Crossing.{Crosses};
 ghost use Rattle.node_rules.specs.Example.{Happens};
-ghost use Rattle.node_rules.specs.Promises.{runs_are_runs_of_pairs, each_message_once, each_flow_in_order, frames_are_short};
+ghost use Rattle.node_rules.specs.Promises.{runs_are_runs_of_pairs, each_message_once, each_flow_in_order};
+ghost use Rattle.node_rules.specs.Promises.{frames_are_short};
 
 /// Whatever the network does, what two nodes do is what two exchanges do with frames in flight between them.
 pub fn runs_of_two_nodes_are_runs_of_pairs()
@@ -22,19 +23,20 @@ pub fn each_flow_keeps_its_order()
     ensures { each_flow_in_order }
 {}
 
-/// No frame that a link has to go out next has more than the 290 octets that an endpoint takes as a message, nor none.
+/// A frame that a link has to go out next has 1 to 290 octets: an endpoint takes it as a message.
 pub fn frames_fit_an_endpoint()
     ensures { frames_are_short }
 {}
 
-/// These laws aren't empty: in a run of 11 steps a link opens at one node and then at the other, and a link status of the
-/// one crosses in a datagram that comes twice, once.
+/// These laws aren't empty: in a run of 11 steps a link opens at one node and then at the other, and a link status of
+/// the one crosses in a datagram that comes twice, once.
 pub fn a_link_opens_over_datagrams()
     ensures { Happens }
 {}
 
-/// And in a run of 30 steps, which begins as that one does, the link enters service at both nodes; a user message that is
-/// submitted at the one goes out in a datagram that comes twice, and is received at the other, once. Neither sets a flag.
+/// And in a run of 30 steps, which begins as that one does, the link enters service at both nodes; a user message that
+/// is submitted at the one goes out in a datagram that comes twice, and is received at the other, once. Neither sets a
+/// flag.
 pub fn a_user_message_crosses_datagrams()
     ensures { Crosses }
 {}
