@@ -3,3 +3,4 @@ pub mod Calling
 pub mod Filling
 pub mod Lawful
 pub mod Running
+pub mod Reading

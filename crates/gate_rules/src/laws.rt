@@ -1,6 +1,7 @@
-//! Laws of gates. The statements are those of `specs/Calls.antt` and `specs/Promises.antt`.
+//! Laws of gates. The statements are those of `specs/Calls.antt`, `Promises.antt` and `Octets.antt`.
 
 ghost use Rattle.gate_rules.specs.Calls.{calls_are_steps, new_gates_show};
+ghost use Rattle.gate_rules.specs.Octets.{packets_are_read};
 ghost use Rattle.gate_rules.specs.Promises.{runs_are_runs_of_nodes, each_message_once, each_flow_in_order};
 
 /// Whatever was done at two nodes before: each call of the gate of a link does what a list of steps of its node does,
@@ -28,4 +29,10 @@ pub fn each_message_comes_once()
 /// those that the other received, and then those that wait.
 pub fn each_flow_keeps_its_order()
     ensures { each_flow_in_order }
+{}
+
+/// What a gate puts out is octets on its way (`sent_as`), and a gate that hears these octets hears the packet that was
+/// put out. So of what a gate hears nothing is assumed but that octets aren't changed.
+pub fn octets_of_gates_read_back()
+    ensures { packets_are_read }
 {}
