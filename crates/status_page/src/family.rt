@@ -145,7 +145,7 @@ impl Family {
             Family::Uptime => "Whole seconds since the start of the node.",
             Family::PoolLimit => "User messages that the node may keep.",
             Family::Pool =>
-                "Messages that the node keeps: those of its links that aren't confirmed, and user messages that are held.",
+                "Messages that the node keeps: of links those that aren't confirmed, and the user messages held.",
             Family::Held => "User messages that are held until a flow may go on.",
             Family::Notices => "Notices since the start; missed are those whose kind nobody saw.",
             Family::Flags =>

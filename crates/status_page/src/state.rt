@@ -49,7 +49,8 @@ fn put_state(
     uptime_ms: u64,
     out: &mut Writer,
 ) -> Result<(), AllocError>
-    ensures { Adds result out.old out.new (state_tokens kept points exchange.now counters.now.links notices.now uptime_ms) }
+    ensures { Adds result out.old out.new
+        (state_tokens kept points exchange.now counters.now.links notices.now uptime_ms) }
 {
     out.begin_object()?;
     put_members(exchange, counters, notices, points, uptime_ms, out)?;
@@ -65,7 +66,8 @@ fn put_members(
     uptime_ms: u64,
     out: &mut Writer,
 ) -> Result<(), AllocError>
-    ensures { Adds result out.old out.new (state_members kept points exchange.now counters.now.links notices.now uptime_ms) }
+    ensures { Adds result out.old out.new
+        (state_members kept points exchange.now counters.now.links notices.now uptime_ms) }
 {
     put_node(exchange, points, uptime_ms, out)?;
     put_sets(exchange, points, out)?;

@@ -1,5 +1,5 @@
 -- The next notice is seen.
-use Rattle.std.proofs.Common.{◌≡◌, ◌∙◌, ap, sym}
+use Rattle.std.proofs.Common.{◌∙◌, ap, sym}
 use Rattle.std.proofs.Math.Numerals.{add-one}
 use Rattle.std.specs.Option.{option_copied}
 use Rattle.status_page.proofs.Seeing.{seen_next, seen_past}
