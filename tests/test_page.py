@@ -9,8 +9,10 @@ from __future__ import annotations
 import contextlib
 import json
 import re
+import signal
 import socket
 import time
+from collections import Counter
 from collections.abc import Iterable, Iterator
 from http.client import HTTPConnection, HTTPResponse
 
@@ -104,20 +106,14 @@ class Client:
         self.socket.close()
 
 
-class Page(NodeTest):
+class PageTest(NodeTest):
+    """A test of two nodes, the near one of which has a page."""
+
     def setUp(self) -> None:
         super().setUp()
         self.port = free_port()
         self.pair = Pair(self, near_page=self.port)
         self.near = self.pair.near
-        self.addCleanup(self.check_links)
-
-    def check_links(self) -> None:
-        """Each message that was taken came once, and no link failed."""
-        self.pair.exchange(MESSAGES)
-        for node, flowing in ((self.pair.far, self.pair.forth), (self.near, self.pair.back)):
-            self.assertEqual(sum(row["delivered"] for row in node.counters().values()), flowing.count())
-        self.assertEqual(self.near.logged("(close|notice failed)"), 0)
 
     def client(self, **how: int) -> Client:
         client = Client(self.port, **how)
@@ -159,6 +155,19 @@ class Page(NodeTest):
         self.assertEqual(response.status, 200)
         return parse_metrics(body.decode())
 
+
+class Page(PageTest):
+    def setUp(self) -> None:
+        super().setUp()
+        self.addCleanup(self.check_links)
+
+    def check_links(self) -> None:
+        """Each message that was taken came once, and no link failed."""
+        self.pair.exchange(MESSAGES)
+        for node, flowing in ((self.pair.far, self.pair.forth), (self.near, self.pair.back)):
+            self.assertEqual(sum(row["delivered"] for row in node.counters().values()), flowing.count())
+        self.assertEqual(self.near.logged("(close|notice failed)"), 0)
+
     # ---- what is shown
 
     def test_the_state(self) -> None:
@@ -177,6 +186,8 @@ class Page(NodeTest):
         counted = {link["name"]: dict(counted_of(link)) for link in state["links"]}
         self.assertEqual(counted, {name: dict(row) for name, row in self.near.counters().items()})
         self.assertEqual(state["notices"], [])
+        self.assertEqual({*state["notice_kinds"].values()}, {0})
+        self.assertEqual((state["kept"], state["held"]), (0, 0))
 
     def test_the_metrics(self) -> None:
         """The metrics are in the text format, with the values of the console, and counters never fall."""
@@ -191,6 +202,8 @@ class Page(NodeTest):
                 self.assertEqual(value, row[counter], f"{family} of {name}")
         for name in self.pair.names:
             self.assertEqual(before["stp_link_in_service", frozenset({("link", name)})], 1)
+        self.assertEqual(before["stp_pool_messages", frozenset()], 0)
+        self.assertGreater(before["stp_pool_limit_messages", frozenset()], 0)
         self.pair.exchange(MESSAGES)
         after, _ = self.metrics()
         self.assertEqual(set(before), set(after))
@@ -307,6 +320,52 @@ class Page(NodeTest):
             self.assertEqual(response.status, 200)
         # They are answered in four seconds of the node's clock, of which the two in the middle are whole.
         self.assertGreater(time.monotonic() - start, 2)
+
+
+class PageOfFailures(PageTest):
+    """What is shown where links fail."""
+
+    def test_notices(self) -> None:
+        """A notice has the number and the text that the console shows, and the time that is in the log; each kind is
+        counted."""
+        for number, name in enumerate(self.pair.names, 1):
+            self.near.ask(f"deactivate {name}")
+            self.near.await_log("notice failed", number)
+        wait_until(lambda: len(self.near.ask("show notices")) >= 3 and self.has_all(), "all notices are shown")
+        state = self.state()
+        self.assertEqual([it["text"] for it in state["notices"]], self.near.ask("show notices"))
+        self.assertEqual([it["number"] for it in state["notices"]], [*range(1, state["notice_count"] + 1)])
+        logged = [line.split(" notice ") for line in self.near.log() if " notice " in line]
+        self.assertEqual([it["text"] for it in state["notices"]], [text for _, text in logged])
+        for it, (seconds, _) in zip(state["notices"], logged):
+            self.assertLess(abs(it["time_ms"] - 1000 * float(seconds)), 250, it["text"])
+        kinds = Counter(it["text"].split()[0] for it in state["notices"])
+        self.assertEqual({kind: count for kind, count in state["notice_kinds"].items() if count}, kinds)
+        values, _ = self.metrics()
+        for kind, count in state["notice_kinds"].items():
+            self.assertEqual(values["stp_notices_total", frozenset({("kind", kind)})], count, kind)
+        self.assertEqual([it["state"] for it in state["links"]], ["Down"] * 3)
+
+    def has_all(self) -> bool:
+        """Whether the page has the notices of the log."""
+        return self.state()["notice_count"] == self.near.logged("notice ")
+
+    def test_the_pool(self) -> None:
+        """Messages that the peer doesn't confirm are in the pool."""
+        self.pair.exchange(MESSAGES)
+        wait_until(lambda: self.near.is_at_rest(), "nothing is under way")
+        self.pair.far.signal(signal.SIGSTOP)
+        try:
+            self.pair.forth.submit(MESSAGES)
+            state = self.state()
+            values, _ = self.metrics()
+        finally:
+            self.pair.far.signal(signal.SIGCONT)
+        self.assertEqual((state["kept"], state["held"]), (MESSAGES, 0))
+        self.assertEqual(sum(it["waiting"] for it in state["links"]), MESSAGES)
+        self.assertEqual(values["stp_pool_messages", frozenset()], MESSAGES)
+        self.assertEqual(values["stp_pool_limit_messages", frozenset()], state["pool"])
+        self.pair.forth.settle()
 
 
 def counted_of(link: dict) -> Iterator[tuple[str, int]]:

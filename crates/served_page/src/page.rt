@@ -35,6 +35,9 @@ pub struct ServedPage {
     allowance: Allowance,
     /// The place that is looked at next for a request to answer.
     next: usize,
+    /// Until when there is nothing to do, unless a socket gets ready; 0 where there may be something now. In
+    /// milliseconds since the start.
+    rests_until_ms: u64,
 }
 
 // No contract can say what sockets give: of a page only this is known, how much was answered of late.
@@ -72,6 +75,7 @@ impl ServedPage {
             places,
             allowance: Allowance::new(),
             next: 0,
+            rests_until_ms: 0,
         })
     }
 
@@ -80,6 +84,7 @@ impl ServedPage {
         ensures { self.new ≡ self.old }
     {
         self.listener.mark();
+        self.rests_until_ms = 0;
     }
 
     /// The socket of the client in a place may be ready.
@@ -89,17 +94,36 @@ impl ServedPage {
         if let Some(Some(client)) = self.places.get_mut(usize::from(place)) {
             client.mark(event);
         }
+        self.rests_until_ms = 0;
     }
 
     /// Does what there is to do on each socket, once, and returns: takes clients, reads, answers one request at most,
-    /// writes, and closes the connections that are over.
+    /// writes, and closes the connections that are over. While no socket is ready and nothing is due, it is one
+    /// comparison, however many clients there are.
     pub fn turn<C: Content>(&mut self, registry: &Registry, content: &C, now_ms: u64)
         ensures { AnswersOneAtMost now_ms self.old self.new }
     {
+        if !self.is_busy(now_ms) {
+            return;
+        }
         self.accept(registry, now_ms);
         read_each(&mut self.places);
         self.answer(content, now_ms);
         write_each(&mut self.places, now_ms);
+        self.rest(now_ms);
+    }
+
+    /// Notes until when there is nothing to do.
+    fn rest(&mut self, now_ms: u64)
+        ensures { self.new ≡ self.old }
+    {
+        let may_answer = self.allowance.may_answer(now_ms);
+        self.rests_until_ms = if self.listener.may_accept() || are_busy(&self.places, may_answer) {
+            0
+        } else {
+            let next_second_ms = (now_ms / 1000).saturating_add(1).saturating_mul(1000);
+            first_due_ms(&self.places, next_second_ms)
+        };
     }
 
     /// Takes the clients that came.
@@ -141,15 +165,14 @@ impl ServedPage {
         }
     }
 
-    /// Whether there is something to accept, to read, to answer or to write now.
+    /// Whether there may be something to accept, to read, to answer or to write now, or a client's time is over.
     pub fn is_busy(&self, now_ms: u64) -> bool {
-        self.listener.may_accept() || are_busy(&self.places, self.allowance.may_answer(now_ms))
+        self.rests_until_ms <= now_ms
     }
 
     /// How many milliseconds it takes until something is due of which no socket tells.
     pub fn until_due_ms(&self, now_ms: u64) -> u64 {
-        let next_second_ms = (now_ms / 1000).saturating_add(1).saturating_mul(1000);
-        first_due_ms(&self.places, next_second_ms).saturating_sub(now_ms)
+        self.rests_until_ms.saturating_sub(now_ms)
     }
 }
 

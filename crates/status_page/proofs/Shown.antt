@@ -1,12 +1,12 @@
 -- What was shown.
-use Rattle.std.proofs.Common.{◌≡◌, ◌∙◌, ℕ, Bool, true, false, true≢false, List, Option, Some, None, Result, ap, sym, refl, subst}
+use Rattle.std.proofs.Common.{◌≡◌, ◌∙◌, ◌++◌, ℕ, Bool, true, false, true≢false, List, Option, Some, None, Result, ap, sym, refl, subst}
 use Rattle.console.specs.Texts.{Shows}
 use Rattle.exchange.specs.declared.view.RouteView.{RouteView}
 use Rattle.json.specs.Written.{Written}
 use Rattle.point_format.specs.declared.point.PointFormat.{PointFormat}
 use Rattle.settings_rows.specs.Configuration.{Configuration}
 use Rattle.status_page.specs.Members.{Adds}
-use Rattle.status_page.specs.States.{route_object, shown_route}
+use Rattle.status_page.specs.States.{place_members, route_object, shown_route}
 
 pub line_shown : (line : Option (List ℕ)) (shown : Bool) (text text_new : List ℕ) → Shows line shown text text_new → shown ≡ true → line ≡ Some text_new
 line_shown (Some l) shown text text_new h t = ap (λ (xs : List ℕ). Some xs) (sym h.1)
@@ -22,3 +22,10 @@ pub route_put : {E : Type 0} (points : PointFormat) (c d : Configuration) (shown
 route_put points c d shown v r old new e f h =
     subst (λ (x : Option RouteView). Adds r old new (shown_route points d x)) e
     (subst (λ (x : Configuration). Adds r old new (route_object points x v)) f h)
+
+-- what is shown of these settings is shown of the node's, which they are
+pub place_put : (points : PointFormat) (c d : Configuration) (old new : Written) → c ≡ d
+    → (new.tokens ≡ old.tokens ++ place_members points c) × (new.before ≡ old.before)
+    → (new.tokens ≡ old.tokens ++ place_members points d) × (new.before ≡ old.before)
+place_put points c d old new e h =
+    subst (λ (x : Configuration). (new.tokens ≡ old.tokens ++ place_members points x) × (new.before ≡ old.before)) e h

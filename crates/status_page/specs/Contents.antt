@@ -6,6 +6,7 @@ use Rattle.exchange_rules.specs.State.{QueueKind, State}
 use Rattle.served_link.specs.declared.row.LinkCounters.{LinkCounters}
 use Rattle.page_service.specs.declared.page.Page.{Page}
 use Rattle.page_service.specs.declared.page.Page.TheVariants as page
+use Rattle.status_page.specs.declared.noticed.NoticeLog.{NoticeLog}
 use Rattle.status_page.specs.declared.text.TheConstants.{PAGE}
 use Rattle.status_page.specs.Metrics.{metrics_text}
 use Rattle.status_page.specs.States.{state_tokens}
@@ -13,7 +14,7 @@ use Rattle.status_page.specs.States.{state_tokens}
 -- the octets of each page, so many milliseconds after the start: `/` never changes, `/state.json` is the print of its
 -- tokens, and `/metrics` has a line for each sample
 abbrev pub page_text :
-    {Q : Type 0} → QueueKind Q → PointFormat → State Q → List LinkCounters → (uptime : ℕ) → Page → List ℕ
-page_text q points s rows uptime page.Status = PAGE.now
-page_text q points s rows uptime page.State = print (state_tokens q points s rows uptime)
-page_text q points s rows uptime page.Metrics = metrics_text q s rows uptime
+    {Q : Type 0} → QueueKind Q → PointFormat → State Q → List LinkCounters → NoticeLog → (uptime : ℕ) → Page → List ℕ
+page_text q points s rows log uptime page.Status = PAGE.now
+page_text q points s rows log uptime page.State = print (state_tokens q points s rows log uptime)
+page_text q points s rows log uptime page.Metrics = metrics_text q s rows log uptime

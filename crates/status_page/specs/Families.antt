@@ -18,7 +18,7 @@ use Rattle.served_link.specs.declared.counter.Counter.TheVariants as counting
 use Rattle.status_page.specs.declared.family.Kind.{Kind}
 use Rattle.status_page.specs.declared.family.Kind.TheVariants.{Counter as Growing, Gauge}
 use Rattle.status_page.specs.declared.family.Family.{Family}
-use Rattle.status_page.specs.declared.family.Family.TheVariants.{Build, Uptime, Pool, Held, Notices, Flags}
+use Rattle.status_page.specs.declared.family.Family.TheVariants.{Build, Uptime, PoolLimit, Pool, Held, Notices, Flags}
 use Rattle.status_page.specs.declared.family.Family.TheVariants.{Raised, InService, ChangingOver, Queue}
 use Rattle.status_page.specs.declared.family.Family.TheVariants.{FramesReceived, OctetsReceived, FramesSent}
 use Rattle.status_page.specs.declared.family.Family.TheVariants.{OctetsSent, Forwarded, Delivered, Refused}
@@ -27,11 +27,13 @@ use Rattle.status_page.specs.declared.metric.Metric.{Metric}
 use Rattle.status_page.specs.declared.metric.Metric.TheVariants.{Node, Link}
 use Rattle.status_page.specs.declared.metric.NodeMetric.TheVariants as of_node
 use Rattle.status_page.specs.declared.metric.LinkMetric.TheVariants as of_link
+use Rattle.status_page.specs.declared.noticed.NoticeKind.{NoticeKind}
+use Rattle.status_page.specs.declared.noticed.NoticeKind.TheVariants as noticed
 
 -- all families, in the order in which they are shown
 abbrev pub families : List Family
 families =
-    Build ∷ Uptime ∷ Pool ∷ Held ∷ Notices ∷ Flags ∷ Raised ∷ InService ∷ ChangingOver ∷ Queue ∷
+    Build ∷ Uptime ∷ PoolLimit ∷ Pool ∷ Held ∷ Notices ∷ Flags ∷ Raised ∷ InService ∷ ChangingOver ∷ Queue ∷
     FramesReceived ∷ OctetsReceived ∷ FramesSent ∷ OctetsSent ∷ Forwarded ∷ Delivered ∷ Refused ∷ Failures ∷
     Retries ∷ []
 
@@ -39,7 +41,8 @@ families =
 abbrev pub family_name : Family → List ℕ
 family_name Build = codes "stp_build_info"
 family_name Uptime = codes "stp_uptime_seconds"
-family_name Pool = codes "stp_pool_limit_messages"
+family_name PoolLimit = codes "stp_pool_limit_messages"
+family_name Pool = codes "stp_pool_messages"
 family_name Held = codes "stp_held_messages"
 family_name Notices = codes "stp_notices_total"
 family_name Flags = codes "stp_flag"
@@ -61,9 +64,10 @@ family_name Retries = codes "stp_connection_retries_total"
 abbrev pub family_help : Family → List ℕ
 family_help Build = codes "The version of the program; the value is always 1."
 family_help Uptime = codes "Whole seconds since the start of the node."
-family_help Pool = codes "User messages that the node may keep."
+family_help PoolLimit = codes "User messages that the node may keep."
+family_help Pool = codes "Messages that the node keeps: of links those that aren't confirmed, and the user messages held."
 family_help Held = codes "User messages that are held until a flow may go on."
-family_help Notices = codes "Notices since the start, modulo 2^64."
+family_help Notices = codes "Notices since the start; missed are those whose kind nobody saw."
 family_help Flags = codes "1 if the flag is raised: a message may be lost, or may have come late."
 family_help Raised = codes "How often the flag was raised."
 family_help InService = codes "1 if the link is in service, else 0."
@@ -83,6 +87,7 @@ family_help Retries = codes "Connections of the link that were tried again."
 abbrev pub kind_of : Family → Kind
 kind_of Build = Gauge
 kind_of Uptime = Gauge
+kind_of PoolLimit = Gauge
 kind_of Pool = Gauge
 kind_of Held = Gauge
 kind_of Notices = Growing
@@ -115,6 +120,12 @@ causes =
 abbrev pub reasons : List FailureReason
 reasons = Association ∷ Timer ∷ Sequence ∷ Status ∷ Length ∷ Changeover ∷ Operator ∷ []
 
+-- the kinds of notices
+abbrev pub notice_kinds : List NoticeKind
+notice_kinds =
+    noticed.Refused ∷ noticed.Frame ∷ noticed.Failed ∷ noticed.Lost ∷ noticed.Unsent ∷ noticed.Expired ∷
+    noticed.Late ∷ noticed.Missed ∷ []
+
 -- a counter of each link
 abbrev pub counted : Counter → Metric
 counted what = Link (of_link.Counted what)
@@ -123,9 +134,10 @@ counted what = Link (of_link.Counted what)
 abbrev pub metrics_of : Family → List Metric
 metrics_of Build = Node of_node.Build ∷ []
 metrics_of Uptime = Node of_node.Uptime ∷ []
+metrics_of PoolLimit = Node of_node.PoolLimit ∷ []
 metrics_of Pool = Node of_node.Pool ∷ []
 metrics_of Held = Node of_node.Held ∷ []
-metrics_of Notices = Node of_node.Notices ∷ []
+metrics_of Notices = map (λ kind. Node (of_node.Notices kind)) notice_kinds
 metrics_of Flags = Node of_node.LostAny ∷ Node of_node.LateAny ∷ []
 metrics_of Raised = Node of_node.TimesLost ∷ Node of_node.TimesLate ∷ []
 metrics_of InService = Link of_link.InService ∷ []

@@ -1,4 +1,5 @@
 pub mod Each
+pub mod Noticed
 pub mod Families
 pub mod Measuring
 pub mod Samples

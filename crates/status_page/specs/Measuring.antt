@@ -1,10 +1,10 @@
 -- The value of each metric.
-use Rattle.std.specs.Prelude.{ℕ, ◌/◌, Bool, true, false, ◌&&◌, not, count_by, unwrap_or, List, slice_get}
+use Rattle.std.specs.Prelude.{ℕ, zero, suc, ◌+◌, ◌/◌, Bool, true, false, ◌&&◌, not, count_by, length, unwrap_or, List, slice_get}
 use Rattle.std.specs.Option.{option_map}
 use Rattle.signalling_types.specs.Message.{is_management}
 use Rattle.cell_pool.specs.Lanes.{is_user_picked}
 use Rattle.served_link.specs.declared.row.LinkCounters.{LinkCounters}
-use Rattle.served_link.specs.Counting.{no_counts, value_of}
+use Rattle.served_link.specs.Counting.{no_counts, saturated, value_of}
 use Rattle.exchange_rules.specs.State.{QueueKind, State, lost_any, late_any}
 use Rattle.exchange.specs.declared.view.LinkStanding.{LinkStanding}
 use Rattle.exchange.specs.declared.view.LinkStanding.TheVariants.{Down, NotAligned, Aligned, Proving}
@@ -14,6 +14,8 @@ use Rattle.status_page.specs.declared.metric.NodeMetric.{NodeMetric}
 use Rattle.status_page.specs.declared.metric.NodeMetric.TheVariants as of_node
 use Rattle.status_page.specs.declared.metric.LinkMetric.{LinkMetric}
 use Rattle.status_page.specs.declared.metric.LinkMetric.TheVariants as of_link
+use Rattle.status_page.specs.declared.noticed.NoticeLog.{NoticeLog}
+use Rattle.status_page.specs.Noticed.{kind_seen}
 
 abbrev pub bit : Bool → ℕ
 bit true = 1
@@ -22,18 +24,6 @@ bit false = 0
 -- the user messages that are held
 abbrev pub held_users : {Q : Type 0} → QueueKind Q → State Q → ℕ
 held_users q s = count_by (is_user_picked (λ m. not (is_management m))) (q.held s.node.queues)
-
--- the value of a metric of the node, so many milliseconds after its start
-abbrev pub node_value : {Q : Type 0} → QueueKind Q → NodeMetric → State Q → (uptime : ℕ) → ℕ
-node_value q of_node.Build s uptime = 1
-node_value q of_node.Uptime s uptime = uptime / 1000
-node_value q of_node.Pool s uptime = s.settings.pool
-node_value q of_node.Held s uptime = held_users q s
-node_value q of_node.Notices s uptime = s.node.parts.notices.count
-node_value q of_node.LostAny s uptime = bit (lost_any s.node.parts)
-node_value q of_node.LateAny s uptime = bit (late_any s.node.parts)
-node_value q of_node.TimesLost s uptime = s.node.parts.times_lost
-node_value q of_node.TimesLate s uptime = s.node.parts.times_late
 
 -- ---- of a link; where there is no such link it is 0
 
@@ -75,3 +65,31 @@ link_value q of_link.InService s rows k = bit (is_in_service q s k)
 link_value q of_link.ChangingOver s rows k = bit (is_changing_over q s k)
 link_value q of_link.Waiting s rows k = waiting_on q s k
 link_value q (of_link.Counted counter) s rows k = value_of counter (counters_at rows k)
+
+-- ---- of the node
+
+-- the messages of the first links that aren't confirmed
+abbrev pub waiting_on_first : {Q : Type 0} → QueueKind Q → State Q → (links : ℕ) → ℕ
+waiting_on_first q s zero = 0
+waiting_on_first q s (suc k) = saturated (waiting_on_first q s k + waiting_on q s k)
+
+-- those of all links
+abbrev pub waiting_on_links : {Q : Type 0} → QueueKind Q → State Q → ℕ
+waiting_on_links q s = waiting_on_first q s (length s.settings.links)
+
+-- the messages that the node keeps: those of its links that aren't confirmed, and the user messages that are held
+abbrev pub kept_messages : {Q : Type 0} → QueueKind Q → State Q → ℕ
+kept_messages q s = saturated (held_users q s + waiting_on_links q s)
+
+-- the value of a metric of the node, so many milliseconds after its start
+abbrev pub node_value : {Q : Type 0} → QueueKind Q → NodeMetric → State Q → NoticeLog → (uptime : ℕ) → ℕ
+node_value q of_node.Build s log uptime = 1
+node_value q of_node.Uptime s log uptime = uptime / 1000
+node_value q of_node.PoolLimit s log uptime = s.settings.pool
+node_value q of_node.Pool s log uptime = kept_messages q s
+node_value q of_node.Held s log uptime = held_users q s
+node_value q (of_node.Notices kind) s log uptime = kind_seen kind log
+node_value q of_node.LostAny s log uptime = bit (lost_any s.node.parts)
+node_value q of_node.LateAny s log uptime = bit (late_any s.node.parts)
+node_value q of_node.TimesLost s log uptime = s.node.parts.times_lost
+node_value q of_node.TimesLate s log uptime = s.node.parts.times_late

@@ -7,6 +7,7 @@ use Rattle.status_page.specs.declared.family.Family.{Family}
 use Rattle.status_page.specs.declared.metric.LinkMetric.{LinkMetric}
 use Rattle.status_page.specs.declared.metric.Metric.{Metric}
 use Rattle.status_page.specs.declared.metric.Metric.TheVariants.{Node, Link}
+use Rattle.status_page.specs.declared.noticed.NoticeLog.{NoticeLog}
 use Rattle.status_page.specs.Each.{each}
 use Rattle.status_page.specs.Families.{families, metrics_of}
 use Rattle.status_page.specs.Measuring.{link_value, node_value}
@@ -24,21 +25,22 @@ link_samples q s rows family metric = each (link_sample q s rows family metric) 
 
 -- the samples of a metric
 unfoldable pub metric_text :
-    {Q : Type 0} → QueueKind Q → State Q → List LinkCounters → (uptime : ℕ) → Family → Metric → List ℕ
-metric_text q s rows uptime family (Node metric) =
-    sample_text family (node_labels metric) (node_value q metric s uptime)
-metric_text q s rows uptime family (Link metric) = link_samples q s rows family metric
+    {Q : Type 0} → QueueKind Q → State Q → List LinkCounters → NoticeLog → (uptime : ℕ) → Family → Metric → List ℕ
+metric_text q s rows log uptime family (Node metric) =
+    sample_text family (node_labels metric) (node_value q metric s log uptime)
+metric_text q s rows log uptime family (Link metric) = link_samples q s rows family metric
 
 -- a family: its head, and then its metrics
 unfoldable pub family_text :
-    {Q : Type 0} → QueueKind Q → State Q → List LinkCounters → (uptime : ℕ) → Family → List ℕ
-family_text q s rows uptime family =
-    head_text family ++ flat_map (metric_text q s rows uptime family) (metrics_of family)
+    {Q : Type 0} → QueueKind Q → State Q → List LinkCounters → NoticeLog → (uptime : ℕ) → Family → List ℕ
+family_text q s rows log uptime family =
+    head_text family ++ flat_map (metric_text q s rows log uptime family) (metrics_of family)
 
 abbrev pub families_text :
-    {Q : Type 0} → QueueKind Q → State Q → List LinkCounters → (uptime : ℕ) → List Family → List ℕ
-families_text q s rows uptime fs = flat_map (family_text q s rows uptime) fs
+    {Q : Type 0} → QueueKind Q → State Q → List LinkCounters → NoticeLog → (uptime : ℕ) → List Family → List ℕ
+families_text q s rows log uptime fs = flat_map (family_text q s rows log uptime) fs
 
 -- all metrics, so many milliseconds after the start
-unfoldable pub metrics_text : {Q : Type 0} → QueueKind Q → State Q → List LinkCounters → (uptime : ℕ) → List ℕ
-metrics_text q s rows uptime = families_text q s rows uptime families
+unfoldable pub metrics_text :
+    {Q : Type 0} → QueueKind Q → State Q → List LinkCounters → NoticeLog → (uptime : ℕ) → List ℕ
+metrics_text q s rows log uptime = families_text q s rows log uptime families

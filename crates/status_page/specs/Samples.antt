@@ -10,6 +10,8 @@ use Rattle.status_page.specs.declared.metric.NodeMetric.{NodeMetric}
 use Rattle.status_page.specs.declared.metric.NodeMetric.TheVariants as of_node
 use Rattle.status_page.specs.declared.metric.LinkMetric.{LinkMetric}
 use Rattle.status_page.specs.declared.metric.LinkMetric.TheVariants as of_link
+use Rattle.status_page.specs.declared.noticed.NoticeKind.{NoticeKind}
+use Rattle.status_page.specs.declared.noticed.NoticeKind.TheVariants as noticed
 use Rattle.status_page.specs.Families.{family_name, family_help, kind_name, kind_of}
 
 -- the two lines in front of a family
@@ -24,12 +26,24 @@ sample_text family labels value = family_name family ++ labels ++ codes " " ++ d
 
 -- ---- labels
 
+-- a kind is the word with which the line of a notice begins
+abbrev pub kind_labels : NoticeKind → List ℕ
+kind_labels noticed.Refused = codes "{kind=\"refused\"}"
+kind_labels noticed.Frame = codes "{kind=\"frame\"}"
+kind_labels noticed.Failed = codes "{kind=\"failed\"}"
+kind_labels noticed.Lost = codes "{kind=\"lost\"}"
+kind_labels noticed.Unsent = codes "{kind=\"unsent\"}"
+kind_labels noticed.Expired = codes "{kind=\"expired\"}"
+kind_labels noticed.Late = codes "{kind=\"late\"}"
+kind_labels noticed.Missed = codes "{kind=\"missed\"}"
+
 abbrev pub node_labels : NodeMetric → List ℕ
 node_labels of_node.Build = codes "{version=\"0.1\"}"
 node_labels of_node.Uptime = []
+node_labels of_node.PoolLimit = []
 node_labels of_node.Pool = []
 node_labels of_node.Held = []
-node_labels of_node.Notices = []
+node_labels (of_node.Notices kind) = kind_labels kind
 node_labels of_node.LostAny = codes "{name=\"lost_any\"}"
 node_labels of_node.LateAny = codes "{name=\"late_any\"}"
 node_labels of_node.TimesLost = codes "{name=\"lost_any\"}"

@@ -20,8 +20,12 @@ use Rattle.served_link.specs.declared.counter.Counter.TheVariants.{Forwarded, De
 use Rattle.served_link.specs.declared.row.LinkCounters.{LinkCounters}
 use Rattle.served_link.specs.Counting.{value_of}
 use Rattle.status_page.specs.Each.{each}
-use Rattle.status_page.specs.Families.{causes, reasons}
-use Rattle.status_page.specs.Measuring.{counters_at, held_users, is_changing_over}
+use Rattle.status_page.specs.declared.noticed.NoticeKind.{NoticeKind}
+use Rattle.status_page.specs.declared.noticed.NoticeKind.TheVariants as noticed
+use Rattle.status_page.specs.declared.noticed.NoticeLog.{NoticeLog}
+use Rattle.status_page.specs.Families.{causes, notice_kinds, reasons}
+use Rattle.status_page.specs.Measuring.{counters_at, held_users, is_changing_over, kept_messages}
+use Rattle.status_page.specs.Noticed.{kind_seen, time_of}
 use Rattle.status_page.specs.Members.{object, text_member, number_member, bool_member, object_member, array_member}
 
 -- ---- counters
@@ -117,15 +121,35 @@ abbrev pub notice_number : {Q : Type 0} → State Q → ℕ → ℕ
 notice_number s k =
     (s.node.parts.notices.count + 2 ^ 64 - (length s.node.parts.notices.last - suc k)) % 2 ^ 64
 
-abbrev pub notice_object : (number : ℕ) → (text : List ℕ) → List Token
-notice_object n text = object (number_member (codes "number") n ++ text_member (codes "text") text)
+-- its number, the milliseconds from the start until it was seen, and its text
+abbrev pub notice_object : (number : ℕ) → (time : ℕ) → (text : List ℕ) → List Token
+notice_object n time text =
+    object (number_member (codes "number") n ++ number_member (codes "time_ms") time ++ text_member (codes "text") text)
 
-abbrev pub shown_notice : (number : ℕ) → Option (List ℕ) → List Token
-shown_notice n None = []
-shown_notice n (Some text) = notice_object n text
+abbrev pub shown_notice : (number : ℕ) → (time : ℕ) → Option (List ℕ) → List Token
+shown_notice n time None = []
+shown_notice n time (Some text) = notice_object n time text
 
-unfoldable pub notice_tokens : {Q : Type 0} → PointFormat → State Q → ℕ → List Token
-notice_tokens points s k = shown_notice (notice_number s k) (notice_line points s k)
+unfoldable pub notice_tokens : {Q : Type 0} → PointFormat → State Q → NoticeLog → ℕ → List Token
+notice_tokens points s log k =
+    shown_notice (notice_number s k) (time_of (notice_number s k) log) (notice_line points s k)
+
+-- the member that shows how many notices of a kind there were: the word with which their lines begin
+abbrev pub kind_key : NoticeKind → List ℕ
+kind_key noticed.Refused = codes "refused"
+kind_key noticed.Frame = codes "frame"
+kind_key noticed.Failed = codes "failed"
+kind_key noticed.Lost = codes "lost"
+kind_key noticed.Unsent = codes "unsent"
+kind_key noticed.Expired = codes "expired"
+kind_key noticed.Late = codes "late"
+kind_key noticed.Missed = codes "missed"
+
+abbrev pub kind_member : NoticeLog → NoticeKind → List Token
+kind_member log kind = number_member (kind_key kind) (kind_seen kind log)
+
+abbrev pub kind_members : NoticeLog → List NoticeKind → List Token
+kind_members log kinds = flat_map (kind_member log) kinds
 
 -- ---- the node
 
@@ -141,10 +165,12 @@ place_members points c =
     ++ number_member (codes "network") c.network
     ++ number_member (codes "pool") c.pool
 
--- the user messages that are held, how often each flag was raised, and how many notices there were
+-- the messages that the node keeps and those of them that are held, how often each flag was raised, and how many
+-- notices there were
 abbrev pub count_members : {Q : Type 0} → QueueKind Q → State Q → List Token
 count_members q s =
-    number_member (codes "held") (held_users q s)
+    number_member (codes "kept") (kept_messages q s)
+    ++ number_member (codes "held") (held_users q s)
     ++ number_member (codes "times_lost") s.node.parts.times_lost
     ++ number_member (codes "times_late") s.node.parts.times_late
     ++ number_member (codes "notice_count") s.node.parts.notices.count
@@ -154,15 +180,16 @@ node_members q points s uptime = program_members uptime ++ place_members points 
 
 -- the node, and its sets, links, destinations and notices
 unfoldable pub state_members :
-    {Q : Type 0} → QueueKind Q → PointFormat → State Q → List LinkCounters → (uptime : ℕ) → List Token
-state_members q points s rows uptime =
+    {Q : Type 0} → QueueKind Q → PointFormat → State Q → List LinkCounters → NoticeLog → (uptime : ℕ) → List Token
+state_members q points s rows log uptime =
     node_members q points s uptime
     ++ array_member (codes "sets") (flat_map (set_tokens points) s.settings.sets)
     ++ array_member (codes "links") (each (link_tokens q s rows) (length s.settings.links))
     ++ array_member (codes "routes") (each (route_tokens points s) (length s.settings.destinations))
-    ++ array_member (codes "notices") (each (notice_tokens points s) (length s.node.parts.notices.last))
+    ++ object_member (codes "notice_kinds") (kind_members log notice_kinds)
+    ++ array_member (codes "notices") (each (notice_tokens points s log) (length s.node.parts.notices.last))
 
 -- the whole state
 abbrev pub state_tokens :
-    {Q : Type 0} → QueueKind Q → PointFormat → State Q → List LinkCounters → (uptime : ℕ) → List Token
-state_tokens q points s rows uptime = object (state_members q points s rows uptime)
+    {Q : Type 0} → QueueKind Q → PointFormat → State Q → List LinkCounters → NoticeLog → (uptime : ℕ) → List Token
+state_tokens q points s rows log uptime = object (state_members q points s rows log uptime)

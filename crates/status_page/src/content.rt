@@ -7,6 +7,7 @@ ghost use Rattle.status_page.specs.Contents.{page_text};
 ghost use Rattle.status_page.specs.States.{state_tokens};
 
 use crate::metrics::put_metrics;
+use crate::noticed::NoticeLog;
 use crate::state::state_text;
 use crate::text::PAGE;
 use bytes::BufMut;
@@ -26,6 +27,8 @@ pub struct StatusPage<'a> {
     pub exchange: &'a Exchange,
     /// What was counted of its links.
     pub counters: &'a Counters,
+    /// What was seen of its notices.
+    pub notices: &'a NoticeLog,
     /// How point codes are shown.
     pub points: PointFormat,
     /// Milliseconds since the start of the node.
@@ -33,13 +36,21 @@ pub struct StatusPage<'a> {
 }
 
 impl Content for StatusPage<'_> {
-    ghost content = { λ shown page. page_text kept shown.points shown.exchange.now shown.counters.now.links shown.uptime_ms page };
+    ghost content = { λ shown page. page_text kept shown.points shown.exchange.now shown.counters.now.links shown.notices.now shown.uptime_ms page };
 
     fn write(&self, page: Page, body: &mut Rope) -> Result<(), AllocError> {
         match page {
             Page::Status => body.put_slice(PAGE.as_bytes()),
             Page::State => self.write_state(body),
-            Page::Metrics => put_metrics(self.exchange, self.counters, self.uptime_ms, body),
+            Page::Metrics => {
+                put_metrics(
+                    self.exchange,
+                    self.counters,
+                    self.notices,
+                    self.uptime_ms,
+                    body,
+                )
+            }
         }
     }
 }
@@ -48,12 +59,13 @@ impl StatusPage<'_> {
     /// Puts the state of the node behind what a body holds.
     fn write_state(&self, body: &mut Rope) -> Result<(), AllocError>
         ensures { OnOk result (body.new.items ≡ body.old.items ++ print (state_tokens kept self.now.points
-            self.now.exchange.now self.now.counters.now.links self.now.uptime_ms)) }
+            self.now.exchange.now self.now.counters.now.links self.now.notices.now self.now.uptime_ms)) }
     {
         let text = state_text(
             self.alloc,
             self.exchange,
             self.counters,
+            self.notices,
             self.points,
             self.uptime_ms,
         )?;

@@ -4,6 +4,7 @@ ghost use Rattle.std.specs.Prelude.{◌≡◌, ◌≤◌, length};
 ghost use Rattle.status_page.specs.Families.{family_help, family_name, kind_name, kind_of, metrics_of};
 
 use crate::metric::{LinkMetric, Metric, NodeMetric};
+use crate::noticed::{NOTICE_KINDS, NoticeKind};
 use served_link::Counter;
 use signalling_types::{Cause, FailureReason};
 
@@ -43,10 +44,12 @@ pub enum Family {
     /// How long the node has run.
     Uptime,
     /// How many user messages the node may keep.
+    PoolLimit,
+    /// How many messages it keeps.
     Pool,
     /// User messages that are held.
     Held,
-    /// Notices so far.
+    /// Notices so far, by kind.
     Notices,
     /// Whether each flag is raised.
     Flags,
@@ -80,9 +83,10 @@ pub enum Family {
 
 impl Family {
     /// All families, in the order in which they are shown.
-    pub const ALL: [Family; 19] = [
+    pub const ALL: [Family; 20] = [
         Family::Build,
         Family::Uptime,
+        Family::PoolLimit,
         Family::Pool,
         Family::Held,
         Family::Notices,
@@ -110,7 +114,8 @@ impl Family {
         match self {
             Family::Build => "stp_build_info",
             Family::Uptime => "stp_uptime_seconds",
-            Family::Pool => "stp_pool_limit_messages",
+            Family::PoolLimit => "stp_pool_limit_messages",
+            Family::Pool => "stp_pool_messages",
             Family::Held => "stp_held_messages",
             Family::Notices => "stp_notices_total",
             Family::Flags => "stp_flag",
@@ -138,9 +143,11 @@ impl Family {
         match self {
             Family::Build => "The version of the program; the value is always 1.",
             Family::Uptime => "Whole seconds since the start of the node.",
-            Family::Pool => "User messages that the node may keep.",
+            Family::PoolLimit => "User messages that the node may keep.",
+            Family::Pool =>
+                "Messages that the node keeps: of links those that aren't confirmed, and the user messages held.",
             Family::Held => "User messages that are held until a flow may go on.",
-            Family::Notices => "Notices since the start, modulo 2^64.",
+            Family::Notices => "Notices since the start; missed are those whose kind nobody saw.",
             Family::Flags =>
                 "1 if the flag is raised: a message may be lost, or may have come late.",
             Family::Raised => "How often the flag was raised.",
@@ -167,6 +174,7 @@ impl Family {
         match self {
             Family::Build
             | Family::Uptime
+            | Family::PoolLimit
             | Family::Pool
             | Family::Held
             | Family::Flags
@@ -194,9 +202,10 @@ impl Family {
         match self {
             Family::Build => &[Metric::Node(NodeMetric::Build)],
             Family::Uptime => &[Metric::Node(NodeMetric::Uptime)],
+            Family::PoolLimit => &[Metric::Node(NodeMetric::PoolLimit)],
             Family::Pool => &[Metric::Node(NodeMetric::Pool)],
             Family::Held => &[Metric::Node(NodeMetric::Held)],
-            Family::Notices => &[Metric::Node(NodeMetric::Notices)],
+            Family::Notices => &NOTICES,
             Family::Flags => &[
                 Metric::Node(NodeMetric::LostAny),
                 Metric::Node(NodeMetric::LateAny),
@@ -220,6 +229,18 @@ impl Family {
         }
     }
 }
+
+/// Notices, of each kind.
+const NOTICES: [Metric; NOTICE_KINDS] = [
+    Metric::Node(NodeMetric::Notices(NoticeKind::Refused)),
+    Metric::Node(NodeMetric::Notices(NoticeKind::Frame)),
+    Metric::Node(NodeMetric::Notices(NoticeKind::Failed)),
+    Metric::Node(NodeMetric::Notices(NoticeKind::Lost)),
+    Metric::Node(NodeMetric::Notices(NoticeKind::Unsent)),
+    Metric::Node(NodeMetric::Notices(NoticeKind::Expired)),
+    Metric::Node(NodeMetric::Notices(NoticeKind::Late)),
+    Metric::Node(NodeMetric::Notices(NoticeKind::Missed)),
+];
 
 /// Frames that were refused, by each cause.
 const REFUSED: [Metric; 22] = [

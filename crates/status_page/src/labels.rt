@@ -1,9 +1,10 @@
 //! The labels of samples.
 
 ghost use Rattle.std.specs.Prelude.{◌≡◌, ◌+◌, ◌≤◌, ◌++◌, length};
-ghost use Rattle.status_page.specs.Samples.{counter_labels, link_labels, metric_labels, node_labels};
+ghost use Rattle.status_page.specs.Samples.{counter_labels, kind_labels, link_labels, metric_labels, node_labels};
 
 use crate::metric::{LinkMetric, NodeMetric};
+use crate::noticed::NoticeKind;
 use arrayvec::ArrayString;
 use served_link::Counter;
 use signalling_types::Limits;
@@ -23,7 +24,25 @@ pub(crate) fn node_labels(metric: NodeMetric) -> &'static str
         NodeMetric::Build => "{version=\"0.1\"}",
         NodeMetric::LostAny | NodeMetric::TimesLost => "{name=\"lost_any\"}",
         NodeMetric::LateAny | NodeMetric::TimesLate => "{name=\"late_any\"}",
-        NodeMetric::Uptime | NodeMetric::Pool | NodeMetric::Held | NodeMetric::Notices => "",
+        NodeMetric::Notices(kind) => kind_labels(kind),
+        NodeMetric::Uptime | NodeMetric::PoolLimit | NodeMetric::Pool | NodeMetric::Held => "",
+    }
+}
+
+/// The label of notices of a kind.
+fn kind_labels(kind: NoticeKind) -> &'static str
+    ensures labels { result.now ≡ kind_labels kind }
+    ensures fits { length result.now ≤ LABELS_OCTETS }
+{
+    match kind {
+        NoticeKind::Refused => "{kind=\"refused\"}",
+        NoticeKind::Frame => "{kind=\"frame\"}",
+        NoticeKind::Failed => "{kind=\"failed\"}",
+        NoticeKind::Lost => "{kind=\"lost\"}",
+        NoticeKind::Unsent => "{kind=\"unsent\"}",
+        NoticeKind::Expired => "{kind=\"expired\"}",
+        NoticeKind::Late => "{kind=\"late\"}",
+        NoticeKind::Missed => "{kind=\"missed\"}",
     }
 }
 

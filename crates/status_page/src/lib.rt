@@ -10,8 +10,10 @@ mod measuring;
 mod members;
 pub mod metric;
 mod metrics;
+pub mod noticed;
 mod sample;
 mod state;
 pub mod text;
 
 pub use content::StatusPage;
+pub use noticed::{NoticeKind, NoticeLog};

@@ -2,10 +2,11 @@
 
 ghost use Rattle.std.specs.Prelude.{◌≡◌};
 ghost use Rattle.exchange.specs.KeptQueues.{kept};
-ghost use Rattle.status_page.specs.Measuring.{bit, held_users, is_changing_over, is_in_service, link_value, node_value, waiting_on};
+ghost use Rattle.status_page.specs.Measuring.{bit, held_users, is_changing_over, is_in_service, kept_messages, link_value, node_value, waiting_on, waiting_on_links};
 
 use crate::counted::counters_of;
 use crate::metric::{LinkMetric, NodeMetric};
+use crate::noticed::NoticeLog;
 use cell_pool::UserMessages;
 use exchange::{Exchange, LinkStanding};
 use served_link::Counters;
@@ -15,15 +16,21 @@ use signalling_types::LinkId;
 const SECOND_MS: u64 = 1_000;
 
 /// The value of a metric of the node, so many milliseconds after its start.
-pub(crate) fn node_value(metric: NodeMetric, exchange: &Exchange, uptime_ms: u64) -> u64
-    ensures { result ≡ node_value kept metric exchange.now uptime_ms }
+pub(crate) fn node_value(
+    metric: NodeMetric,
+    exchange: &Exchange,
+    notices: &NoticeLog,
+    uptime_ms: u64,
+) -> u64
+    ensures { result ≡ node_value kept metric exchange.now notices.now uptime_ms }
 {
     match metric {
         NodeMetric::Build => 1,
         NodeMetric::Uptime => uptime_ms / SECOND_MS,
-        NodeMetric::Pool => exchange.settings().pool() as u64,
+        NodeMetric::PoolLimit => exchange.settings().pool() as u64,
+        NodeMetric::Pool => kept_messages(exchange),
         NodeMetric::Held => held_users(exchange),
-        NodeMetric::Notices => exchange.notice_count(),
+        NodeMetric::Notices(kind) => notices.count_of(kind),
         NodeMetric::LostAny => bit(exchange.lost_any()),
         NodeMetric::LateAny => bit(exchange.late_any()),
         NodeMetric::TimesLost => exchange.times_lost(),
@@ -36,6 +43,25 @@ pub(crate) fn held_users(exchange: &Exchange) -> u64
     ensures { result ≡ held_users kept exchange.now }
 {
     exchange.count_held_picked(&UserMessages) as u64
+}
+
+/// How many messages the node keeps: of each link those that aren't confirmed, and the user messages that are held. It
+/// looks at each that is held once, and at each link.
+pub(crate) fn kept_messages(exchange: &Exchange) -> u64
+    ensures { result ≡ kept_messages kept exchange.now }
+{
+    held_users(exchange).saturating_add(waiting_on_links(exchange))
+}
+
+/// How many messages of all links aren't confirmed.
+fn waiting_on_links(exchange: &Exchange) -> u64
+    ensures { result ≡ waiting_on_links kept exchange.now }
+{
+    let mut waiting: u64 = 0;
+    for k in 0..exchange.settings().link_count() {
+        waiting = waiting.saturating_add(waiting_on(exchange, LinkId::new(k as u8)));
+    }
+    waiting
 }
 
 /// The value of a metric of a link; 0 where there is no such link.

@@ -1,5 +1,6 @@
 //! What is measured.
 
+use crate::noticed::NoticeKind;
 use served_link::Counter;
 
 /// One thing that is measured.
@@ -19,11 +20,13 @@ pub enum NodeMetric {
     /// Whole seconds since its start.
     Uptime,
     /// User messages that it may keep.
+    PoolLimit,
+    /// Messages that it keeps.
     Pool,
     /// User messages that are held.
     Held,
-    /// Notices so far, modulo 2^64.
-    Notices,
+    /// Notices of a kind so far.
+    Notices(NoticeKind),
     /// Whether a message may have been lost.
     LostAny,
     /// Whether messages of a flow may have gone out of order.

@@ -8,6 +8,7 @@ use crate::family::Family;
 use crate::labels::{link_labels, node_labels};
 use crate::measuring::{link_value, node_value};
 use crate::metric::{LinkMetric, Metric};
+use crate::noticed::NoticeLog;
 use crate::sample::{put_head, put_sample};
 use console::link_name;
 use exchange::Exchange;
@@ -20,13 +21,14 @@ use std::alloc::AllocError;
 pub(crate) fn put_metrics(
     exchange: &Exchange,
     counters: &Counters,
+    notices: &NoticeLog,
     uptime_ms: u64,
     body: &mut Rope,
 ) -> Result<(), AllocError>
     ensures { OnOk result (body.new.items
-        ≡ body.old.items ++ metrics_text kept exchange.now counters.now.links uptime_ms) }
+        ≡ body.old.items ++ metrics_text kept exchange.now counters.now.links notices.now uptime_ms) }
 {
-    put_families(&Family::ALL, exchange, counters, uptime_ms, body)
+    put_families(&Family::ALL, exchange, counters, notices, uptime_ms, body)
 }
 
 /// Puts these families behind what is there.
@@ -34,14 +36,15 @@ fn put_families(
     families: &[Family],
     exchange: &Exchange,
     counters: &Counters,
+    notices: &NoticeLog,
     uptime_ms: u64,
     body: &mut Rope,
 ) -> Result<(), AllocError>
     ensures { OnOk result (body.new.items
-        ≡ body.old.items ++ families_text kept exchange.now counters.now.links uptime_ms families.now) }
+        ≡ body.old.items ++ families_text kept exchange.now counters.now.links notices.now uptime_ms families.now) }
 {
     for family in families {
-        put_family(*family, exchange, counters, uptime_ms, body)?;
+        put_family(*family, exchange, counters, notices, uptime_ms, body)?;
     }
     Ok(())
 }
@@ -51,11 +54,12 @@ fn put_family(
     family: Family,
     exchange: &Exchange,
     counters: &Counters,
+    notices: &NoticeLog,
     uptime_ms: u64,
     body: &mut Rope,
 ) -> Result<(), AllocError>
     ensures { OnOk result (body.new.items
-        ≡ body.old.items ++ family_text kept exchange.now counters.now.links uptime_ms family) }
+        ≡ body.old.items ++ family_text kept exchange.now counters.now.links notices.now uptime_ms family) }
 {
     put_head(family, body)?;
     put_each(
@@ -63,6 +67,7 @@ fn put_family(
         family.metrics(),
         exchange,
         counters,
+        notices,
         uptime_ms,
         body,
     )
@@ -74,14 +79,15 @@ fn put_each(
     metrics: &[Metric],
     exchange: &Exchange,
     counters: &Counters,
+    notices: &NoticeLog,
     uptime_ms: u64,
     body: &mut Rope,
 ) -> Result<(), AllocError>
     ensures { OnOk result (body.new.items ≡ body.old.items
-        ++ flat_map (metric_text kept exchange.now counters.now.links uptime_ms family) metrics.now) }
+        ++ flat_map (metric_text kept exchange.now counters.now.links notices.now uptime_ms family) metrics.now) }
 {
     for metric in metrics {
-        put_metric(family, metric, exchange, counters, uptime_ms, body)?;
+        put_metric(family, metric, exchange, counters, notices, uptime_ms, body)?;
     }
     Ok(())
 }
@@ -93,17 +99,18 @@ fn put_metric(
     metric: &Metric,
     exchange: &Exchange,
     counters: &Counters,
+    notices: &NoticeLog,
     uptime_ms: u64,
     body: &mut Rope,
 ) -> Result<(), AllocError>
     ensures { OnOk result (body.new.items
-        ≡ body.old.items ++ metric_text kept exchange.now counters.now.links uptime_ms family metric.now) }
+        ≡ body.old.items ++ metric_text kept exchange.now counters.now.links notices.now uptime_ms family metric.now) }
 {
     match metric {
         Metric::Node(metric) => put_sample(
             family,
             node_labels(*metric),
-            node_value(*metric, exchange, uptime_ms),
+            node_value(*metric, exchange, notices, uptime_ms),
             body,
         ),
         Metric::Link(metric) => put_link_samples(family, *metric, exchange, counters, body),

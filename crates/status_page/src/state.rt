@@ -4,13 +4,15 @@ ghost use Rattle.std.specs.Prelude.{◌≡◌, ◌<◌, IfOk, codes, flat_map, l
 ghost use Rattle.json.specs.Print.{print};
 ghost use Rattle.exchange.specs.KeptQueues.{kept};
 ghost use Rattle.status_page.specs.Each.{each};
-ghost use Rattle.status_page.specs.Members.{Adds, array_member};
-ghost use Rattle.status_page.specs.States.{count_members, link_tokens, node_members, notice_number, notice_object, notice_tokens, place_members, program_members, route_object, route_tokens, set_names, set_tokens, state_members, state_tokens};
+ghost use Rattle.status_page.specs.Families.{notice_kinds};
+ghost use Rattle.status_page.specs.Members.{Adds, array_member, object_member};
+ghost use Rattle.status_page.specs.States.{count_members, kind_key, kind_members, link_tokens, node_members, notice_number, notice_object, notice_tokens, place_members, program_members, route_object, route_tokens, set_names, set_tokens, state_members, state_tokens};
 
 use crate::labels::VERSION;
 use crate::link_state::{put_link, set_name};
-use crate::measuring::held_users;
+use crate::measuring::{held_users, kept_messages};
 use crate::members::{put_number, put_text};
+use crate::noticed::{NoticeKind, NoticeLog};
 use arrayvec::ArrayString;
 use console::{LINE_OCTETS, show_notices};
 use exchange::{Exchange, RouteView};
@@ -26,14 +28,15 @@ pub(crate) fn state_text(
     alloc: Global,
     exchange: &Exchange,
     counters: &Counters,
+    notices: &NoticeLog,
     points: PointFormat,
     uptime_ms: u64,
 ) -> Result<Vec<u8>, AllocError>
     ensures { IfOk result (λ text. text.items
-        ≡ print (state_tokens kept points exchange.now counters.now.links uptime_ms)) }
+        ≡ print (state_tokens kept points exchange.now counters.now.links notices.now uptime_ms)) }
 {
     let mut out = Writer::new(Vec::new(alloc));
-    put_state(exchange, counters, points, uptime_ms, &mut out)?;
+    put_state(exchange, counters, notices, points, uptime_ms, &mut out)?;
     Ok(out.into_inner())
 }
 
@@ -41,14 +44,16 @@ pub(crate) fn state_text(
 fn put_state(
     exchange: &Exchange,
     counters: &Counters,
+    notices: &NoticeLog,
     points: PointFormat,
     uptime_ms: u64,
     out: &mut Writer,
 ) -> Result<(), AllocError>
-    ensures { Adds result out.old out.new (state_tokens kept points exchange.now counters.now.links uptime_ms) }
+    ensures { Adds result out.old out.new
+        (state_tokens kept points exchange.now counters.now.links notices.now uptime_ms) }
 {
     out.begin_object()?;
-    put_members(exchange, counters, points, uptime_ms, out)?;
+    put_members(exchange, counters, notices, points, uptime_ms, out)?;
     out.end_object()
 }
 
@@ -56,17 +61,20 @@ fn put_state(
 fn put_members(
     exchange: &Exchange,
     counters: &Counters,
+    notices: &NoticeLog,
     points: PointFormat,
     uptime_ms: u64,
     out: &mut Writer,
 ) -> Result<(), AllocError>
-    ensures { Adds result out.old out.new (state_members kept points exchange.now counters.now.links uptime_ms) }
+    ensures { Adds result out.old out.new
+        (state_members kept points exchange.now counters.now.links notices.now uptime_ms) }
 {
     put_node(exchange, points, uptime_ms, out)?;
     put_sets(exchange, points, out)?;
     put_links(exchange, counters, out)?;
     put_routes(exchange, points, out)?;
-    put_notices(exchange, points, out)
+    put_kinds(notices, out)?;
+    put_notices(exchange, notices, points, out)
 }
 
 /// Puts what is shown of the node as a whole behind what was written.
@@ -100,11 +108,12 @@ fn put_place(settings: &Settings, points: PointFormat, out: &mut Writer) -> Resu
     put_number(out, "pool", settings.pool() as u64)
 }
 
-/// Puts how many user messages are held, how often each flag was raised, and how many notices there were behind what
-/// was written.
+/// Puts how many messages the node keeps and how many of them are held, how often each flag was raised, and how many
+/// notices there were behind what was written.
 fn put_counts(exchange: &Exchange, out: &mut Writer) -> Result<(), AllocError>
     ensures { Adds result out.old out.new (count_members kept exchange.now) }
 {
+    put_number(out, "kept", kept_messages(exchange))?;
     put_number(out, "held", held_users(exchange))?;
     put_number(out, "times_lost", exchange.times_lost())?;
     put_number(out, "times_late", exchange.times_late())?;
@@ -247,28 +256,75 @@ fn put_each_name(settings: &Settings, sets: &[SetId], out: &mut Writer) -> Resul
     Ok(())
 }
 
+/// Puts the object with how many notices of each kind there were behind what was written.
+fn put_kinds(notices: &NoticeLog, out: &mut Writer) -> Result<(), AllocError>
+    ensures { Adds result out.old out.new
+        (object_member (codes "notice_kinds") (kind_members notices.now notice_kinds)) }
+{
+    out.key("notice_kinds")?;
+    out.begin_object()?;
+    put_each_kind(&NoticeKind::ALL, notices, out)?;
+    out.end_object()
+}
+
+/// Puts how many notices of these kinds there were behind what was written.
+fn put_each_kind(
+    kinds: &[NoticeKind],
+    notices: &NoticeLog,
+    out: &mut Writer,
+) -> Result<(), AllocError>
+    ensures { Adds result out.old out.new (kind_members notices.now kinds.now) }
+{
+    for kind in kinds {
+        put_number(out, kind_key(*kind), notices.count_of(*kind))?;
+    }
+    Ok(())
+}
+
+/// The member that shows how many notices of a kind there were.
+fn kind_key(kind: NoticeKind) -> &'static str
+    ensures { result.now ≡ kind_key kind }
+{
+    match kind {
+        NoticeKind::Refused => "refused",
+        NoticeKind::Frame => "frame",
+        NoticeKind::Failed => "failed",
+        NoticeKind::Lost => "lost",
+        NoticeKind::Unsent => "unsent",
+        NoticeKind::Expired => "expired",
+        NoticeKind::Late => "late",
+        NoticeKind::Missed => "missed",
+    }
+}
+
 /// Puts the array of the notices that are kept behind what was written, the oldest first.
-fn put_notices(exchange: &Exchange, points: PointFormat, out: &mut Writer) -> Result<(), AllocError>
+fn put_notices(
+    exchange: &Exchange,
+    notices: &NoticeLog,
+    points: PointFormat,
+    out: &mut Writer,
+) -> Result<(), AllocError>
     ensures { Adds result out.old out.new (array_member (codes "notices")
-        (each (notice_tokens points exchange.now) (length exchange.now.node.parts.notices.last))) }
+        (each (notice_tokens points exchange.now notices.now) (length exchange.now.node.parts.notices.last))) }
 {
     out.key("notices")?;
     out.begin_array()?;
-    put_each_notice(exchange, points, out)?;
+    put_each_notice(exchange, notices, points, out)?;
     out.end_array()
 }
 
 /// Puts the objects of the notices that are kept behind what was written.
 fn put_each_notice(
     exchange: &Exchange,
+    notices: &NoticeLog,
     points: PointFormat,
     out: &mut Writer,
 ) -> Result<(), AllocError>
     ensures { Adds result out.old out.new
-        (each (notice_tokens points exchange.now) (length exchange.now.node.parts.notices.last)) }
+        (each (notice_tokens points exchange.now notices.now) (length exchange.now.node.parts.notices.last)) }
 {
     for k in 0..exchange.notices().len() {
-        put_notice(exchange, k, points, out)?;
+        put_notice(exchange, notices, k, points, out)?;
     }
     Ok(())
 }
@@ -276,26 +332,34 @@ fn put_each_notice(
 /// Puts the object of a notice behind what was written.
 fn put_notice(
     exchange: &Exchange,
+    notices: &NoticeLog,
     k: usize,
     points: PointFormat,
     out: &mut Writer,
 ) -> Result<(), AllocError>
     requires { k < length exchange.now.node.parts.notices.last }
-    ensures { Adds result out.old out.new (notice_tokens points exchange.now k) }
+    ensures { Adds result out.old out.new (notice_tokens points exchange.now notices.now k) }
 {
     let mut line = ArrayString::<LINE_OCTETS>::new();
     if show_notices(exchange, k, points, &mut line) {
-        return put_shown_notice(notice_number(exchange, k), line.as_str(), out);
+        let number = notice_number(exchange, k);
+        return put_shown_notice(number, notices.time_ms(number), line.as_str(), out);
     }
     Ok(())
 }
 
-/// Puts the object of a notice of this number and this text behind what was written.
-fn put_shown_notice(number: u64, text: &str, out: &mut Writer) -> Result<(), AllocError>
-    ensures { Adds result out.old out.new (notice_object number text.now) }
+/// Puts the object of a notice of this number, time and text behind what was written.
+fn put_shown_notice(
+    number: u64,
+    time_ms: u64,
+    text: &str,
+    out: &mut Writer,
+) -> Result<(), AllocError>
+    ensures { Adds result out.old out.new (notice_object number time_ms text.now) }
 {
     out.begin_object()?;
     put_number(out, "number", number)?;
+    put_number(out, "time_ms", time_ms)?;
     put_text(out, "text", text)?;
     out.end_object()
 }

@@ -36,7 +36,7 @@ a { color: var(--in); }
 button { font: inherit; color: inherit; background: var(--band); border: 1px solid var(--quiet); border-radius: .4rem; padding: .3rem .8rem; }
 #gone { border: 2px solid var(--bad); border-radius: .4rem; padding: .5rem .75rem; margin: .5rem 0; color: var(--bad); font-weight: 600; }
 .stale main { opacity: .55; }
-dl { display: grid; grid-template-columns: repeat(auto-fit, minmax(9.5rem, 1fr)); gap: .5rem; margin: .75rem 0; }
+dl { display: grid; grid-template-columns: repeat(auto-fit, minmax(7.5rem, 1fr)); gap: .5rem; margin: .75rem 0; }
 dl div { background: var(--band); border: 1px solid var(--line); border-radius: .4rem; padding: .4rem .6rem; }
 dt { color: var(--quiet); font-size: .85rem; }
 dd { margin: 0; font-weight: 600; }
@@ -49,6 +49,7 @@ small { display: block; color: var(--quiet); font-size: .8rem; font-weight: 400;
 .number { font-variant-numeric: tabular-nums; white-space: nowrap; }
 .good { color: var(--good); } .turning { color: var(--turning); } .bad { color: var(--bad); }
 .in { color: var(--in); } .out { color: var(--out); }
+.key span { white-space: nowrap; }
 .plot { display: block; width: 100%; min-width: 4.5rem; height: 2.4rem; background: var(--band); border: 1px solid var(--line); }
 .plot polyline { fill: none; stroke-width: 1.5; vector-effect: non-scaling-stroke; }
 .plot .in { stroke: var(--in); } .plot .out { stroke: var(--out); }
@@ -62,12 +63,15 @@ small { display: block; color: var(--quiet); font-size: .8rem; font-weight: 400;
 #map .link.bad { stroke: var(--bad); stroke-dasharray: 2 4; }
 #notices { list-style: none; margin: 0; padding: 0; }
 #notices li { display: flex; flex-wrap: wrap; gap: 0 .75rem; padding: .25rem 0; border-bottom: 1px solid var(--line); }
+#notices:empty::before { content: 'None yet.'; color: var(--quiet); }
 #notices span { color: var(--quiet); font-variant-numeric: tabular-nums; }
 footer { margin-top: 2rem; }
 @media (max-width: 36rem) {
   table { table-layout: fixed; }
   th, td { padding-right: .4rem; font-size: .95rem; }
   .plot { min-width: 0; }
+  .links th:nth-child(1) { width: 15%; }
+  .links th:nth-child(2) { width: 34%; }
 }
 </style>
 </head>
@@ -87,11 +91,11 @@ footer { margin-top: 2rem; }
 <section aria-labelledby="neighbours">
 <h2 id="neighbours">Neighbours</h2>
 <svg id="map" role="img" aria-label="The node, its neighbours and the links between them; the table of links says the same."></svg>
-<p class="quiet"><span class="good">━ in service</span> · <span class="turning">╍ on its way into service</span> · <span class="bad">┈ down</span>. A thicker line carries more.</p>
+<p class="quiet key"><span class="good">━ in service</span> · <span class="turning">╍ on its way into service</span> · <span class="bad">┈ down</span>. A thicker line carries more.</p>
 </section>
 <section aria-labelledby="links">
 <h2 id="links" tabindex="-1">Links</h2>
-<table>
+<table class="links">
 <caption>Messages a second that were accepted (<span class="in">in</span>) and sent (<span class="out">out</span>), also of the last five minutes, as far as this page was open</caption>
 <thead><tr><th scope="col">Link</th><th scope="col">State</th><th scope="col">Per second</th><th scope="col">Five minutes</th></tr></thead>
 <tbody id="link-rows"></tbody>
@@ -107,7 +111,7 @@ footer { margin-top: 2rem; }
 </section>
 <section aria-labelledby="noted">
 <h2 id="noted">Notices</h2>
-<p class="quiet">The newest first, each with the time at which this page saw it; those from before have none.</p>
+<p class="quiet">The newest first, each with its number and the time at which it came.</p>
 <ol id="notices" aria-live="polite" aria-relevant="additions"></ol>
 </section>
 </main>
@@ -147,6 +151,12 @@ function ago(ms) {
     Math.floor((i ? s % parts[first][0] : s) / unit) + ' ' + name).join(' ');
 }
 
+// A time of today, or one with its day.
+function clock(ms) {
+  const at = new Date(ms), isToday = at.toDateString() === new Date().toDateString();
+  return isToday ? at.toLocaleTimeString('en-GB') : at.toLocaleString('en-GB');
+}
+
 // How many messages lie between two numbers of 24 bits; none where the link began anew.
 function between(before, after) {
   const n = (after - before + NUMBERS) % NUMBERS;
@@ -175,10 +185,11 @@ function glance(state) {
   const over = state.links.filter(link => link.changing_over).length;
   return [
     ['Links in service', up + ' of ' + state.links.length, up === state.links.length ? 'good' : 'bad'],
-    ['Changeovers under way', count(over), over ? 'turning' : ''],
-    ['Messages held', count(state.held) + ' of ' + count(state.pool), ''],
-    ['Messages may be lost', raised(state.times_lost), state.times_lost ? 'bad' : ''],
-    ['Messages may be late', raised(state.times_late), state.times_late ? 'turning' : ''],
+    ['Changeovers', count(over), over ? 'turning' : ''],
+    ['Messages kept', count(state.kept) + ' of ' + count(state.pool), state.kept < state.pool ? '' : 'bad'],
+    ['Messages held', count(state.held), ''],
+    ['Perhaps lost', raised(state.times_lost), state.times_lost ? 'bad' : ''],
+    ['Perhaps late', raised(state.times_late), state.times_late ? 'turning' : ''],
     ['Notices', count(state.notice_count), ''],
   ];
 }
@@ -282,10 +293,10 @@ function showRoutes(state) {
 function showNotices(state) {
   const list = $('notices'), first = seen === null;
   if (first) list.replaceChildren();
-  const now = new Date().toLocaleTimeString('en-GB');
-  for (const { number, text } of state.notices) {
+  for (const { number, time_ms, text } of state.notices) {
     if (!first && number <= seen) continue;
-    list.prepend(make('li', {}, make('span', {}, '#' + number), make('span', {}, first ? '–' : now), text));
+    const came = clock(Date.now() - (state.uptime_ms - time_ms));
+    list.prepend(make('li', {}, make('span', {}, '#' + number), make('span', {}, came), text));
   }
   while (list.children.length > MOST_NOTICES) list.lastChild.remove();
   seen = state.notice_count;

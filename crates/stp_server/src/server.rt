@@ -13,6 +13,7 @@ use served_link::Watch;
 use served_node::{FileCapture, Log, Node};
 use served_page::ServedPage;
 use settings::{FailureReason, Outcome};
+use status_page::NoticeLog;
 use std::alloc::Global;
 use std::marker::Model;
 use std::net::{Net, SocketAddr};
@@ -49,6 +50,7 @@ pub struct Server {
     tcp: TcpLinks,
     sctp: Option<SctpSockets>,
     page: Option<ServedPage>,
+    notices: NoticeLog,
     points: PointFormat,
     poll: Poll,
     events: Events,

@@ -9,6 +9,7 @@ use sctp_links::{Keys, SctpSockets};
 use serve_settings::{Endpoint, SctpTimes};
 use served_node::{Listener, Log, Node, OpenFault, SocketName};
 use settings::{LinkId, Settings};
+use status_page::NoticeLog;
 use std::alloc::Global;
 use std::net::{Net, SocketAddr};
 use std::random::RandomSource;
@@ -85,6 +86,7 @@ impl Server {
                     tcp,
                     sctp: None,
                     page: None,
+                    notices: NoticeLog::new(),
                     points,
                     poll,
                     events,

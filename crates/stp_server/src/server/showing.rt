@@ -32,16 +32,21 @@ impl Server {
         Ok(())
     }
 
-    /// Shows the status page to those who look at it.
+    /// Shows the status page to those who look at it. Notices that are new came now.
     pub(crate) fn show_page(&mut self, now: Duration) {
         let Some(page) = &mut self.page else {
             return;
         };
         let now_ms = millis(now);
+        let exchange = &self.node.exchange;
+        if exchange.notice_count() != self.notices.count {
+            self.notices.look(exchange, now_ms);
+        }
         let content = StatusPage {
             alloc: self.alloc,
-            exchange: &self.node.exchange,
+            exchange,
             counters: &self.node.observers.counters,
+            notices: &self.notices,
             points: self.points,
             uptime_ms: now_ms,
         };

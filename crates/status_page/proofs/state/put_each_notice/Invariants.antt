@@ -6,6 +6,6 @@ use Rattle.status_page.proofs.state.put_each_notice.Given as goal
 
 abbrev pub invariant-loop-k : goal.invariant-loop-k
 invariant-loop-k l = record {
-  tokens : l.out.tokens ≡ l.fn.out.tokens ++ each (notice_tokens l.fn.points l.fn.exchange) l.k;
+  tokens : l.out.tokens ≡ l.fn.out.tokens ++ each (notice_tokens l.fn.points l.fn.exchange l.fn.notices) l.k;
   before : l.out.before ≡ l.fn.out.before;
 }

@@ -8,7 +8,7 @@ use Rattle.status_page.proofs.state.put_notice.Goals as goal
 pub returns-then-show_notices : goal.returns-then-show_notices
 unfolding notice_tokens
 returns-then-show_notices c =
-    rw (line_shown _ _ _ _ c.show_notices.ensures.kept_line c.if-show_notices.true, ← c.notice_number.ensures, ← c.as_str.ensures.value)
+    rw (line_shown _ _ _ _ c.show_notices.ensures.kept_line c.if-show_notices.true, ← c.notice_number-number.ensures, ← c.time_ms.ensures, ← c.as_str.ensures.value)
     c.put_shown_notice.ensures
 
 pub returns : goal.returns
