@@ -3,8 +3,10 @@
 from harness import ROOT, Link, NodeTest, free_port, links_between, run, settings
 from traffic import FAR, NEAR
 
+EXAMPLES = ROOT / "crates/transcripts/data"
+
 # The first of its runs is one of a link.
-TRANSCRIPT = ROOT / "crates/transcripts/data/lab.transcript"
+TRANSCRIPT = EXAMPLES / "lab.transcript"
 
 # A change of the settings, the fault that it makes, and what is wrong there.
 FAULTS = (
@@ -76,6 +78,15 @@ class Words(NodeTest):
             ended = run("run", folder=self.folder, text=script)
             shown = "link e0 Down waiting 0 fsn 16777215 bsn 16777215\n"
             self.assertEqual((ended.returncode, ended.stdout), (status, shown + printed))
+
+    def test_a_script_on_the_settings_of_a_file(self) -> None:
+        """A message is forwarded, and the last line is malformed."""
+        (self.folder / "two_sets.toml").write_text((EXAMPLES / "two_sets.toml").read_text())
+        script = (EXAMPLES / "forward.script").read_text()
+        ended = run("run", "two_sets.toml", folder=self.folder, text=script + "tik 3\n")
+        self.assertEqual(ended.returncode, 3)
+        forwarded = "frame w0 01000b010000001800ffffff0000000100852c810050aabb"
+        self.assertEqual(ended.stdout.splitlines()[-3:], ["queued w0", forwarded, "fault 17"])
 
     def expect(self, script: str, printed: str) -> None:
         ended = run("run", folder=self.folder, text=script, encoding="latin-1")

@@ -16,8 +16,12 @@
 //!   that comes to point 1, which has subsystem 8, by that table.
 //! - `tries.rows`: `trie`, calls of a trie of digits.
 //! - `sctp.rows`: `packet`.
+//! - `cookies.rows`: `mac KEY MESSAGE`, the code of a message; `tags KEY TIMES`, the first tags under a key;
+//!   `sign KEY NUMBER..`, the octets of a cookie with these fields, in the order of their places; `open KEY OCTETS`, the
+//!   cookie of these octets.
 #![tactic(auto)]
 
+mod cookies;
 mod frames;
 mod mtp3;
 mod rows;
@@ -93,6 +97,10 @@ fn say(said: &mut Said, stores: &mut Stores, row: &str) {
         "address" => sccp::address(said, octets),
         "unitdata" => sccp::unitdata(said, octets),
         "packet" => sctp::packet(said, octets),
+        "mac" => cookies::mac(said, row, octets),
+        "tags" => cookies::tags(said, row),
+        "sign" => cookies::sign(said, row),
+        "open" => cookies::open(said, row, octets),
         "title" => tables::titles(said, &mut stores.titles, row),
         "relay" => tables::relayed(said, &stores.titles, octets),
         _ => tables::digits_of(said, &mut stores.trie, row),

@@ -1,7 +1,7 @@
 //! Whether what was told is in its place.
 
-use crate::counts::{Counts, count};
-use crate::octets::number;
+use crate::schedules::counts::{Counts, count};
+use crate::schedules::octets::number;
 use sctp_world::{End, Entry, Messages, Text, World};
 
 /// Where a message of an association stands.

@@ -2,10 +2,12 @@
 
 ghost use Rattle.std.specs.Prelude.{◌≡◌};
 
-use crate::counts::{Counts, count};
 use crate::dice::Dice;
-use crate::judging::judge;
-use crate::octets::{COOKIE_ACK, COOKIE_ECHO, DATA, ERROR, STALE_COOKIE, cause, kind, tag, tsn};
+use crate::schedules::counts::{Counts, count};
+use crate::schedules::judging::judge;
+use crate::schedules::octets::{
+    COOKIE_ACK, COOKIE_ECHO, DATA, ERROR, STALE_COOKIE, cause, kind, tag, tsn,
+};
 use sctp_endpoint::{Address, Settings};
 use sctp_sending::{Bounds, Message};
 use sctp_world::{Doing, End, Entry, Making, World};

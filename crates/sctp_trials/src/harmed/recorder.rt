@@ -1,6 +1,6 @@
 //! What an endpoint puts out and tells.
 
-use crate::octets::{number, octet};
+use crate::harmed::octets::{number, octet};
 use sctp_endpoint::{Address, Event, Watch};
 use sctp_rules::Loss;
 use std::alloc::{AllocError, Global};

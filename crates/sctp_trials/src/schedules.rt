@@ -2,31 +2,22 @@
 //! reordered, those of former associations come too, and users open, end and shut down associations.
 //!
 //! A schedule is 4,000 steps, each at one of the ends: of 64 steps 16 send a message, 12 flush, 6 tick, 2 open, and most
-//! others let a datagram come that the other end put out: mostly one of the latest twelve, else any that ever was. It
-//! plays as many schedules as its first word says, or 200. Each message has a number of its own, so it is seen whether
-//! it is the next one of its association, and whether associations are told once each, and in order. `World::told`
-//! promises that, so `out of place` is 0; all other numbers follow from the dice, and are from a run.
-#![tactic(auto)]
+//! others let a datagram come that the other end put out: mostly one of the latest twelve, else any that ever was. Each
+//! message has a number of its own, so it is seen whether it is the next one of its association, and whether
+//! associations are told once each, and in order. `World::told` promises that, so `out of place` is 0; all other numbers
+//! follow from the dice, and are from a run.
 
 mod counts;
-mod dice;
 mod judging;
 mod octets;
 mod schedule;
 
 use counts::Counts;
 use schedule::play;
-use std::{env, io};
+use std::io;
 
-/// How many schedules are played.
-const SCHEDULES: u32 = 200;
-
-fn main(rt: HostRuntime) -> io::Result<()> {
-    let words: Vec<String> = env::args(&rt)?.skip(1).collect(rt.alloc())?;
-    let mut schedules = SCHEDULES;
-    for word in &words {
-        schedules = word.as_str().parse::<u32>().unwrap_or(SCHEDULES);
-    }
+/// Plays so many schedules, and prints what came of them.
+pub fn print_schedules<R: Print + AllocGlobal>(rt: &R, schedules: u32) -> io::Result<()> {
     let mut counts = Counts::new();
     for seed in 0..schedules {
         play(rt.alloc(), seed, &mut counts)?;

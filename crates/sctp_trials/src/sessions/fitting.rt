@@ -1,6 +1,6 @@
 //! Datagrams of a recorded peer, made to fit an end of other tags, TSNs and cookies.
 
-use crate::names::{Name, matched};
+use crate::sessions::names::{Name, matched};
 use crc32c::crc32c;
 
 /// Octets in front of the chunks (RFC 9260 §3.1).

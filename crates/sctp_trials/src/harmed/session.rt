@@ -1,11 +1,11 @@
 //! Two ends, the near one of which is in a phase.
 
-use crate::counts::{Counts, add};
 use crate::dice::Dice;
-use crate::judging::{ABORT, Kind, is_reflection, kind_of};
-use crate::octets::{has_right_checksum, octet};
-use crate::recorder::{INIT, KIND_AT};
-use crate::side::{Doing, Side};
+use crate::harmed::counts::{Counts, add};
+use crate::harmed::judging::{ABORT, Kind, is_reflection, kind_of};
+use crate::harmed::octets::{has_right_checksum, octet};
+use crate::harmed::recorder::{INIT, KIND_AT};
+use crate::harmed::side::{Doing, Side};
 use std::alloc::{AllocError, Global};
 
 /// Types of chunks (RFC 9260 §3.2).

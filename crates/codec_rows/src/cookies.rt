@@ -1,23 +1,10 @@
 //! Codes, tags and cookies.
 
 use crate::rows::{OCTETS, octets, word};
+use crate::said::Said;
 use sctp_cookie::hmac::hmac_sha256;
 use sctp_cookie::{Cookie, Tags};
-use std::fmt::{Display, Write};
 use std::str::FromStr;
-
-/// Says a word. What finds no memory is left out, so that the row fails.
-fn say<T: Display + Drop>(said: &mut String, value: T) {
-    let _ = write!(said, " {value}");
-}
-
-/// Says octets.
-fn say_octets(said: &mut String, octets: &[u8]) {
-    say(said, "");
-    for octet in octets {
-        let _ = write!(said, "{octet:02x}");
-    }
-}
 
 /// The key of 32 octets of a row.
 fn key(row: &str) -> Option<[u8; 32]> {
@@ -26,24 +13,24 @@ fn key(row: &str) -> Option<[u8; 32]> {
 }
 
 /// Says the code of a message under the key of the row.
-pub fn mac(said: &mut String, row: &str, message: &[u8]) {
+pub fn mac(said: &mut Said, row: &str, message: &[u8]) {
     let mut buffer = [0; OCTETS];
     let key = octets(word(row, 1), &mut buffer);
     if key.len() <= 64 {
-        say_octets(said, &hmac_sha256(key, message));
+        said.octets(&hmac_sha256(key, message));
     }
 }
 
 /// Says the first tags under the key of the row.
-pub fn tags(said: &mut String, row: &str) {
+pub fn tags(said: &mut Said, row: &str) {
     let Some(key) = key(row) else {
         return;
     };
     let mut tags = Tags::new(key);
     for _ in 0..word(row, 2).parse().unwrap_or(0u32) {
         match tags.draw() {
-            Some(tag) => say(said, tag),
-            None => say(said, "none"),
+            Some(tag) => said.say(tag),
+            None => said.say("none"),
         }
     }
 }
@@ -57,7 +44,7 @@ where
 }
 
 /// Says the octets of the cookie of the row.
-pub fn sign(said: &mut String, row: &str) {
+pub fn sign(said: &mut Said, row: &str) {
     let cookie = Cookie {
         made: number(row, 2),
         generation: number(row, 3),
@@ -74,25 +61,25 @@ pub fn sign(said: &mut String, row: &str) {
         peer_port: number(row, 14),
     };
     if let Some(key) = key(row) {
-        say_octets(said, &cookie.sign(&key));
+        said.octets(&cookie.sign(&key));
     }
 }
 
 /// Says the cookie of these octets under the key of the row.
-pub fn open(said: &mut String, row: &str, octets: &[u8]) {
+pub fn open(said: &mut Said, row: &str, octets: &[u8]) {
     let Some(key) = key(row) else {
         return;
     };
     match Cookie::open(octets, &key) {
         Some(cookie) => say_cookie(said, &cookie),
-        None => say(said, "none"),
+        None => said.say("none"),
     }
 }
 
 /// Says the fields of a cookie.
-fn say_cookie(said: &mut String, cookie: &Cookie) {
+fn say_cookie(said: &mut Said, cookie: &Cookie) {
     for time in [cookie.made, cookie.generation] {
-        say(said, time);
+        said.say(time);
     }
     for number in [
         cookie.own_tag,
@@ -101,13 +88,13 @@ fn say_cookie(said: &mut String, cookie: &Cookie) {
         cookie.peer_first_tsn,
         cookie.peer_window,
     ] {
-        say(said, number);
+        said.say(number);
     }
     for streams in [cookie.peer_outgoing_streams, cookie.peer_incoming_streams] {
-        say(said, streams);
+        said.say(streams);
     }
     for number in [cookie.tie_own_tag, cookie.tie_peer_tag, cookie.life] {
-        say(said, number);
+        said.say(number);
     }
-    say(said, cookie.peer_port);
+    said.say(cookie.peer_port);
 }

@@ -1,7 +1,7 @@
 //! What a datagram may do, by its tag.
 
-use crate::octets::{TAG_AT, number, octet};
-use crate::recorder::{Datagram, KIND_AT, Recorder};
+use crate::harmed::octets::{TAG_AT, number, octet};
+use crate::harmed::recorder::{Datagram, KIND_AT, Recorder};
 use sctp_codec::{Chunk, Packet};
 
 /// The types of ABORT and SHUTDOWN COMPLETE, and the T bit (RFC 9260 §3.3.7, §3.3.13).

@@ -2,10 +2,10 @@
 
 ghost use Rattle.std.specs.Prelude.{◌≤◌, ◌^◌};
 
-use crate::fitting::fit;
-use crate::names::{Name, add};
-use crate::recorder::{Recorder, kind_of};
-use crate::rows::{OCTETS, hexadecimal, number, octets, word};
+use crate::sessions::fitting::fit;
+use crate::sessions::names::{Name, add};
+use crate::sessions::recorder::{Recorder, kind_of};
+use crate::sessions::rows::{OCTETS, hexadecimal, number, octets, word};
 use sctp_codec::Packet;
 use sctp_endpoint::endpoint::KEY_OCTETS;
 use sctp_endpoint::{Address, Endpoint, Settings};

@@ -2,8 +2,8 @@
 
 ghost use Rattle.std.specs.Prelude.{◌≤◌, ◌^◌};
 
-use crate::octets::{TAG_AT, number};
-use crate::recorder::Recorder;
+use crate::harmed::octets::{TAG_AT, number};
+use crate::harmed::recorder::Recorder;
 use sctp_endpoint::endpoint::KEY_OCTETS;
 use sctp_endpoint::{Address, Endpoint, Settings};
 use sctp_sending::{Bounds, Message};

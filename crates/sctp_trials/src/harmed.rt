@@ -14,10 +14,8 @@
 //! with the tag that came. The tag of COOKIE ECHO is the one in its cookie. INIT tells nothing. `opened or ended without
 //! its tags` counts those that did more. This and `in another phase` are 0; all other numbers follow from the dice, and
 //! are from a run.
-#![tactic(auto)]
 
 mod counts;
-mod dice;
 mod harm;
 mod judging;
 mod octets;
@@ -25,8 +23,8 @@ mod recorder;
 mod session;
 mod side;
 
+use crate::dice::Dice;
 use counts::{Counts, add};
-use dice::Dice;
 use harm::draw;
 use octets::Octets;
 use session::{Session, Stage};
@@ -39,7 +37,8 @@ const DATAGRAMS: u32 = 12_500;
 /// Datagrams of a session, at most.
 const SESSION: u32 = 20;
 
-fn main(rt: HostRuntime) -> io::Result<()> {
+/// Hands in all of them, and prints what came of it, phase by phase.
+pub fn print_phases<R: Print + AllocGlobal>(rt: &R) -> io::Result<()> {
     let mut seed = 0u64;
     for (stage, name) in [
         (Stage::Closed, "closed"),

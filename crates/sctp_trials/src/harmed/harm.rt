@@ -1,8 +1,8 @@
 //! How good datagrams are harmed.
 
 use crate::dice::Dice;
-use crate::octets::{HEADER_OCTETS, Octets, TAG_AT, number, octet, piece};
-use crate::recorder::Datagram;
+use crate::harmed::octets::{HEADER_OCTETS, Octets, TAG_AT, number, octet, piece};
+use crate::harmed::recorder::Datagram;
 
 /// Where the length of the first chunk stands (RFC 9260 §3.2).
 const LENGTH_AT: usize = 14;

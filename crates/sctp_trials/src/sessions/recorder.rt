@@ -1,6 +1,6 @@
 //! Keeps what an endpoint tells, as lines, and what of its datagrams a session needs.
 
-use crate::names::{Name, add};
+use crate::sessions::names::{Name, add};
 use sctp_codec::{Chunk, Init, Packet, cookie};
 use sctp_cookie::COOKIE_OCTETS;
 use sctp_endpoint::{Address, Event, Watch};

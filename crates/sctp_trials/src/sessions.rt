@@ -2,8 +2,8 @@
 //! `Endpoint` what usrsctp sent, at the time when it came, and does the same calls. `stdout` was written from what the
 //! user of the recorded end was told, so a session goes wrong at the first line that differs.
 //!
-//! It is given the names of files in `data/`, a session each. Octets are hexadecimal, times milliseconds. A line that
-//! begins with `#` says what happens; in every other line the first word is the kind of the row:
+//! Each session is a file in `data/`. Octets are hexadecimal, times milliseconds. A line that begins with `#` says what
+//! happens; in every other line the first word is the kind of the row:
 //!
 //! - `open TIME HOW`, `tick TIME`, `shutdown TIME`, `send STREAM PROTOCOL OCTETS`: a call;
 //! - `hear TIME DATAGRAM`: what came from usrsctp;
@@ -21,7 +21,6 @@
 //! of them as usrsctp had sent them; how many datagrams were heard, and put out; and whether the user was told what the
 //! recorded one was. How many are put out is no matter of the recording: the other end, which delayed SACK, put out 24,
 //! 10, 76 and 6.
-#![tactic(auto)]
 
 mod fitting;
 mod names;
@@ -31,18 +30,10 @@ mod session;
 
 use session::Session;
 use std::rt::Files;
-use std::{env, fs, io};
-
-fn main(rt: HostRuntime) -> io::Result<()> {
-    let names: Vec<String> = env::args(&rt)?.skip(1).collect(rt.alloc())?;
-    for name in &names {
-        print_session(&rt, name.as_str())?;
-    }
-    Ok(())
-}
+use std::{fs, io};
 
 /// Plays a session, and prints what came of it.
-fn print_session<R: Files + Print + AllocGlobal>(rt: &R, name: &str) -> io::Result<()> {
+pub fn print_session<R: Files + Print + AllocGlobal>(rt: &R, name: &str) -> io::Result<()> {
     let rows = fs::read_to_string(rt, name)?;
     println!(rt; "{name}")?;
     let mut session = Session::new(rt.alloc())?;
