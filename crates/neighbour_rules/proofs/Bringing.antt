@@ -109,16 +109,20 @@ module _ (c z : Configuration) (j : Joint c z) where
   }
 
   -- a message for the other, or one that passes by
+  pub record IsPassing (m : Message) : Type 0 where
+    pub says : read m ≡ Other
+    pub short : length m.sif ≤ SIF_OCTETS
+
   abbrev pub IsOnItsWay : Message → Type 0
-  IsOnItsWay m = IsAccepted z m ⊎ (read m ≡ Other)
+  IsOnItsWay m = IsAccepted z m ⊎ IsPassing m
 
   pub coming-in : (w : World) (n : Node WholeQueues) (m : Message) → IsOnItsWay m → Passes c z j (at c z j w n [] []) (at c z j (accepting w (m ∷ [])) n [] (m ∷ []))
   coming-in w n m (inl is) =
       subst (λ (ms : List Message). Passes c z j (at c z j w n [] []) (at c z j (booking w ms) n [] (m ∷ []))) (sym (one-booked m is)) (taking-in w n m is)
-  coming-in w n m (inr says) =
-      subst (λ (ms : List Message). Passes c z j (at c z j w n [] []) (at c z j (booking w ms) n [] (m ∷ []))) (sym (unbooked m says))
+  coming-in w n m (inr past) =
+      subst (λ (ms : List Message). Passes c z j (at c z j w n [] []) (at c z j (booking w ms) n [] (m ∷ []))) (sym (unbooked m past.says))
       (subst (λ (ms : List Message). Passes c z j (at c z j w n [] []) (record w { near = record { node = n; arrived = []; loose = m ∷ []; accepted = ms; received = w.near.received } }))
-      (sym (append-nil w.near.accepted)) (making c z j w n [] m [] says))
+      (sym (append-nil w.near.accepted)) (making c z j w n [] m [] past.says past.short))
 
   -- ---- it is queued or held, or refused
 
@@ -146,9 +150,9 @@ module _ (c z : Configuration) (j : Joint c z) where
       by false e = none-accepted w n
 
   -- a user message on its way to a destination
-  pub user-way : (m : Message) → is_management m ≡ false → (dpc_of m ≡ z.own → IsAccepted z m) → is_destination c (dpc_of m) ≡ true → IsOnItsWay m
-  user-way m user there e =
-      ⊎_elim (λ (to : dpc_of m ≡ z.own). inl (there to)) (λ (d : dpc_of m ≢ z.own). inr (past-says m user (known (destination_place c (dpc_of m)) refl e) d)) (cases_eq (dpc_of m) z.own)
+  pub user-way : (m : Message) → is_management m ≡ false → length m.sif ≤ SIF_OCTETS → (dpc_of m ≡ z.own → IsAccepted z m) → is_destination c (dpc_of m) ≡ true → IsOnItsWay m
+  user-way m user short there e =
+      ⊎_elim (λ (to : dpc_of m ≡ z.own). inl (there to)) (λ (d : dpc_of m ≢ z.own). inr (record { says = past-says m user (known (destination_place c (dpc_of m)) refl e) d; short = short })) (cases_eq (dpc_of m) z.own)
     where
       known : (o : Option ℕ) → destination_place c (dpc_of m) ≡ o → is_some o ≡ true → dpc_of m ≢ c.own
       known (Some place) f h = destination-far c j.near_well (dpc_of m) place f
@@ -162,7 +166,7 @@ module _ (c z : Configuration) (j : Joint c z) where
         (at c z j (accepting w (taken_in (transfer whole c None (in_place_of m sif) n).outcome (in_place_of m sif))) (transfer whole c None (in_place_of m sif) n).left [] [])
     written sif f =
         transferred None w n (in_place_of m sif)
-        (user-way (in_place_of m sif) user
+        (user-way (in_place_of m sif) user f.short
         (λ to. record { user = user; to = to; label = label_at sif; here = comes-here z (in_place_of m sif) f.long f.short (network ∙ j.shares.network) to })) wait
 
     -- the UDTS that returns it
@@ -218,6 +222,12 @@ module _ (c z : Configuration) (j : Joint c z) where
 
   -- ---- a message that goes on
 
+  pub goes-short : (m : Message) (label : Label) → whither_goes c m ≡ whither.Transfer label → length m.sif ≤ SIF_OCTETS
+  goes-short m label e =
+      let ours : (nat_lt SIF_OCTETS (length m.sif) ≡ false) × (nat_lt (length m.sif) 4 ≡ false) × (nat_eq (network_indicator m) c.network ≡ true) =
+      decided-on (nat_lt SIF_OCTETS (length m.sif)) (nat_lt (length m.sif) 4) (nat_eq (network_indicator m) c.network) (nat_eq (dpc_of m) c.own) (label_at m.sif) label e in
+      grind (arith, nat_tests, ours.0)
+
   -- the other takes it as its own, where it is for the other
   pub goes-on : (m : Message) (label : Label) → is_management m ≡ false → whither_goes c m ≡ whither.Transfer label → dpc_of m ≡ z.own → IsAccepted z m
   goes-on m label user e to =
@@ -246,4 +256,4 @@ module _ (c z : Configuration) (j : Joint c z) where
       by : (b : Bool) → is_management m ≡ b → Passes c z j (at c z j w n [] [])
           (at c z j (accepting w (taken_in (if b then refuse causes.NotInProfile n else transfer whole c None m n).outcome m)) (if b then refuse causes.NotInProfile n else transfer whole c None m n).left [] [])
       by true f = none-accepted w n
-      by false f = transferred None w n m (user-way m f (goes-on m label f e)) wait
+      by false f = transferred None w n m (user-way m f (goes-short m label e) (goes-on m label f e)) wait

@@ -1,12 +1,11 @@
 -- Whole events at the near node: by moves.
-use Rattle.pair_rules.proofs.Basics.{◌≡◌, List, [], true, refl}
-use Rattle.pair_rules.proofs.Definitions.{Message, Configuration, TitleEntry, Node, Done, Happening, Submitted, WholeQueues, whole, all_wait, with_parts, with_titles, release, settled, handle_event, apply, fit-steps, submit_to, whither_goes, brought_to}
+use Rattle.pair_rules.proofs.Basics.{◌≡◌, [], true, refl}
+use Rattle.pair_rules.proofs.Definitions.{Message, Configuration, Node, Done, Happening, Submitted, WholeQueues, whole, all_wait, release, settled, handle_event, apply, submit_to, whither_goes, brought_to}
 use Rattle.pair_rules.proofs.World.{World}
 use Rattle.neighbour_rules.proofs.Good.{Joint, Passes, at, passes-both}
 use Rattle.neighbour_rules.proofs.Bringing.{accepting, submitted}
 use Rattle.neighbour_rules.proofs.Messages.{release-passes}
 use Rattle.neighbour_rules.proofs.Telling.{tell_owed-passes}
-use Rattle.neighbour_rules.proofs.Unseen.{aside-passes}
 
 module _ (c z : Configuration) (j : Joint c z) where
   -- the end of each: messages are released, and what is owed is told
@@ -25,7 +24,3 @@ module _ (c z : Configuration) (j : Joint c z) where
   submitting-passes m w n wait =
       event-passes (Submitted m) w (accepting c z j w (brought_to (whither_goes c m) (submit_to whole c (whither_goes c m) m n).outcome c m n)) n
       (submitted c z j (whither_goes c m) w n m refl wait)
-
-  -- translation rows are others
-  pub titled-passes : (rows : List TitleEntry) (w : World) (n : Node WholeQueues) → Passes c z j (at c z j w n [] []) (at c z j w (with_parts n (with_titles rows n.parts)) [] [])
-  titled-passes rows w n = aside-passes c z j w n [] [] (with_titles rows n.parts) ((fit-steps c).titled rows n) refl refl refl refl refl refl (λ e. e)

@@ -28,6 +28,13 @@ module _ (c z : Configuration) (j : Joint c z) where
   pub holds-by : (p : Parts) (procedure : ends.Procedure) (flow : Flow) → holds_of c z (set c z j) p procedure flow ≡ (nat_eq flow.point z.own && hold_by p.holds procedure flow.sls)
   holds-by p procedure flow = ap (λ (d : Option ℕ). nat_eq flow.point z.own && holds_at c z (set c z j) d p procedure flow.sls) j.place
 
+  -- the same is shown of the same holds
+  pub holds-alike : (p q : Parts) → q.holds ≡ p.holds → holds_of c z (set c z j) q ≡ holds_of c z (set c z j) p
+  holds-alike p q e = λ i. λ procedure flow.
+      (holds-by q procedure flow
+      ∙ ap (λ (h : HoldSet). nat_eq flow.point z.own && hold_by h procedure flow.sls) e
+      ∙ sym (holds-by p procedure flow)) i
+
   -- a line whose link isn't this one
   apart-own : (link code : ℕ) → link < length c.links → code ≢ code_of c link → own c z j code ≢ link
   apart-own link code l d e = d (sym (at-line c j.near_well (set c z j) link code l e).its_code)

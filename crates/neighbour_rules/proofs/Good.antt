@@ -1,8 +1,8 @@
 -- What holds of a node at work that shares a set with another, whatever neighbours it has besides, and of what is in flight to it; and that a rule goes by
 -- moves and keeps that.
 use Rattle.pair_rules.proofs.Basics.{◌≡◌, ◌≢◌, ℕ, true, false, List, [], ◌∷◌, Some, Ok, slice_index_or}
-use Rattle.pair_rules.proofs.Definitions.{Message, is_management, service_indicator, dpc_of, opc_of, Configuration, destination_place, Label, FrameValue, EmptyFrame, MessageFrame, IsSayable, read_management, Management, ExtendedChangeoverOrder, ExtendedChangeoverAcknowledgement, ChangebackDeclaration, ChangebackAcknowledgement, Node, Fits, WholeQueues, queue_at, changeover_of, down, link_at, set_of, whither_goes, first_route, IsWell}
-use Rattle.std.proofs.Common.{◌<◌, length}
+use Rattle.pair_rules.proofs.Definitions.{Message, SIF_OCTETS, is_management, service_indicator, dpc_of, opc_of, Configuration, destination_place, Label, FrameValue, EmptyFrame, MessageFrame, IsSayable, read_management, Management, ExtendedChangeoverOrder, ExtendedChangeoverAcknowledgement, ChangebackDeclaration, ChangebackAcknowledgement, Node, Fits, WholeQueues, queue_at, changeover_of, down, link_at, set_of, whither_goes, first_route, IsWell}
+use Rattle.std.proofs.Common.{◌<◌, ◌≤◌, length}
 use Rattle.mtp3_codec.specs.declared.discrimination.Discrimination.TheVariants as whither
 use Rattle.settings.specs.Sharing.{SharesSet}
 use Rattle.pair_moves.specs.Sayings.{Other}
@@ -39,11 +39,11 @@ pub record IsAccepted (z : Configuration) (m : Message) : Type 0 where
   pub label : Label
   pub here : whither_goes z m ≡ whither.Here label
 
--- whatever stands on a link between the two, or in Held, or goes from one to the other
+-- whatever stands on a link between the two, or in Held, or goes from one to the other; what passes by is short, so that a frame that carries it reads back
 pub data IsSent (c z : Configuration) (set : ℕ) (m : Message) : Type 0 where
   made : IsMade c z set m → IsSent c z set m
   accepted : IsAccepted z m → IsSent c z set m
-  passes_by : says_of c.own z.own m ≡ Other → IsSent c z set m
+  passes_by : says_of c.own z.own m ≡ Other → length m.sif ≤ SIF_OCTETS → IsSent c z set m
 
 -- User Data in flight from the node with settings c
 pub data IsFlying (c z : Configuration) (set : ℕ) : FrameValue → Type 0 where
@@ -102,6 +102,10 @@ module _ (c z : Configuration) (j : Joint c z) where
         (p.goes g) (q.goes (p.good g));
     good = λ g. q.good (p.good g);
   }
+
+  -- what is good says how
+  pub passes-good : (v w : World) → (Good v → Passes v w) → Passes v w
+  passes-good v w p = record { goes = λ g. (p g).goes g; good = λ g. (p g).good g }
 
   -- the near node at work
   abbrev pub at : World → Node WholeQueues → (arrived loose : List Message) → World

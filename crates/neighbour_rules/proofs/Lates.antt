@@ -14,7 +14,7 @@ use Rattle.pair_rules.proofs.Lates.{freed-other, freed-own}
 use Rattle.neighbour_rules.proofs.World.{holds_of, procedure_of, says_of}
 use Rattle.neighbour_rules.proofs.Good.{Joint, Passes, at, confirms, made, passes-both, set}
 use Rattle.neighbour_rules.proofs.Messages.{making, send_routed-passes}
-use Rattle.neighbour_rules.proofs.Made.{past-other, word-made, word-says}
+use Rattle.neighbour_rules.proofs.Made.{confirmation-past, made-brief, word-made, word-says}
 use Rattle.neighbour_rules.proofs.Falling.{hold_by, holds-by}
 use Rattle.neighbour_rules.proofs.Unseen.{unseen-passes}
 
@@ -24,12 +24,12 @@ module _ (c z : Configuration) (j : Joint c z) where
 
   -- ---- what other procedures hold stays where one is lifted
 
-  apart-code : (code : ℕ) (other : ends.Procedure) → other ≢ ends.Code code → procedure_of c z (set c z j) other ≢ held_by.Code (set c z j) code
+  pub apart-code : (code : ℕ) (other : ends.Procedure) → other ≢ ends.Code code → procedure_of c z (set c z j) other ≢ held_by.Code (set c z j) code
   apart-code code (ends.Changeover k) apart e = absurd cc
   apart-code code (ends.Code k) apart e = (let same : k ≡ code = cc in apart (ap ends.Code same))
   apart-code code (ends.Time k) apart e = absurd cc
 
-  apart-set : (its code : ℕ) (other : ends.Procedure) → its ≢ set c z j → procedure_of c z (set c z j) other ≢ held_by.Code its code
+  pub apart-set : (its code : ℕ) (other : ends.Procedure) → its ≢ set c z j → procedure_of c z (set c z j) other ≢ held_by.Code its code
   apart-set its code (ends.Changeover k) apart e = absurd cc
   apart-set its code (ends.Code k) apart e = (let same : set c z j ≡ its = cc in apart (sym same))
   apart-set its code (ends.Time k) apart e = absurd cc
@@ -78,12 +78,12 @@ module _ (c z : Configuration) (j : Joint c z) where
       (send_routed-passes c z j w n rest (changeback_acknowledgement c z.own slc code) [] (made-management c z.own (ChangebackAcknowledgement slc code)))
 
   -- that of a third point is answered past the other
-  pub declaration_past-passes : (w : World) (n : Node WholeQueues) (point slc code : ℕ) → point < 2 ^ 14 → slc < 16 → code < 256 → point ≢ z.own
-      → Passes c z j (at c z j w n [] []) (at c z j w (on_changeback_declaration whole c point slc code n).left [] [])
-  declaration_past-passes w n point slc code fits few small d =
+  pub declaration_past-passes : (w : World) (n : Node WholeQueues) (arrived : List Message) (point slc code : ℕ) → point < 2 ^ 14 → slc < 2 ^ 4 → point ≢ z.own
+      → Passes c z j (at c z j w n arrived []) (at c z j w (on_changeback_declaration whole c point slc code n).left arrived [])
+  declaration_past-passes w n arrived point slc code fits few d =
       let m : Message = changeback_acknowledgement c point slc code in
-      passes-both c z j _ _ _ (making c z j w n [] m [] (past-other c z j point (ChangebackAcknowledgement slc code) fits (few, small) d))
-      (send_routed-passes c z j w n [] m [] (made-management c point (ChangebackAcknowledgement slc code)))
+      passes-both c z j _ _ _ (making c z j w n arrived m [] (confirmation-past c z j point slc code fits few d) (made-brief c z j point (ChangebackAcknowledgement slc code)))
+      (send_routed-passes c z j w n arrived m [] (made-management c point (ChangebackAcknowledgement slc code)))
 
   -- ---- a confirmation ends its hold
 

@@ -12,7 +12,7 @@ use Rattle.pair_rules.proofs.World.{World, end_of}
 use Rattle.neighbour_rules.proofs.World.{code_of, link_at_code, line_of, shown_by}
 use Rattle.neighbour_rules.proofs.Good.{Joint, at, set}
 
-of-some : (b : Bool) (n i : ℕ) → cond {A = Option ℕ} b (Some n) None ≡ Some i → n ≡ i
+pub of-some : (b : Bool) (n i : ℕ) → cond {A = Option ℕ} b (Some n) None ≡ Some i → n ≡ i
 of-some true n i e = cc
 of-some false n i e = absurd cc
 

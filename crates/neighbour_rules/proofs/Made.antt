@@ -1,13 +1,17 @@
 -- What a node makes: a word for the other says there what it says, and all else passes by.
-use Rattle.pair_rules.proofs.Basics.{◌≡◌, ◌≢◌, ◌<◌, ◌≤◌, ◌^◌, ℕ, Bool, true, false, ◌&&◌, ◌||◌, [], length, Ok, refl, ap, ◌∙◌, nat_eq, arith, slice_index_or, ⊎_elim, cases_lt, eq-eqb, get_or_past}
-use Rattle.pair_rules.proofs.Definitions.{Message, dpc_of, opc_of, service_indicator, Configuration, DestinationEntry, SetEntry, IsWell, IsDestination, IsSet, IsManagement, read_management, Management, management_to, made-indicator, made-dpc, made-opc, made-says, comes-here, RouteStatus}
+use Rattle.pair_rules.proofs.Basics.{◌≡◌, ◌≢◌, ◌<◌, ◌≤◌, ◌^◌, ℕ, Bool, true, false, ◌&&◌, ◌||◌, ◌+◌, ◌%◌, [], length, Ok, refl, ap, ◌∙◌, nat_eq, arith, slice_index_or, ⊎_elim, cases_lt, eq-eqb, get_or_past}
+use Rattle.pair_rules.proofs.Definitions.{Message, SIF_OCTETS, is_management, dpc_of, opc_of, service_indicator, Configuration, DestinationEntry, SetEntry, IsWell, IsDestination, IsSet, IsManagement, read_management, Management, management_to, changeback_acknowledgement, made-indicator, made-dpc, made-opc, made-says, comes-here, RouteStatus}
+use Rattle.std.specs.Prelude.{◌*◌}
 use Rattle.mtp3_codec.specs.Headings.{label_at}
 use Rattle.mtp3_codec.specs.declared.management.Management.TheVariants as says
 use Rattle.routes.specs.declared.route.RouteStatus.TheVariants.{Allowed, Restricted, Prohibited}
 use Rattle.exchange_rules.proofs.Basics.{eqb-true}
 use Rattle.exchange_rules.proofs.MadeManagement.{made-management, made-network, made-long, made-short}
 use Rattle.exchange_rules.specs.Routing.{adjacent_of, point_of}
-use Rattle.exchange_rules.specs.Telling.{route_message}
+use Rattle.exchange_rules.proofs.OwnManagement.{answer-management}
+use Rattle.exchange_rules.specs.Messages.{test_answer}
+use Rattle.exchange_rules.specs.Telling.{route_message, telling}
+use Rattle.mtp3_codec.specs.Management.{LinkTestValue}
 use Rattle.pair_moves.specs.Sayings.{Other}
 use Rattle.neighbour_rules.specs.Neighbours.{is_management_between}
 use Rattle.neighbour_rules.proofs.World.{is_between, is_for_either, management_says, read_says, says_by, says_of}
@@ -70,11 +74,8 @@ module _ (c z : Configuration) (j : Joint c z) where
 
   -- ---- management of any kind to a third point
 
-  pub past-other : (point : ℕ) (word : Management) → point < 2 ^ 14 → IsManagement word → point ≢ z.own → says_of c.own z.own (management_to c point word) ≡ Other
-  past-other point word fits h d =
-      ap (λ (b : Bool). says_by b (is_between c.own z.own (management_to c point word)) (is_for_either c.own z.own (management_to c point word)) (management_to c point word))
-      (made-management c j.near_well point word)
-      ∙ ap (λ (b : Bool). says_by true b (is_for_either c.own z.own (management_to c point word)) (management_to c point word)) none
+  pub past-between : (point : ℕ) (word : Management) → point < 2 ^ 14 → IsManagement word → point ≢ z.own → is_between c.own z.own (management_to c point word) ≡ false
+  past-between point word fits h d = ap (λ (b : Bool). b || is_management_between z.own c.own (management_to c point word)) there ∙ back
     where
       there : is_management_between c.own z.own (management_to c point word) ≡ false
       there =
@@ -88,8 +89,38 @@ module _ (c z : Configuration) (j : Joint c z) where
           ∙ ap (λ (b : Bool). nat_eq (service_indicator (management_to c point word)) 0 && (b && nat_eq (dpc_of (management_to c point word)) c.own)) (not-same c.own z.own j.apart)
           ∙ none-first (nat_eq (service_indicator (management_to c point word)) 0) (nat_eq (dpc_of (management_to c point word)) c.own)
 
-      none : is_between c.own z.own (management_to c point word) ≡ false
-      none = ap (λ (b : Bool). b || is_management_between z.own c.own (management_to c point word)) there ∙ back
+  -- management that isn't between the two passes by
+  pub between-not : (m : Message) → is_management m ≡ true → is_between c.own z.own m ≡ false → says_of c.own z.own m ≡ Other
+  between-not m e f =
+      ap (λ (b : Bool). says_by b (is_between c.own z.own m) (is_for_either c.own z.own m) m) e
+      ∙ ap (λ (b : Bool). says_by true b (is_for_either c.own z.own m) m) f
+
+  pub past-other : (point : ℕ) (word : Management) → point < 2 ^ 14 → IsManagement word → point ≢ z.own → says_of c.own z.own (management_to c point word) ≡ Other
+  past-other point word fits h d = between-not (management_to c point word) (made-management c j.near_well point word) (past-between point word fits h d)
+
+  -- the confirmation of a code, whatever octet that is
+  pub confirmation-past : (point slc code : ℕ) → point < 2 ^ 14 → slc < 2 ^ 4 → point ≢ z.own → says_of c.own z.own (changeback_acknowledgement c point slc code) ≡ Other
+  confirmation-past point slc code fits small d =
+      between-not (changeback_acknowledgement c point slc code) (made-management c j.near_well point (says.ChangebackAcknowledgement slc code))
+      (past-between point (says.ChangebackAcknowledgement slc 0) fits (small, omega arith) d)
+
+  -- the answer to a link test
+  test-indicator : (network : ℕ) → (network * 64 + 1) % 16 ≡ 1
+  test-indicator network = omega arith
+
+  pub test-past : (point : ℕ) (test : LinkTestValue) → says_of c.own z.own (test_answer c point test) ≡ Other
+  test-past point test =
+      between-not (test_answer c point test) (answer-management c point test)
+      (ap (λ (k : ℕ). (nat_eq k 0 && (nat_eq (opc_of (test_answer c point test)) c.own && nat_eq (dpc_of (test_answer c point test)) z.own))
+      || (nat_eq k 0 && (nat_eq (opc_of (test_answer c point test)) z.own && nat_eq (dpc_of (test_answer c point test)) c.own))) (test-indicator c.network))
+
+  -- ---- all of it is short
+
+  pub made-brief : (point : ℕ) (word : Management) → length (management_to c point word).sif ≤ SIF_OCTETS
+  made-brief point word = (let short : length (management_to c point word).sif ≤ 8 = made-short c j.near_well point word in omega (arith, short))
+
+  pub route-brief : (its destination : ℕ) (status : RouteStatus) → length (route_message c its destination status).sif ≤ SIF_OCTETS
+  route-brief its destination status = made-brief (adjacent_of c its) (telling status (point_of c destination))
 
   -- ---- a word for the other
 

@@ -1,6 +1,6 @@
 -- Messages that a node accepts, makes, holds and lets go on, for the other or past it: each rule goes by moves.
-use Rattle.pair_rules.proofs.Basics.{◌≡◌, ◌≢◌, ◌%◌, ◌^◌, ◌/◌, ◌&&◌, ℕ, Bool, true, false, not, List, [], ◌∷◌, ◌++◌, Option, Some, None, Result, Ok, Err, refl, ap, sym, subst, ◌∙◌, nat_eq, nat_lt, arith, filter, if◌then◌else◌, option_map, ⊎_elim, cases_eq, eq-eqb, nat_tests, and_right as free-false}
-use Rattle.pair_rules.proofs.Definitions.{SELECTIONS, Message, flow_of, is_management, dpc_of, label_number, Flow, Cause, Configuration, destination_place, Management, MgmtFault, read_management, HoldSet, is_held, Procedure, held_by, Node, lost_any, in_service, WholeQueues, queue_at, whole, queue_on, no_room, is_held_at, is_flow_held, waits, all_wait, link_of, set_of, facts, chosen_link, send, send_anew, send_routed, go, go_by, go_each, go_on, release, StaysFit, fit-steps, go_by-steps, Route, first_route, Standing, standing_at, Link, link_in, is_down, Saying, is_user_message, is_of_flow, is_same_flow, MayGo}
+use Rattle.pair_rules.proofs.Basics.{◌≡◌, ◌≢◌, ◌≤◌, length, ◌%◌, ◌^◌, ◌/◌, ◌&&◌, ℕ, Bool, true, false, not, List, [], ◌∷◌, ◌++◌, Option, Some, None, Result, Ok, Err, refl, ap, sym, subst, ◌∙◌, nat_eq, nat_lt, arith, filter, if◌then◌else◌, option_map, ⊎_elim, cases_eq, eq-eqb, nat_tests, and_right as free-false}
+use Rattle.pair_rules.proofs.Definitions.{SELECTIONS, SIF_OCTETS, Message, flow_of, is_management, dpc_of, label_number, Flow, Cause, Configuration, destination_place, Management, MgmtFault, read_management, HoldSet, is_held, Procedure, held_by, Node, lost_any, in_service, WholeQueues, queue_at, whole, queue_on, no_room, is_held_at, is_flow_held, waits, all_wait, link_of, set_of, facts, chosen_link, send, send_anew, send_routed, go, go_by, go_each, go_on, release, StaysFit, fit-steps, go_by-steps, Route, first_route, Standing, standing_at, Link, link_in, is_down, Saying, is_user_message, is_of_flow, is_same_flow, MayGo}
 use Rattle.std.proofs.Common.{option_and_then, slice_index_or}
 use Rattle.mtp3_codec.specs.declared.management.Management.TheVariants as says
 use Rattle.flow_hold.specs.Holds as hold
@@ -165,7 +165,7 @@ module _ (c z : Configuration) (j : Joint c z) where
           by : IsSent c z (set c z j) m → Passes c z j (at c z j w n arrived (m ∷ rest)) (at c z j w (queue_on whole c link m n) arrived rest)
           by (made is) = between g is.to
           by (accepted is) = between g is.to
-          by (passes_by says) = past says
+          by (passes_by says short) = past says
 
   -- ---- messages of Held go on
 
@@ -278,9 +278,9 @@ module _ (c z : Configuration) (j : Joint c z) where
 
   -- ---- a message that passes by comes up
 
-  pub making : (w : World) (n : Node WholeQueues) (arrived : List Message) (m : Message) (rest : List Message) → read m ≡ Other
+  pub making : (w : World) (n : Node WholeQueues) (arrived : List Message) (m : Message) (rest : List Message) → read m ≡ Other → length m.sif ≤ SIF_OCTETS
       → Passes c z j (at c z j w n arrived rest) (at c z j w n arrived (m ∷ rest))
-  making w n arrived m rest says = record {
+  making w n arrived m rest says short = record {
     goes = λ g.
         goes-one read _ _
         (moves.mixes_others (record {
@@ -300,7 +300,7 @@ module _ (c z : Configuration) (j : Joint c z) where
       queued = g.queued;
       elsewhere = g.elsewhere;
       held = g.held;
-      loose = (passes_by says, g.loose);
+      loose = (passes_by says short, g.loose);
       arrived = g.arrived;
       coming = g.coming;
     };

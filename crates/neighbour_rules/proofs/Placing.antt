@@ -9,7 +9,7 @@ use Rattle.pair_rules.proofs.Good.{Each, each-behind}
 use Rattle.pair_rules.proofs.Going.{goes-one}
 use Rattle.pair_rules.proofs.Lines.{queue-here, queue-other, served-listed}
 use Rattle.neighbour_rules.proofs.World.{code_of, line_of, link_at_code, route_of, says_of, shown}
-use Rattle.neighbour_rules.proofs.Good.{Good, IsSent, Joint, Passes, at, passes_by, set}
+use Rattle.neighbour_rules.proofs.Good.{Good, IsSent, Joint, Passes, at, set}
 use Rattle.neighbour_rules.proofs.Lines.{becomes, none-becomes, own-line}
 
 -- a message of which the laws don't speak isn't one of those that stay
@@ -113,7 +113,7 @@ module _ (c z : Configuration) (j : Joint c z) where
           route = g.route;
           unawaited = g.unawaited;
           silent = g.silent;
-          queued = λ other. one-still (IsSent c z (set c z j)) n link other m g.fits l (passes_by says) (g.queued other);
+          queued = λ other. one-still (IsSent c z (set c z j)) n link other m g.fits l g.loose.0 (g.queued other);
           elsewhere = λ other d. one-still (λ x. read x ≡ Other) n link other m g.fits l says (g.elsewhere other d);
           held = g.held;
           loose = g.loose.1;

@@ -1,12 +1,14 @@
 -- Between two nodes that have only each other each step does what it does in `pair_rules`.
-use Rattle.pair_rules.proofs.Basics.{◌≡◌, ◌<◌, ◌≤◌, ℕ, Bool, true, false, not, ◌&&◌, suc, List, [], ◌∷◌, ◌++◌, length, map, Option, Some, None, refl, ap, sym, subst, ◌∙◌, nat_eq, arith, if◌then◌else◌, All, slice_get, option_to_list, eq-eqb}
+use Rattle.pair_rules.proofs.Basics.{◌≡◌, ◌<◌, ◌≤◌, ℕ, Bool, true, false, not, ◌&&◌, suc, List, [], ◌∷◌, ◌++◌, length, map, Option, Some, None, refl, ap, sym, subst, ◌∙◌, nat_eq, arith, if◌then◌else◌, All, slice_get, option_to_list, eq-eqb, ◌||◌, IsDistinct, list_any, nat_tests, slice_index_or}
 use Rattle.std.proofs.lemmas.List.Elements.{All-nil}
 use Rattle.std.proofs.lemmas.Option.{slice_get-get_or, slice_get_past}
-use Rattle.pair_rules.proofs.Definitions.{Message, dpc_of, is_management, Configuration, LinkEntry, FrameValue, Node, WholeQueues, whole, FrameCame, Submitted, entry_of, peer_of, link_with_code, wanted, Nothing, Open, Close, brought_in, new_message, users_of, frame_taken, frame_to_take, PairState, Streams, in_flight, may_open_at, first_pair, without_data, without_status, turned, AreJoined}
+use Rattle.pair_rules.proofs.Definitions.{DestinationEntry, IsWell, IsDestination, LeadsOnlyTo, Message, dpc_of, is_management, Configuration, LinkEntry, FrameValue, Node, WholeQueues, whole, FrameCame, Submitted, entry_of, peer_of, link_with_code, wanted, Nothing, Open, Close, brought_in, new_message, users_of, frame_taken, frame_to_take, PairState, Streams, in_flight, may_open_at, first_pair, without_data, without_status, turned, AreJoined}
 use Rattle.exchange_rules.specs.declared.wants.Wants.{Wants}
 use Rattle.exchange_rules.specs.Exchange.{outcome_of, after}
 use Rattle.exchange_rules.specs.First.{Abstract}
-use Rattle.exchange_rules.proofs.FacingNodes.{code-means, peer-sole}
+use Rattle.settings.specs.Sharing.{LeadsAlone, has_link_of, sets_to}
+use Rattle.exchange_rules.proofs.FacingNodes.{code-means, destination-found, destinations-one, peer-sole, set-found, set-sole, sets-one}
+use Rattle.pair_rules.specs.Sharing.{AreSharing}
 use Rattle.pair_rules.specs.Accepting.{IsUserMessageTo}
 use Rattle.pair_rules.specs.Pairs as pairs
 use Rattle.pair_rules.specs.Pairs.{Doing, Step, Turn}
@@ -24,7 +26,7 @@ use Rattle.neighbour_rules.specs.Alone.{lifted, alone_is_special}
 
 -- ---- the messages of a list that are for a point, where all are
 
-all-to : (point : ℕ) (ms : List Message) → All (IsUserMessageTo point) ms → users_to point ms ≡ ms
+pub all-to : (point : ℕ) (ms : List Message) → All (IsUserMessageTo point) ms → users_to point ms ≡ ms
 all-to point [] h = refl
 all-to point (m ∷ ms) h =
     let is : IsUserMessageTo point m = h 0 m (omega arith) in
@@ -56,6 +58,59 @@ module _ (c z : Configuration) (g : AreJoined c z) where
 
   past-end : (link : ℕ) → length c.links ≤ link → end_there c z (slice_get c.links link) ≡ None
   past-end link l = ap (end_there c z) (slice_get_past c.links link l)
+
+-- ---- settings that face each other share a set
+
+abbrev none_known : DestinationEntry
+none_known = record { point = 0; sets = []; joined = false }
+
+-- sets of one kind, at least one, none of them twice
+only-set : (sets : List ℕ) → 1 ≤ length sets → All (λ set. set < 1) sets → IsDistinct nat_eq sets → sets ≡ 0 ∷ []
+unfolding IsDistinct
+only-set [] l within differ = absurd (omega (arith, l))
+only-set (set ∷ []) l within differ = ap (λ (s : ℕ). s ∷ []) (sole set (within 0 0 (omega arith)))
+  where
+    sole : (k : ℕ) → k < 1 → k ≡ 0
+    sole k h = omega (arith, h)
+only-set (set ∷ other ∷ sets) l within differ =
+    let one : set < 1 = within 0 0 (omega arith) in
+    let two : other < 1 = within 1 0 (omega arith) in
+    let apart : nat_eq set other ≡ false = differ.0.0 in
+    absurd (grind (arith, nat_tests, one, two, apart))
+
+module _ (c : Configuration) (point : ℕ) (leads : LeadsOnlyTo c point) (well : IsWell c) where
+  its-sets : (slice_index_or c.destinations 0 none_known).sets ≡ 0 ∷ []
+  its-sets =
+      let known : IsDestination c.own (length c.sets) (slice_index_or c.destinations 0 none_known) = well.destinations 0 none_known (omega (arith, destinations-one c point leads)) in
+      only-set (slice_index_or c.destinations 0 none_known).sets known.some (λ k d l. omega (arith, known.within k d l, sets-one c point leads)) known.differ
+
+  leads-alone : LeadsAlone c point 0
+  leads-alone = record { adjacent = set-found c point leads well; only = ap (sets_to c) (destination-found c point leads well) ∙ its-sets }
+
+-- whether a link has a code is told by the list of codes, where all links are of set 0
+any-code : (slc : ℕ) (links : List LinkEntry) → ((k : ℕ) → (slice_index_or links k (record { name = []; set = 0; slc = 0 })).set ≡ 0)
+    → has_link_of 0 slc links ≡ list_any (λ (code : ℕ). nat_eq code slc) (map (λ (l : LinkEntry). l.slc) links)
+any-code slc [] h = refl
+any-code slc (l ∷ links) h =
+    ap (λ (b : Bool). (b && nat_eq l.slc slc) || has_link_of 0 slc links) (eq-eqb l.set 0 (h 0))
+    ∙ ap (λ (b : Bool). nat_eq l.slc slc || b) (any-code slc links (λ k. h (suc k)))
+
+sharing : (near far : Configuration) → AreJoined near far → AreSharing near far
+sharing near far g = record {
+  near_well = g.near_well;
+  far_well = g.far_well;
+  shares = record {
+    near_set = 0;
+    far_set = 0;
+    near_leads = leads-alone near far.own g.facing.near_leads g.near_well;
+    far_leads = leads-alone far near.own g.facing.far_leads g.far_well;
+    network = g.facing.network;
+    codes = λ slc.
+        any-code slc near.links (set-sole near far.own g.facing.near_leads g.near_well)
+        ∙ ap (λ (codes : List ℕ). list_any (λ (code : ℕ). nat_eq code slc) codes) g.facing.codes
+        ∙ sym (any-code slc far.links (set-sole far near.own g.facing.far_leads g.far_well));
+  };
+}
 
 -- ---- what is done at the near end
 
@@ -181,6 +236,7 @@ pub is-special : alone_is_special
 is-special near far steps g =
     let first : PairState = first_pair near far in
     record {
+      sharing = sharing near far g;
       steps_alike = steps-same near far g steps first (first-stands near far g) (no-books near far);
       turns_alike = λ step.
           turn-same near far g step (pairs.after_steps steps first) (all-stand near far steps g)

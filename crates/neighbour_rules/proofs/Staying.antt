@@ -47,11 +47,11 @@ books-stay near far steps g =
 -- ---- routes
 
 -- a set leads to a point that is a destination
-record IsKnown (c : Configuration) (point : ℕ) : Type 0 where
-  destination : ℕ
-  is : destination_place c point ≡ Some destination
+pub record IsKnown (c : Configuration) (point : ℕ) : Type 0 where
+  pub destination : ℕ
+  pub is : destination_place c point ≡ Some destination
 
-known : (c : Configuration) (point set : ℕ) → LeadsAlone c point set → IsKnown c point
+pub known : (c : Configuration) (point set : ℕ) → LeadsAlone c point set → IsKnown c point
 known c point set h = by (destination_place c point) refl h.only
   where
     by : (o : Option ℕ) → destination_place c point ≡ o → sets_to c o ≡ set ∷ [] → IsKnown c point
@@ -94,6 +94,9 @@ stays near far g p t =
     subst StaysBetween (sym (written near far p t.near_is.exchange.settings t.far_is.exchange.settings)) (record {
       destination = d.destination;
       known = d.is;
+      set = g.shares.near_set;
+      leads = g.shares.near_leads;
+      route = by-set.route;
       flows = λ sls link e. shared-peer near far g.shares g.near_well link (by-set.links sls link e);
       elsewhere = λ link e. none-of far.own (queue_of p.near link).all (by-set.queues link (other-set near far g.shares g.near_well link e));
     })

@@ -12,7 +12,7 @@ use Rattle.pair_rules.proofs.World.{World}
 use Rattle.neighbour_rules.proofs.Good.{Joint, Passes, at, passes-both, passes-none}
 use Rattle.neighbour_rules.proofs.Messages.{making, send_routed-passes}
 use Rattle.neighbour_rules.proofs.Unseen.{aside-passes}
-use Rattle.neighbour_rules.proofs.Made.{route-other}
+use Rattle.neighbour_rules.proofs.Made.{route-brief, route-other}
 
 module _ (c z : Configuration) (j : Joint c z) (w : World) (arrived rest : List Message) where
   abbrev Pass : Node WholeQueues → Node WholeQueues → Type 0
@@ -26,10 +26,10 @@ module _ (c z : Configuration) (j : Joint c z) (w : World) (arrived rest : List 
   either false n o p = passes-none c z j (at c z j w n arrived rest)
 
   -- what tells a status of a point is made, and goes out
-  telling-route : (n : Node WholeQueues) (its destination : ℕ) (status : RouteStatus) → Pass n (send_routed whole c (route_message c its destination status) n)
+  pub telling-route : (n : Node WholeQueues) (its destination : ℕ) (status : RouteStatus) → Pass n (send_routed whole c (route_message c its destination status) n)
   telling-route n its destination status =
       let m : Message = route_message c its destination status in
-      passes-both c z j _ _ _ (making c z j w n arrived m rest (route-other c z j its destination status)) (send_routed-passes c z j w n arrived m rest (telling-management status))
+      passes-both c z j _ _ _ (making c z j w n arrived m rest (route-other c z j its destination status) (route-brief c z j its destination status)) (send_routed-passes c z j w n arrived m rest (telling-management status))
     where
       telling-management : (s : RouteStatus) → is_management (route_message c its destination s) ≡ true
       telling-management s = made-management c j.near_well (adjacent_of c its) (telling s (point_of c destination))

@@ -15,11 +15,17 @@ use Rattle.neighbour_rules.specs.Neighbours.{is_management_between}
 
 -- ---- what messages say to the two
 
+-- what neither of the two says to the other: no message that passes by says it
+abbrev pub unsaid : Saying
+unsaid = Confirmation 0
+
 abbrev pub management_says : Management → Saying
 management_says (says.ExtendedChangeoverOrder slc number) = Order slc number
 management_says (says.ExtendedChangeoverAcknowledgement slc number) = Answer slc number
 management_says (says.ChangebackDeclaration slc code) = Declaration code
 management_says (says.ChangebackAcknowledgement slc code) = Confirmation code
+management_says (says.EmergencyChangeoverOrder slc) = unsaid
+management_says (says.EmergencyChangeoverAcknowledgement slc) = unsaid
 management_says _ = Other
 
 abbrev pub read_says : Result Management MgmtFault → Saying

@@ -1,5 +1,5 @@
--- Nothing waits in vain between two nodes that share a link set: law (ii) to the full. Of holds it is proved; of answers
--- that are awaited it is stated, and not proved yet.
+-- Nothing waits in vain between two nodes that share a link set: law (ii) to the full, and every hold has its timer or
+-- its word.
 use Rattle.std.specs.Prelude.{◌≡◌, ◌+◌, ℕ, Bool, Option, Some, None, count_by, nat_eq, if◌then◌else◌}
 use Rattle.std.specs.Option.{option_eq}
 use Rattle.signalling_types.specs.Message.{Message, opc_of}

@@ -1,5 +1,5 @@
--- Four laws of two nodes that share a link set, link by link: stated, and not proved yet. Each is said of one direction:
--- of what the near end has for the far end. A link and the far end of it have each their own number.
+-- Four laws of two nodes that share a link set, link by link, from which "Exactly once" comes. Each is said of one
+-- direction: of what the near end has for the far end. A link and the far end of it have each their own number.
 use Rattle.std.specs.Prelude.{◌≡◌, ◌≢◌, ◌≤◌, ◌-◌, ◌⊎◌, ◌||◌, ◌&&◌, ℕ, Bool, true, false, not, List, [], ◌++◌, drop, take, Contains, length, slice_get, Option, Some, None, if◌then◌else◌}
 use Rattle.signalling_types.specs.Message.{Message, opc_of}
 use Rattle.settings_rows.specs.Configuration.{Configuration}

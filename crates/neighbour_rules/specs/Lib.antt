@@ -3,3 +3,4 @@ pub mod Promises
 pub mod Laws
 pub mod Awaiting
 pub mod Alone
+pub mod ThirdNode

@@ -1,11 +1,12 @@
--- What two nodes that share a link set are to promise each other, whatever neighbours each has besides: each message for
--- the other once, each flow in order. These two are stated, and not proved yet; what holds whatever has been lost is.
-use Rattle.std.specs.Prelude.{◌≡◌, ◌+◌, ℕ, Bool, true, List, [], ◌++◌, All, count_by, drop, length, unwrap_or, Option, Some, None}
+-- What two nodes that share a link set promise each other, whatever neighbours each has besides: each message for the
+-- other once, each flow in order; and what holds whatever has been lost.
+use Rattle.std.specs.Prelude.{◌≡◌, ◌+◌, ℕ, Bool, true, List, [], ◌∷◌, ◌++◌, All, count_by, drop, length, unwrap_or, slice_index_or, Option, Some, None}
 use Rattle.signalling_types.specs.Message.{Message}
 use Rattle.signalling_types.specs.declared.point.Flow.{Flow}
 use Rattle.settings_rows.specs.Configuration.{Configuration}
 use Rattle.settings.specs.Readings.{destination_place}
-use Rattle.routes.specs.Routes.{chosen_link}
+use Rattle.settings.specs.Sharing.{LeadsAlone}
+use Rattle.routes.specs.Routes.{first_route, chosen_link}
 use Rattle.link.specs.Queue.{named_count, last_accepted}
 use Rattle.exchange_rules.specs.Routing.{facts, peer_of}
 use Rattle.pair_moves.specs.Order.{join_to}
@@ -58,11 +59,11 @@ Always Statement =
     (near far : Configuration) (steps : List Step) → AreSharing near far →
     Statement (after_steps steps (first_pair near far))
 
--- "Exactly once", not proved yet
+-- "Exactly once"
 abbrev pub each_message_once : Type 0
 each_message_once = Always (λ p. LostNothing p → BothWays EachOnce p)
 
--- "Order", where besides no timer of the accepting end ended a hold; not proved yet
+-- "Order", where besides no timer of the accepting end ended a hold
 abbrev pub each_flow_in_order : Type 0
 each_flow_in_order = Always (λ p. LostNothing p → BothWays (λ q. IsPunctual q → InOrder q) p)
 
@@ -77,11 +78,14 @@ pub record AreBooked (p : PairState) : Type 0 where
 abbrev pub books_are_of_the_two : Type 0
 books_are_of_the_two = Always (λ p. BothWays AreBooked p)
 
--- the route to the far point is allowed; each flow there that has a link has one that leads there; and no user message
--- for the far point stands on a link that leads elsewhere
+-- one set alone leads to the far point, and the route over it is allowed (`first_route`); each flow there that has a link has one that leads
+-- there; and no user message for the far point stands on a link that leads elsewhere
 pub record StaysBetween (p : PairState) : Type 0 where
   pub destination : ℕ
   pub known : destination_place p.near.exchange.settings p.far.exchange.settings.own ≡ Some destination
+  pub set : ℕ
+  pub leads : LeadsAlone p.near.exchange.settings p.far.exchange.settings.own set
+  pub route : slice_index_or p.near.exchange.node.parts.routes destination [] ≡ first_route set ∷ []
   pub flows : (sls link : ℕ) →
       chosen_link (facts p.near.exchange.settings p.near.exchange.node.parts) destination sls ≡ Some link →
       peer_of p.near.exchange.settings link ≡ p.far.exchange.settings.own

@@ -3,13 +3,85 @@
 //! function says its law by its contract, and does nothing.
 
 ghost use Rattle.neighbour_rules.specs.Alone.{alone_is_special};
-ghost use Rattle.neighbour_rules.specs.Awaiting.{nothing_is_held_in_vain};
+ghost use Rattle.neighbour_rules.specs.Awaiting.{nothing_is_awaited_in_vain, nothing_is_held_in_vain};
+ghost use Rattle.neighbour_rules.specs.Laws.{frames_carry, none_is_left, words_are_final};
+ghost use Rattle.neighbour_rules.specs.Laws.{moves_are_lacked};
+ghost use Rattle.neighbour_rules.specs.Promises.{each_message_once, each_flow_in_order};
 ghost use Rattle.neighbour_rules.specs.Promises.{books_are_of_the_two, flows_stay_between};
+ghost use Rattle.neighbour_rules.specs.ThirdNode.{GoesOn};
 
-/// Two nodes that have only each other are the special case: each step between two settings that face
-/// each other (`AreJoined` of `pair_rules`) comes to what it comes to there, and leaves the same.
+/// "Exactly once", in both directions. While neither exchange may have lost a message, as many user
+/// messages of any kind were accepted at one end for the other point as the other end received and as
+/// wait: on the links between the two, and in Held.
+pub fn each_message_comes_once()
+    ensures { each_message_once }
+{}
+
+/// "Order", in both directions. While neither exchange may have lost a message, and no timer of the
+/// accepting end ended a hold, the user messages of a flow to the other point that one end accepted are,
+/// in order, those that the other received, and then those that wait.
+pub fn each_flow_keeps_its_order()
+    ensures { each_flow_in_order }
+{}
+
+/// Law (i), of a link between the two and either direction. While the link is up at either end, and
+/// until the near end's changeover of it is complete, unless an end may follow the other, the far end
+/// received no fewer messages than are confirmed, and no more than were sent; and while the link isn't
+/// down there, the User Data in flight carry those between, in order, whomever they are for (RFC 4165
+/// §2.2). No link status carries a message. While the far end may follow, the link may open there, and
+/// the near one isn't in service and has an empty queue; nothing is in flight to it, and no message to
+/// the far end. A message that a frame newly carries is the first that the far end lacked. On a link
+/// that leads elsewhere nothing is in flight from the far end.
+pub fn frames_carry_what_was_not_received()
+    ensures { frames_carry }
+{}
+
+/// Law (ii). Where an end wants a link between the two to open, and it may open at the other too or the
+/// end may follow the other, no order to change over of one of the two for the other, and no answer,
+/// that is about it stands in Held or unreceived in a queue of either end, on whatever link, and no User
+/// Data with one is in flight to an end on a link that isn't down there (Q.704 §5.4).
+pub fn links_open_with_no_word_left()
+    ensures { none_is_left }
+{}
+
+/// Nothing is awaited in vain, in both directions: law (ii) to the full. While an end awaits the answer
+/// to its order to change over from a link between the two, exactly one message says so: its order about
+/// that link, or the other end's answer, in Held or not received on a link (Q.704 §5.4). And while a
+/// code of the set between them awaits its acknowledgement, exactly one does: a changeback declaration
+/// of it with that code, or an acknowledgement of the other end (Q.704 §6.3). Else none does. This holds
+/// while neither exchange may have lost a message.
+pub fn nothing_is_awaited_in_vain()
+    ensures { nothing_is_awaited_in_vain }
+{}
+
+/// Law (iii). While an order of one of the two to change over or an answer stands in Held or unreceived
+/// in a queue, for the other, the link that it is about is down at the end that sends it, and it carries
+/// the number of the last message that was accepted there (Q.704 §5.4, with the numbers of Q.2210).
+pub fn words_carry_the_final_number()
+    ensures { words_are_final }
+{}
+
+/// Law (iv). While a link between the two is up at either end, and until an end's changeover of it is
+/// complete, unless an end may follow the other, the number of the last message that the peer accepted
+/// there names the count of all that it received. So an order or an answer of the peer that completes the
+/// changeover, as one that the next frame of any link brings, moves the messages that the peer lacks, and
+/// no other (Q.704 §5.4, §5.5).
+pub fn completions_move_what_the_peer_lacks()
+    ensures { moves_are_lacked }
+{}
+
+/// Two nodes that have only each other are the special case: settings that face each other (`AreJoined`
+/// of `pair_rules`) share a set, and each step between them comes to what it comes to there, and leaves
+/// the same.
 pub fn a_pair_alone_is_the_special_case()
     ensures { alone_is_special }
+{}
+
+/// These laws aren't empty, nor those of third nodes in them: by a run of 27 steps of two exchanges that
+/// share a set, a message that comes to one of them from a third node is accepted for the other, and
+/// comes to that, once. No flag is raised.
+pub fn a_message_comes_from_a_third_node()
+    ensures { GoesOn }
 {}
 
 /// All that an end booked as accepted is for the point of the other end, all that it booked as received

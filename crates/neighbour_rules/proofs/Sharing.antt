@@ -1,0 +1,104 @@
+-- What two settings that share a set give to the pass, seen from either node.
+use Rattle.pair_rules.proofs.Basics.{◌≡◌, ◌≢◌, ◌<◌, ℕ, [], false, Some, length, nat_eq, sym}
+use Rattle.std.proofs.lemmas.List.Quantifiers.{position-Some}
+use Rattle.settings.specs.Sharing.{LeadsAlone, has_link_of}
+use Rattle.pair_rules.proofs.Definitions.{Configuration, DestinationEntry, IsWell, destination_place}
+use Rattle.pair_rules.specs.Sharing.{AreSharing}
+use Rattle.neighbour_rules.proofs.Bringing.{destination-far}
+use Rattle.neighbour_rules.proofs.Good.{Joint}
+use Rattle.neighbour_rules.proofs.Staying.{IsKnown, known}
+
+-- all that it needs, of both nodes
+pub record AreFacing (near far : Configuration) : Type 0 where
+  pub near_well : IsWell near
+  pub far_well : IsWell far
+  pub apart : near.own ≢ far.own
+  pub back_apart : far.own ≢ near.own
+  pub near_set : ℕ
+  pub far_set : ℕ
+  pub near_leads : LeadsAlone near far.own near_set
+  pub far_leads : LeadsAlone far near.own far_set
+  pub network : near.network ≡ far.network
+  pub back_network : far.network ≡ near.network
+  pub codes : (slc : ℕ) → has_link_of near_set slc near.links ≡ has_link_of far_set slc far.links
+  pub back_codes : (slc : ℕ) → has_link_of far_set slc far.links ≡ has_link_of near_set slc near.links
+  pub destination : ℕ
+  pub place : destination_place near far.own ≡ Some destination
+  pub there : destination < length near.destinations
+  pub back_destination : ℕ
+  pub back_place : destination_place far near.own ≡ Some back_destination
+  pub back_there : back_destination < length far.destinations
+
+abbrev pub near_joint : (near far : Configuration) → AreFacing near far → Joint near far
+near_joint near far a = record {
+  near_well = a.near_well;
+  far_well = a.far_well;
+  apart = a.apart;
+  shares = record { near_set = a.near_set; far_set = a.far_set; near_leads = a.near_leads; far_leads = a.far_leads; network = a.network; codes = a.codes };
+  destination = a.destination;
+  place = a.place;
+  there = a.there;
+}
+
+-- the same, seen from the far node
+abbrev pub facing_back : (near far : Configuration) → AreFacing near far → AreFacing far near
+facing_back near far a = record {
+  near_well = a.far_well;
+  far_well = a.near_well;
+  apart = a.back_apart;
+  back_apart = a.apart;
+  near_set = a.far_set;
+  far_set = a.near_set;
+  near_leads = a.far_leads;
+  far_leads = a.near_leads;
+  network = a.back_network;
+  back_network = a.network;
+  codes = a.back_codes;
+  back_codes = a.codes;
+  destination = a.back_destination;
+  place = a.back_place;
+  there = a.back_there;
+  back_destination = a.destination;
+  back_place = a.place;
+  back_there = a.there;
+}
+
+abbrev pub far_joint : (near far : Configuration) → AreFacing near far → Joint far near
+far_joint near far a = near_joint far near (facing_back near far a)
+
+-- ---- of two settings
+
+module _ (near far : Configuration) (well : IsWell near) (set : ℕ) (leads : LeadsAlone near far.own set) where
+  pub its : IsKnown near far.own
+  its = known near far.own set leads
+
+  pub its-apart : near.own ≢ far.own
+  its-apart same = destination-far near well far.own its.destination its.is (sym same)
+
+  pub its-there : its.destination < length near.destinations
+  its-there = (position-Some (λ (x : DestinationEntry). nat_eq far.own x.point) near.destinations its.destination (record { point = 0; sets = []; joined = false }) its.is).0
+
+pub are-facing : (near far : Configuration) → AreSharing near far → AreFacing near far
+are-facing near far g =
+    let here : IsKnown near far.own = its near far g.near_well g.shares.near_set g.shares.near_leads in
+    let there : IsKnown far near.own = its far near g.far_well g.shares.far_set g.shares.far_leads in
+    record {
+      near_well = g.near_well;
+      far_well = g.far_well;
+      apart = its-apart near far g.near_well g.shares.near_set g.shares.near_leads;
+      back_apart = its-apart far near g.far_well g.shares.far_set g.shares.far_leads;
+      near_set = g.shares.near_set;
+      far_set = g.shares.far_set;
+      near_leads = g.shares.near_leads;
+      far_leads = g.shares.far_leads;
+      network = g.shares.network;
+      back_network = sym g.shares.network;
+      codes = g.shares.codes;
+      back_codes = λ slc. sym (g.shares.codes slc);
+      destination = here.destination;
+      place = here.is;
+      there = its-there near far g.near_well g.shares.near_set g.shares.near_leads;
+      back_destination = there.destination;
+      back_place = there.is;
+      back_there = its-there far near g.far_well g.shares.far_set g.shares.far_leads;
+    }
