@@ -161,7 +161,7 @@ fn print_octets<R: Print>(rt: &R, octets: &[u8]) {
     let _printed = println!(rt; "");
 }
 
-/// Link Status of this state, before the first message (docs/ONE_FRAME.md reads such a frame).
+/// Link Status of this state, before the first message (docs/ALIGNMENT.md has such frames).
 fn status(state: u8) -> [u8; 20] {
     [
         1, 0, 11, 2, 0, 0, 0, 20, 0, 255, 255, 255, 0, 255, 255, 255, 0, 0, 0, state,
