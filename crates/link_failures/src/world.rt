@@ -134,11 +134,11 @@ impl World {
     /// Takes a step. It is ignored where memory runs out.
     fn turn(&mut self, step: Step) -> Outcome {
         self.compare_now_and_then();
-        let outcome = self.nodes.turn(step);
+        let turned = self.nodes.turn(step);
         self.note_returned();
         self.note_received();
-        match outcome {
-            Ok(outcome) => outcome,
+        match turned {
+            Ok(turned) => turned.outcome,
             Err(_) => {
                 self.starved = true;
                 Outcome::Ignored

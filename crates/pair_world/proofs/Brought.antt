@@ -2,7 +2,7 @@
 use Rattle.std.proofs.Common.{◌≡◌, ◌+◌, ◌&&◌, ℕ, Bool, true, false, List, [], ◌∷◌, ◌++◌, Option, Some, None, length, nat_eq, refl, ap, sym, subst, ◌∙◌, arith}
 use Rattle.std.specs.Prelude.{if◌then◌else◌, not, option_to_list, Result, Ok, Err}
 use Rattle.std.proofs.lemmas.Bool.Decides.{nat_tests}
-use Rattle.signalling_types.specs.Message.{Message, is_management}
+use Rattle.signalling_types.specs.Message.{Message, dpc_of, is_management}
 use Rattle.signalling_types.specs.declared.cause.Cause.{Cause}
 use Rattle.signalling_types.specs.declared.notice.FrameFault.{FrameFault}
 use Rattle.signalling_types.specs.declared.outcome.Outcome.{Outcome}
@@ -37,7 +37,8 @@ use Rattle.pair_rules.proofs.Bringing.{is-no-sccp}
 use Rattle.pair_rules.proofs.Behind.{behind_at, standing_behind, users}
 use Rattle.pair_rules.proofs.Counted.{confirming_number, frame-counts, submission-counts}
 use Rattle.pair_world.specs.Bringing.{comes_back, goes_on, is_sccp, kept_behind, kept_in, kept_in_all, kept_standing, kept_standing_if, number_in, told_in, udts_as, written_as}
-use Rattle.pair_world.specs.KeptEnds.{newly_accepted}
+use Rattle.neighbour_rules.specs.Neighbours.{users_to}
+use Rattle.pair_world.specs.KeptEnds.{handed_in, newly_brought}
 use Rattle.pair_world.proofs.Newly.{newly-same, stands-itself}
 
 -- ---- counts
@@ -81,11 +82,6 @@ same-number (Ok (EmptyFrame bsn fsn)) = refl
 same-number (Ok (MessageFrame bsn fsn sio sif)) = refl
 same-number (Ok (StatusFrame bsn fsn status)) = refl
 same-number (Err fault) = refl
-
--- a message is for this point
-pub record IsHere (c : Configuration) (m : Message) : Type 0 where
-  pub label : Label
-  pub here : whither_goes c m ≡ whither.Here label
 
 -- ---- by what became of it
 
@@ -192,6 +188,24 @@ module _ (c : Configuration) (m : Message) (n : Node WholeQueues) (is_more : Boo
 user-of : (m : Message) → is_sccp m ≡ true → is_management m ≡ false
 user-of m e = grind (arith, nat_tests, e)
 
+-- no user message for any point comes of management
+module _ (point : ℕ) (c : Configuration) (m : Message) (n : Node WholeQueues) (management : is_management m ≡ true) where
+  itself-none : users_to point (m ∷ []) ≡ []
+  itself-none = ap (λ (b : Bool). if not b && nat_eq (dpc_of m) point then m ∷ [] else []) management
+
+  taken-none : (o : Outcome) → users_to point (taken_in o m) ≡ []
+  taken-none (Queued link) = itself-none
+  taken-none Held = itself-none
+  taken-none Local = refl
+  taken-none Handled = refl
+  taken-none Ignored = refl
+  taken-none (Refused cause) = refl
+
+  no-user : (o : Outcome) (d : Discrimination) → users_to point (brought_to d o c m n) ≡ []
+  no-user o (whither.Refused fault) = refl
+  no-user o (whither.Here label) = ap (λ (b : Bool). users_to point (if b then unitdata_in o c m n else [])) (is-no-sccp m management)
+  no-user o (whither.Transfer label) = taken-none o
+
 -- ---- events
 
 module _ (a : Abstract) (sound : IsSound a) (places : HasAllPlaces a.settings a.node) where
@@ -224,14 +238,14 @@ module _ (a : Abstract) (sound : IsSound a) (places : HasAllPlaces a.settings a.
         (submission-after ∙ submission-counts 0 a cause m label sound fits e here is
         ∙ ap (λ (t : ℕ). t + users (returned_in udts a.settings m a.node)) (sym (count-same 0)))
 
-    pub submission-same : kept_in 0 k (after kept submission k) (outcome_of kept submission k) m ≡ brought_in submission a
+    pub submission-same : handed_in m k ≡ brought_in submission a
     submission-same =
         ap (λ (o : Outcome). kept_in 0 k (after kept submission k) o m) (stands-outcome submission k a (stands-itself a sound))
         ∙ told-so a.settings m a.node is_more (outcome_of whole submission a) told-back
 
-  -- a frame, whose message is for this point
+  -- a frame, of whose message what is for some point is booked
 
-  module _ (link : ℕ) (text : List ℕ) (for-here : (m : Message) → new_message link text a ≡ Some m → IsHere a.settings m) where
+  module _ (point link : ℕ) (text : List ℕ) where
     abbrev came : Happening
     came = FrameCame link text
 
@@ -269,24 +283,21 @@ module _ (a : Abstract) (sound : IsSound a) (places : HasAllPlaces a.settings a.
           ∙ ap (λ (rows : List TitleEntry). told_in (outcome_of whole came a) more_stand a.settings rows m) (sym (accepted-titles a.settings link (read_frame text) a.node))
           ∙ told-so a.settings m mid more_stand (outcome_of whole came a) frame-back
 
-      -- management brings nothing in
-      none-came : is_management m ≡ true → [] ≡ brought_to (whither_goes a.settings m) (outcome_of whole came a) a.settings m mid
-      none-came e =
-          let h : IsHere a.settings m = for-here m new in
-          ap (λ (b : Bool). if b then unitdata_in (outcome_of whole came a) a.settings m mid else []) (sym (is-no-sccp m e))
-          ∙ ap (λ (d : Discrimination). brought_to d (outcome_of whole came a) a.settings m mid) (sym h.here)
+      abbrev came_of : List Message
+      came_of = brought_to (whither_goes a.settings m) (outcome_of whole came a) a.settings m mid
 
+      -- management isn't booked
       by-kind : (b : Bool) → is_management m ≡ b
-          → kept_in_all number k (after kept came k) (outcome_of kept came k) (if not b then m ∷ [] else []) ≡ brought_to (whither_goes a.settings m) (outcome_of whole came a) a.settings m mid
-      by-kind true e = none-came e
-      by-kind false e = user-came
+          → users_to point (kept_in_all number k (after kept came k) (outcome_of kept came k) (if not b then m ∷ [] else [])) ≡ users_to point came_of
+      by-kind true e = sym (no-user point a.settings m mid e (outcome_of whole came a) (whither_goes a.settings m))
+      by-kind false e = ap (users_to point) user-came
 
     by-message : (o : Option Message) → new_message link text a ≡ o
-        → kept_in_all number k (after kept came k) (outcome_of kept came k) (users_of (option_to_list o)) ≡ brought_by o (outcome_of whole came a) a.settings mid
+        → users_to point (kept_in_all number k (after kept came k) (outcome_of kept came k) (users_of (option_to_list o))) ≡ users_to point (brought_by o (outcome_of whole came a) a.settings mid)
     by-message None e = refl
     by-message (Some m) e = by-kind m e (is_management m) refl
 
-    pub frame-same : newly_accepted link text k ≡ brought_in came a
+    pub frame-same : users_to point (newly_brought link text k) ≡ users_to point (brought_in came a)
     frame-same =
-        ap (λ (ms : List Message). kept_in_all number k (after kept came k) (outcome_of kept came k) ms) (newly-same link text a sound places)
+        ap (λ (ms : List Message). users_to point (kept_in_all number k (after kept came k) (outcome_of kept came k) ms)) (newly-same link text a sound places)
         ∙ by-message (new_message link text a) refl

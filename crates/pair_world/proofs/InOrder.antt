@@ -14,7 +14,7 @@ use Rattle.exchange_rules.specs.State.{FrameCame}
 use Rattle.exchange.specs.KeptQueues.{kept}
 use Rattle.exchange.specs.Calls.{Kept}
 use Rattle.pair_world.specs.Bringing.{kept_in_all, number_in}
-use Rattle.pair_world.specs.KeptEnds.{accepted_number, newly_accepted, user_message_in}
+use Rattle.pair_world.specs.KeptEnds.{accepted_number, newly_brought, user_message_in}
 
 -- ---- the next row stands behind those before it
 
@@ -51,8 +51,7 @@ neither false ms = refl
 none-by : (b : Bool) (ms : List Message) → ms ≡ [] → (if b then [] else ms) ≡ []
 none-by b ms e = ap (λ (xs : List Message). if b then [] else xs) e ∙ neither b []
 
-pub none-accepted : (xs : List Message) (link : ℕ) (text : List ℕ) (k : Kept) → user_message_in text ≡ [] → xs ≡ xs ++ newly_accepted link text k
-none-accepted xs link text k e =
-    sym (append-nil xs)
-    ∙ ap (λ (ms : List Message). xs ++ kept_in_all (number_in (read_frame text)) k (after kept (FrameCame link text) k) (outcome_of kept (FrameCame link text) k) ms)
+pub none-brought : (link : ℕ) (text : List ℕ) (k : Kept) → user_message_in text ≡ [] → [] ≡ newly_brought link text k
+none-brought link text k e =
+    ap (λ (ms : List Message). kept_in_all (number_in (read_frame text)) k (after kept (FrameCame link text) k) (outcome_of kept (FrameCame link text) k) ms)
     (sym (none-by (nat_eq (accepted_number k link) (accepted_number (after kept (FrameCame link text) k) link)) (user_message_in text) e))

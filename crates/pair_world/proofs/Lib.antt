@@ -3,7 +3,9 @@ pub mod Newly
 pub mod Brought
 pub mod Reached
 pub mod Rules
+pub mod Here
 pub mod Turns
+pub mod Alone
 pub mod Promised
 pub mod Telling
 pub mod Waiting

@@ -1,4 +1,4 @@
--- The message that a frame newly brings is told by the number of the last message that was accepted on its link.
+-- The message that a frame newly carries is told by the number of the last message that was accepted on its link.
 use Rattle.std.proofs.Common.{◌≡◌, ◌+◌, ◌&&◌, ℕ, Bool, true, false, List, [], ◌∷◌, Option, Some, None, is_some, nat_eq, nat_lt, refl, ap, sym, ◌∙◌, arith}
 use Rattle.std.specs.Prelude.{if◌then◌else◌, not, option_to_list}
 use Rattle.std.proofs.lemmas.Bool.Decides.{nat_tests}
@@ -21,7 +21,7 @@ use Rattle.exchange.specs.Views.{link_shown}
 use Rattle.exchange.proofs.Standing.{stands-after}
 use Rattle.exchange.proofs.Showing.{stands-link}
 use Rattle.changeover.specs.Changeover.{users_of}
-use Rattle.pair_world.specs.KeptEnds.{accepted_number, number_shown, new_if_other, newly_received, user_message_in}
+use Rattle.pair_world.specs.KeptEnds.{accepted_number, number_shown, new_if_other, newly_carried, user_message_in}
 
 -- what is kept of a state stands for it
 pub stands-itself : (a : Abstract) → IsSound a → StandsFor (kept_of a) a
@@ -88,7 +88,7 @@ module _ (link : ℕ) (text : List ℕ) (a : Abstract) (s : IsSound a) (places :
       ∙ ap (λ (b : Bool). if b then [] else user_message_in text) (other-number (received a.node link))
       ∙ ap (λ (o : Option Message). users_of (option_to_list o)) (new-carried link text a m e)
 
-  pub newly-same : newly_received link text (kept_of a) ≡ users_of (option_to_list (new_message link text a))
+  pub newly-same : newly_carried link text (kept_of a) ≡ users_of (option_to_list (new_message link text a))
   newly-same =
       ap (λ (n : ℕ). new_if_other n (accepted_number (after kept came (kept_of a)) link) text) before
       ∙ ap (λ (n : ℕ). new_if_other (number_if there (received a.node link)) n text) later

@@ -1,15 +1,17 @@
 -- What the abstract pair promises, that which stands for it promises.
-use Rattle.std.proofs.Common.{◌≡◌, List, refl, ap, sym, subst, ◌∙◌}
+use Rattle.std.proofs.Common.{◌≡◌, Bool, List, refl, ap, sym, subst, ◌∙◌}
 use Rattle.std.specs.Prelude.{All}
 use Rattle.signalling_types.specs.Message.{Message}
 use Rattle.exchange_rules.specs.First.{IsSound}
 use Rattle.exchange.specs.Calls as exchanges
 use Rattle.pair_rules.specs.Pairs.{PairState}
-use Rattle.pair_rules.specs.Promises.{Always, BothWays, EachOnce, InOrder, IsPunctual, LostNothing}
-use Rattle.pair_rules.specs.Laws.{WhileNothingIsLost}
-use Rattle.pair_rules.specs.Accepting.{AreForFarPoint, IsUserMessageTo}
-use Rattle.pair_rules.proofs.Accepted.{goes-to-far}
-use Rattle.pair_rules.proofs.Promised.{each-once, each-in-order}
+use Rattle.pair_rules.specs.Promises as alone
+use Rattle.pair_rules.specs.Promises.{BothWays, IsPunctual, LostNothing}
+use Rattle.pair_rules.specs.Accepting.{IsUserMessageTo}
+use Rattle.neighbour_rules.specs.Promises.{Always, AreBooked, EachOnce, InOrder}
+use Rattle.neighbour_rules.specs.Laws.{WhileNothingIsLost}
+use Rattle.neighbour_rules.proofs.Promised.{each-once, each-in-order}
+use Rattle.neighbour_rules.proofs.Staying.{books-stay}
 use Rattle.pair_world.specs.declared.step.End.{End}
 use Rattle.pair_world.specs.declared.step.End.TheVariants.{One, Two}
 use Rattle.pair_world.specs.Told.{kept_at, other, seen_from}
@@ -17,15 +19,20 @@ use Rattle.pair_world.specs.KeptEnds.{KeptEnd, kept_end_of}
 use Rattle.pair_world.specs.KeptPairs.{KeptPair}
 use Rattle.pair_world.specs.Stands.{IsReached, StandsFor}
 use Rattle.pair_world.specs.Promised.{ComeOnce, ComeInOrder, HoldsBothWays}
+use Rattle.pair_world.proofs.Alone.{IsAlone}
 
 -- what holds after every list of steps holds of a pair that some steps led to
 reached : (Statement : PairState → Type 0) → WhileNothingIsLost Statement → (p : PairState) → IsReached p → LostNothing p → BothWays Statement p
 reached Statement always p r =
-    subst (λ (q : PairState). LostNothing q → BothWays Statement q) (sym r.by) (always r.near r.far r.steps r.joined)
+    subst (λ (q : PairState). LostNothing q → BothWays Statement q) (sym r.by) (always r.near r.far r.steps r.sharing)
 
 -- the same of what holds whether or not a message may be lost
-pub reached-always : (Statement : PairState → Type 0) → Always (λ p. BothWays Statement p) → (p : PairState) → IsReached p → BothWays Statement p
-reached-always Statement always p r = subst (BothWays Statement) (sym r.by) (always r.near r.far r.steps r.joined)
+reached-always : (Statement : PairState → Type 0) → Always (λ p. BothWays Statement p) → (p : PairState) → IsReached p → BothWays Statement p
+reached-always Statement always p r = subst (BothWays Statement) (sym r.by) (always r.near r.far r.steps r.sharing)
+
+-- and of what holds of two that have only each other, where they do
+pub alone-always : (Statement : PairState → Type 0) → alone.Always (λ p. BothWays Statement p) → (p : PairState) → IsAlone p → BothWays Statement p
+alone-always Statement always p a = subst (BothWays Statement) (sym a.by) (always a.near a.far a.steps a.joined)
 
 pub holds-both-ways : (Statement : PairState → Type 0) → WhileNothingIsLost Statement → (k : KeptPair) → HoldsBothWays Statement k
 holds-both-ways Statement always k = λ p s. reached Statement always p s.reached
@@ -44,9 +51,11 @@ pub come-in-order : (end : End) (p : PairState) → IsReached p → ComeInOrder 
 come-in-order One p r = λ lost. (reached-in-order p r lost).there
 come-in-order Two p r = λ lost. (reached-in-order p r (record { near = lost.far; far = lost.near })).back
 
-are-for-far : (end : End) (p : PairState) → IsReached p → All (IsUserMessageTo (seen_from end p).far.exchange.settings.own) (seen_from end p).near.accepted
-are-for-far One p r = (reached-always AreForFarPoint goes-to-far p r).there
-are-for-far Two p r = (reached-always AreForFarPoint goes-to-far p r).back
+-- ---- books
+
+books : (end : End) (p : PairState) → IsReached p → AreBooked (seen_from end p)
+books One p r = (reached-always AreBooked books-stay p r).there
+books Two p r = (reached-always AreBooked books-stay p r).back
 
 -- ---- what an end shows
 
@@ -70,7 +79,10 @@ module _ (end : End) (k : KeptPair) (p : PairState) (s : StandsFor k p) where
   received-same = ap (λ (e : KeptEnd). e.received) (at-same end k p s)
 
   pub accepted-far : All (IsUserMessageTo (seen_from end p).far.exchange.settings.own) (kept_at end k).accepted
-  accepted-far = subst (All (IsUserMessageTo (seen_from end p).far.exchange.settings.own)) (sym accepted-same) (are-for-far end p s.reached)
+  accepted-far = subst (All (IsUserMessageTo (seen_from end p).far.exchange.settings.own)) (sym accepted-same) (books end p s.reached).accepted
+
+  pub received-here : All (IsUserMessageTo (seen_from end p).near.exchange.settings.own) (kept_at end k).received
+  received-here = subst (All (IsUserMessageTo (seen_from end p).near.exchange.settings.own)) (sym received-same) (books end p s.reached).received
 
   pub accepted-once : ComeOnce (seen_from end p) (kept_at end k).accepted (seen_from end p).far.received
   accepted-once =

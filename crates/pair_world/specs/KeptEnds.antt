@@ -1,5 +1,5 @@
--- One end of a pair as the code keeps it, and what becomes of it: the rules of an end of two abstract exchanges, on
--- what is kept.
+-- One end of a pair as the code keeps it, and what becomes of it: the rules of an end of two nodes that share a link set,
+-- on what is kept.
 use Rattle.std.specs.Prelude.{ℕ, Bool, true, false, nat_eq, List, [], ◌∷◌, ◌++◌, slice_get, slice_set, drop, take, Option, Some, None, option_to_list, slice_index_or, if◌then◌else◌}
 use Rattle.std.specs.Option.{option_map}
 use Rattle.signalling_types.specs.Message.{Message}
@@ -17,6 +17,7 @@ use Rattle.exchange.specs.KeptQueues.{kept}
 use Rattle.exchange.specs.Calls.{Kept, kept_of}
 use Rattle.exchange.specs.Views.{link_view}
 use Rattle.pair_rules.specs.Pairs.{End, Streams, emptied, in_flight, with_status_twice, without_data, without_status}
+use Rattle.neighbour_rules.specs.Neighbours.{users_to}
 use Rattle.pair_world.specs.Bringing.{kept_in, kept_in_all, number_in}
 
 -- an end: what is kept of its exchange, what is in flight to it, on which links it may follow the other, and what it
@@ -53,13 +54,17 @@ end_happens what e = record {
 
 -- ---- a message is handed over
 
-abbrev pub end_submits : Message → KeptEnd → EndTurn
-end_submits m e = record {
+-- what that brings in
+abbrev pub handed_in : Message → Kept → List Message
+handed_in m k = kept_in 0 k (after kept (Submitted m) k) (outcome_of kept (Submitted m) k) m
+
+-- of which the end accepts what is for the far point
+abbrev pub end_submits : (far_point : ℕ) → Message → KeptEnd → EndTurn
+end_submits far_point m e = record {
   outcome = outcome_of kept (Submitted m) e.exchange;
   left = record e {
     exchange = after kept (Submitted m) e.exchange;
-    accepted = e.accepted
-        ++ kept_in 0 e.exchange (after kept (Submitted m) e.exchange) (outcome_of kept (Submitted m) e.exchange) m;
+    accepted = e.accepted ++ users_to far_point (handed_in m e.exchange);
   };
 }
 
@@ -77,49 +82,60 @@ accepted_number k link = number_shown (link_view kept k link)
 abbrev pub user_message_in : List ℕ → List Message
 user_message_in text = users_of (option_to_list (carried_message (read_frame text)))
 
--- the user message that a frame newly brings: that in the frame, where the number of the last message that
--- was accepted on its link isn't what it was before
+-- the user message that a frame newly carries: that in the frame, where the number of the last message that was
+-- accepted on its link isn't what it was before
 abbrev pub new_if_other : (number_before number_after : ℕ) → (text : List ℕ) → List Message
 new_if_other number_before number_after text =
     if nat_eq number_before number_after then [] else user_message_in text
 
-abbrev pub newly_received : (link : ℕ) → (text : List ℕ) → Kept → List Message
-newly_received link text k =
+abbrev pub newly_carried : (link : ℕ) → (text : List ℕ) → Kept → List Message
+newly_carried link text k =
     new_if_other (accepted_number k link) (accepted_number (after kept (FrameCame link text) k) link) text
 
 -- what that brings in, in its turn
-abbrev pub newly_accepted : (link : ℕ) → (text : List ℕ) → Kept → List Message
-newly_accepted link text k =
+abbrev pub newly_brought : (link : ℕ) → (text : List ℕ) → Kept → List Message
+newly_brought link text k =
     kept_in_all (number_in (read_frame text)) k (after kept (FrameCame link text) k)
-    (outcome_of kept (FrameCame link text) k) (newly_received link text k)
+    (outcome_of kept (FrameCame link text) k) (newly_carried link text k)
 
 -- the frames of one stream without the first of a link
 abbrev pub without_first : Option (List ℕ) → (link : ℕ) → List (List (List ℕ)) → List (List (List ℕ))
 without_first (Some text) link frames = slice_set frames link (drop 1 (in_flight frames link))
 without_first None link frames = frames
 
--- a frame comes, and so much is left in flight
-abbrev pub end_hears : Option (List ℕ) → (link : ℕ) → (left : Streams) → KeptEnd → EndTurn
-end_hears (Some text) link left e = record {
+-- a frame comes that was in flight, and so much is left: what it newly carries is received where it is for this point,
+-- and what that brings in is accepted where it is for the far point
+abbrev pub end_hears : (far_point : ℕ) → Option (List ℕ) → (link : ℕ) → (left : Streams) → KeptEnd → EndTurn
+end_hears far_point (Some text) link left e = record {
   outcome = outcome_of kept (FrameCame link text) e.exchange;
   left = record {
     exchange = after kept (FrameCame link text) e.exchange;
     incoming = left;
     following = e.following;
-    accepted = e.accepted ++ newly_accepted link text e.exchange;
-    received = e.received ++ newly_received link text e.exchange;
+    accepted = e.accepted ++ users_to far_point (newly_brought link text e.exchange);
+    received = e.received ++ users_to e.exchange.settings.own (newly_carried link text e.exchange);
   };
 }
-end_hears None link left e = record { outcome = Ignored; left = e }
+end_hears far_point None link left e = record { outcome = Ignored; left = e }
+
+-- a frame comes from elsewhere: only what it brings in for the far point is booked
+abbrev pub end_hears_elsewhere : (far_point : ℕ) → (link : ℕ) → (text : List ℕ) → KeptEnd → EndTurn
+end_hears_elsewhere far_point link text e = record {
+  outcome = outcome_of kept (FrameCame link text) e.exchange;
+  left = record e {
+    exchange = after kept (FrameCame link text) e.exchange;
+    accepted = e.accepted ++ users_to far_point (newly_brought link text e.exchange);
+  };
+}
 
 -- the next User Data, or the next link status, that is in flight on a link comes
-abbrev pub end_delivers : (link : ℕ) → KeptEnd → EndTurn
-end_delivers link e =
-    end_hears (slice_get (in_flight e.incoming.user_data link) 0) link (without_data link e.incoming) e
+abbrev pub end_delivers : (far_point : ℕ) → (link : ℕ) → KeptEnd → EndTurn
+end_delivers far_point link e =
+    end_hears far_point (slice_get (in_flight e.incoming.user_data link) 0) link (without_data link e.incoming) e
 
-abbrev pub end_delivers_status : (link : ℕ) → KeptEnd → EndTurn
-end_delivers_status link e =
-    end_hears (slice_get (in_flight e.incoming.statuses link) 0) link (without_status link e.incoming) e
+abbrev pub end_delivers_status : (far_point : ℕ) → (link : ℕ) → KeptEnd → EndTurn
+end_delivers_status far_point link e =
+    end_hears far_point (slice_get (in_flight e.incoming.statuses link) 0) link (without_status link e.incoming) e
 
 -- the frames of one stream with the first of a link twice
 abbrev pub with_first_twice : Option (List ℕ) → (link : ℕ) → List (List (List ℕ)) → List (List (List ℕ))

@@ -3,6 +3,7 @@ pub mod Bringing
 pub mod KeptEnds
 pub mod KeptPairs
 pub mod Told
+pub mod Elsewhere
 pub mod Stands
 pub mod Promised
 pub mod Tells

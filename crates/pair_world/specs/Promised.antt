@@ -1,9 +1,10 @@
--- What a pair promises of the messages that its near end accepted and its far end received.
+-- What a pair promises of the messages that its near end accepted for the far one, and its far end received.
 use Rattle.std.specs.Prelude.{◌≡◌, ◌+◌, ℕ, Bool, List, ◌++◌, count_by}
 use Rattle.signalling_types.specs.Message.{Message}
 use Rattle.signalling_types.specs.declared.point.Flow.{Flow}
 use Rattle.pair_rules.specs.Pairs.{PairState}
-use Rattle.pair_rules.specs.Promises.{BothWays, IsPunctual, LostNothing, of_flow, user, waiting}
+use Rattle.pair_rules.specs.Promises.{BothWays, IsPunctual, LostNothing, of_flow, user}
+use Rattle.neighbour_rules.specs.Promises.{waiting}
 use Rattle.pair_world.specs.KeptPairs.{KeptPair}
 use Rattle.pair_world.specs.Stands.{StandsFor}
 

@@ -9,6 +9,8 @@ use Rattle.signalling_types.specs.declared.outcome.Outcome.{Outcome}
 use Rattle.exchange.specs.Calls.{is_memory_refused}
 use Rattle.pair_rules.specs.Pairs as pairs
 use Rattle.pair_rules.specs.Pairs.{PairState, turned}
+use Rattle.neighbour_rules.specs.Neighbours as neighbours
+use Rattle.neighbour_rules.specs.Neighbours.{Does}
 use Rattle.pair_world.specs.KeptEnds.{KeptEnd}
 use Rattle.pair_world.specs.KeptPairs.{KeptPair}
 
@@ -27,41 +29,44 @@ abbrev pub other : End → End
 other end.One = end.Two
 other end.Two = end.One
 
--- what is done at one end
-abbrev pub told : Doing → Outcome → pairs.Doing
-told (doing.Submit message) outcome = pairs.Submits message
-told (doing.Take link) outcome = pairs.Takes link
-told (doing.Deliver link) outcome = pairs.Delivers link
-told (doing.DeliverStatus link) outcome = pairs.DeliversStatus link
-told (doing.LoseStatus link) outcome = pairs.LosesStatus link
-told (doing.DoubleStatus link) outcome = pairs.DoublesStatus link
-told (doing.Lose link) outcome = pairs.Loses link
-told doing.Tick outcome = pairs.Ticks
-told (doing.Activate link) outcome = pairs.Activates link
-told (doing.Deactivate link) outcome = pairs.Deactivates link
-told (doing.AddTitle row) outcome = pairs.AddsTitle row (is_memory_refused outcome)
-told (doing.RemoveTitle key digits) outcome = pairs.RemovesTitle key digits.items
-told (doing.OpenFirst link) outcome = pairs.OpensFirst link
-told (doing.OpenSecond link) outcome = pairs.OpensSecond link
+-- what is done at one end, but for a fetch
+abbrev pub told : Doing → Outcome → neighbours.Doing
+told (doing.Submit message) outcome = Does (pairs.Submits message)
+told (doing.Deliver link) outcome = Does (pairs.Delivers link)
+told (doing.DeliverStatus link) outcome = Does (pairs.DeliversStatus link)
+told (doing.LoseStatus link) outcome = Does (pairs.LosesStatus link)
+told (doing.DoubleStatus link) outcome = Does (pairs.DoublesStatus link)
+told (doing.Lose link) outcome = Does (pairs.Loses link)
+told doing.Tick outcome = Does pairs.Ticks
+told (doing.Activate link) outcome = Does (pairs.Activates link)
+told (doing.Deactivate link) outcome = Does (pairs.Deactivates link)
+told (doing.AddTitle row) outcome = Does (pairs.AddsTitle row (is_memory_refused outcome))
+told (doing.RemoveTitle key digits) outcome = Does (pairs.RemovesTitle key digits.items)
+told (doing.OpenFirst link) outcome = Does (pairs.OpensFirst link)
+told (doing.OpenSecond link) outcome = Does (pairs.OpensSecond link)
+told (doing.OpenElsewhere link) outcome = neighbours.OpensElsewhere link
+told (doing.HearElsewhere link text) outcome = neighbours.HearsElsewhere link text
 
 -- where it is done
-abbrev pub done_at : End → pairs.Doing → pairs.Step
-done_at end.One what = pairs.AtNear what
-done_at end.Two what = pairs.AtFar what
+abbrev pub done_at : End → neighbours.Doing → neighbours.Step
+done_at end.One what = neighbours.AtNear what
+done_at end.Two what = neighbours.AtFar what
 
 -- a step
-abbrev pub step_told : Step → Outcome → pairs.Step
-step_told (step.Submit its message) outcome = done_at its (pairs.Submits message)
-step_told (step.Take its link) outcome = done_at its (pairs.Takes link)
-step_told (step.Deliver its link) outcome = done_at its (pairs.Delivers link)
-step_told (step.DeliverStatus its link) outcome = done_at its (pairs.DeliversStatus link)
-step_told (step.LoseStatus its link) outcome = done_at its (pairs.LosesStatus link)
-step_told (step.DoubleStatus its link) outcome = done_at its (pairs.DoublesStatus link)
-step_told (step.Lose its link) outcome = done_at its (pairs.Loses link)
-step_told (step.Tick its) outcome = done_at its pairs.Ticks
-step_told (step.Activate its link) outcome = done_at its (pairs.Activates link)
-step_told (step.Deactivate its link) outcome = done_at its (pairs.Deactivates link)
-step_told (step.AddTitle its row) outcome = done_at its (pairs.AddsTitle row (is_memory_refused outcome))
-step_told (step.RemoveTitle its key digits) outcome = done_at its (pairs.RemovesTitle key digits.items)
-step_told (step.OpenFirst its link) outcome = done_at its (pairs.OpensFirst link)
-step_told (step.OpenSecond its link) outcome = done_at its (pairs.OpensSecond link)
+abbrev pub step_told : Step → Outcome → neighbours.Step
+step_told (step.Submit its message) outcome = done_at its (Does (pairs.Submits message))
+step_told (step.Take its link) outcome = done_at its (Does (pairs.Takes link))
+step_told (step.Deliver its link) outcome = done_at its (Does (pairs.Delivers link))
+step_told (step.DeliverStatus its link) outcome = done_at its (Does (pairs.DeliversStatus link))
+step_told (step.LoseStatus its link) outcome = done_at its (Does (pairs.LosesStatus link))
+step_told (step.DoubleStatus its link) outcome = done_at its (Does (pairs.DoublesStatus link))
+step_told (step.Lose its link) outcome = done_at its (Does (pairs.Loses link))
+step_told (step.Tick its) outcome = done_at its (Does pairs.Ticks)
+step_told (step.Activate its link) outcome = done_at its (Does (pairs.Activates link))
+step_told (step.Deactivate its link) outcome = done_at its (Does (pairs.Deactivates link))
+step_told (step.AddTitle its row) outcome = done_at its (Does (pairs.AddsTitle row (is_memory_refused outcome)))
+step_told (step.RemoveTitle its key digits) outcome = done_at its (Does (pairs.RemovesTitle key digits.items))
+step_told (step.OpenFirst its link) outcome = done_at its (Does (pairs.OpensFirst link))
+step_told (step.OpenSecond its link) outcome = done_at its (Does (pairs.OpensSecond link))
+step_told (step.OpenElsewhere its link) outcome = done_at its (neighbours.OpensElsewhere link)
+step_told (step.HearElsewhere its link text) outcome = done_at its (neighbours.HearsElsewhere link text)

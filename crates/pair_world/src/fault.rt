@@ -6,8 +6,8 @@ ghost use Rattle.pair_world.specs.Faults.{pair_fault_number};
 /// Why there is no pair of two settings.
 #[derive(Clone, Copy, Debug, PartialEq, Eq)]
 pub enum PairFault {
-    /// The settings don't face each other.
-    NotFacing = 1,
+    /// The two nodes don't share a link set.
+    NotSharing = 1,
     /// Memory ran out.
     NoMemory = 2,
 }

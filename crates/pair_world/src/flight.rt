@@ -113,7 +113,7 @@ fn is_link_status(text: &FrameText) -> bool
 }
 
 /// The octets of the next frame that goes out on a link.
-fn next_text(exchange: &mut Exchange, link: LinkId) -> Option<FrameText>
+pub(crate) fn next_text(exchange: &mut Exchange, link: LinkId) -> Option<FrameText>
     ensures text { result ≡ text_to_take exchange.old link }
     ensures state { exchange.new ≡ taken kept exchange.old link }
 {

@@ -7,29 +7,34 @@ ghost use Rattle.changeover.specs.Changeover.{users_of};
 ghost use Rattle.exchange_rules.specs.State.{FrameCame, Submitted};
 ghost use Rattle.exchange_rules.specs.Exchange.{outcome_of, after};
 ghost use Rattle.exchange.specs.KeptQueues.{kept};
-ghost use Rattle.pair_world.specs.Bringing.{kept_in, number_in};
-ghost use Rattle.pair_world.specs.KeptEnds.{accepted_number, newly_accepted, newly_received, new_if_other, user_message_in};
+ghost use Rattle.neighbour_rules.specs.Neighbours.{users_to};
+ghost use Rattle.pair_world.specs.Bringing.{number_in};
+ghost use Rattle.pair_world.specs.KeptEnds.{accepted_number, handed_in, newly_brought, newly_carried, new_if_other, user_message_in};
 
+use crate::between::is_user_to;
 use crate::bringing::{count_standing, is_sccp, told_in};
 use exchange::{Event, Exchange, Frame, FrameText, LONGEST_FRAME, decode};
 use sccp_relay::Translations;
-use settings::{Limits, LinkId, Msu, Outcome};
+use settings::{Limits, LinkId, Msu, Outcome, PointCode};
 use signalling_types::Number24;
 
-/// A user part hands a message over. What that brings in joins what was accepted.
-pub(crate) fn hand_over(
-    exchange: &mut Exchange,
-    accepted: &mut Vec<Msu>,
-    rows: &Translations,
-    message: &Msu,
-) -> Outcome
-    requires room { vec_len accepted.old < vec_capacity accepted.old }
+/// What became of a message or a frame that came.
+#[derive(Drop)]
+pub(crate) struct Heard {
+    /// Its outcome.
+    pub outcome: Outcome,
+    /// The user message that a frame newly carried.
+    pub carried: Option<Msu>,
+    /// What it brought into a queue or Held.
+    pub brought: Option<Msu>,
+}
+
+/// A user part hands a message over.
+pub(crate) fn hand_over(exchange: &mut Exchange, rows: &Translations, message: &Msu) -> Heard
     requires rows { rows.now ≡ exchange.old.node.parts.titles }
-    ensures outcome { result ≡ outcome_of kept (Submitted message.now) exchange.old }
+    ensures outcome { result.outcome ≡ outcome_of kept (Submitted message.now) exchange.old }
     ensures state { exchange.new ≡ after kept (Submitted message.now) exchange.old }
-    ensures accepted { accepted.new.items ≡ accepted.old.items
-        ++ kept_in 0 exchange.old (after kept (Submitted message.now) exchange.old)
-        (outcome_of kept (Submitted message.now) exchange.old) message.now }
+    ensures brought { option_to_list result.brought ≡ handed_in message.now exchange.old }
 {
     let counts = is_sccp(message);
     let before = count_standing(exchange, counts, Number24::zero());
@@ -42,54 +47,50 @@ pub(crate) fn hand_over(
         rows,
         message,
     );
-    add(accepted, brought);
-    outcome
+    Heard {
+        outcome,
+        carried: None,
+        brought,
+    }
 }
 
-/// A frame is handed in. The user message that it newly brings joins what was received, and what that brings in joins
-/// what was accepted.
+/// A frame is handed in.
 pub(crate) fn hand_in(
     exchange: &mut Exchange,
-    accepted: &mut Vec<Msu>,
-    received: &mut Vec<Msu>,
     rows: &Translations,
     link: LinkId,
     text: &FrameText,
-) -> Outcome
-    requires accepted { vec_len accepted.old < vec_capacity accepted.old }
-    requires received { vec_len received.old < vec_capacity received.old }
+) -> Heard
     requires rows { rows.now ≡ exchange.old.node.parts.titles }
-    ensures outcome { result ≡ outcome_of kept (FrameCame link text.now) exchange.old }
+    ensures outcome { result.outcome ≡ outcome_of kept (FrameCame link text.now) exchange.old }
     ensures state { exchange.new ≡ after kept (FrameCame link text.now) exchange.old }
-    ensures accepted { accepted.new.items ≡ accepted.old.items ++ newly_accepted link text.now exchange.old }
-    ensures received { received.new.items ≡ received.old.items ++ newly_received link text.now exchange.old }
+    ensures carried { option_to_list result.carried ≡ newly_carried link text.now exchange.old }
+    ensures brought { option_to_list result.brought ≡ newly_brought link text.now exchange.old }
 {
     match user_message(text.octets()) {
-        Some(message) => {
-            hand_in_message(exchange, accepted, received, rows, link, text, message)
-        }
-        None => exchange.step(&Event::Frame(link, text.octets())),
+        Some(message) => hand_in_message(exchange, rows, link, text, message),
+        None => Heard {
+            outcome: exchange.step(&Event::Frame(link, text.octets())),
+            carried: None,
+            brought: None,
+        },
     }
 }
 
 /// The same, of a frame with a user message.
 fn hand_in_message(
     exchange: &mut Exchange,
-    accepted: &mut Vec<Msu>,
-    received: &mut Vec<Msu>,
     rows: &Translations,
     link: LinkId,
     text: &FrameText,
     message: Msu,
-) -> Outcome
-    requires accepted { vec_len accepted.old < vec_capacity accepted.old }
-    requires received { vec_len received.old < vec_capacity received.old }
+) -> Heard
     requires rows { rows.now ≡ exchange.old.node.parts.titles }
     requires message { user_message_in text.now ≡ message ∷ [] }
-    ensures outcome { result ≡ outcome_of kept (FrameCame link text.now) exchange.old }
+    ensures outcome { result.outcome ≡ outcome_of kept (FrameCame link text.now) exchange.old }
     ensures state { exchange.new ≡ after kept (FrameCame link text.now) exchange.old }
-    ensures accepted { accepted.new.items ≡ accepted.old.items ++ newly_accepted link text.now exchange.old }
-    ensures received { received.new.items ≡ received.old.items ++ newly_received link text.now exchange.old }
+    ensures carried { option_to_list result.carried ≡ newly_carried link text.now exchange.old }
+    ensures brought { option_to_list result.brought ≡ newly_brought link text.now exchange.old }
 {
     let number = number_in(text.octets());
     let counts = is_sccp(&message);
@@ -97,18 +98,25 @@ fn hand_in_message(
     let last = last_accepted(exchange, link);
     let outcome = exchange.step(&Event::Frame(link, text.octets()));
     let after = count_standing(exchange, counts, number);
-    if last != last_accepted(exchange, link) {
-        let brought = told_in(
-            &outcome,
-            before != after,
-            exchange.settings(),
-            rows,
-            &message,
-        );
-        add(accepted, brought);
-        add(received, Some(message));
+    if last == last_accepted(exchange, link) {
+        return Heard {
+            outcome,
+            carried: None,
+            brought: None,
+        };
     }
-    outcome
+    let brought = told_in(
+        &outcome,
+        before != after,
+        exchange.settings(),
+        rows,
+        &message,
+    );
+    Heard {
+        outcome,
+        carried: Some(message),
+        brought,
+    }
 }
 
 /// The number with which a frame confirms; 0 where it can't be read.
@@ -143,12 +151,14 @@ pub(crate) fn last_accepted(exchange: &Exchange, link: LinkId) -> Number24
     }
 }
 
-/// A message joins others, where there is one.
-pub(crate) fn add(messages: &mut Vec<Msu>, message: Option<Msu>)
+/// A message joins others, where it is a user message for a point.
+pub(crate) fn add(messages: &mut Vec<Msu>, point: PointCode, message: Option<Msu>)
     requires { vec_len messages.old < vec_capacity messages.old }
-    ensures { messages.new.items ≡ messages.old.items ++ option_to_list message }
+    ensures { messages.new.items ≡ messages.old.items ++ users_to point (option_to_list message) }
 {
-    if let Some(message) = message {
+    if let Some(message) = message
+        && is_user_to(point, &message)
+    {
         messages.push_reserved(message);
     }
 }

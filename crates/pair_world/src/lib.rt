@@ -1,7 +1,8 @@
-//! Two exchanges that face each other, and the frames in flight between them, in one type.
+//! Two exchanges that share a link set, and the frames in flight between them, in one type.
 #![tactic(auto)]
 
 mod act;
+mod between;
 mod bringing;
 mod counting;
 pub mod fault;
@@ -14,4 +15,4 @@ pub mod step;
 
 pub use fault::PairFault;
 pub use pair::Pair;
-pub use step::{End, Step};
+pub use step::{End, Step, Turned};

@@ -1,12 +1,16 @@
-//! Two exchanges that face each other.
+//! Two exchanges that share a link set.
 
 ghost use Rattle.std.specs.Prelude.{◌≡◌, ◌↔◌, All, IfOk, IfErr, OnOk, OnErr, count_by};
-ghost use Rattle.settings.specs.Facing.{IsFacing};
+ghost use Rattle.settings.specs.Sharing.{SharesSet};
 ghost use Rattle.exchange.specs.Calls as exchanges;
 ghost use Rattle.pair_rules.specs.Pairs as pairs;
 ghost use Rattle.pair_rules.specs.Pairs.{PairState, first_pair};
 ghost use Rattle.pair_rules.specs.Accepting.{IsUserMessageTo};
-ghost use Rattle.pair_rules.specs.Promises as promises;
+ghost use Rattle.pair_rules.specs.Promises.{user};
+ghost use Rattle.neighbour_rules.specs.Neighbours as neighbours;
+ghost use Rattle.neighbour_rules.specs.Neighbours.{Does};
+ghost use Rattle.neighbour_rules.specs.Promises as promises;
+ghost use Rattle.pair_world.specs.Elsewhere.{gone_elsewhere};
 ghost use Rattle.pair_world.specs.Told.{seen_from, other, told, done_at, step_told, kept_at};
 ghost use Rattle.pair_world.specs.KeptPairs.{kept_pair_of, kept_turn};
 ghost use Rattle.pair_world.specs.Stands.{StandsFor};
@@ -14,17 +18,17 @@ ghost use Rattle.pair_world.specs.Tells.{Tells};
 ghost use Rattle.pair_world.specs.Promised.{ComeOnce, ComeInOrder, ComeOrWait};
 ghost use Rattle.pair_world.specs.Waiting.{kept_waiting};
 
-use crate::act::act;
+use crate::act::{act, take};
 use crate::fault::PairFault;
 use crate::side::Side;
-use crate::step::{Doing, End, Step};
+use crate::step::{Doing, End, Step, Turned};
 use exchange::{Exchange, NoMemory, Pick};
 use settings::{LinkId, Msu, Outcome, Settings};
 use std::alloc::Global;
 use std::marker::Model;
 
-/// Two exchanges that face each other, the frames in flight between them, and all user messages that each of them
-/// accepted and received from the other.
+/// Two exchanges that share a link set, each with whatever further links and neighbours, the frames in flight between
+/// them, and all user messages that each of them accepted for the other and received from it.
 ///
 /// It stands for two abstract exchanges that some steps led to from the first on (`StandsFor`): `new` makes it so, and
 /// each `turn` keeps it.
@@ -51,20 +55,20 @@ impl Model for Pair {
 impl Pair {
     /// A pair of two exchanges that were just booted, with nothing in flight.
     ///
-    /// NotFacing where the settings don't face each other (`Settings::faces`); NoMemory comes only where a growth was
-    /// refused.
+    /// NotSharing where the two nodes don't share a link set (`Settings::shares_set_with`); NoMemory comes only where a
+    /// growth was refused.
     pub fn new(alloc: Global, near: Settings, far: Settings) -> Result<Pair, PairFault>
         // It stands for the first pair of these settings.
         ensures first { IfOk result (λ pair. StandsFor pair (first_pair near far)) }
-        // There is one only if they face each other,
-        ensures facing { OnOk result (IsFacing near far) }
+        // There is one only if they share a set,
+        ensures sharing { OnOk result (SharesSet near far) }
         // and the fault says whether they do.
-        ensures fault { IfErr result (λ fault. (fault ≡ PairFault.NotFacing) ↔ (¬ (IsFacing near far))) }
+        ensures fault { IfErr result (λ fault. (fault ≡ PairFault.NotSharing) ↔ (¬ (SharesSet near far))) }
     {
         near.are_well();
         far.are_well();
-        if !near.faces(&far) {
-            return Err(PairFault::NotFacing);
+        if !near.shares_set_with(&far) {
+            return Err(PairFault::NotSharing);
         }
         match Pair::boot(alloc, near, far) {
             Ok(pair) => Ok(pair),
@@ -89,24 +93,28 @@ impl Pair {
     /// Takes one step, and says what became of it.
     ///
     /// It makes its room first: after NoMemory, which comes only where a growth was refused, nothing has changed.
-    pub fn turn(&mut self, step: Step) -> Result<Outcome, NoMemory>
+    pub fn turn(&mut self, step: Step) -> Result<Turned, NoMemory>
         // For every abstract pair that it stood for, the outcome is that of the abstract step,
         ensures outcome { (p : PairState) → StandsFor self.old p →
-            IfOk result (λ outcome. outcome ≡ (pairs.turn (step_told step outcome) p).outcome) }
-        // which for a delivery says what came, and what was accepted of that: Local exactly if the end received a
-        // message for a user part or a subsystem here, NoUserPart exactly if one for another user part,
+            IfOk result (λ turned. turned.outcome ≡ (neighbours.turn (step_told step turned.outcome) p).outcome) }
+        // which for a delivery says what came, and what was accepted of that, where the two have only each other: Local
+        // exactly if the end received a message for a user part or a subsystem here, NoUserPart exactly if one for
+        // another user part;
         ensures told { (p : PairState) → StandsFor self.old p →
-            IfOk result (λ outcome. Tells (step_told step outcome) p outcome) }
+            IfOk result (λ turned. Tells (step_told step turned.outcome) p turned.outcome) }
+        // the frame that a take gave on a link that leads elsewhere is handed out;
+        ensures elsewhere { (p : PairState) → StandsFor self.old p →
+            IfOk result (λ turned. turned.elsewhere ≡ gone_elsewhere (step_told step turned.outcome) p) }
         // and the pair stands for the one after it.
         ensures state { (p : PairState) → StandsFor self.old p →
-            IfOk result (λ outcome. StandsFor self.new (pairs.turn (step_told step outcome) p).left) }
+            IfOk result (λ turned. StandsFor self.new (neighbours.turn (step_told step turned.outcome) p).left) }
         ensures unchanged { OnErr result (self.new ≡ self.old) }
     {
         self.apply(step)
     }
 
-    /// All user messages that an end accepted, in order: all that it queued or held. A user part handed them over, or
-    /// SCCP relayed them, or made them to return others. They are for the other end.
+    /// All user messages for the other end that an end accepted, in order: all that it queued or held. A user part
+    /// handed them over, they came from elsewhere, or SCCP relayed them, or made them to return others.
     pub fn accepted(&self, end: End) -> &[Msu]
         ensures accepted { (p : PairState) → StandsFor self.now p → result.now ≡ (seen_from end p).near.accepted }
         ensures destination { (p : PairState) → StandsFor self.now p →
@@ -121,9 +129,11 @@ impl Pair {
         self.side(end).accepted()
     }
 
-    /// All user messages that frames newly brought to an end from the other, in order, those of SCCP among them.
+    /// All user messages for an end that frames newly brought it from the other, in order, those of SCCP among them.
     pub fn received(&self, end: End) -> &[Msu]
         ensures received { (p : PairState) → StandsFor self.now p → result.now ≡ (seen_from end p).near.received }
+        ensures destination { (p : PairState) → StandsFor self.now p →
+            All (IsUserMessageTo (seen_from end p).near.exchange.settings.own) result.now }
         // "Exactly once"
         ensures once { (p : PairState) → StandsFor self.now p →
             ComeOnce (seen_from (other end) p) (seen_from (other end) p).near.accepted result.now }
@@ -134,15 +144,15 @@ impl Pair {
         self.side(end).received()
     }
 
-    /// How many user messages that a choice takes wait at an end for the other: on a link, behind the last message
-    /// that the other end accepted there, or in Held. So while neither end may have lost a message, as many were
-    /// accepted as the other end received and as wait, between any two steps.
+    /// How many user messages for the other end that a choice takes wait at an end: on a link between the two, behind
+    /// the last message that the other end accepted there, or in Held. So while neither end may have lost a message, as
+    /// many were accepted as the other end received and as wait, between any two steps.
     ///
     /// It steps over the messages that the other end accepted and that aren't confirmed yet, looks at
     /// each message behind them and in Held once, and copies none. Each link's count has 64 bits, and their sum 128.
     pub fn waiting<P: Pick>(&self, end: End, pick: &P) -> u128
         ensures waiting { (p : PairState) → StandsFor self.now p →
-            result ≡ count_by (promises.user (P.picks pick.now)) (promises.waiting (seen_from end p)) }
+            result ≡ count_by (user (P.picks pick.now)) (promises.waiting (seen_from end p)) }
         ensures once { (p : PairState) → StandsFor self.now p →
             ComeOrWait (seen_from end p) (P.picks pick.now) result }
     {
@@ -188,16 +198,18 @@ impl Pair {
 
 impl Pair {
     /// Takes one step.
-    fn apply(&mut self, step: Step) -> Result<Outcome, NoMemory>
-        ensures outcome { IfOk result (λ outcome.
-            outcome ≡ (kept_turn (step_told step outcome) self.old).outcome) }
-        ensures state { IfOk result (λ outcome.
-            self.new ≡ (kept_turn (step_told step outcome) self.old).left) }
+    fn apply(&mut self, step: Step) -> Result<Turned, NoMemory>
+        ensures outcome { IfOk result (λ turned.
+            turned.outcome ≡ (kept_turn (step_told step turned.outcome) self.old).outcome) }
+        ensures elsewhere { IfOk result (λ turned.
+            turned.elsewhere ≡ (kept_turn (step_told step turned.outcome) self.old).elsewhere) }
+        ensures state { IfOk result (λ turned.
+            self.new ≡ (kept_turn (step_told step turned.outcome) self.old).left) }
         ensures unchanged { OnErr result (self.new ≡ self.old) }
     {
         match step {
             Step::Submit(end, message) => self.act_at(end, Doing::Submit(message)),
-            Step::Take(end, link) => self.act_at(end, Doing::Take(link)),
+            Step::Take(end, link) => self.take_at(end, link),
             Step::Deliver(end, link) => self.act_at(end, Doing::Deliver(link)),
             Step::DeliverStatus(end, link) => self.act_at(end, Doing::DeliverStatus(link)),
             Step::LoseStatus(end, link) => self.act_at(end, Doing::LoseStatus(link)),
@@ -212,20 +224,46 @@ impl Pair {
             }
             Step::OpenFirst(end, link) => self.act_at(end, Doing::OpenFirst(link)),
             Step::OpenSecond(end, link) => self.act_at(end, Doing::OpenSecond(link)),
+            Step::OpenElsewhere(end, link) => self.act_at(end, Doing::OpenElsewhere(link)),
+            Step::HearElsewhere(end, link, text) => {
+                self.act_at(end, Doing::HearElsewhere(link, text))
+            }
         }
     }
 
-    /// Does what is done at an end.
-    fn act_at(&mut self, end: End, what: Doing) -> Result<Outcome, NoMemory>
-        ensures outcome { IfOk result (λ outcome.
-            outcome ≡ (kept_turn (done_at end (told what outcome)) self.old).outcome) }
-        ensures state { IfOk result (λ outcome.
-            self.new ≡ (kept_turn (done_at end (told what outcome)) self.old).left) }
+    /// Does what is done at an end, but for a take.
+    fn act_at(&mut self, end: End, what: Doing) -> Result<Turned, NoMemory>
+        ensures outcome { IfOk result (λ turned.
+            turned.outcome ≡ (kept_turn (done_at end (told what turned.outcome)) self.old).outcome) }
+        ensures elsewhere { IfOk result (λ turned.
+            turned.elsewhere ≡ (kept_turn (done_at end (told what turned.outcome)) self.old).elsewhere) }
+        ensures state { IfOk result (λ turned.
+            self.new ≡ (kept_turn (done_at end (told what turned.outcome)) self.old).left) }
+        ensures unchanged { OnErr result (self.new ≡ self.old) }
+    {
+        let outcome = match end {
+            End::One => act(&mut self.near, &mut self.far, what)?,
+            End::Two => act(&mut self.far, &mut self.near, what)?,
+        };
+        Ok(Turned {
+            outcome,
+            elsewhere: None,
+        })
+    }
+
+    /// Fetches the next frame of a link of an end.
+    fn take_at(&mut self, end: End, link: LinkId) -> Result<Turned, NoMemory>
+        ensures outcome { IfOk result (λ turned.
+            turned.outcome ≡ (kept_turn (done_at end (Does (pairs.Takes link))) self.old).outcome) }
+        ensures elsewhere { IfOk result (λ turned.
+            turned.elsewhere ≡ (kept_turn (done_at end (Does (pairs.Takes link))) self.old).elsewhere) }
+        ensures state { IfOk result (λ turned.
+            self.new ≡ (kept_turn (done_at end (Does (pairs.Takes link))) self.old).left) }
         ensures unchanged { OnErr result (self.new ≡ self.old) }
     {
         match end {
-            End::One => act(&mut self.near, &mut self.far, what),
-            End::Two => act(&mut self.far, &mut self.near, what),
+            End::One => take(&mut self.near, &mut self.far, link),
+            End::Two => take(&mut self.far, &mut self.near, link),
         }
     }
 }

@@ -7,19 +7,20 @@ ghost use Rattle.exchange.specs.Calls.{happened, kept_of};
 ghost use Rattle.exchange.specs.KeptQueues.{kept};
 ghost use Rattle.exchange.specs.Views.{may_restart_at};
 ghost use Rattle.pair_rules.specs.Pairs.{Streams, first_end};
-ghost use Rattle.pair_world.specs.KeptEnds.{kept_end_of, end_happens, end_submits, end_delivers, end_delivers_status, end_loses_status, end_doubles_status, end_opens_first, end_may_follow, end_opens_second, text_to_take, behind_its, take_outcome};
+ghost use Rattle.pair_world.specs.KeptEnds.{kept_end_of, end_happens, end_submits, end_delivers, end_delivers_status, end_hears_elsewhere, end_loses_status, end_doubles_status, end_opens_first, end_may_follow, end_opens_second, text_to_take, behind_its, take_outcome};
 ghost use Rattle.pair_world.specs.KeptPairs.{has_link};
 ghost use Rattle.pair_world.specs.Waiting.{kept_waiting};
 
 use crate::bringing::rows_of;
 use crate::counting::count_waiting;
 use crate::flight::{
-    Flight, clear_flight, double_in_flight, is_noted, next_in_flight, none_follows, note,
-    nothing_in_flight, take_behind,
+    Flight, clear_flight, double_in_flight, is_noted, next_in_flight, next_text, none_follows,
+    note, nothing_in_flight, take_behind,
 };
-use crate::hearing::{hand_in, hand_over};
-use exchange::{Event, Exchange, NoMemory, Pick, Wants};
-use settings::{LinkId, Msu, Outcome, Settings};
+use crate::hearing::{add, hand_in, hand_over};
+use crate::step::Turned;
+use exchange::{Event, Exchange, FrameText, NoMemory, Pick, Wants};
+use settings::{LinkId, Msu, Outcome, PointCode, Settings};
 use std::alloc::Global;
 use std::marker::Model;
 
@@ -103,6 +104,20 @@ impl Side {
         &self.exchange
     }
 
+    /// Its settings.
+    pub(crate) fn settings(&self) -> &Settings
+        ensures { result.now ≡ self.now.exchange.settings }
+    {
+        self.exchange.settings()
+    }
+
+    /// Its point.
+    pub(crate) fn point(&self) -> PointCode
+        ensures { result ≡ self.now.exchange.settings.own }
+    {
+        self.settings().own()
+    }
+
     /// The user messages that it accepted.
     pub(crate) fn accepted(&self) -> &[Msu]
         ensures { result.now ≡ self.now.accepted }
@@ -156,21 +171,22 @@ impl Side {
     }
 
     /// A user part hands over a message.
-    pub(crate) fn submit(&mut self, message: Msu) -> Result<Outcome, NoMemory>
-        ensures outcome { IfOk result (λ outcome. outcome ≡ (end_submits message self.old).outcome) }
-        ensures state { OnOk result (self.new ≡ (end_submits message self.old).left) }
+    pub(crate) fn submit(&mut self, far: PointCode, message: Msu) -> Result<Outcome, NoMemory>
+        ensures outcome { IfOk result (λ outcome. outcome ≡ (end_submits far message self.old).outcome) }
+        ensures state { OnOk result (self.new ≡ (end_submits far message self.old).left) }
         ensures unchanged { OnErr result (self.new ≡ self.old) }
     {
         let rows = rows_of(self.alloc, &self.exchange)?;
         self.accepted.reserve(1)?;
-        let accepted = &mut self.accepted;
-        Ok(hand_over(&mut self.exchange, accepted, &rows, &message))
+        let heard = hand_over(&mut self.exchange, &rows, &message);
+        add(&mut self.accepted, far, heard.brought);
+        Ok(heard.outcome)
     }
 
     /// The next User Data in flight on a link comes, where there is some.
-    pub(crate) fn deliver(&mut self, link: LinkId) -> Result<Outcome, NoMemory>
-        ensures outcome { IfOk result (λ outcome. outcome ≡ (end_delivers link self.old).outcome) }
-        ensures state { OnOk result (self.new ≡ (end_delivers link self.old).left) }
+    pub(crate) fn deliver(&mut self, far: PointCode, link: LinkId) -> Result<Outcome, NoMemory>
+        ensures outcome { IfOk result (λ outcome. outcome ≡ (end_delivers far link self.old).outcome) }
+        ensures state { OnOk result (self.new ≡ (end_delivers far link self.old).left) }
         ensures unchanged { OnErr result (self.new ≡ self.old) }
     {
         let rows = rows_of(self.alloc, &self.exchange)?;
@@ -179,14 +195,21 @@ impl Side {
         let Some(text) = next_in_flight(&mut self.user_data, link) else {
             return Ok(Outcome::Ignored);
         };
-        let (accepted, received) = (&mut self.accepted, &mut self.received);
-        Ok(hand_in(&mut self.exchange, accepted, received, &rows, link, &text))
+        let point = self.exchange.settings().own();
+        let heard = hand_in(&mut self.exchange, &rows, link, &text);
+        add(&mut self.accepted, far, heard.brought);
+        add(&mut self.received, point, heard.carried);
+        Ok(heard.outcome)
     }
 
     /// The next link status in flight on a link comes, where there is one.
-    pub(crate) fn deliver_status(&mut self, link: LinkId) -> Result<Outcome, NoMemory>
-        ensures outcome { IfOk result (λ outcome. outcome ≡ (end_delivers_status link self.old).outcome) }
-        ensures state { OnOk result (self.new ≡ (end_delivers_status link self.old).left) }
+    pub(crate) fn deliver_status(
+        &mut self,
+        far: PointCode,
+        link: LinkId,
+    ) -> Result<Outcome, NoMemory>
+        ensures outcome { IfOk result (λ outcome. outcome ≡ (end_delivers_status far link self.old).outcome) }
+        ensures state { OnOk result (self.new ≡ (end_delivers_status far link self.old).left) }
         ensures unchanged { OnErr result (self.new ≡ self.old) }
     {
         let rows = rows_of(self.alloc, &self.exchange)?;
@@ -195,8 +218,29 @@ impl Side {
         let Some(text) = next_in_flight(&mut self.statuses, link) else {
             return Ok(Outcome::Ignored);
         };
-        let (accepted, received) = (&mut self.accepted, &mut self.received);
-        Ok(hand_in(&mut self.exchange, accepted, received, &rows, link, &text))
+        let point = self.exchange.settings().own();
+        let heard = hand_in(&mut self.exchange, &rows, link, &text);
+        add(&mut self.accepted, far, heard.brought);
+        add(&mut self.received, point, heard.carried);
+        Ok(heard.outcome)
+    }
+
+    /// A frame comes by a link that leads elsewhere.
+    pub(crate) fn hear_elsewhere(
+        &mut self,
+        far: PointCode,
+        link: LinkId,
+        text: &FrameText,
+    ) -> Result<Outcome, NoMemory>
+        ensures outcome { IfOk result (λ outcome. outcome ≡ (end_hears_elsewhere far link text.now self.old).outcome) }
+        ensures state { OnOk result (self.new ≡ (end_hears_elsewhere far link text.now self.old).left) }
+        ensures unchanged { OnErr result (self.new ≡ self.old) }
+    {
+        let rows = rows_of(self.alloc, &self.exchange)?;
+        self.accepted.reserve(1)?;
+        let heard = hand_in(&mut self.exchange, &rows, link, text);
+        add(&mut self.accepted, far, heard.brought);
+        Ok(heard.outcome)
     }
 
     /// The next link status in flight on a link is lost, where there is one.
@@ -219,21 +263,45 @@ impl Side {
         double_in_flight(&mut self.statuses, link)
     }
 
-    /// The next frame of a link of the other end's exchange is fetched for this end. Requires that the link is there.
-    pub(crate) fn take_from(&mut self, other: &mut Side, link: LinkId) -> Result<Outcome, NoMemory>
-        requires statuses { link < length self.old.incoming.statuses }
-        requires data { link < length self.old.incoming.user_data }
+    /// The next frame of a link of the other end's exchange is fetched for this end, by its own link. Requires that this
+    /// is there.
+    pub(crate) fn take_from(
+        &mut self,
+        other: &mut Side,
+        link: LinkId,
+        own_link: LinkId,
+    ) -> Result<Outcome, NoMemory>
+        requires statuses { own_link < length self.old.incoming.statuses }
+        requires data { own_link < length self.old.incoming.user_data }
         ensures outcome { IfOk result (λ outcome. outcome ≡ take_outcome (text_to_take other.old.exchange link)) }
         ensures state { OnOk result (self.new ≡ record self.old {
-          incoming = behind_its (text_to_take other.old.exchange link) link self.old.incoming;
+          incoming = behind_its (text_to_take other.old.exchange link) own_link self.old.incoming;
         }) }
         ensures other { OnOk result (other.new ≡ record other.old { exchange = taken kept other.old.exchange link }) }
         ensures unchanged { OnErr result (self.new ≡ self.old) }
         ensures same_other { OnErr result (other.new ≡ other.old) }
     {
-        let statuses = &mut self.statuses[link.index()];
-        let user_data = &mut self.user_data[link.index()];
+        let statuses = &mut self.statuses[own_link.index()];
+        let user_data = &mut self.user_data[own_link.index()];
         take_behind(statuses, user_data, &mut other.exchange, link)
+    }
+
+    /// The next frame of a link is fetched, and goes elsewhere.
+    pub(crate) fn take_elsewhere(&mut self, link: LinkId) -> Turned
+        ensures outcome { result.outcome ≡ take_outcome (text_to_take self.old.exchange link) }
+        ensures elsewhere { result.elsewhere ≡ text_to_take self.old.exchange link }
+        ensures state { self.new ≡ record self.old { exchange = taken kept self.old.exchange link } }
+    {
+        match next_text(&mut self.exchange, link) {
+            Some(text) => Turned {
+                outcome: Outcome::Handled,
+                elsewhere: Some(text),
+            },
+            None => Turned {
+                outcome: Outcome::Ignored,
+                elsewhere: None,
+            },
+        }
     }
 
     /// Whether a link is there.

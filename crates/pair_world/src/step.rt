@@ -1,7 +1,7 @@
 //! What is done to a pair.
 
-use exchange::{TitleDigits, TitleKey};
-use settings::{LinkId, Msu, TitleRow};
+use exchange::{FrameText, TitleDigits, TitleKey};
+use settings::{LinkId, Msu, Outcome, TitleRow};
 
 /// One of the two ends of a pair.
 #[derive(Clone, Copy, Debug, PartialEq, Eq)]
@@ -17,8 +17,9 @@ pub enum End {
 pub enum Step {
     /// A user part of an end hands a message over.
     Submit(End, Msu),
-    /// The next frame of a link is fetched from an end, and is then in flight to the other, on the stream of link
-    /// statuses or on that of User Data (RFC 4165 §2). Ignored where there is none.
+    /// The next frame of a link is fetched from an end. It is then in flight to the far end of the link, on the stream
+    /// of link statuses or on that of User Data (RFC 4165 §2); or it goes elsewhere, if the link leads there. Ignored
+    /// where there is none.
     Take(End, LinkId),
     /// The next User Data in flight on a link to an end is handed in there. Ignored where there is none.
     Deliver(End, LinkId),
@@ -49,15 +50,27 @@ pub enum Step {
     /// A link opens at an end that may follow the other. The other may have failed since it opened; but if it opened
     /// first again, this is about that. Ignored unless the end may follow, and wants the link to open.
     OpenSecond(End, LinkId),
+    /// The association of a link comes up that leads elsewhere. Ignored where the link leads to the other end.
+    OpenElsewhere(End, LinkId),
+    /// A frame comes by a link that leads elsewhere. Ignored where the link leads to the other end, and where the frame
+    /// carries management from one end's point to the other's, which nobody else may send.
+    HearElsewhere(End, LinkId, FrameText),
 }
 
-/// What is done at one end.
+/// What became of a step.
+#[derive(Drop)]
+pub struct Turned {
+    /// Its outcome.
+    pub outcome: Outcome,
+    /// The frame that a take gave on a link that leads elsewhere. It isn't in flight to the other end.
+    pub elsewhere: Option<FrameText>,
+}
+
+/// What is done at one end, but for a take.
 #[derive(Drop)]
 pub(crate) enum Doing {
     /// A user part hands a message over.
     Submit(Msu),
-    /// The next frame of a link is fetched for the other end.
-    Take(LinkId),
     /// The next User Data in flight on a link is handed in.
     Deliver(LinkId),
     /// The next link status in flight on a link is handed in.
@@ -82,4 +95,8 @@ pub(crate) enum Doing {
     OpenFirst(LinkId),
     /// A link opens as it did at the other end.
     OpenSecond(LinkId),
+    /// The association of a link comes up that leads elsewhere.
+    OpenElsewhere(LinkId),
+    /// A frame comes by a link that leads elsewhere.
+    HearElsewhere(LinkId, FrameText),
 }

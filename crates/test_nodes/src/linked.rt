@@ -1,7 +1,7 @@
-//! Two nodes that face each other.
+//! Two nodes that share a link set.
 
-use exchange::{Draft, DraftFault, Exchange, LinkDraft, Msu, NoMemory, Outcome, Pick, Settings};
-use pair_world::{End, Pair, PairFault, Step};
+use exchange::{Draft, DraftFault, Exchange, LinkDraft, Msu, NoMemory, Pick, Settings};
+use pair_world::{End, Pair, PairFault, Step, Turned};
 use script::built_in;
 use std::alloc::{AllocError, Global};
 use std::marker::Model;
@@ -65,7 +65,7 @@ impl LinkedNodes {
     }
 
     /// Takes a step. If memory ran out, it isn't taken.
-    pub fn turn(&mut self, step: Step) -> Result<Outcome, NoMemory> {
+    pub fn turn(&mut self, step: Step) -> Result<Turned, NoMemory> {
         turn(&mut self.pair, step)
     }
 
@@ -91,7 +91,7 @@ impl LinkedNodes {
 }
 
 /// Takes a step. What calls this and the next one sees no clause of `Pair`.
-fn turn(pair: &mut Pair, step: Step) -> Result<Outcome, NoMemory> {
+fn turn(pair: &mut Pair, step: Step) -> Result<Turned, NoMemory> {
     pair.turn(step)
 }
 

@@ -2,7 +2,7 @@
 
 use crate::settings_text::settings_of;
 use exchange::{
-    Answer, BUFFER_OCTETS, Call, DraftFault, Event, Exchange, LinkId, NoMemory, Outcome,
+    Answer, BUFFER_OCTETS, Call, DraftFault, Event, Exchange, FrameText, LinkId, NoMemory, Outcome,
 };
 use script::{MemorySink, MemorySource, run_script};
 use settings_file::SettingsFault;
@@ -63,6 +63,11 @@ impl Node {
         take(&mut self.exchange, link, buffer)
     }
 
+    /// Fetches the next frame of a link, as a text of its own.
+    pub fn fetch(&mut self, link: LinkId) -> Option<FrameText> {
+        fetch(&mut self.exchange, link)
+    }
+
     /// Makes calls in a row, and returns their answers.
     pub fn run(&mut self, alloc: Global, calls: &[Call<'_>]) -> Result<Vec<Answer>, NoMemory> {
         run(&mut self.exchange, alloc, calls)
@@ -89,6 +94,13 @@ fn step(exchange: &mut Exchange, event: &Event<'_>) -> Outcome {
 /// Fetches the next frame of a link.
 fn take(exchange: &mut Exchange, link: LinkId, buffer: &mut [u8; BUFFER_OCTETS]) -> Option<usize> {
     exchange.take(link, buffer)
+}
+
+/// Fetches the next frame of a link, as a text of its own.
+fn fetch(exchange: &mut Exchange, link: LinkId) -> Option<FrameText> {
+    let mut buffer = [0; BUFFER_OCTETS];
+    let count = exchange.take(link, &mut buffer)?;
+    Some(FrameText::new(&buffer[..count]))
 }
 
 /// Makes calls in a row.

@@ -1,5 +1,5 @@
-use Rattle.pair_rules.specs.Laws.{MovesLacked}
-use Rattle.pair_rules.proofs.FourLaws.{moves-lacked}
+use Rattle.neighbour_rules.specs.Laws.{MovesLacked}
+use Rattle.neighbour_rules.proofs.FourLaws.{moves-lacked}
 use Rattle.pair_world.proofs.Promised.{holds-both-ways}
 use Rattle.pair_world.proofs.laws.completions_move_what_the_peer_lacks.Goals as goal
 

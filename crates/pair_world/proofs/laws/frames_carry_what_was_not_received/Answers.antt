@@ -1,5 +1,5 @@
-use Rattle.pair_rules.specs.Laws.{IsCarried}
-use Rattle.pair_rules.proofs.FourLaws.{frames-carry}
+use Rattle.neighbour_rules.specs.Laws.{IsCarried}
+use Rattle.neighbour_rules.proofs.FourLaws.{frames-carry}
 use Rattle.pair_world.proofs.Promised.{holds-both-ways}
 use Rattle.pair_world.proofs.laws.frames_carry_what_was_not_received.Goals as goal
 

@@ -1,5 +1,5 @@
-use Rattle.pair_rules.specs.Laws.{NoneIsLeft}
-use Rattle.pair_rules.proofs.FourLaws.{none-left}
+use Rattle.neighbour_rules.specs.Laws.{NoneIsLeft}
+use Rattle.neighbour_rules.proofs.FourLaws.{none-left}
 use Rattle.pair_world.proofs.Promised.{holds-both-ways}
 use Rattle.pair_world.proofs.laws.links_open_with_no_word_left.Goals as goal
 

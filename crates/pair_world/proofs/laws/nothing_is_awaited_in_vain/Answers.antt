@@ -1,5 +1,5 @@
-use Rattle.pair_rules.specs.Awaiting.{AwaitsNothingInVain}
-use Rattle.pair_rules.proofs.Awaited.{nothing-in-vain}
+use Rattle.neighbour_rules.specs.Awaiting.{AwaitsNothingInVain}
+use Rattle.neighbour_rules.proofs.Awaited.{nothing-in-vain}
 use Rattle.pair_world.proofs.Promised.{holds-both-ways}
 use Rattle.pair_world.proofs.laws.nothing_is_awaited_in_vain.Goals as goal
 

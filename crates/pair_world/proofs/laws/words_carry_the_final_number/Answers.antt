@@ -1,5 +1,5 @@
-use Rattle.pair_rules.specs.Laws.{AreFinal}
-use Rattle.pair_rules.proofs.FourLaws.{words-final}
+use Rattle.neighbour_rules.specs.Laws.{AreFinal}
+use Rattle.neighbour_rules.proofs.FourLaws.{words-final}
 use Rattle.pair_world.proofs.Promised.{holds-both-ways}
 use Rattle.pair_world.proofs.laws.words_carry_the_final_number.Goals as goal
 
