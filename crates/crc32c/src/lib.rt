@@ -20,9 +20,23 @@ pub fn crc32c(octets: &[u8]) -> u32
 }
 
 /// The remainder after the octets, from the remainder before them. Octets may come in pieces of any
-/// length: the remainder after one is that before the next. Eight octets take one step.
+/// length: the remainder after one is that before the next. Blocks of 32 octets take four steps, without a count.
 #[inline(always)]
 pub fn remainder(before: u32, octets: &[u8]) -> u32
+    ensures { result ≡ after_octets before octets.now }
+{
+    let mut remainder = before;
+    let mut rest = octets;
+    'each_block: while let Some((block, behind)) = rest.split_first_chunk::<32>() {
+        remainder = remainder_by_eights(remainder, block);
+        rest = behind;
+    }
+    remainder_by_eights(remainder, rest)
+}
+
+/// The same: eight octets take one step, four that are left another.
+#[inline(always)]
+fn remainder_by_eights(before: u32, octets: &[u8]) -> u32
     ensures { result ≡ after_octets before octets.now }
 {
     let mut remainder = before;

@@ -69,6 +69,13 @@ impl Draft {
         }
     }
 
+    /// It goes another way from now on: `begin_with` has to be called next.
+    pub fn turn(&mut self, way: Way)
+        ensures { self.new.way ≡ way_of way }
+    {
+        self.way = way;
+    }
+
     /// A packet begins with these chunks. What it had before is dropped.
     pub fn begin_with(&mut self, chunks: &Chunks)
         ensures way { self.new.way ≡ self.old.way }

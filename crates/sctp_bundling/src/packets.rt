@@ -59,12 +59,15 @@ fn write_last(out: &mut PacketBuffer, at: usize, last: Option<&Reply<'_>>) -> us
     }
 }
 
-/// Writes octets from a place on, and answers the place behind them.
+/// Writes octets from a place on, and answers the place behind them. Mostly there are none.
 pub(crate) fn write_at(out: &mut PacketBuffer, at: usize, octets: &[u8]) -> usize
     requires { at + length octets.now ≤ 1200 }
     ensures count { result ≡ at + length octets.now }
     ensures text { take result out.new ≡ take at out.old ++ octets.now }
 {
+    if octets.is_empty() {
+        return at;
+    }
     let end = at + octets.len();
     out[at..end].copy_from_slice(octets);
     end

@@ -89,6 +89,16 @@ pub is_some-empty : (octets : List ℕ) → length octets ≡ 0 → is_some (rea
 is_some-empty [] empty = ap is_some read_items-nil
 is_some-empty (octet ∷ octets) empty = absurd (omega (arith, empty))
 
+nil_of : (octets : List ℕ) → length octets ≡ 0 → octets ≡ []
+nil_of [] none = refl
+nil_of (octet ∷ octets) none = absurd (omega (arith, none))
+
+-- an item with nothing behind it is the only one
+pub read_items-one : (octets : List ℕ) → begins_whole octets ≡ true → length (behind_first octets) ≡ 0 → read_items octets ≡ Some (first_item octets ∷ [])
+read_items-one octets whole none =
+    read_items-whole octets whole ∙ ap (λ (rest : List ℕ). with_first (first_item octets) (read_items rest)) (nil_of (behind_first octets) none)
+    ∙ ap (with_first (first_item octets)) read_items-nil
+
 none_of : (o : Option (List ItemValue)) → is_some o ≡ false → o ≡ None
 none_of None e = refl
 none_of (Some items) e = absurd cc

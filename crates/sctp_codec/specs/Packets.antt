@@ -1,5 +1,5 @@
 -- Packets of SCTP: what they say (RFC 9260 §3).
-use Rattle.std.specs.Prelude.{ℕ, Bool, List}
+use Rattle.std.specs.Prelude.{ℕ, Bool, List, [], ◌∷◌, Option, Some, None}
 use Rattle.sctp_codec.specs.Items.{ItemValue}
 
 -- a DATA chunk (RFC 9260 §3.3.1)
@@ -97,3 +97,8 @@ kind_of CookieAckChunk = 11
 kind_of (ShutdownCompleteChunk is_reflected) = 14
 kind_of (UnknownChunk kind flags value) = kind
 kind_of (MalformedChunk kind) = kind
+
+-- the only one, where there is one alone
+abbrev pub lone : {A : Type 0} → List A → Option A
+lone (one ∷ []) = Some one
+lone others = None

@@ -205,10 +205,24 @@ pub enum Chunk<'a> {
 }
 
 impl<'a> Chunk<'a> {
-    /// What the item says as a chunk.
-    #[inline(never)]
+    /// What the item says as a chunk. Most are DATA or SACK, and these are read in their place.
+    #[inline(always)]
     #[tactic(auto, unfolding(crate::specs::Reading::chunk_of))]
     pub(crate) fn read(item: Item<'a>) -> Chunk<'a>
+        ensures { chunk_value result ≡ chunk_in (item_of item.entry) }
+    {
+        let [kind, flags] = item.kind.to_be_bytes();
+        match kind {
+            DATA => read_data(flags, item.value),
+            SACK => read_sack(item.value),
+            _ => Chunk::read_any(item),
+        }
+    }
+
+    /// The same, by a call.
+    #[inline(never)]
+    #[tactic(auto, unfolding(crate::specs::Reading::chunk_of))]
+    fn read_any(item: Item<'a>) -> Chunk<'a>
         ensures { chunk_value result ≡ chunk_in (item_of item.entry) }
     {
         let [kind, flags] = item.kind.to_be_bytes();
@@ -238,6 +252,7 @@ impl<'a> Chunk<'a> {
 }
 
 /// The DATA chunk of these flags and this value.
+#[inline(always)]
 fn read_data(flags: u8, value: &[u8]) -> Chunk<'_>
     ensures { chunk_value result ≡ data_in flags value.now }
 {
@@ -276,6 +291,7 @@ fn read_init(value: &[u8]) -> Option<Init<'_>>
 }
 
 /// The SACK chunk of this value.
+#[inline(always)]
 fn read_sack(value: &[u8]) -> Chunk<'_>
     ensures { chunk_value result ≡ sack_in value.now }
 {

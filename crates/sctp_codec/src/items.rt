@@ -1,7 +1,7 @@
 //! Items, one after another.
 
-ghost use Rattle.std.specs.Prelude.{◌≡◌, [], IsSome};
-ghost use Rattle.sctp_codec.specs.Items.{read_items};
+ghost use Rattle.std.specs.Prelude.{◌≡◌, [], ◌∷◌, Some, IsSome, IsTrue};
+ghost use Rattle.sctp_codec.specs.Items.{read_items, first_item};
 
 use crate::item::{Item, first};
 
@@ -24,9 +24,13 @@ impl<'a> Items<'a> {
 
     /// The items that the octets are. None where they aren't whole items to their end; the padding behind the last
     /// may be missing.
+    #[inline]
     pub fn read(octets: &'a [u8]) -> Option<Items<'a>>
         ensures { Gives items_of result (read_items octets.now) }
     {
+        if is_one(octets) {
+            return Some(Items { octets });
+        }
         let mut rest = octets;
         'each_item: while !rest.is_empty() {
             let Some((_, behind)) = first(rest) else {
@@ -55,5 +59,16 @@ impl<'a> Iterator for Items<'a> {
         };
         self.octets = behind;
         Some(item)
+    }
+}
+
+/// Whether the octets are one item. Most are: then no other is looked for.
+#[inline(always)]
+fn is_one(octets: &[u8]) -> bool
+    ensures { IsTrue result → read_items octets.now ≡ Some (first_item octets.now ∷ []) }
+{
+    match first(octets) {
+        Some((_, behind)) => behind.is_empty(),
+        None => false,
     }
 }

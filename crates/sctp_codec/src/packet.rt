@@ -3,10 +3,12 @@
 ghost use Rattle.std.specs.Prelude.{◌≡◌, ◌==◌, ◌||◌, ◌<◌, ◌≤◌, length, take, drop, slice_index};
 ghost use Rattle.sctp_codec.specs.Items.{read_items};
 ghost use Rattle.sctp_codec.specs.Reading.{read_packet, chunk_in, checksum_of, checksum_field};
-ghost use Rattle.sctp_codec.specs.Reading.{is_bundled_well, has_type};
-ghost use Rattle.sctp_codec.specs.Values.{items_of, chunk_value, chunks_of, packet_of, Gives};
+ghost use Rattle.sctp_codec.specs.Reading.{is_bundled_well, has_type, type_of};
+ghost use Rattle.sctp_codec.specs.Packets.{lone};
+ghost use Rattle.sctp_codec.specs.Values.{item_of, items_of, chunk_value, chunks_of, packet_of, Gives};
 
 use crate::chunk::{Chunk, Tag, number16_at, number32_at};
+use crate::item::Item;
 use crate::items::Items;
 use crate::layout::{CHECKSUM_AT, HEADER_OCTETS, INIT, INIT_ACK, ITEM_HEADER_OCTETS};
 use crc32c::{INITIAL, remainder};
@@ -44,6 +46,19 @@ impl<'a> Packet<'a> {
             tag,
             items,
         })
+    }
+
+    /// The chunk that it is by itself. None where it has several.
+    #[inline(always)]
+    pub fn lone_chunk(&self) -> Option<Chunk<'a>>
+        ensures { Gives chunk_value result (lone (packet_of self.now).chunks) }
+    {
+        let mut rest = self.items;
+        let first = rest.next()?;
+        if rest.next().is_some() {
+            return None;
+        }
+        Some(Chunk::read(first))
     }
 
     /// Its chunks, in their order: one at least.
@@ -95,25 +110,27 @@ fn checksum(octets: &[u8]) -> u32
     !remainder(header, &octets[HEADER_OCTETS..])
 }
 
-/// Whether INIT and INIT ACK stand alone, and a packet with INIT has the tag 0.
+/// Whether INIT and INIT ACK stand alone, and a packet with INIT has the tag 0. Most packets have one chunk.
 fn is_bundled_well(tag: Tag, items: Items<'_>) -> bool
     ensures { result ≡ is_bundled_well tag (items_of items.entry) }
 {
-    if !has_beginning(items) {
-        true
-    } else if has_type(INIT, items) {
-        is_alone(items) && tag == 0
+    let mut rest = items;
+    let Some(first) = rest.next() else {
+        return true;
+    };
+    if rest.next().is_none() {
+        tag == 0 || type_of(first) != INIT
     } else {
-        is_alone(items)
+        !has_beginning(items)
     }
 }
 
-/// Whether one of the chunks is INIT or INIT ACK. All are looked at once, since few packets have either.
+/// Whether one of the chunks is INIT or INIT ACK.
 fn has_beginning(items: Items<'_>) -> bool
     ensures { result ≡ (has_type INIT (items_of items.entry) || has_type INIT_ACK (items_of items.entry)) }
 {
     'each_item: for item in items {
-        let [kind, _] = item.kind.to_be_bytes();
+        let kind = type_of(item);
         if kind == INIT || kind == INIT_ACK {
             return true;
         }
@@ -121,22 +138,11 @@ fn has_beginning(items: Items<'_>) -> bool
     false
 }
 
-/// Whether there is one item.
-fn is_alone(items: Items<'_>) -> bool
-    ensures { result ≡ (length (items_of items.entry) == 1) }
+/// The type of a chunk.
+#[inline(always)]
+fn type_of(item: Item<'_>) -> u8
+    ensures { result ≡ type_of (item_of item.entry) }
 {
-    let mut rest = items;
-    rest.next().is_some() && rest.next().is_none()
-}
-
-/// Whether one of the chunks is of this type.
-fn has_type(kind: u8, items: Items<'_>) -> bool
-    ensures { result ≡ has_type kind (items_of items.entry) }
-{
-    'each_item: for item in items {
-        if item.kind.to_be_bytes()[0] == kind {
-            return true;
-        }
-    }
-    false
+    let [kind, _] = item.kind.to_be_bytes();
+    kind
 }

@@ -20,7 +20,7 @@ use crate::layout::{
     ABORT, BEGINNING_BIT, BLOCK_OCTETS, CHECKSUM_AT, COOKIE_ACK, COOKIE_ECHO, DATA, DATA_OCTETS,
     ENDING_BIT, ERROR, HEADER_OCTETS, HEARTBEAT, HEARTBEAT_ACK, IMMEDIATE_BIT, INIT, INIT_ACK,
     INIT_OCTETS, ITEM_HEADER_OCTETS, REFLECTED_BIT, SACK, SACK_OCTETS, SHUTDOWN, SHUTDOWN_ACK,
-    SHUTDOWN_COMPLETE, UNORDERED_BIT,
+    SHUTDOWN_COMPLETE, UNORDERED_BIT, WORD_OCTETS,
 };
 use crc32c::crc32c;
 
@@ -369,8 +369,14 @@ pub(crate) fn write_zeros(out: &mut PacketBuffer, at: usize, count: usize) -> us
     ensures count { result ≡ at + count }
     ensures text { take result out.new ≡ take at out.old ++ replicate count 0 }
 {
-    let zeros = [0; 4];
-    write_at(out, at, &zeros[..count])
+    let zeros = [0; WORD_OCTETS];
+    if at + WORD_OCTETS <= PACKET_OCTETS {
+        // One store takes less than a copy of so many octets, and what stands behind them may be anything.
+        write_at(out, at, &zeros);
+        at + count
+    } else {
+        write_at(out, at, &zeros[..count])
+    }
 }
 
 /// Writes the octets from a place on, and answers the place behind them.

@@ -104,6 +104,7 @@ impl Assembly {
 
     /// Consumes the chunk that is next: it begins a message, goes on with one, or ends it. A message that is put
     /// together is written to the buffer when it ends.
+    #[inline(always)]
     pub(crate) fn consume(
         &mut self,
         streams: u16,
@@ -122,6 +123,7 @@ impl Assembly {
     }
 
     // A message begins.
+    #[inline(always)]
     fn begin(&mut self, streams: u16, piece: Piece<'_>) -> Told
         requires { piece.begins ≡ true }
         ensures told { (buffer : List ℕ) → told_by (lent piece.entry) buffer result
@@ -145,6 +147,7 @@ impl Assembly {
     }
 
     // The first fragment of a message is kept.
+    #[inline(never)]
     fn open(&mut self, piece: Piece<'_>)
         requires { length piece.octets.now ≤ MESSAGE_OCTETS }
         ensures { self.new ≡ Some (begun (lent piece.entry)) }
@@ -156,6 +159,7 @@ impl Assembly {
     }
 
     // A fragment comes that doesn't begin a message.
+    #[inline(never)]
     fn go_on(&mut self, piece: Piece<'_>, buffer: &mut [u8; MESSAGE_OCTETS]) -> Told
         ensures told { told_by (lent piece.entry) buffer.new result ≡ (go_on (lent piece.entry) self.old).told }
         ensures left { self.new ≡ (go_on (lent piece.entry) self.old).left }

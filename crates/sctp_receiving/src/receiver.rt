@@ -238,6 +238,7 @@ impl Receiver {
     /// is the chunk's own octets, or stands in the buffer. Any other is held, noted as come again, or dropped.
     ///
     /// After one that was consumed `take_next` has to be called until it gives none.
+    #[inline(always)]
     pub fn hear(&mut self, tsn: u32, piece: Piece<'_>, buffer: &mut [u8; MESSAGE_OCTETS]) -> Told
         ensures told { told_by (lent piece.entry) buffer.new result ≡ (hear self.old tsn (lent piece.entry)).told }
         ensures left { self.new ≡ (hear self.old tsn (lent piece.entry)).left }
@@ -311,6 +312,7 @@ impl Receiver {
     }
 
     // Consumes the next chunk.
+    #[inline(always)]
     fn take(&mut self, piece: Piece<'_>, buffer: &mut [u8; MESSAGE_OCTETS]) -> Told
         ensures told { told_by (lent piece.entry) buffer.new result ≡ (taken self.old (lent piece.entry)).told }
         ensures left { self.new ≡ (taken self.old (lent piece.entry)).left }
@@ -320,6 +322,7 @@ impl Receiver {
     }
 
     // Holds a chunk.
+    #[inline(never)]
     fn hold(&mut self, tsn: u32, piece: Piece<'_>)
         requires free { piece_at self.old tsn ≡ None }
         requires fits { IsTrue (fits self.old (lent piece)) }
@@ -343,6 +346,7 @@ impl Receiver {
     }
 
     // Consumes a chunk that is held; its place stays, and so does the cumulative TSN.
+    #[inline(never)]
     fn consume_held(&mut self, tsn: u32, buffer: &mut [u8; MESSAGE_OCTETS]) -> Told
         requires { IsTrue (is_some (piece_at self.old tsn)) }
         ensures told { (q : pieces.Piece) (p : pieces.Piece) → piece_at self.old tsn ≡ Some p →

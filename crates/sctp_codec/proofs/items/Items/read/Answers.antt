@@ -16,7 +16,10 @@ each_item-preserved c =
     let behind : c.in-Some.behind.now ≡ behind_first c.each_item.rest.now = search rules in
     ap (λ (octets : List ℕ). is_some (read_items octets)) behind ∙ is_some-behind c.each_item.rest.now whole ∙ c.each_item.invariant
 
-pub invariant_of-result : goal.invariant_of-result
-invariant_of-result c =
+pub invariant_of-result-2 : goal.invariant_of-result-2
+invariant_of-result-2 c =
     let empty : length c.each_item.rest.now ≡ 0 = search rules in
     record { whole = sym c.each_item.invariant ∙ is_some-empty c.each_item.rest.now empty }
+
+pub invariant_of-result : goal.invariant_of-result
+invariant_of-result c = record { whole = ap is_some (c.is_one.ensures c.if-is_one.true) }
