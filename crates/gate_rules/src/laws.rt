@@ -32,7 +32,8 @@ pub fn each_flow_keeps_its_order()
 {}
 
 /// What a gate puts out is octets on its way (`sent_as`), and a gate that hears these octets hears the packet that was
-/// put out. So of what a gate hears nothing is assumed but that octets aren't changed.
+/// put out, where SCTP ports have 16 bits. So that octets aren't changed is all that has to be asked of the network in
+/// place of "hears a packet"; whose packet it is, and its age, is asked as before.
 pub fn octets_of_gates_read_back()
     ensures { packets_are_read }
 {}
