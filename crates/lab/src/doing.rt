@@ -1,18 +1,50 @@
 //! What the lines of a lab script do.
 
+use crate::bench::Bench;
 use crate::carrying::Carried;
 use crate::circuit::Circuit;
 use crate::joining::Joiner;
-use crate::line::{End, LabLine};
+use crate::line::{End, LabLine, parse_lab_line};
 use arrayvec::ArrayString;
 use console::{LINE_OCTETS, link_name};
 use exchange::{Event, Exchange, Wants};
-use script::{Line, Reply, console_line, none_line, perform};
+use script::{Line, Malformed, Reply, console_line, none_line, perform};
 use settings::{Cause, LinkId, Outcome};
 use std::fmt::Write;
 
+/// Two nodes whose links are joined by streams.
+#[derive(Drop)]
+pub(crate) struct StreamBench<'a, J, S> {
+    pub(crate) near: &'a mut Exchange,
+    pub(crate) far: &'a mut Exchange,
+    pub(crate) joiner: &'a mut J,
+    pub(crate) circuits: &'a mut [Circuit<S>],
+}
+
+impl<J: Joiner> Bench for StreamBench<'_, J, J::Stream> {
+    fn perform(&mut self, line: &[u8]) -> Result<Option<(End, Reply)>, Malformed> {
+        match parse_lab_line(line)? {
+            Some(asked) => Ok(Some(do_asked(
+                asked,
+                self.near,
+                self.far,
+                self.joiner,
+                self.circuits,
+            ))),
+            None => Ok(None),
+        }
+    }
+
+    fn node(&self, end: End) -> &Exchange {
+        match end {
+            End::Near => self.near,
+            End::Far => self.far,
+        }
+    }
+}
+
 /// Does what a line asks for, and answers what is printed of it, and whose names and texts it tells.
-pub(crate) fn do_asked<J: Joiner>(
+fn do_asked<J: Joiner>(
     asked: LabLine<'_>,
     near: &mut Exchange,
     far: &mut Exchange,
@@ -29,11 +61,7 @@ pub(crate) fn do_asked<J: Joiner>(
 }
 
 /// The node of an end.
-pub(crate) fn node_at<'a>(
-    end: End,
-    near: &'a mut Exchange,
-    far: &'a mut Exchange,
-) -> &'a mut Exchange {
+fn node_at<'a>(end: End, near: &'a mut Exchange, far: &'a mut Exchange) -> &'a mut Exchange {
     match end {
         End::Near => near,
         End::Far => far,
@@ -112,8 +140,8 @@ fn lose<S: std::io::Read + std::io::Write + Drop>(
     reply
 }
 
-/// How many messages wait on the link of a name.
-fn count(name: &[u8], node: &Exchange) -> Reply {
+/// How many messages wait on the link of a name, as a line; or that there is no such link.
+pub fn count(name: &[u8], node: &Exchange) -> Reply {
     let Some(link) = node.settings().link_named(name) else {
         return Reply::Became(Outcome::Refused(Cause::NoSuchName));
     };

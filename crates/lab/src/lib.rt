@@ -2,6 +2,7 @@
 //! join their links.
 #![tactic(auto)]
 
+mod bench;
 mod carrying;
 mod circuit;
 mod doing;
@@ -12,8 +13,11 @@ mod run;
 mod sockets;
 mod wire;
 
+pub use bench::Bench;
 pub use carrying::{Carried, MOVE_READS, carry};
+pub use doing::count;
 pub use joining::{JoinFault, Joiner};
+pub use line::{End, LabLine, parse_lab_line};
 pub use memory::{MemoryJoiner, MemoryStream};
-pub use run::run_lab;
+pub use run::{run_lab, run_pieces};
 pub use sockets::Loopback;

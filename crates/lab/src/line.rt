@@ -7,7 +7,7 @@ use script::{Line, Malformed, is_skipped, line_with_one_word};
 
 /// A node of the lab.
 #[derive(Clone, Copy, PartialEq, Eq)]
-pub(crate) enum End {
+pub enum End {
     /// `1`: that of the settings that were named first.
     Near,
     /// `2`: that of the settings that were named second.
@@ -16,7 +16,7 @@ pub(crate) enum End {
 
 impl End {
     /// The end of this number.
-    fn numbered(word: &[u8]) -> Option<End> {
+    pub fn numbered(word: &[u8]) -> Option<End> {
         match word {
             b"1" => Some(End::Near),
             b"2" => Some(End::Far),
@@ -25,7 +25,7 @@ impl End {
     }
 
     /// The other end.
-    pub(crate) fn other(self) -> End {
+    pub fn other(self) -> End {
         match self {
             End::Near => End::Far,
             End::Far => End::Near,
@@ -35,7 +35,7 @@ impl End {
 
 /// What a line of a lab script asks for.
 #[derive(Drop)]
-pub(crate) enum LabLine<'a> {
+pub enum LabLine<'a> {
     /// `open LINK`: the link's ends are joined.
     Open {
         /// The link's name; no link need have it.
@@ -72,7 +72,7 @@ pub(crate) enum LabLine<'a> {
 }
 
 /// What a line without its end asks for: nothing if it is empty or begins with `#`.
-pub(crate) fn parse_lab_line(line: &[u8]) -> Result<Option<LabLine<'_>>, Malformed> {
+pub fn parse_lab_line(line: &[u8]) -> Result<Option<LabLine<'_>>, Malformed> {
     if is_skipped(line) {
         return Ok(None);
     }

@@ -7,10 +7,10 @@ ghost use Rattle.script.specs.Faults.{MakesReads, reads_failed, writes_failed, E
 ghost use Rattle.settings.specs.Naming.{link_names};
 ghost use Rattle.lab.specs.Script.{EndsInScript, LeavesAll, ReadsOn};
 
-use crate::circuit::{Circuit, closed_circuits};
-use crate::doing::{do_asked, node_at};
+use crate::bench::Bench;
+use crate::circuit::closed_circuits;
+use crate::doing::StreamBench;
 use crate::joining::Joiner;
-use crate::line::parse_lab_line;
 use exchange::Exchange;
 use script::{Grown, Malformed, OpenLine, READS, ScriptFault, Sink, Source, print};
 use std::alloc::Global;
@@ -46,15 +46,19 @@ pub fn run_lab<J: Joiner, R: Source, W: Sink>(
     let Ok(mut circuits) = closed_circuits(alloc, near.settings().link_count()) else {
         return Err(ScriptFault::NoMemory);
     };
-    run_pieces(near, far, joiner, circuits.as_mut_slice(), reader, writer)
+    let mut bench = StreamBench {
+        near,
+        far,
+        joiner,
+        circuits: circuits.as_mut_slice(),
+    };
+    run_pieces(&mut bench, reader, writer)
 }
 
-/// Reads a lab script piece by piece, and does its lines.
-fn run_pieces<J: Joiner, R: Source, W: Sink>(
-    near: &mut Exchange,
-    far: &mut Exchange,
-    joiner: &mut J,
-    circuits: &mut [Circuit<J::Stream>],
+/// Reads a lab script piece by piece, and does its lines on a bench. It is read, and faults end it, as in `run_script`;
+/// it returns `Ok` only if it found the script's end, and never `NoMemory`.
+pub fn run_pieces<B: Bench, R: Source, W: Sink>(
+    bench: &mut B,
     reader: &mut R,
     writer: &mut W,
 ) -> Result<(), ScriptFault>
@@ -72,27 +76,16 @@ fn run_pieces<J: Joiner, R: Source, W: Sink>(
         if count == 0 {
             return line.end(writer);
         }
-        take_all(
-            &mut line,
-            &piece[..count],
-            near,
-            far,
-            joiner,
-            circuits,
-            writer,
-        )?;
+        take_all(&mut line, &piece[..count], bench, writer)?;
     }
     Err(ScriptFault::TooManyReads)
 }
 
 /// Takes the next octets, and does each line that ends in them.
-fn take_all<J: Joiner, W: Sink>(
+fn take_all<B: Bench, W: Sink>(
     line: &mut OpenLine,
     octets: &[u8],
-    near: &mut Exchange,
-    far: &mut Exchange,
-    joiner: &mut J,
-    circuits: &mut [Circuit<J::Stream>],
+    bench: &mut B,
     writer: &mut W,
 ) -> Result<(), ScriptFault>
     requires { line.old.number + length octets.now < 2 ^ 64 }
@@ -101,19 +94,16 @@ fn take_all<J: Joiner, W: Sink>(
     ensures fault { EndsAtLine result }
 {
     for octet in octets {
-        take(line, *octet, near, far, joiner, circuits, writer)?;
+        take(line, *octet, bench, writer)?;
     }
     Ok(())
 }
 
 /// Takes the next octet, and does the line where it ends.
-fn take<J: Joiner, W: Sink>(
+fn take<B: Bench, W: Sink>(
     line: &mut OpenLine,
     octet: u8,
-    near: &mut Exchange,
-    far: &mut Exchange,
-    joiner: &mut J,
-    circuits: &mut [Circuit<J::Stream>],
+    bench: &mut B,
     writer: &mut W,
 ) -> Result<(), ScriptFault>
     requires { line.old.number + 1 < 2 ^ 64 }
@@ -125,7 +115,7 @@ fn take<J: Joiner, W: Sink>(
         Grown::Open => Ok(()),
         Grown::TooLong => line.fail(writer),
         Grown::Whole => {
-            do_line(line, near, far, joiner, circuits, writer)?;
+            do_line(line, bench, writer)?;
             line.begin_next();
             Ok(())
         }
@@ -133,21 +123,17 @@ fn take<J: Joiner, W: Sink>(
 }
 
 /// Does a whole line, and prints what became of it.
-fn do_line<J: Joiner, W: Sink>(
+fn do_line<B: Bench, W: Sink>(
     line: &OpenLine,
-    near: &mut Exchange,
-    far: &mut Exchange,
-    joiner: &mut J,
-    circuits: &mut [Circuit<J::Stream>],
+    bench: &mut B,
     writer: &mut W,
 ) -> Result<(), ScriptFault>
     ensures writes { (W.output writer.new).failures ≡ writes_failed (W.output writer.old).failures result }
     ensures fault { EndsAtLine result }
 {
-    match parse_lab_line(line.octets()) {
-        Ok(Some(asked)) => {
-            let (end, reply) = do_asked(asked, near, far, joiner, circuits);
-            print(node_at(end, near, far), &reply, writer)?;
+    match bench.perform(line.octets()) {
+        Ok(Some((end, reply))) => {
+            print(bench.node(end), &reply, writer)?;
             Ok(())
         }
         Ok(None) => Ok(()),
