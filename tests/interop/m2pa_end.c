@@ -98,8 +98,24 @@ static void send_status(enum status status) {
 	put(out, sizeof out, STATUS_STREAM);
 }
 
-/* a field of 8 to 272 octets: the label (Q.704 §2.2), the number, and filler */
+/* a field of 8 to 272 octets: the label (Q.704 §2.2), the number, and filler; with LOAD, of so many */
+#ifdef LOAD
+static unsigned field_length(unsigned number) { return number < count ? LOAD : 0; }
+#else
 static unsigned field_length(unsigned number) { return 8 + number * 7919u % (MOST_FIELD - 8 + 1); }
+#endif
+
+/* whether the next message goes: with LOAD only some seconds after the link is in service, and no further ahead of what
+ * came than AHEAD, so that no node in between fills */
+static int may_send(void) {
+#ifdef LOAD
+	enum { AHEAD = 8192, REST_S = 3 };
+	static time_t since;
+	if (!since) since = time(NULL);
+	if (time(NULL) - since < REST_S || sent >= received + AHEAD) return 0;
+#endif
+	return sent < count && sent - acknowledged < WINDOW;
+}
 
 static int send_message(void) {
 	unsigned char out[HEADER + 2 + MOST_FIELD] = {0};
@@ -195,6 +211,9 @@ static void hear_frame(const unsigned char *text, unsigned length, int stream) {
 	if (fsn != (last_accepted + 1) % NUMBERS) fail("an FSN out of turn");
 	last_accepted = fsn;
 	owes_acknowledgement = 1;
+#ifdef LOAD
+	if ((text[HEADER + 1] & 15) == 0) return; /* management of a node in between */
+#endif
 	hear_field(text + HEADER + 2, length - HEADER - 2);
 }
 
@@ -275,7 +294,7 @@ static void act(void) {
 		end_association();
 		return;
 	}
-	while (sent < count && sent - acknowledged < WINDOW && send_message()) {}
+	while (may_send() && send_message()) {}
 	if (owes_acknowledgement) acknowledge();
 }
 
@@ -297,7 +316,9 @@ static void prepare(unsigned far_udp_port, unsigned port) {
 	struct sctp_initmsg init = {.sinit_num_ostreams = 2, .sinit_max_instreams = 2};
 	set(IPPROTO_SCTP, SCTP_INITMSG, &init, sizeof init);
 	set(IPPROTO_SCTP, SCTP_RECVRCVINFO, &on, sizeof on);
+#ifndef LOAD
 	set(IPPROTO_SCTP, SCTP_NODELAY, &on, sizeof on);
+#endif
 	struct sctp_event event = {.se_assoc_id = SCTP_FUTURE_ASSOC, .se_type = SCTP_ASSOC_CHANGE, .se_on = 1};
 	set(IPPROTO_SCTP, SCTP_EVENT, &event, sizeof event);
 	struct sctp_udpencaps encapsulation;

@@ -110,10 +110,12 @@ class Judge:
 
 
 class Traffic:
-    """Messages of the node's user to the end, and back."""
+    """Messages of the node's user to the end, and back. Where the association ends, the node may refuse some of them:
+    once T1 has let the others go, there is no route until the link is back."""
 
-    def __init__(self, node: Node, first: int) -> None:
+    def __init__(self, node: Node, first: int, ends: bool) -> None:
         self.node, self.first, self.submitted = node, first, 0
+        self.refusals = {"refused 4 NoRoute"} if ends else set()
         self.submitter, self.user = node.call(), node.call()
         self.user.ask("users")
         self.judge = Judge()
@@ -124,8 +126,8 @@ class Traffic:
             texts = (bytes([SIO]) + field(self.first + k, NODE, END) for k in burst)
             self.submitter.write("".join(f"submit {text.hex()}\n" for text in texts))
             answers = self.submitter.read_lines(len(burst))
-            taken = [it for it in answers if it == "held" or it.startswith("queued ")]
-            assert len(taken) == len(answers), f"not taken: {set(answers) - set(taken)}"
+            others = {it for it in answers if it != "held" and not it.startswith("queued ")}
+            assert others <= self.refusals, f"not taken: {others}"
             self.submitted += len(burst)
 
     def hear_until(self, condition) -> None:
@@ -142,7 +144,9 @@ class End:
     """The M2PA end over usrsctp, as a process."""
 
     def __init__(self, program, run: Run, udp: int, relay: int, stays: bool, first: int = 0) -> None:
-        words = [program, udp, relay, END_SCTP, NODE_SCTP, run.end_mode, END, NODE, run.count]
+        # one that stays sends more, so that it hasn't sent all when the association ends
+        count = 2 * run.count if stays else run.count
+        words = [program, udp, relay, END_SCTP, NODE_SCTP, run.end_mode, END, NODE, count]
         words += ["stay", first] if stays else []
         words += [run.ending, run.count // 3] if run.ending in ("abort", "shutdown") else []
         self.lines: list[str] = []
@@ -195,7 +199,7 @@ def go(setting: Setting) -> str:
     run, node = setting.run, setting.node
     node.start()
     end = setting.end(stays=False)
-    traffic = Traffic(node, 0)
+    traffic = Traffic(node, 0, ends=False)
     wait_until(setting.in_service, "the link is in service")
     began = time.monotonic()
     traffic.submit(run.count)
@@ -218,7 +222,7 @@ def end_it(setting: Setting, end: End, traffic: Traffic) -> tuple[End, Traffic]:
     elif ending == "kill node":
         node.kill()
         node.start()
-        traffic = Traffic(node, LIFE)
+        traffic = Traffic(node, LIFE, ends=True)
     elif ending == "operator":
         node.ask("deactivate e0")
         node.await_log("close e0 .* node")
@@ -231,10 +235,12 @@ def go_on(setting: Setting) -> str:
     run, node = setting.run, setting.node
     node.start()
     end = setting.end(stays=True)
-    traffic = first = Traffic(node, 0)
+    traffic = first = Traffic(node, 0, ends=True)
     wait_until(setting.in_service, "the link is in service")
-    traffic.submit(run.count // 2)
-    traffic.hear_until(lambda: traffic.judge.received >= run.count // 3)
+    while traffic.judge.received < run.count // 3:
+        traffic.submit(BURST)
+        before = traffic.judge.received
+        traffic.hear_until(lambda: traffic.judge.received >= before + BURST)
     end, traffic = end_it(setting, end, traffic)
     if run.ending != "kill node":
         node.await_log("close e0 ")

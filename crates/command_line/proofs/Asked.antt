@@ -9,28 +9,29 @@ use Rattle.std.proofs.lemmas.Bool.{false_from_ne_true}
 use Rattle.clap.specs.Words.{Text}
 use Rattle.command_line.specs.Words.{Task, asked_by, asked_with, asked_with_two, is_plain, are_plain, texts, OtherWords}
 
--- two words and more are asked for by none but `lab`
-pub unasked-more : (command near far : Text) (more : List Text) → bytes_eq command (codes "lab") ≡ false → asked_by (command ∷ near ∷ far ∷ more) ≡ OtherWords
-unasked-more command near far [] e = two (is_plain near && is_plain far)
+-- two words and more are asked for by none but the labs
+pub unasked-more : (command near far : Text) (more : List Text) → bytes_eq command (codes "lab") ≡ false → bytes_eq command (codes "lab-udp") ≡ false
+    → asked_by (command ∷ near ∷ far ∷ more) ≡ OtherWords
+unasked-more command near far [] e f = two (is_plain near && is_plain far)
   where
     two : (b : Bool) → (if b then asked_with_two command near far else OtherWords) ≡ OtherWords
-    two true = rw e refl
+    two true = rw (e, f) refl
     two false = refl
-unasked-more command near far (word ∷ more) e = refl
+unasked-more command near far (word ∷ more) e f = refl
 
 -- a word that isn't the other isn't it the other way round
 pub unlike : (a b : Text) → bytes_eq a b ≡ false → bytes_eq b a ≡ false
 unlike a b e = false_from_ne_true _ (λ is. true≢false (sym ((bytes_eq-Decides a b).1 (sym ((bytes_eq-Decides b a).0 is))) ∙ e))
 
 pub others-asked : (word : Text) (rest : List Text) → bytes_eq word (codes "run") ≡ false → bytes_eq word (codes "check") ≡ false
-    → bytes_eq word (codes "lab") ≡ false → bytes_eq word (codes "serve") ≡ false → asked_by (word ∷ rest) ≡ OtherWords
-others-asked word [] not-run not-check not-lab not-serve = rw not-run refl
-others-asked word (file ∷ []) not-run not-check not-lab not-serve = either (is_plain file)
+    → bytes_eq word (codes "lab") ≡ false → bytes_eq word (codes "lab-udp") ≡ false → bytes_eq word (codes "serve") ≡ false → asked_by (word ∷ rest) ≡ OtherWords
+others-asked word [] not-run not-check not-lab not-udp not-serve = rw not-run refl
+others-asked word (file ∷ []) not-run not-check not-lab not-udp not-serve = either (is_plain file)
   where
     either : (b : Bool) → (if b then asked_with word file else OtherWords) ≡ OtherWords
     either true = rw (not-run, not-check, not-serve) refl
     either false = refl
-others-asked word (file ∷ second ∷ more) not-run not-check not-lab not-serve = unasked-more word file second more not-lab
+others-asked word (file ∷ second ∷ more) not-run not-check not-lab not-udp not-serve = unasked-more word file second more not-lab not-udp
 
 pub plain-texts : (words : List (String Global)) → are_plain words ≡ list_all is_plain (texts words)
 plain-texts [] = refl
@@ -61,4 +62,4 @@ unplain (word ∷ rest) e = first (is_plain word) refl
 
     first : (b : Bool) → is_plain word ≡ b → asked_by (word ∷ rest) ≡ OtherWords
     first true is = behind rest (ap (λ t. t && list_all is_plain rest) (sym is) ∙ e)
-    first false is = others-asked word rest (unnamed word _ is refl) (unnamed word _ is refl) (unnamed word _ is refl) (unnamed word _ is refl)
+    first false is = others-asked word rest (unnamed word _ is refl) (unnamed word _ is refl) (unnamed word _ is refl) (unnamed word _ is refl) (unnamed word _ is refl)

@@ -22,8 +22,8 @@ use Rattle.clap.proofs.FaultLemmas.{stopped_fault}
 use Rattle.clap.proofs.OnLiterals.{clap_on_literals}
 use Rattle.clap.proofs.WalkLemmas.{both, walk_stopped}
 use Rattle.command_line.proofs.Asked.{unasked-more, unlike, others-asked, plain-texts}
-use Rattle.command_line.specs.Grammar.{stp, run, check, lab, serve}
-use Rattle.command_line.specs.Words.{asked, asked_by, asked_by_command, found, is_plain, are_plain, texts, OtherWords}
+use Rattle.command_line.specs.Grammar.{stp, run, check, lab, lab_udp, near_rule, far_rule, serve}
+use Rattle.command_line.specs.Words.{asked, asked_by, asked_with, asked_by_command, takes_two, found, is_plain, are_plain, texts, OtherWords}
 
 pub simple : is_simple stp ≡ true
 unfolding clap_on_literals
@@ -95,6 +95,11 @@ unfolding clap_on_literals
 lab-command = is_command _ _ (λ words. sym (walk_stopped rules names (walk_from nothing_held) (codes "lab") [] words))
     (stopped_fault (built stp).top names (walk_from nothing_held) (codes "lab", [])) (λ words. refl) (λ words. refl)
 
+lab_udp-command : IsCommand (codes "lab-udp") (entry lab_udp)
+unfolding clap_on_literals
+lab_udp-command = is_command _ _ (λ words. sym (walk_stopped rules names (walk_from nothing_held) (codes "lab-udp") [] words))
+    (stopped_fault (built stp).top names (walk_from nothing_held) (codes "lab-udp", [])) (λ words. refl) (λ words. refl)
+
 -- ---- the words behind it
 
 plain-first : (x : ℕ) → not (nat_eq x 45) ≡ true → nat_eq x 45 ≡ false
@@ -132,70 +137,88 @@ unfolding clap_on_literals
 more-refused name true x y xs ys more plain plain-2 = rw (plain, plain, plain-2, plain-2) refl
 more-refused name false x y xs ys more plain plain-2 = rw (plain, plain, plain-2, plain-2) refl
 
-found-other : (command : Text) (rows : List Row) → bytes_eq command (codes "lab") ≡ false
+found-other : (command : Text) (rows : List Row) → bytes_eq command (codes "lab") ≡ false → bytes_eq command (codes "lab-udp") ≡ false
     → found (Some (command, rows)) ≡ asked_by_command command (first_of (codes "file") rows)
-found-other command rows e = rw e refl
+found-other command rows e f = rw (e, f) refl
 
-on-file : (name : Text) (needs : Bool) → IsCommand name (taking name needs) → bytes_eq name (codes "lab") ≡ false → Verdict (name ∷ [])
+on-file : (name : Text) (needs : Bool) → IsCommand name (taking name needs) → bytes_eq name (codes "lab") ≡ false → bytes_eq name (codes "lab-udp") ≡ false
+    → Verdict (name ∷ [])
     → (words : List Text) → list_all is_plain words ≡ true → Verdict (name ∷ words)
-on-file name needs c not-lab alone [] e = alone
-on-file name needs c not-lab alone ([] ∷ more) e = absurd (true≢false (sym e))
-on-file name needs c not-lab alone ((x ∷ xs) ∷ []) e =
+on-file name needs c not-lab not-udp alone [] e = alone
+on-file name needs c not-lab not-udp alone ([] ∷ more) e = absurd (true≢false (sym e))
+on-file name needs c not-lab not-udp alone ((x ∷ xs) ∷ []) e =
     let plain = plain-first x (both _ _ e).0 in
     let taken = file-taken name needs x xs plain in
     let words : List Text = (x ∷ xs) ∷ [] in
     Taken (c.fault words ∙ taken.0)
-    (ap found (c.rows words) ∙ found-other name (rows_after (taking name needs).rules [] words) not-lab ∙ ap (asked_by_command name) taken.1 ∙ rw plain refl)
-on-file name needs c not-lab alone ((x ∷ xs) ∷ [] ∷ more) e = absurd (true≢false (sym (both _ _ e).1))
-on-file name needs c not-lab alone ((x ∷ xs) ∷ (y ∷ ys) ∷ more) e =
+    (ap found (c.rows words) ∙ found-other name (rows_after (taking name needs).rules [] words) not-lab not-udp ∙ ap (asked_by_command name) taken.1 ∙ rw plain refl)
+on-file name needs c not-lab not-udp alone ((x ∷ xs) ∷ [] ∷ more) e = absurd (true≢false (sym (both _ _ e).1))
+on-file name needs c not-lab not-udp alone ((x ∷ xs) ∷ (y ∷ ys) ∷ more) e =
     let plain = plain-first x (both _ _ e).0 in
     let plain-2 = plain-first y (both _ _ (both _ _ e).1).0 in
-    Refused (not-nil _ _ _ (c.fault _ ∙ more-refused name needs x y xs ys more plain plain-2)) (unasked-more name (x ∷ xs) (y ∷ ys) more not-lab)
+    Refused (not-nil _ _ _ (c.fault _ ∙ more-refused name needs x y xs ys more plain plain-2)) (unasked-more name (x ∷ xs) (y ∷ ys) more not-lab not-udp)
 
-lab-alone : Verdict (codes "lab" ∷ [])
+-- the command of this name that takes two files
+abbrev pairing : Text → Shape
+pairing name = entry (with_rule (with_rule (new_app name) near_rule) far_rule)
+
+-- a name with which such a command alone is asked for
+record IsLab (name : Text) : Type 0 where
+  command : IsCommand name (pairing name)
+  takes : takes_two name ≡ true
+  alone : asked_by (name ∷ []) ≡ OtherWords
+  with_file : (file : Text) → asked_with name file ≡ OtherWords
+
+lab-alone : (name : Text) → IsLab name → Verdict (name ∷ [])
 unfolding clap_on_literals
-lab-alone = Refused (not-nil kind.MissingRequiredArgument [] _ (lab-command.fault [])) refl
+lab-alone name l = Refused (not-nil kind.MissingRequiredArgument [] _ (l.command.fault [])) l.alone
 
-lab-file : (x : ℕ) (xs : Text) → nat_eq x 45 ≡ false → level_fault (entry lab) [] nothing_held ((x ∷ xs) ∷ []) false [] ≡ kind.MissingRequiredArgument ∷ []
+lab-file : (name : Text) (x : ℕ) (xs : Text) → nat_eq x 45 ≡ false → level_fault (pairing name) [] nothing_held ((x ∷ xs) ∷ []) false [] ≡ kind.MissingRequiredArgument ∷ []
 unfolding clap_on_literals
-lab-file x xs plain = rw (plain, plain) refl
+lab-file name x xs plain = rw (plain, plain) refl
 
-lab-files : (x y : ℕ) (xs ys : Text) → nat_eq x 45 ≡ false → nat_eq y 45 ≡ false
-    → (level_fault (entry lab) [] nothing_held ((x ∷ xs) ∷ (y ∷ ys) ∷ []) false [] ≡ [])
-    × (found (Some (codes "lab", rows_after (entry lab).rules [] ((x ∷ xs) ∷ (y ∷ ys) ∷ []))) ≡ asked_by (codes "lab" ∷ (x ∷ xs) ∷ (y ∷ ys) ∷ []))
+lab-files : (name : Text) (x y : ℕ) (xs ys : Text) → takes_two name ≡ true → nat_eq x 45 ≡ false → nat_eq y 45 ≡ false
+    → (level_fault (pairing name) [] nothing_held ((x ∷ xs) ∷ (y ∷ ys) ∷ []) false [] ≡ [])
+    × (found (Some (name, rows_after (pairing name).rules [] ((x ∷ xs) ∷ (y ∷ ys) ∷ []))) ≡ asked_by (name ∷ (x ∷ xs) ∷ (y ∷ ys) ∷ []))
 unfolding clap_on_literals
-lab-files x y xs ys plain plain-2 = rw (plain, plain, plain-2, plain-2) (refl, refl)
+lab-files name x y xs ys takes plain plain-2 = rw (plain, plain, plain-2, plain-2, takes) (refl, refl)
 
-lab-more : (x y z : ℕ) (xs ys zs : Text) (more : List Text) → nat_eq x 45 ≡ false → nat_eq y 45 ≡ false → nat_eq z 45 ≡ false
-    → level_fault (entry lab) [] nothing_held ((x ∷ xs) ∷ (y ∷ ys) ∷ (z ∷ zs) ∷ more) false [] ≡ kind.UnknownArgument ∷ []
+lab-more : (name : Text) (x y z : ℕ) (xs ys zs : Text) (more : List Text) → nat_eq x 45 ≡ false → nat_eq y 45 ≡ false → nat_eq z 45 ≡ false
+    → level_fault (pairing name) [] nothing_held ((x ∷ xs) ∷ (y ∷ ys) ∷ (z ∷ zs) ∷ more) false [] ≡ kind.UnknownArgument ∷ []
 unfolding clap_on_literals
-lab-more x y z xs ys zs more plain plain-2 plain-3 = rw (plain, plain, plain-2, plain-2, plain-3, plain-3) refl
+lab-more name x y z xs ys zs more plain plain-2 plain-3 = rw (plain, plain, plain-2, plain-2, plain-3, plain-3) refl
 
-on-lab : (words : List Text) → list_all is_plain words ≡ true → Verdict (codes "lab" ∷ words)
-on-lab [] e = lab-alone
-on-lab ([] ∷ more) e = absurd (true≢false (sym e))
-on-lab ((x ∷ xs) ∷ []) e =
+on-lab : (name : Text) → IsLab name → (words : List Text) → list_all is_plain words ≡ true → Verdict (name ∷ words)
+on-lab name l [] e = lab-alone name l
+on-lab name l ([] ∷ more) e = absurd (true≢false (sym e))
+on-lab name l ((x ∷ xs) ∷ []) e =
     let plain = plain-first x (both _ _ e).0 in
-    Refused (not-nil _ _ _ (lab-command.fault _ ∙ lab-file x xs plain)) (rw plain refl)
-on-lab ((x ∷ xs) ∷ [] ∷ more) e = absurd (true≢false (sym (both _ _ e).1))
-on-lab ((x ∷ xs) ∷ (y ∷ ys) ∷ []) e =
-    let taken = lab-files x y xs ys (plain-first x (both _ _ e).0) (plain-first y (both _ _ (both _ _ e).1).0) in
-    Taken (lab-command.fault _ ∙ taken.0) (ap found (lab-command.rows ((x ∷ xs) ∷ (y ∷ ys) ∷ [])) ∙ taken.1)
-on-lab ((x ∷ xs) ∷ (y ∷ ys) ∷ [] ∷ more) e = absurd (true≢false (sym (both _ _ (both _ _ e).1).1))
-on-lab ((x ∷ xs) ∷ (y ∷ ys) ∷ (z ∷ zs) ∷ more) e =
+    Refused (not-nil _ _ _ (l.command.fault _ ∙ lab-file name x xs plain)) (rw plain (l.with_file (x ∷ xs)))
+on-lab name l ((x ∷ xs) ∷ [] ∷ more) e = absurd (true≢false (sym (both _ _ e).1))
+on-lab name l ((x ∷ xs) ∷ (y ∷ ys) ∷ []) e =
+    let taken = lab-files name x y xs ys l.takes (plain-first x (both _ _ e).0) (plain-first y (both _ _ (both _ _ e).1).0) in
+    Taken (l.command.fault _ ∙ taken.0) (ap found (l.command.rows ((x ∷ xs) ∷ (y ∷ ys) ∷ [])) ∙ taken.1)
+on-lab name l ((x ∷ xs) ∷ (y ∷ ys) ∷ [] ∷ more) e = absurd (true≢false (sym (both _ _ (both _ _ e).1).1))
+on-lab name l ((x ∷ xs) ∷ (y ∷ ys) ∷ (z ∷ zs) ∷ more) e =
     let plain = plain-first x (both _ _ e).0 in
     let plain-2 = plain-first y (both _ _ (both _ _ e).1).0 in
     let plain-3 = plain-first z (both _ _ (both _ _ (both _ _ e).1).1).0 in
-    Refused (not-nil _ _ _ (lab-command.fault _ ∙ lab-more x y z xs ys zs more plain plain-2 plain-3)) refl
+    Refused (not-nil _ _ _ (l.command.fault _ ∙ lab-more name x y z xs ys zs more plain plain-2 plain-3)) refl
+
+stream-lab : IsLab (codes "lab")
+stream-lab = record { command = lab-command; takes = refl; alone = refl; with_file = λ file. refl }
+
+datagram-lab : IsLab (codes "lab-udp")
+datagram-lab = record { command = lab_udp-command; takes = refl; alone = refl; with_file = λ file. refl }
 
 -- ---- all words
 
 -- a first word that names no command
 other : (x : ℕ) (xs : Text) (rest : List Text) → nat_eq x 45 ≡ false → bytes_eq (codes "run") (x ∷ xs) ≡ false → bytes_eq (codes "check") (x ∷ xs) ≡ false
-    → bytes_eq (codes "lab") (x ∷ xs) ≡ false → bytes_eq (codes "serve") (x ∷ xs) ≡ false
+    → bytes_eq (codes "lab") (x ∷ xs) ≡ false → bytes_eq (codes "lab-udp") (x ∷ xs) ≡ false → bytes_eq (codes "serve") (x ∷ xs) ≡ false
     → fault_of stp ((x ∷ xs) ∷ rest) ≡ kind.UnknownArgument ∷ kind.InvalidSubcommand ∷ []
 unfolding clap_on_literals
-other x xs rest plain not-run not-check not-lab not-serve = rw (not-run, not-check, not-lab, not-serve, plain, plain) refl
+other x xs rest plain not-run not-check not-lab not-udp not-serve = rw (not-run, not-check, not-lab, not-udp, not-serve, plain, plain) refl
 
 -- the first word is this one, or another
 first-word : (name word : Text) (rest : List Text) → Verdict (name ∷ rest) → (bytes_eq word name ≡ false → Verdict (word ∷ rest)) → Verdict (word ∷ rest)
@@ -212,12 +235,13 @@ judged ((x ∷ xs) ∷ rest) e =
     let word : Text = x ∷ xs in
     let plain = plain-first x (both _ _ e).0 in
     let all = (both (is_plain word) (list_all is_plain rest) e).1 in
-    first-word (codes "run") word rest (on-file (codes "run") false run-command refl run-alone rest all) (λ not-run.
-    first-word (codes "check") word rest (on-file (codes "check") true check-command refl (without-file _ check-command refl) rest all) (λ not-check.
-    first-word (codes "lab") word rest (on-lab rest all) (λ not-lab.
-    first-word (codes "serve") word rest (on-file (codes "serve") true serve-command refl (without-file _ serve-command refl) rest all) (λ not-serve.
-    Refused (not-nil _ _ _ (other x xs rest plain (unlike word (codes "run") not-run) (unlike word (codes "check") not-check) (unlike word (codes "lab") not-lab) (unlike word (codes "serve") not-serve)))
-    (others-asked word rest not-run not-check not-lab not-serve)))))
+    first-word (codes "run") word rest (on-file (codes "run") false run-command refl refl run-alone rest all) (λ not-run.
+    first-word (codes "check") word rest (on-file (codes "check") true check-command refl refl (without-file _ check-command refl) rest all) (λ not-check.
+    first-word (codes "lab") word rest (on-lab (codes "lab") stream-lab rest all) (λ not-lab.
+    first-word (codes "lab-udp") word rest (on-lab (codes "lab-udp") datagram-lab rest all) (λ not-udp.
+    first-word (codes "serve") word rest (on-file (codes "serve") true serve-command refl refl (without-file _ serve-command refl) rest all) (λ not-serve.
+    Refused (not-nil _ _ _ (other x xs rest plain (unlike word (codes "run") not-run) (unlike word (codes "check") not-check) (unlike word (codes "lab") not-lab) (unlike word (codes "lab-udp") not-udp) (unlike word (codes "serve") not-serve)))
+    (others-asked word rest not-run not-check not-lab not-udp not-serve))))))
 
 -- ---- what a parse gives
 

@@ -28,7 +28,11 @@ lab = with_rule (with_rule (new_app (codes "lab")) near_rule) far_rule
 abbrev pub serve : App
 serve = with_rule (new_app (codes "serve")) needed_file
 
--- one of the four, with no texts of its own and no words for help
+-- `lab-udp NEAR FAR`
+abbrev pub lab_udp : App
+lab_udp = with_rule (with_rule (new_app (codes "lab-udp")) near_rule) far_rule
+
+-- one of the five, with no texts of its own and no words for help
 abbrev pub bare : App
 bare = on_top (λ s. record s {
   no_binary_name = true;
@@ -38,4 +42,6 @@ bare = on_top (λ s. record s {
 }) (new_app (codes "stp"))
 
 abbrev pub stp : App
-stp = with_subcommand (with_subcommand (with_subcommand (with_subcommand bare run.top) check.top) lab.top) serve.top
+stp =
+    with_subcommand (with_subcommand (with_subcommand (with_subcommand (with_subcommand bare run.top) check.top) lab.top)
+    lab_udp.top) serve.top

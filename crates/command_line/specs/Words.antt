@@ -1,5 +1,5 @@
 -- The words behind the program's name, and what they ask for.
-use Rattle.std.specs.Prelude.{◌≡◌, ◌⊎◌, ◌&&◌, ℕ, Bool, true, false, not, nat_eq, List, [], ◌∷◌, Option, None, Some, map}
+use Rattle.std.specs.Prelude.{◌≡◌, ◌⊎◌, ◌&&◌, ◌||◌, ℕ, Bool, true, false, not, nat_eq, List, [], ◌∷◌, Option, None, Some, map}
 use Rattle.std.specs.Prelude.{if◌then◌else◌}
 use Rattle.std.specs.Prelude.{codes, bytes_eq, string_bytes, String}
 use Rattle.std.specs.Global.{Global}
@@ -9,12 +9,13 @@ use Rattle.command_line.specs.declared.Words.{Words}
 use Rattle.command_line.specs.declared.Words.TheVariants as words
 
 -- run a script, on the built-in settings or on those of a file; check a file; run a lab script on the settings of two
--- files; serve a node with the settings of a file; anything else
+-- files, over streams or over datagrams; serve a node with the settings of a file; anything else
 pub data Task : Type 0 where
   BuiltInRun : Task
   FileRun : List ℕ → Task
   FileCheck : List ℕ → Task
   LabRun : (near far : List ℕ) → Task
+  DatagramLabRun : (near far : List ℕ) → Task
   FileServe : List ℕ → Task
   OtherWords : Task
 
@@ -30,11 +31,13 @@ asked_with command file =
     else (if bytes_eq command (codes "check") then FileCheck file
     else (if bytes_eq command (codes "serve") then FileServe file else OtherWords))
 
--- `lab NEAR FAR`
+-- `lab NEAR FAR` and `lab-udp NEAR FAR`
 abbrev pub asked_with_two : List ℕ → (near far : List ℕ) → Task
-asked_with_two command near far = if bytes_eq command (codes "lab") then LabRun near far else OtherWords
+asked_with_two command near far =
+    if bytes_eq command (codes "lab") then LabRun near far
+    else (if bytes_eq command (codes "lab-udp") then DatagramLabRun near far else OtherWords)
 
--- `run`, `run FILE`, `check FILE`, `serve FILE` and `lab NEAR FAR`, and nothing else
+-- `run`, `run FILE`, `check FILE`, `serve FILE`, `lab NEAR FAR` and `lab-udp NEAR FAR`, and nothing else
 abbrev pub asked_by : List (List ℕ) → Task
 asked_by (command ∷ []) = if bytes_eq command (codes "run") then BuiltInRun else OtherWords
 asked_by (command ∷ file ∷ []) = if is_plain file then asked_with command file else OtherWords
@@ -53,15 +56,19 @@ abbrev pub asked_by_command : List ℕ → Option (List ℕ) → Task
 asked_by_command command None = if bytes_eq command (codes "run") then BuiltInRun else OtherWords
 asked_by_command command (Some file) = asked_with command file
 
--- what `lab` asks for that was parsed, by the files behind it
-abbrev pub asked_by_lab : (near far : Option (List ℕ)) → Task
-asked_by_lab (Some near) (Some far) = LabRun near far
-asked_by_lab near far = OtherWords
+-- the commands with two files behind them
+abbrev pub takes_two : List ℕ → Bool
+takes_two command = bytes_eq command (codes "lab") || bytes_eq command (codes "lab-udp")
+
+-- what such a command asks for that was parsed, by the files behind it
+abbrev pub asked_by_two : List ℕ → (near far : Option (List ℕ)) → Task
+asked_by_two command (Some near) (Some far) = asked_with_two command near far
+asked_by_two command near far = OtherWords
 
 -- what a command asks for that was parsed, by the files behind it
 abbrev pub found_by : List ℕ → (file near far : Option (List ℕ)) → Task
 found_by command file near far =
-    if bytes_eq command (codes "lab") then asked_by_lab near far else asked_by_command command file
+    if takes_two command then asked_by_two command near far else asked_by_command command file
 
 abbrev pub found : Option (Text × List Row) → Task
 found None = OtherWords
@@ -76,6 +83,7 @@ said (words.Run None) = Some BuiltInRun
 said (words.Run (Some file)) = Some (FileRun (string_bytes file))
 said (words.Check file) = Some (FileCheck (string_bytes file))
 said (words.Lab near far) = Some (LabRun (string_bytes near) (string_bytes far))
+said (words.DatagramLab near far) = Some (DatagramLabRun (string_bytes near) (string_bytes far))
 said (words.Serve file) = Some (FileServe (string_bytes file))
 said words.Usage = Some OtherWords
 said words.NoMemory = None

@@ -6,9 +6,9 @@ ghost use Rattle.std.specs.List.{list_all};
 ghost use Rattle.clap.specs.Words.{app_of, kind_of, subcommand_rows_of};
 ghost use Rattle.clap.specs.declared.builder.command.Command.TheViews.{out-Command as fields_of};
 ghost use Rattle.clap.specs.declared.error.kind.ErrorKind.TheVariants.{OutOfMemory};
-ghost use Rattle.command_line.specs.Words.{asked, asked_by_command, asked_by_lab, are_plain, found, found_by, is_plain, said};
+ghost use Rattle.command_line.specs.Words.{asked, asked_by_command, asked_by_two, are_plain, found, found_by, is_plain, said};
 ghost use Rattle.command_line.specs.Words.{OtherWords, AreReadAs};
-ghost use Rattle.command_line.specs.Grammar.{stp, bare, run, check, lab, serve};
+ghost use Rattle.command_line.specs.Grammar.{stp, bare, run, check, lab, lab_udp, serve};
 
 use clap::error::ErrorKind;
 use clap::{Arg, ArgMatches, Command, Error};
@@ -23,6 +23,8 @@ pub enum Words {
     Check(String),
     /// `lab NEAR FAR`: run the lab script on standard input, on two nodes with the settings of these files.
     Lab(String, String),
+    /// `lab-udp NEAR FAR`: the same, over UDP sockets of this machine.
+    DatagramLab(String, String),
     /// `serve FILE`: serve a node on the network with the settings of this file.
     Serve(String),
     /// Any other words.
@@ -101,8 +103,8 @@ fn with_files(
     ensures { IfOk result (λ read. said read ≡ Some (found_by command.now (option_map (λ name. name.now) file.entry)
         (option_map (λ name. name.now) near.entry) (option_map (λ name. name.now) far.entry))) }
 {
-    if command == "lab" {
-        with_two_files(alloc, near, far)
+    if command == "lab" || command == "lab-udp" {
+        with_two_files(alloc, command, near, far)
     } else {
         with_file(alloc, command, file)
     }
@@ -122,16 +124,24 @@ fn with_file(alloc: Global, command: &str, file: Option<&str>) -> Result<Words, 
     }
 }
 
-/// What `lab` asks for, by the files behind it.
-fn with_two_files(alloc: Global, near: Option<&str>, far: Option<&str>) -> Result<Words, AllocError>
-    ensures { IfOk result (λ read. said read
-        ≡ Some (asked_by_lab (option_map (λ name. name.now) near.entry) (option_map (λ name. name.now) far.entry))) }
+/// What a command with two files behind it asks for.
+fn with_two_files(
+    alloc: Global,
+    command: &str,
+    near: Option<&str>,
+    far: Option<&str>,
+) -> Result<Words, AllocError>
+    ensures { IfOk result (λ read. said read ≡ Some (asked_by_two command.now
+        (option_map (λ name. name.now) near.entry) (option_map (λ name. name.now) far.entry))) }
 {
-    match (near, far) {
-        (Some(near), Some(far)) => Ok(Words::Lab(
-            String::from_str(alloc, near)?,
-            String::from_str(alloc, far)?,
-        )),
+    let (Some(near), Some(far)) = (near, far) else {
+        return Ok(Words::Usage);
+    };
+    let near = String::from_str(alloc, near)?;
+    let far = String::from_str(alloc, far)?;
+    match command {
+        "lab" => Ok(Words::Lab(near, far)),
+        "lab-udp" => Ok(Words::DatagramLab(near, far)),
         _ => Ok(Words::Usage),
     }
 }
@@ -144,6 +154,7 @@ fn stp<'a>(alloc: Global) -> Result<Command<'a>, AllocError>
         .subcommand(run(alloc)?)?
         .subcommand(check(alloc)?)?
         .subcommand(lab(alloc)?)?
+        .subcommand(lab_udp(alloc)?)?
         .subcommand(serve(alloc)?)
 }
 
@@ -184,6 +195,16 @@ fn lab<'a>(alloc: Global) -> Result<Command<'a>, AllocError>
     let near = Arg::new(alloc, "near").required(true);
     let far = Arg::new(alloc, "far").required(true);
     Command::new(alloc, "lab").arg(near)?.arg(far)
+}
+
+/// `lab-udp NEAR FAR`.
+fn lab_udp<'a>(alloc: Global) -> Result<Command<'a>, AllocError>
+    ensures app { IfOk result (λ command. app_of command ≡ lab_udp) }
+    ensures local { IfOk result (λ command. (fields_of command).has_globals ≡ false) }
+{
+    let near = Arg::new(alloc, "near").required(true);
+    let far = Arg::new(alloc, "far").required(true);
+    Command::new(alloc, "lab-udp").arg(near)?.arg(far)
 }
 
 /// `serve FILE`.

@@ -16,7 +16,7 @@ use Rattle.program.specs.declared.program.Status.{Status}
 use Rattle.program.specs.declared.program.Status.TheVariants as status
 use Rattle.script.specs.declared.fault.ScriptFault.{ScriptFault}
 use Rattle.script.specs.declared.fault.ScriptFault.TheVariants.{Read, Write, Line, TooManyReads, NoMemory}
-use Rattle.command_line.specs.Words.{Task, LabRun, asked}
+use Rattle.command_line.specs.Words.{Task, LabRun, DatagramLabRun, asked}
 
 pub lacks_memory : (script : Result Unit ScriptFault) → (script ≡ Err NoMemory) ⊎ (script ≢ Err NoMemory)
 lacks_memory (Err NoMemory) = inl refl
@@ -90,3 +90,14 @@ pub does-lab : (given : List (String Global)) (near far near_text far_text : Lis
     → RunsLab near_text far_text reads old new ended → Does given reads old new ended
 does-lab given near far near_text far_text reads old new ended n f e ran =
     inl (by-task (asked given) near far reads old new ended (cc e) (rw (← n, ← f) ran))
+
+-- the same over datagrams
+by-datagram-task : (task : Task) (near far : List ℕ) (reads : List ℕ → FileRead → Type 0) (old new : Streams) (ended : Status)
+    → DatagramLabRun near far ≡ task → RunsLab near far reads old new ended → DoesTask task reads old new ended
+by-datagram-task task near far reads old new ended e ran = rw (← e) ran
+
+pub does-datagram-lab : (given : List (String Global)) (near far near_text far_text : List ℕ) (reads : List ℕ → FileRead → Type 0) (old new : Streams) (ended : Status)
+    → near_text ≡ near → far_text ≡ far → Some (DatagramLabRun near far) ≡ Some (asked given)
+    → RunsLab near_text far_text reads old new ended → Does given reads old new ended
+does-datagram-lab given near far near_text far_text reads old new ended n f e ran =
+    inl (by-datagram-task (asked given) near far reads old new ended (cc e) (rw (← n, ← f) ran))

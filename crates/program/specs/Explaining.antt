@@ -34,12 +34,13 @@ IsToldOf IsText errors errors_new =
 -- the words of the program, and their meaning
 abbrev pub usage_text : List ℕ
 usage_text =
-    codes "stp run           runs the script on standard input, with the built-in settings\n"
-    ++ (codes "stp run FILE      runs it with the settings in FILE\n"
-    ++ (codes "stp check FILE    prints ok, or the first fault of the settings in FILE\n"
-    ++ (codes "stp lab NEAR FAR  runs the lab script on standard input, on two nodes that it joins\n"
-    ++ (codes "stp serve FILE    serves a node on the network, with the settings in FILE\n"
-    ++ codes "The lines of a script, the settings and the exit statuses are in docs/MANUAL.md.\n"))))
+    codes "stp run               runs the script on standard input, with the built-in settings\n"
+    ++ (codes "stp run FILE          runs it with the settings in FILE\n"
+    ++ (codes "stp check FILE        prints ok, or the first fault of the settings in FILE\n"
+    ++ (codes "stp lab NEAR FAR      runs the lab script on standard input, on two nodes that it joins\n"
+    ++ (codes "stp lab-udp NEAR FAR  runs it on two nodes that it joins by SCTP in UDP\n"
+    ++ (codes "stp serve FILE        serves a node on the network, with the settings in FILE\n"
+    ++ codes "The lines of a script, the settings and the exit statuses are in docs/MANUAL.md.\n")))))
 
 -- ---- files
 

@@ -24,7 +24,7 @@ use Rattle.script.specs.declared.fault.ScriptFault.{ScriptFault}
 use Rattle.script.specs.declared.fault.ScriptFault.TheVariants as fault
 use Rattle.program.specs.declared.program.Status.{Status}
 use Rattle.program.specs.declared.program.Status.TheVariants as status
-use Rattle.command_line.specs.Words.{Task, BuiltInRun, FileRun, FileCheck, LabRun, FileServe, OtherWords, are_plain, asked}
+use Rattle.command_line.specs.Words.{Task, BuiltInRun, FileRun, FileCheck, LabRun, DatagramLabRun, FileServe, OtherWords, are_plain, asked}
 
 -- the streams of a program: its input, its output, and its standard error
 pub record Streams : Type 0 where
@@ -208,6 +208,7 @@ DoesTask (FileCheck file) reads old new ended =
     (read : FileRead) × reads file read
     × ChecksFile file read old.output new.output old.errors new.errors ended × (new.input ≡ old.input)
 DoesTask (LabRun near far) reads old new ended = RunsLab near far reads old new ended
+DoesTask (DatagramLabRun near far) reads old new ended = RunsLab near far reads old new ended
 DoesTask (FileServe file) reads old new ended =
     (read : FileRead) × reads file read
     × ServesFile file read old.output new.output old.errors new.errors ended × (new.input ≡ old.input)

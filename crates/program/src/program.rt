@@ -16,7 +16,7 @@ use crate::explaining::explain_end;
 use crate::folder::Folder;
 use crate::serving::serve_file;
 use crate::settings_files::{document_of, settings_in, settings_of};
-use crate::two_nodes::run_files;
+use crate::two_nodes::{Medium, run_files};
 use command_line::{Words, read_words};
 use exchange::{Exchange, NoMemory};
 use lab::Joiner;
@@ -53,7 +53,8 @@ impl Status {
 
 /// The whole program: does what the words after its name ask for. Settings files come from the folder, the script from
 /// the reader, and all that it prints goes to the writer. Why it doesn't do what was meant goes to `errors`, in
-/// sentences for a person. The joiner joins the links of a lab; a node is served on the machine's network.
+/// sentences for a person. The joiner joins the links of a lab over streams; one over datagrams, and a node that is
+/// served, are on the machine's network.
 pub fn run_program<F: Folder, J: Joiner, R: Source, W: Sink, E: Sink>(
     rt: &HostRuntime,
     words: &[String],
@@ -74,7 +75,13 @@ pub fn run_program<F: Folder, J: Joiner, R: Source, W: Sink, E: Sink>(
         Words::Check(file) => check_file(alloc, folder, file.as_str(), writer, errors),
         Words::Lab(near, far) => {
             let files = (near.as_str(), far.as_str());
-            run_files(alloc, folder, files, joiner, reader, writer, errors)
+            let medium = Medium::Streams(joiner);
+            run_files(alloc, folder, files, medium, reader, writer, errors)
+        }
+        Words::DatagramLab(near, far) => {
+            let files = (near.as_str(), far.as_str());
+            let medium: Medium<'_, J> = Medium::Datagrams(rt);
+            run_files(alloc, folder, files, medium, reader, writer, errors)
         }
         Words::Serve(file) => serve_file(rt, folder, file.as_str(), writer, errors),
         Words::Usage => tell_usage(writer, errors),

@@ -1,6 +1,9 @@
 //! Two nodes that a lab joins, with the settings of two files.
 
-ghost use Rattle.std.specs.Prelude.{◌≡◌, ◌≢◌, ◌⊎◌, IfOk, Err, true, false};
+ghost use Rattle.std.specs.Prelude.{◌≡◌, ◌≢◌, ◌⊎◌, IfOk, OnOk, Err, true, false};
+ghost use Rattle.std.specs.Io.KnownBytes.{IsAtEnd};
+ghost use Rattle.script.specs.Faults.{MakesReads, reads_failed, writes_failed};
+ghost use Rattle.lab.specs.Script.{LeavesAll};
 ghost use Rattle.settings_file.specs.Faults.{no_memory};
 ghost use Rattle.settings.specs.Facing.{IsFacing};
 ghost use Rattle.settings.specs.Naming.{link_names};
@@ -13,11 +16,21 @@ use crate::explaining::{explain_lab_end, explain_strangers};
 use crate::folder::Folder;
 use crate::program::{Status, status_after};
 use crate::settings_files::settings_of;
+use datagram_lab::run_datagram_lab;
 use exchange::{Exchange, NoMemory};
 use lab::{Joiner, run_lab};
 use script::{ScriptFault, Sink, Source};
 use settings::Settings;
 use std::alloc::Global;
+
+/// How the links of a lab are joined.
+#[derive(Drop)]
+pub(crate) enum Medium<'a, J> {
+    /// By the streams of a joiner.
+    Streams(&'a mut J),
+    /// By datagrams of this machine.
+    Datagrams(&'a HostRuntime),
+}
 
 /// Runs the lab script on two nodes with the settings of two files. Faults are found in this order: the near file, the
 /// far file, whether the nodes face each other, memory for them, the script.
@@ -25,7 +38,7 @@ pub(crate) fn run_files<F: Folder, J: Joiner, R: Source, W: Sink, E: Sink>(
     alloc: Global,
     folder: &F,
     files: (&str, &str),
-    joiner: &mut J,
+    medium: Medium<'_, J>,
     reader: &mut R,
     writer: &mut W,
     errors: &mut E,
@@ -45,7 +58,7 @@ pub(crate) fn run_files<F: Folder, J: Joiner, R: Source, W: Sink, E: Sink>(
             return status;
         }
     };
-    run_if_facing(alloc, near, far, files, joiner, reader, writer, errors)
+    run_if_facing(alloc, near, far, files, medium, reader, writer, errors)
 }
 
 /// Runs the lab script on two nodes with these settings, which files of these names have, if they face each other and
@@ -55,7 +68,7 @@ fn run_if_facing<J: Joiner, R: Source, W: Sink, E: Sink>(
     near: Settings,
     far: Settings,
     files: (&str, &str),
-    joiner: &mut J,
+    medium: Medium<'_, J>,
     reader: &mut R,
     writer: &mut W,
     errors: &mut E,
@@ -65,7 +78,7 @@ fn run_if_facing<J: Joiner, R: Source, W: Sink, E: Sink>(
         (streams (R.input reader.new) (W.output writer.new) (E.output errors.new)) result }
 {
     if can_join(&near, &far) {
-        return run_between(alloc, near, far, joiner, reader, writer, errors);
+        return run_between(alloc, near, far, medium, reader, writer, errors);
     }
     drop(near);
     drop(far);
@@ -87,7 +100,7 @@ fn run_between<J: Joiner, R: Source, W: Sink, E: Sink>(
     alloc: Global,
     near: Settings,
     far: Settings,
-    joiner: &mut J,
+    medium: Medium<'_, J>,
     reader: &mut R,
     writer: &mut W,
     errors: &mut E,
@@ -105,7 +118,7 @@ fn run_between<J: Joiner, R: Source, W: Sink, E: Sink>(
         drop(far);
         return tell_no_memory(writer);
     };
-    let ended = run_beside(alloc, &mut near, far, joiner, reader, writer, errors);
+    let ended = run_beside(alloc, &mut near, far, medium, reader, writer, errors);
     drop(near);
     ended
 }
@@ -115,7 +128,7 @@ fn run_beside<J: Joiner, R: Source, W: Sink, E: Sink>(
     alloc: Global,
     near: &mut Exchange,
     far: Settings,
-    joiner: &mut J,
+    medium: Medium<'_, J>,
     reader: &mut R,
     writer: &mut W,
     errors: &mut E,
@@ -132,7 +145,7 @@ fn run_beside<J: Joiner, R: Source, W: Sink, E: Sink>(
     let Ok(mut far) = booted(alloc, far) else {
         return tell_no_memory(writer);
     };
-    let ended = run_booted(alloc, near, &mut far, joiner, reader, writer, errors);
+    let ended = run_booted(alloc, near, &mut far, medium, reader, writer, errors);
     drop(far);
     ended
 }
@@ -142,7 +155,7 @@ fn run_booted<J: Joiner, R: Source, W: Sink, E: Sink>(
     alloc: Global,
     near: &mut Exchange,
     far: &mut Exchange,
-    joiner: &mut J,
+    medium: Medium<'_, J>,
     reader: &mut R,
     writer: &mut W,
     errors: &mut E,
@@ -156,8 +169,32 @@ fn run_booted<J: Joiner, R: Source, W: Sink, E: Sink>(
         (streams (R.input reader.old) (W.output writer.old) (E.output errors.old))
         (streams (R.input reader.new) (W.output writer.new) (E.output errors.new)) result }
 {
-    let script = run_lab(alloc, near, far, joiner, reader, writer);
+    let script = run_by(alloc, near, far, medium, reader, writer);
     end_lab(alloc, script, writer, errors)
+}
+
+/// Runs the lab script on two nodes whose links are joined so.
+fn run_by<J: Joiner, R: Source, W: Sink>(
+    alloc: Global,
+    near: &mut Exchange,
+    far: &mut Exchange,
+    medium: Medium<'_, J>,
+    reader: &mut R,
+    writer: &mut W,
+) -> Result<(), ScriptFault>
+    requires facing { IsFacing near.old.settings far.old.settings }
+    requires alike { link_names near.old.settings ≡ link_names far.old.settings }
+    ensures end { OnOk result (IsAtEnd (R.input reader.new).remaining) }
+    ensures bounded { MakesReads result (R.input reader.old).reads (R.input reader.new).reads }
+    ensures reads { (R.input reader.new).failures ≡ reads_failed (R.input reader.old).failures result }
+    ensures writes { (W.output writer.new).failures ≡ writes_failed (W.output writer.old).failures result }
+    ensures unchanged { LeavesAll result near.old near.new far.old far.new
+        (R.input reader.old) (R.input reader.new) (W.output writer.old) (W.output writer.new) }
+{
+    match medium {
+        Medium::Streams(joiner) => run_lab(alloc, near, far, joiner, reader, writer),
+        Medium::Datagrams(rt) => run_datagram_lab(rt, alloc, near, far, reader, writer),
+    }
 }
 
 /// The node with these settings, before its first event.

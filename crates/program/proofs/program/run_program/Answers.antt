@@ -1,9 +1,15 @@
 use Rattle.std.proofs.Common.{inl, inr}
-use Rattle.program.proofs.Labs.{does-lab}
+use Rattle.program.proofs.Labs.{does-lab, does-datagram-lab}
 use Rattle.program.proofs.program.run_program.Goals as goal
 
 pub returns-in-Lab : goal.returns-in-Lab
 returns-in-Lab g c = elim c.in-Lab.ensures [
   | inl asked ↦ does-lab c.args.words.now _ _ _ _ _ _ _ _ c.as_str-in-Lab.ensures.value c.as_str-in-Lab-2.ensures.value asked c.run_files.ensures
+  | inr refused ↦ absurd (cc (refused.0))
+]
+
+pub returns-in-DatagramLab : goal.returns-in-DatagramLab
+returns-in-DatagramLab g c = elim c.in-DatagramLab.ensures [
+  | inl asked ↦ does-datagram-lab c.args.words.now _ _ _ _ _ _ _ _ c.as_str-in-DatagramLab.ensures.value c.as_str-in-DatagramLab-2.ensures.value asked c.run_files-in-DatagramLab.ensures
   | inr refused ↦ absurd (cc (refused.0))
 ]
