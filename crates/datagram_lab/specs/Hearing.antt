@@ -38,6 +38,11 @@ Receives (Some r) buffer before after =
     (r.0 ≤ length buffer)
     × Loses before after (record { octets = take r.0 buffer; source = address_of r.1 } ∷ [])
 
+-- none is to come; of what isn't known this says nothing
+abbrev pub IsDry : Option (List Came) → Type 0
+IsDry (Some left) = left ≡ []
+IsDry None = Unit {0}
+
 -- so many datagrams were received, and this was made of them
 pub record GivesEach (count : ℕ) (before after : Option (List Came)) (IsMade : List Came → Type 0) : Type 0 where
   pub came : List Came

@@ -1,12 +1,12 @@
 //! Datagrams that come, handed in at a gate.
 
-ghost use Rattle.std.specs.Prelude.{◌≤◌};
+ghost use Rattle.std.specs.Prelude.{◌≡◌, ◌⊎◌, ◌≤◌};
 ghost use Rattle.exchange.specs.KeptQueues.{kept};
 ghost use Rattle.exchange.specs.Calls.{StandsFor};
 ghost use Rattle.exchange_rules.specs.Queues.{whole};
 ghost use Rattle.exchange_rules.specs.First.{Abstract};
 ghost use Rattle.sctp_gate.specs.Making.{Makes, MakesWhole};
-ghost use Rattle.datagram_lab.specs.Hearing.{GivesEach, heard_all};
+ghost use Rattle.datagram_lab.specs.Hearing.{GivesEach, IsDry, heard_all};
 
 use crate::incoming::Incoming;
 use exchange::Exchange;
@@ -34,6 +34,8 @@ pub fn hear_all<I: Incoming, W: Watch>(
     ensures whole { (a : Abstract) → StandsFor exchange.old a
         → GivesEach result (I.coming incoming.old) (I.coming incoming.new)
         (λ came. MakesWhole W.has watch.old watch.new gate.new exchange.new (heard_all whole now came gate.old a)) }
+    // It stops early only where none comes.
+    ensures ended { (result ≡ most) ⊎ IsDry (I.coming incoming.new) }
     ensures few { result ≤ most }
 {
     let mut buffer = [0; DATAGRAM_OCTETS];

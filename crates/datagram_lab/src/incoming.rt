@@ -1,7 +1,7 @@
 //! What the datagrams of a gate come from.
 
-ghost use Rattle.std.specs.Prelude.{Option, List};
-ghost use Rattle.datagram_lab.specs.Hearing.{Came, Receives};
+ghost use Rattle.std.specs.Prelude.{Option, List, IfNone};
+ghost use Rattle.datagram_lab.specs.Hearing.{Came, Receives, IsDry};
 
 use sctp_endpoint::Address;
 
@@ -13,5 +13,6 @@ pub trait Incoming {
     /// The next datagram, whose octets lie at the front of the buffer then: how many they are, and where they are from.
     /// None where none comes.
     fn receive(&mut self, buffer: &mut [u8]) -> Option<(usize, Address)>
-        ensures { Receives result buffer.new (coming self.old) (coming self.new) };
+        ensures received { Receives result buffer.new (coming self.old) (coming self.new) }
+        ensures dry { IfNone result (IsDry (coming self.new)) };
 }
