@@ -165,7 +165,7 @@ place_members points c =
     ++ number_member (codes "network") c.network
     ++ number_member (codes "pool") c.pool
 
--- the messages that the node keeps and those of them that are held, how often each flag was raised, and how many
+-- the user messages that the node keeps and those of them that are held, how often each flag was raised, and how many
 -- notices there were
 abbrev pub count_members : {Q : Type 0} → QueueKind Q → State Q → List Token
 count_members q s =
