@@ -109,7 +109,7 @@ class SctpLink:
 
 
 def settings(own: int, links: Sequence[Link | SctpLink], *, window: int = 128, pool: int = 1000, tick_ms: int = 50,
-             console: int | None = None, page: int | None = None, capture: str | None = None,
+             console: int | None = None, page: int | None = None, page_open: bool = False, capture: str | None = None,
              points: str | None = None, udp: int | None = None, sctp: dict[str, int] | None = None, **timers: int) -> str:
     """The settings of a node with these links. Timers that aren't named are LONG, but for the proving period."""
     adjacents = list(dict.fromkeys(link.adjacent for link in links))
@@ -118,6 +118,7 @@ def settings(own: int, links: Sequence[Link | SctpLink], *, window: int = 128, p
     lines += ["users = [5]", "subsystems = [8]", "[serve]", f"tick_ms = {tick_ms}"]
     lines += [f'console = "{HOST}:{console}"'] * (console is not None)
     lines += [f'page = "{HOST}:{page}"'] * (page is not None)
+    lines += ["page_open = true"] * page_open
     lines += [f'capture = "{capture}"'] * (capture is not None)
     lines += [f'points = "{points}"'] * (points is not None)
     lines += [f'udp = "{HOST}:{udp}"'] * (udp is not None)

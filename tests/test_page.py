@@ -109,10 +109,13 @@ class Client:
 class PageTest(NodeTest):
     """A test of two nodes, the near one of which has a page."""
 
+    # Whether any Host will do.
+    is_open = False
+
     def setUp(self) -> None:
         super().setUp()
         self.port = free_port()
-        self.pair = Pair(self, near_page=self.port)
+        self.pair = Pair(self, near_page=self.port, near_page_open=self.is_open)
         self.near = self.pair.near
 
     def client(self, **how: int) -> Client:
@@ -214,6 +217,16 @@ class Page(PageTest):
         grown = sum(sign * values["stp_messages_delivered_total", frozenset({("link", name)})]
                     for values, sign in delivered for name in self.pair.names)
         self.assertEqual(grown, MESSAGES)
+
+    def test_what_the_script_reads(self) -> None:
+        """Each member that the script of the page reads is in the state."""
+        script = self.get("/")[1].decode().split("<script>")[1]
+        state = self.state()
+        shown = {"state": state, "last": state, "link": state["links"][0], "old": state["links"][0],
+                 "set": state["sets"][0], "route": state["routes"][0]}
+        read = {(it, member) for it in shown for member in re.findall(rf"(?<![\w./]){it}\.(\w+)", script)}
+        self.assertGreaterEqual({it for it, _ in read}, shown.keys())
+        self.assertEqual([it for it in read if it[1] not in shown[it[0]]], [])
 
     def test_kinds_of_text(self) -> None:
         for path, kind in PATHS.items():
@@ -346,6 +359,11 @@ class PageOfFailures(PageTest):
             self.assertEqual(values["stp_notices_total", frozenset({("kind", kind)})], count, kind)
         self.assertEqual([it["state"] for it in state["links"]], ["Down"] * 3)
 
+        script = self.get("/")[1].decode()
+        read = re.search(r"const \{ (.*) \} of state\.notices", script)
+        assert read, "the script of the page reads no notices"
+        self.assertLessEqual({*read[1].split(", ")}, state["notices"][0].keys())
+
     def has_all(self) -> bool:
         """Whether the page has the notices of the log."""
         return self.state()["notice_count"] == self.near.logged("notice ")
@@ -366,6 +384,44 @@ class PageOfFailures(PageTest):
         self.assertEqual(values["stp_pool_messages", frozenset()], MESSAGES)
         self.assertEqual(values["stp_pool_limit_messages", frozenset()], state["pool"])
         self.pair.forth.settle()
+
+    def test_a_changeover(self) -> None:
+        """While the peer doesn't acknowledge a changeover, it isn't over, and user messages are held; management
+        is in the queues of links, and isn't in the pool."""
+        self.pair.exchange(MESSAGES)
+        wait_until(lambda: self.near.is_at_rest(), "nothing is under way")
+        name = self.pair.names[0]
+        self.pair.far.signal(signal.SIGSTOP)
+        try:
+            self.near.ask(f"deactivate {name}")
+            self.pair.forth.submit(MESSAGES)
+            state = self.state()
+            values, _ = self.metrics()
+        finally:
+            self.pair.far.signal(signal.SIGCONT)
+        self.assertEqual([it["changing_over"] for it in state["links"]], [True, False, False])
+        for it in state["links"]:
+            series = "stp_link_changing_over", frozenset({("link", it["name"])})
+            self.assertEqual(values[series], it["changing_over"], it["name"])
+        self.assertGreater(state["held"], 0)
+        self.assertEqual(values["stp_held_messages", frozenset()], state["held"])
+        self.assertEqual((state["kept"], values["stp_pool_messages", frozenset()]), (MESSAGES, MESSAGES))
+        self.assertGreater(state["held"] + sum(it["waiting"] for it in state["links"]), MESSAGES)
+        self.pair.forth.settle()
+        wait_until(lambda: not any(it["changing_over"] for it in self.state()["links"]), "the changeover is over")
+        self.assertEqual((self.state()["held"], self.state()["kept"]), (0, 0))
+
+
+class OpenPage(PageTest):
+    """A page that may be asked for by any name."""
+
+    is_open = True
+
+    def test_a_foreign_name(self) -> None:
+        for host in ("example.org", f"example.org:{self.port}", f"{HOST}:{self.port}"):
+            self.assertEqual(self.status("/state.json", hosts=[host]), 200, host)
+        self.assertEqual(self.status("/state.json", hosts=[]), 400)
+        self.assertEqual(self.status("/state.json", "POST", hosts=["example.org"]), 405)
 
 
 def counted_of(link: dict) -> Iterator[tuple[str, int]]:

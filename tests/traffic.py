@@ -75,11 +75,11 @@ class Pair:
 
     def __init__(self, test: NodeTest, *, links: int = 3, beside: Sequence[Link] = (), by_proxy: bool = False,
                  octets: int = 8, near_streams: dict | None = None, near_capture: str | None = None,
-                 near_page: int | None = None, **more: Any) -> None:
+                 near_page: int | None = None, near_page_open: bool = False, **more: Any) -> None:
         ports = [free_port() for _ in range(links)]
         self.names = [f"e{number}" for number in range(links)]
         near_more = more if near_capture is None else {**more, "capture": near_capture}
-        near_more = {**near_more, "page": near_page}
+        near_more = {**near_more, "page": near_page, "page_open": near_page_open}
         self.near = test.node(NEAR, [*links_between(ports, FAR, True), *beside], **near_more)
         if by_proxy:
             self.proxy = Proxy(ports)

@@ -1,7 +1,7 @@
 //! Bounds for the clients of a page: how much they send, how long they take, and how much they are answered.
 
 ghost use Rattle.std.specs.Prelude.{◌≡◌};
-ghost use Rattle.page_service.specs.Bounds.{answered, begun, counted, is_over, may_answer};
+ghost use Rattle.page_service.specs.Bounds.{answered, begun, counted, connection_bounds, is_over, may_answer, none_answered};
 
 use http_server::Config;
 use http1::Limits;
@@ -25,7 +25,9 @@ const HEAD_OCTETS: usize = 8_192;
 const READ_OCTETS: usize = 1_024;
 
 /// The bounds of a connection: a head of 8,192 octets, no body, and no further request before an answer went out.
-pub fn limits() -> Config {
+pub fn limits() -> Config
+    ensures { result ≡ connection_bounds }
+{
     Config {
         limits: Limits {
             max_head_len: HEAD_OCTETS,
@@ -83,7 +85,9 @@ pub struct Allowance {
 
 impl Allowance {
     /// Nothing was answered yet.
-    pub fn new() -> Allowance {
+    pub fn new() -> Allowance
+        ensures { result ≡ none_answered }
+    {
         Allowance {
             second: 0,
             answers: 0,

@@ -65,7 +65,7 @@ abbrev pub family_help : Family → List ℕ
 family_help Build = codes "The version of the program; the value is always 1."
 family_help Uptime = codes "Whole seconds since the start of the node."
 family_help PoolLimit = codes "User messages that the node may keep."
-family_help Pool = codes "Messages that the node keeps: of links those that aren't confirmed, and the user messages held."
+family_help Pool = codes "User messages that the node keeps: of links those that aren't confirmed, and those held."
 family_help Held = codes "User messages that are held until a flow may go on."
 family_help Notices = codes "Notices since the start; missed are those whose kind nobody saw."
 family_help Flags = codes "1 if the flag is raised: a message may be lost, or may have come late."

@@ -1,8 +1,10 @@
 -- The value of each metric.
-use Rattle.std.specs.Prelude.{ℕ, zero, suc, ◌+◌, ◌/◌, Bool, true, false, ◌&&◌, not, count_by, length, unwrap_or, List, slice_get}
+use Rattle.std.specs.Prelude.{ℕ, zero, suc, ◌+◌, ◌/◌, Bool, true, false, ◌&&◌, not, count_by, drop, length, unwrap_or, List, slice_get}
 use Rattle.std.specs.Option.{option_map}
-use Rattle.signalling_types.specs.Message.{is_management}
+use Rattle.signalling_types.specs.Message.{Message, is_management}
+use Rattle.signalling_types.specs.Numbers.{next_number}
 use Rattle.cell_pool.specs.Lanes.{is_user_picked}
+use Rattle.link.specs.Queue.{count_confirmed}
 use Rattle.served_link.specs.declared.row.LinkCounters.{LinkCounters}
 use Rattle.served_link.specs.Counting.{no_counts, saturated, value_of}
 use Rattle.exchange_rules.specs.State.{QueueKind, State, lost_any, late_any}
@@ -21,9 +23,13 @@ abbrev pub bit : Bool → ℕ
 bit true = 1
 bit false = 0
 
+-- how many of these are user messages
+abbrev pub count_user_messages : List Message → ℕ
+count_user_messages messages = count_by (is_user_picked (λ m. not (is_management m))) messages
+
 -- the user messages that are held
 abbrev pub held_users : {Q : Type 0} → QueueKind Q → State Q → ℕ
-held_users q s = count_by (is_user_picked (λ m. not (is_management m))) (q.held s.node.queues)
+held_users q s = count_user_messages (q.held s.node.queues)
 
 -- ---- of a link; where there is no such link it is 0
 
@@ -55,6 +61,17 @@ is_changing_over q s link =
 abbrev pub waiting_on : {Q : Type 0} → QueueKind Q → State Q → ℕ → ℕ
 waiting_on q s link = unwrap_or (option_map (λ v. v.waiting) (link_view q s link)) 0
 
+-- how many messages of a link an FISU in sequence would confirm by its BSN
+abbrev pub confirmed_by : {Q : Type 0} → QueueKind Q → State Q → (link bsn : ℕ) → ℕ
+confirmed_by q s link bsn =
+    count_confirmed (q.accept_answer s.node.queues link (q.last_accepted s.node.queues link) bsn false)
+
+-- the user messages of a link's queue that aren't confirmed; the number that the next message gets confirms none of them
+abbrev pub users_on : {Q : Type 0} → QueueKind Q → State Q → ℕ → ℕ
+users_on q s link =
+    unwrap_or (option_map (λ v. count_user_messages
+    (drop (confirmed_by q s link (next_number v.last_sent)) (q.unconfirmed s.node.queues link))) (link_view q s link)) 0
+
 -- the counters of a link
 abbrev pub counters_at : List LinkCounters → ℕ → LinkCounters
 counters_at rows link = unwrap_or (slice_get rows link) no_counts
@@ -68,18 +85,18 @@ link_value q (of_link.Counted counter) s rows k = value_of counter (counters_at 
 
 -- ---- of the node
 
--- the messages of the first links that aren't confirmed
-abbrev pub waiting_on_first : {Q : Type 0} → QueueKind Q → State Q → (links : ℕ) → ℕ
-waiting_on_first q s zero = 0
-waiting_on_first q s (suc k) = saturated (waiting_on_first q s k + waiting_on q s k)
+-- the user messages of the first links that aren't confirmed
+abbrev pub users_on_first : {Q : Type 0} → QueueKind Q → State Q → (links : ℕ) → ℕ
+users_on_first q s zero = 0
+users_on_first q s (suc k) = saturated (users_on_first q s k + users_on q s k)
 
 -- those of all links
-abbrev pub waiting_on_links : {Q : Type 0} → QueueKind Q → State Q → ℕ
-waiting_on_links q s = waiting_on_first q s (length s.settings.links)
+abbrev pub users_on_links : {Q : Type 0} → QueueKind Q → State Q → ℕ
+users_on_links q s = users_on_first q s (length s.settings.links)
 
--- the messages that the node keeps: those of its links that aren't confirmed, and the user messages that are held
+-- the user messages that the node keeps: those of its links that aren't confirmed, and those that are held
 abbrev pub kept_messages : {Q : Type 0} → QueueKind Q → State Q → ℕ
-kept_messages q s = saturated (held_users q s + waiting_on_links q s)
+kept_messages q s = saturated (held_users q s + users_on_links q s)
 
 -- the value of a metric of the node, so many milliseconds after its start
 abbrev pub node_value : {Q : Type 0} → QueueKind Q → NodeMetric → State Q → NoticeLog → (uptime : ℕ) → ℕ

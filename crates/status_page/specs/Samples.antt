@@ -6,6 +6,7 @@ use Rattle.served_link.specs.declared.counter.Counter.{Counter}
 use Rattle.served_link.specs.declared.counter.Counter.TheVariants.{FramesIn, OctetsIn, FramesOut, OctetsOut}
 use Rattle.served_link.specs.declared.counter.Counter.TheVariants.{Forwarded, Delivered, Refused, Failed, Retries}
 use Rattle.status_page.specs.declared.family.Family.{Family}
+use Rattle.status_page.specs.declared.labels.TheConstants.{VERSION}
 use Rattle.status_page.specs.declared.metric.NodeMetric.{NodeMetric}
 use Rattle.status_page.specs.declared.metric.NodeMetric.TheVariants as of_node
 use Rattle.status_page.specs.declared.metric.LinkMetric.{LinkMetric}
@@ -38,7 +39,7 @@ kind_labels noticed.Late = codes "{kind=\"late\"}"
 kind_labels noticed.Missed = codes "{kind=\"missed\"}"
 
 abbrev pub node_labels : NodeMetric → List ℕ
-node_labels of_node.Build = codes "{version=\"0.1\"}"
+node_labels of_node.Build = codes "{version=\"" ++ VERSION.now ++ codes "\"}"
 node_labels of_node.Uptime = []
 node_labels of_node.PoolLimit = []
 node_labels of_node.Pool = []

@@ -20,6 +20,7 @@ use Rattle.served_link.specs.declared.counter.Counter.TheVariants.{Forwarded, De
 use Rattle.served_link.specs.declared.row.LinkCounters.{LinkCounters}
 use Rattle.served_link.specs.Counting.{value_of}
 use Rattle.status_page.specs.Each.{each}
+use Rattle.status_page.specs.declared.labels.TheConstants.{VERSION}
 use Rattle.status_page.specs.declared.noticed.NoticeKind.{NoticeKind}
 use Rattle.status_page.specs.declared.noticed.NoticeKind.TheVariants as noticed
 use Rattle.status_page.specs.declared.noticed.NoticeLog.{NoticeLog}
@@ -156,7 +157,7 @@ kind_members log kinds = flat_map (kind_member log) kinds
 -- the version, and the time since the start in milliseconds
 abbrev pub program_members : (uptime : ℕ) → List Token
 program_members uptime =
-    text_member (codes "version") (codes "0.1") ++ number_member (codes "uptime_ms") uptime
+    text_member (codes "version") VERSION.now ++ number_member (codes "uptime_ms") uptime
 
 -- the node's own point, its network, and the user messages that it may keep
 abbrev pub place_members : PointFormat → Configuration → List Token
@@ -165,7 +166,7 @@ place_members points c =
     ++ number_member (codes "network") c.network
     ++ number_member (codes "pool") c.pool
 
--- the messages that the node keeps and those of them that are held, how often each flag was raised, and how many
+-- the user messages that the node keeps and those of them that are held, how often each flag was raised, and how many
 -- notices there were
 abbrev pub count_members : {Q : Type 0} → QueueKind Q → State Q → List Token
 count_members q s =

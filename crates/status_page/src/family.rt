@@ -45,7 +45,7 @@ pub enum Family {
     Uptime,
     /// How many user messages the node may keep.
     PoolLimit,
-    /// How many messages it keeps.
+    /// How many user messages it keeps.
     Pool,
     /// User messages that are held.
     Held,
@@ -145,7 +145,7 @@ impl Family {
             Family::Uptime => "Whole seconds since the start of the node.",
             Family::PoolLimit => "User messages that the node may keep.",
             Family::Pool =>
-                "Messages that the node keeps: of links those that aren't confirmed, and the user messages held.",
+                "User messages that the node keeps: of links those that aren't confirmed, and those held.",
             Family::Held => "User messages that are held until a flow may go on.",
             Family::Notices => "Notices since the start; missed are those whose kind nobody saw.",
             Family::Flags =>

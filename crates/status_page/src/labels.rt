@@ -16,17 +16,22 @@ pub const VERSION: &str = "0.1";
 pub const LABELS_OCTETS: usize = 64;
 
 /// The labels of a metric of the node.
-pub(crate) fn node_labels(metric: NodeMetric) -> &'static str
-    ensures labels { result.now ≡ node_labels metric }
-    ensures fits { length result.now ≤ LABELS_OCTETS }
+pub(crate) fn node_labels(metric: NodeMetric) -> ArrayString<LABELS_OCTETS>
+    ensures { result.bytes ≡ node_labels metric }
 {
+    let mut labels = ArrayString::new();
     match metric {
-        NodeMetric::Build => "{version=\"0.1\"}",
-        NodeMetric::LostAny | NodeMetric::TimesLost => "{name=\"lost_any\"}",
-        NodeMetric::LateAny | NodeMetric::TimesLate => "{name=\"late_any\"}",
-        NodeMetric::Notices(kind) => kind_labels(kind),
-        NodeMetric::Uptime | NodeMetric::PoolLimit | NodeMetric::Pool | NodeMetric::Held => "",
+        NodeMetric::Build => {
+            labels.push_str("{version=\"");
+            labels.push_str(VERSION);
+            labels.push_str("\"}");
+        }
+        NodeMetric::LostAny | NodeMetric::TimesLost => labels.push_str("{name=\"lost_any\"}"),
+        NodeMetric::LateAny | NodeMetric::TimesLate => labels.push_str("{name=\"late_any\"}"),
+        NodeMetric::Notices(kind) => labels.push_str(kind_labels(kind)),
+        NodeMetric::Uptime | NodeMetric::PoolLimit | NodeMetric::Pool | NodeMetric::Held => {}
     }
+    labels
 }
 
 /// The label of notices of a kind.

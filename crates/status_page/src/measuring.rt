@@ -2,7 +2,7 @@
 
 ghost use Rattle.std.specs.Prelude.{◌≡◌};
 ghost use Rattle.exchange.specs.KeptQueues.{kept};
-ghost use Rattle.status_page.specs.Measuring.{bit, held_users, is_changing_over, is_in_service, kept_messages, link_value, node_value, waiting_on, waiting_on_links};
+ghost use Rattle.status_page.specs.Measuring.{bit, held_users, is_changing_over, is_in_service, kept_messages, link_value, node_value, users_on, users_on_links, waiting_on};
 
 use crate::counted::counters_of;
 use crate::metric::{LinkMetric, NodeMetric};
@@ -11,6 +11,7 @@ use cell_pool::UserMessages;
 use exchange::{Exchange, LinkStanding};
 use served_link::Counters;
 use signalling_types::LinkId;
+use signalling_types::number::next;
 
 /// Milliseconds in a second.
 const SECOND_MS: u64 = 1_000;
@@ -45,23 +46,33 @@ pub(crate) fn held_users(exchange: &Exchange) -> u64
     exchange.count_held_picked(&UserMessages) as u64
 }
 
-/// How many messages the node keeps: of each link those that aren't confirmed, and the user messages that are held. It
-/// looks at each that is held once, and at each link.
+/// How many user messages the node keeps, as its pool counts them: of each link those that aren't confirmed, and those
+/// that are held. It looks at each of them once.
 pub(crate) fn kept_messages(exchange: &Exchange) -> u64
     ensures { result ≡ kept_messages kept exchange.now }
 {
-    held_users(exchange).saturating_add(waiting_on_links(exchange))
+    held_users(exchange).saturating_add(users_on_links(exchange))
 }
 
-/// How many messages of all links aren't confirmed.
-fn waiting_on_links(exchange: &Exchange) -> u64
-    ensures { result ≡ waiting_on_links kept exchange.now }
+/// How many user messages of all links aren't confirmed.
+fn users_on_links(exchange: &Exchange) -> u64
+    ensures { result ≡ users_on_links kept exchange.now }
 {
-    let mut waiting: u64 = 0;
+    let mut users: u64 = 0;
     for k in 0..exchange.settings().link_count() {
-        waiting = waiting.saturating_add(waiting_on(exchange, LinkId::new(k as u8)));
+        users = users.saturating_add(users_on(exchange, LinkId::new(k as u8)));
     }
-    waiting
+    users
+}
+
+/// How many user messages of a link's queue aren't confirmed: those that the number of the next message leaves.
+fn users_on(exchange: &Exchange, link: LinkId) -> u64
+    ensures { result ≡ users_on kept exchange.now link }
+{
+    match exchange.link(link) {
+        Some(view) => exchange.count_behind(link, next(view.last_sent), &UserMessages) as u64,
+        None => 0,
+    }
 }
 
 /// The value of a metric of a link; 0 where there is no such link.

@@ -21,7 +21,7 @@ pub enum NodeMetric {
     Uptime,
     /// User messages that it may keep.
     PoolLimit,
-    /// Messages that it keeps.
+    /// User messages that it keeps.
     Pool,
     /// User messages that are held.
     Held,

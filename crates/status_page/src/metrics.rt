@@ -109,7 +109,7 @@ fn put_metric(
     match metric {
         Metric::Node(metric) => put_sample(
             family,
-            node_labels(*metric),
+            node_labels(*metric).as_str(),
             node_value(*metric, exchange, notices, uptime_ms),
             body,
         ),

@@ -108,7 +108,7 @@ fn put_place(settings: &Settings, points: PointFormat, out: &mut Writer) -> Resu
     put_number(out, "pool", settings.pool() as u64)
 }
 
-/// Puts how many messages the node keeps and how many of them are held, how often each flag was raised, and how many
+/// Puts how many user messages the node keeps and how many of them are held, how often each flag was raised, and how many
 /// notices there were behind what was written.
 fn put_counts(exchange: &Exchange, out: &mut Writer) -> Result<(), AllocError>
     ensures { Adds result out.old out.new (count_members kept exchange.now) }

@@ -118,7 +118,7 @@ footer { margin-top: 2rem; }
 <footer class="quiet"><p>For programs: <a href="/metrics">metrics</a> and <a href="/state.json">state</a></p></footer>
 <script>
 'use strict';
-const PERIOD = 1000, PATIENCE = 5000, SAMPLES = 300, MOST_ROUTES = 100, MOST_NOTICES = 64, NUMBERS = 16777216;
+const PERIOD = 1000, PATIENCE = 5000, GAP = 10000, SPAN = 300000, MOST_ROUTES = 100, MOST_NOTICES = 64, NUMBERS = 16777216;
 const SVG = 'http://www.w3.org/2000/svg';
 const STATES = {
   InService: ['good', '● In service'], Down: ['bad', '○ Down'], NotAligned: ['turning', '◔ Not aligned'],
@@ -127,7 +127,7 @@ const STATES = {
 const STATUSES = { allowed: ['good', '● Allowed'], restricted: ['turning', '◐ Restricted'], prohibited: ['bad', '○ Prohibited'] };
 const $ = id => document.getElementById(id);
 const count = n => n.toLocaleString('en');
-let last = null, seen = null, rates = new Map(), paused = false, timer = 0;
+let last = null, seen = null, rates = new Map(), paused = false, timer = 0, turn = 0;
 
 // An element with these attributes, and with texts or elements in it.
 function make(name, attributes = {}, ...inside) {
@@ -157,26 +157,37 @@ function clock(ms) {
   return isToday ? at.toLocaleTimeString('en-GB') : at.toLocaleString('en-GB');
 }
 
-// How many messages lie between two numbers of 24 bits; none where the link began anew.
-function between(before, after) {
-  const n = (after - before + NUMBERS) % NUMBERS;
-  return n < NUMBERS / 2 ? n : 0;
+// How many messages lie between two numbers of 24 bits.
+const between = (before, after) => (after - before + NUMBERS) % NUMBERS;
+
+const failures = link => Object.values(link.failed).reduce((sum, n) => sum + n, 0);
+
+// Whether a link stayed in service between two states. Where it didn't, its numbers may have begun again.
+function stayed(old, link) {
+  return old.state === 'InService' && link.state === 'InService' && failures(old) === failures(link);
 }
 
 // Messages a second of each link since the last state; the node started anew where its time went back.
 function measure(state) {
   if (last && state.uptime_ms < last.uptime_ms) { last = null; rates = new Map(); seen = null; }
-  const seconds = last ? (state.uptime_ms - last.uptime_ms) / 1000 : 0;
+  const to = state.uptime_ms, from = last ? last.uptime_ms : to, seconds = (to - from) / 1000;
   const before = new Map(last ? last.links.map(link => [link.name, link]) : []);
   for (const link of state.links) {
-    const old = before.get(link.name), row = rates.get(link.name) || [];
-    if (old && seconds > 0) row.push({ in: between(old.bsn, link.bsn) / seconds, out: between(old.fsn, link.fsn) / seconds });
-    rates.set(link.name, row.slice(-SAMPLES));
+    const old = before.get(link.name), row = (rates.get(link.name) || []).filter(sample => to - sample.to <= SPAN);
+    if (old && seconds > 0 && to - from <= GAP && stayed(old, link)) {
+      row.push({ from, to, in: between(old.bsn, link.bsn) / seconds, out: between(old.fsn, link.fsn) / seconds });
+    }
+    rates.set(link.name, row);
   }
   last = state;
 }
 
-const rate = name => (rates.get(name) || []).at(-1) || { in: 0, out: 0 };
+// What a link carries now, or nothing where that isn't known.
+function rate(name) {
+  const sample = (rates.get(name) || []).at(-1);
+  return sample && sample.to === last.uptime_ms ? sample : null;
+}
+
 const rounded = n => n >= 100 || n === 0 ? count(Math.round(n)) : n.toFixed(1);
 
 function glance(state) {
@@ -186,7 +197,7 @@ function glance(state) {
   return [
     ['Links in service', up + ' of ' + state.links.length, up === state.links.length ? 'good' : 'bad'],
     ['Changeovers', count(over), over ? 'turning' : ''],
-    ['Messages kept', count(state.kept) + ' of ' + count(state.pool), state.kept < state.pool ? '' : 'bad'],
+    ['User messages kept', count(state.kept) + ' of ' + count(state.pool), state.kept < state.pool ? '' : 'bad'],
     ['Messages held', count(state.held), ''],
     ['Perhaps lost', raised(state.times_lost), state.times_lost ? 'bad' : ''],
     ['Perhaps late', raised(state.times_late), state.times_late ? 'turning' : ''],
@@ -218,7 +229,7 @@ function showMap(state) {
   for (const { set, links, top, high } of sets) {
     const centre = top + high / 2;
     links.forEach((link, i) => {
-      const at = centre + (i - (links.length - 1) / 2) * step, { in: came, out: went } = rate(link.name);
+      const at = centre + (i - (links.length - 1) / 2) * step, { in: came, out: went } = rate(link.name) || { in: 0, out: 0 };
       const thick = Math.min(9, 1.75 + Math.log10(1 + came + went) * 1.6);
       const path = 'M' + left + ' ' + middle + ' C' + (left + 60) + ' ' + middle + ' ' + (left + 50) + ' ' + at + ' ' + (right - 56) + ' ' + at + ' H' + right;
       shapes.push(make('path', { class: 'link ' + STATES[link.state][0], d: path, 'stroke-width': thick.toFixed(2) },
@@ -238,17 +249,28 @@ function showMap(state) {
   map.replaceChildren(...shapes, ...labels);
 }
 
-function plot(row, most) {
-  const line = way => row.map((sample, i) =>
-    (SAMPLES - row.length + i).toFixed(0) + ',' + (38 - 34 * sample[way] / most).toFixed(1)).join(' ');
-  return ['in', 'out'].map(way => make('polyline', { class: way, points: line(way) }));
+// Samples that follow each other without a gap.
+function runs(row) {
+  const all = [];
+  row.forEach((sample, i) => {
+    if (i && sample.from === row[i - 1].to) all.at(-1).push(sample);
+    else all.push([sample]);
+  });
+  return all;
+}
+
+// The samples by their time, up to now at the right edge.
+function plot(row, most, now) {
+  const point = (at, n) => (300 - 300 * (now - at) / SPAN).toFixed(1) + ',' + (38 - 34 * n / most).toFixed(1);
+  const line = (run, way) => [point(run[0].from, run[0][way]), ...run.map(sample => point(sample.to, sample[way]))].join(' ');
+  return ['in', 'out'].flatMap(way => runs(row).map(run => make('polyline', { class: way, points: line(run, way) })));
 }
 
 function linkRow(link) {
   const name = make('th', { scope: 'row' }, link.name, make('small', {}, link.set));
   return make('tr', {}, name, make('td', {}, make('span'), make('small')),
     make('td', { class: 'number' }, make('span', { class: 'in' }), make('br'), make('span', { class: 'out' })),
-    make('td', {}, make('svg', { class: 'plot', viewBox: '0 0 299 40', preserveAspectRatio: 'none', 'aria-hidden': 'true' }), make('small')));
+    make('td', {}, make('svg', { class: 'plot', viewBox: '0 0 300 40', preserveAspectRatio: 'none', 'aria-hidden': 'true' }), make('small')));
 }
 
 function showLinks(state) {
@@ -263,10 +285,10 @@ function showLinks(state) {
     standing.firstChild.className = kind;
     setText(standing.firstChild, text);
     setText(standing.lastChild, facts.join(', '));
-    setText(speed.firstChild, rounded(now.in) + ' in');
-    setText(speed.lastChild, rounded(now.out) + ' out');
+    setText(speed.firstChild, (now ? rounded(now.in) : '–') + ' in');
+    setText(speed.lastChild, (now ? rounded(now.out) : '–') + ' out');
     const most = Math.max(1, ...row.map(sample => Math.max(sample.in, sample.out)));
-    chart.firstChild.replaceChildren(...plot(row, most));
+    chart.firstChild.replaceChildren(...plot(row, most, state.uptime_ms));
     setText(chart.lastChild, 'up to ' + rounded(most) + '/s');
   });
 }
@@ -330,9 +352,11 @@ async function fetchState() {
   }
 }
 
-async function ask() {
+// Asks again and again, until the page is paused. What comes then is dropped, so that there is one loop.
+async function ask(mine) {
   const state = await fetchState();
-  if (!paused) timer = setTimeout(ask, PERIOD);
+  if (mine !== turn) return;
+  timer = setTimeout(ask, PERIOD, mine);
   if (state) {
     setGone('');
     show(state);
@@ -343,11 +367,12 @@ async function ask() {
 
 $('pause').addEventListener('click', () => {
   paused = !paused;
+  turn += 1;
   clearTimeout(timer);
   $('pause').setAttribute('aria-pressed', paused);
-  if (!paused) ask();
+  if (!paused) ask(turn);
 });
-ask();
+ask(turn);
 </script>
 </body>
 </html>
