@@ -237,10 +237,9 @@ def go_on(setting: Setting) -> str:
     end = setting.end(stays=True)
     traffic = first = Traffic(node, 0, ends=True)
     wait_until(setting.in_service, "the link is in service")
-    while traffic.judge.received < run.count // 3:
-        traffic.submit(BURST)
-        before = traffic.judge.received
-        traffic.hear_until(lambda: traffic.judge.received >= before + BURST)
+    # the end that ends it does so once a third came to it; else it is ended here, before the end has sent all
+    traffic.submit(run.count // 2 if run.ending in ("abort", "shutdown") else BURST)
+    traffic.hear_until(lambda: traffic.judge.received >= run.count // 3)
     end, traffic = end_it(setting, end, traffic)
     if run.ending != "kill node":
         node.await_log("close e0 ")
