@@ -1,19 +1,23 @@
 -- Whether the chunks behind one count.
-use Rattle.std.proofs.Common.{◌≡◌, ℕ, Bool, true, false, List, [], refl, subst}
+use Rattle.std.proofs.Common.{◌≡◌, ℕ, Bool, true, false, List, [], ◌∷◌, Option, Some, None, refl, ap, ◌∙◌, subst}
 use Rattle.std.specs.Prelude.{not, ◌&&◌, nat_eq, if◌then◌else◌}
 use Rattle.sctp_codec.specs.Packets as packets
-use Rattle.sctp_codec.specs.Packets.{ChunkValue}
+use Rattle.sctp_codec.specs.Packets.{ChunkValue, DataValue, SackValue, lone}
 use Rattle.sctp_rules.specs.Settings.{Settings, Secrets, Address}
 use Rattle.sctp_rules.specs.State.{Told, State, Done, silent, followed_by, with_association}
 use Rattle.sctp_rules.specs.Opening.{Echo, is_closed, is_waiting, heard_cookie_echo}
+use Rattle.sctp_rules.specs.declared.phase.Phase.{Phase}
+use Rattle.sctp_rules.specs.declared.phase.Phase.TheVariants.{Closed, CookieWait, CookieEchoed, Established, ShutdownPending, ShutdownSent, ShutdownReceived, ShutdownAckSent}
+use Rattle.sctp_rules.specs.Data.{heard_data, heard_sack_chunk}
+use Rattle.sctp_rules.specs.Sending.{is_established}
 use Rattle.sctp_rules.specs.Shutdown.{heard_shutdown_complete}
-use Rattle.sctp_rules.specs.Packets.{Handled, has_tag, has_peer_tag, while_there, heard_chunk, heard_chunks, from_source, heard_by_tag, looked_at}
-use Rattle.sctp_endpoint.specs.Dispatching.{counts_behind, heard_echo}
+use Rattle.sctp_rules.specs.Packets.{Handled, has_tag, has_peer_tag, while_there, heard_chunk, heard_chunks, from_source, heard_by_tag, looked_at, heard_all}
+use Rattle.sctp_endpoint.specs.Dispatching.{counts_behind, heard_echo, is_established_by}
 use Rattle.sctp_endpoint.specs.Draining.{and_on}
 use Rattle.sctp_bundling.specs.Watching.{Sent}
 use Rattle.sctp_endpoint.specs.Endpoints.{Endpoint, Does, secrets_of}
 use Rattle.sctp_endpoint.proofs.Chained.{then-does, if-on}
-use Rattle.sctp_endpoint.proofs.Draining.{if-true, if-false}
+use Rattle.sctp_endpoint.proofs.Draining.{if-true, if-false, nothing-behind}
 
 either-there : (b : Bool) (tag : ℕ) (d e : Done) → (if b then while_there tag d else while_there tag e).goes_on
     ≡ (not (is_closed (if b then while_there tag d else while_there tag e).does.left.association.phase)
@@ -79,3 +83,72 @@ source-stays-in false s t e = e
 
 pub source-stays : (source : Address) (s : State) → (from_source source s).generation ≡ s.generation
 source-stays source s = source-stays-in (is_waiting s.association.phase) s (with_association s (record s.association { address = source })) refl
+
+-- ---- a lone chunk in an association
+
+lone-is : {A : Type 0} (xs : List A) (x : A) → lone xs ≡ Some x → xs ≡ x ∷ []
+lone-is [] x e = absurd cc
+lone-is (y ∷ []) x e = let same : y ≡ x = cc in ap (λ y. y ∷ []) same
+lone-is (y ∷ z ∷ zs) x e = absurd cc
+
+and-first : (a b : Bool) → (a && b) ≡ true → a ≡ true
+and-first true b e = refl
+and-first false b e = absurd cc
+
+and-second : (a b : Bool) → (a && b) ≡ true → b ≡ true
+and-second true b e = e
+and-second false b e = absurd cc
+
+established-open : (p : Phase) → is_established p ≡ true → is_closed p ≡ false
+established-open Closed e = absurd cc
+established-open CookieWait e = refl
+established-open CookieEchoed e = refl
+established-open Established e = refl
+established-open ShutdownPending e = refl
+established-open ShutdownSent e = refl
+established-open ShutdownReceived e = refl
+established-open ShutdownAckSent e = refl
+
+-- nothing stands behind it
+only-does : (handled : Handled) → (if handled.goes_on then followed_by handled.does (λ left. silent left) else handled.does) ≡ handled.does
+only-does handled = either handled.goes_on handled.does
+  where
+    either : (b : Bool) (d : Done) → (if b then followed_by d (λ left. silent left) else d) ≡ d
+    either true d = nothing-behind d
+    either false d = refl
+
+data-alone : (c : Settings) (k : Secrets) (now : ℕ) (source : Address) (tag : ℕ) (d : DataValue) (s : State) → is_established_by tag s.association ≡ true
+    → heard_all c k now source tag (packets.DataChunk d ∷ []) s ≡ heard_data c d (from_source source s)
+data-alone c k now source tag d s there =
+    let a = s.association in
+    rw (established-open a.phase (and-first (is_established a.phase) (nat_eq tag a.own_tag) there), and-second (is_established a.phase) (nat_eq tag a.own_tag) there)
+    (only-does (while_there tag (heard_data c d (from_source source s))))
+
+sack-alone : (c : Settings) (k : Secrets) (now : ℕ) (source : Address) (tag : ℕ) (sack : SackValue) (s : State) → is_established_by tag s.association ≡ true
+    → heard_all c k now source tag (packets.SackChunk sack ∷ []) s ≡ heard_sack_chunk c now sack (from_source source s)
+sack-alone c k now source tag sack s there =
+    let a = s.association in
+    rw (established-open a.phase (and-first (is_established a.phase) (nat_eq tag a.own_tag) there), and-second (is_established a.phase) (nat_eq tag a.own_tag) there)
+    (only-does (while_there tag (heard_sack_chunk c now sack (from_source source s))))
+
+-- what a rule does from the packet's source on
+pub alone-goes : {W : Type 0} (has : W → List Sent → List Told → Type 0) (w u : W) (e here g : Endpoint) (source : Address) (rule : Settings → State → Done) (all : Done)
+    → here ≡ record e { state = from_source source e.state } → all ≡ rule e.settings (from_source source e.state)
+    → Does has w u here g (rule here.settings here.state) → Does has w u e g all
+alone-goes has w u e here g source rule all is same h =
+    let one = subst (λ (x : Endpoint). Does has w u x g (rule x.settings x.state)) is h in
+    rw same (record { gives = one.gives; left_is = one.left_is })
+
+pub data-goes-alone : {W : Type 0} (has : W → List Sent → List Told → Type 0) (w u : W) (e here g : Endpoint) (now : ℕ) (source : Address) (tag : ℕ) (d : DataValue) (chunks : List ChunkValue)
+    → is_established_by tag e.state.association ≡ true → lone chunks ≡ Some (packets.DataChunk d) → here ≡ record e { state = from_source source e.state }
+    → Does has w u here g (heard_data here.settings d here.state) → Does has w u e g (heard_all e.settings (secrets_of e) now source tag chunks e.state)
+data-goes-alone has w u e here g now source tag d chunks there alone is h =
+    alone-goes has w u e here g source (λ c s. heard_data c d s) (heard_all e.settings (secrets_of e) now source tag chunks e.state) is
+    (ap (λ (xs : List ChunkValue). heard_all e.settings (secrets_of e) now source tag xs e.state) (lone-is chunks (packets.DataChunk d) alone) ∙ data-alone e.settings (secrets_of e) now source tag d e.state there) h
+
+pub sack-goes-alone : {W : Type 0} (has : W → List Sent → List Told → Type 0) (w u : W) (e here g : Endpoint) (now : ℕ) (source : Address) (tag : ℕ) (sack : SackValue) (chunks : List ChunkValue)
+    → is_established_by tag e.state.association ≡ true → lone chunks ≡ Some (packets.SackChunk sack) → here ≡ record e { state = from_source source e.state }
+    → Does has w u here g (heard_sack_chunk here.settings now sack here.state) → Does has w u e g (heard_all e.settings (secrets_of e) now source tag chunks e.state)
+sack-goes-alone has w u e here g now source tag sack chunks there alone is h =
+    alone-goes has w u e here g source (λ c s. heard_sack_chunk c now sack s) (heard_all e.settings (secrets_of e) now source tag chunks e.state) is
+    (ap (λ (xs : List ChunkValue). heard_all e.settings (secrets_of e) now source tag xs e.state) (lone-is chunks (packets.SackChunk sack) alone) ∙ sack-alone e.settings (secrets_of e) now source tag sack e.state there) h

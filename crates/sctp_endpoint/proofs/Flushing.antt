@@ -56,3 +56,10 @@ flushed-does has e f g h now w0 w1 w2 w3 d1 d2 d3 few begun front acknowledged f
       left_is = h_is ∙ ap (λ (x : Endpoint). record x { state = with_association x.state (record x.state.association { control = [] }) })
           (g_is ∙ ap (λ (x : Endpoint). record x { state = with_association x.state (with_data_sent now x.state.association) }) f_is);
     }
+
+-- the packet that it writes into isn't seen
+pub in-its-place : {W : Type 0} (has : W → List Sent → List Told → Type 0) (w v : W) (e here f g : Endpoint) (now : ℕ) → here ≡ e → g ≡ f
+    → Does has w v here f (flush here.settings now here.state) → Does has w v e g (flush e.settings now e.state)
+in-its-place has w v e here f g now is kept h =
+    let one = subst (λ (x : Endpoint). Does has w v x f (flush x.settings now x.state)) is h in
+    subst (λ (x : Endpoint). Does has w v e x (flush e.settings now e.state)) (sym kept) one

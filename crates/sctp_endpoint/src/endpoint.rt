@@ -34,7 +34,7 @@ mod unknown;
 
 use crate::beginnings::Beginnings;
 use crate::peer::{Attempt, Beat, Peer};
-use sctp_bundling::{Address, Chunks, Settings};
+use sctp_bundling::{Address, Chunks, Draft, Settings, Way};
 use sctp_receiving::Receiver;
 use sctp_receiving::limits::MESSAGE_OCTETS;
 use sctp_rules::Phase;
@@ -46,6 +46,17 @@ use std::marker::Model;
 const NO_PEER: Peer = Peer {
     first: 0,
     window: 0,
+};
+
+/// A packet that isn't written yet goes nowhere.
+const NO_WAY: Way = Way {
+    source: 0,
+    destination: 0,
+    tag: 0,
+    to: Address {
+        host: [0; 16],
+        port: 0,
+    },
 };
 
 /// Without an association there are no streams.
@@ -72,6 +83,8 @@ pub struct Endpoint {
     peer: Peer,
     address: Address,
     control: Chunks,
+    /// The packet that `flush` writes; it is out of its place meanwhile.
+    draft: Option<Box<Draft>>,
     sender: Sender,
     receiver: Receiver,
     /// The octets of a message that was put together of several chunks.
@@ -132,6 +145,7 @@ impl Endpoint {
             peer: NO_PEER,
             address: settings.address,
             control: Chunks::new(),
+            draft: Some(Box::new(alloc, Draft::new(NO_WAY))?),
             sender: Sender::new(alloc, settings.bounds)?,
             receiver: Receiver::new(alloc, NO_STREAMS, 0)?,
             message: [0; MESSAGE_OCTETS],

@@ -129,6 +129,7 @@ impl Endpoint {
     }
 
     /// What a chunk tells that isn't for the user: a stream that there isn't, to the peer; a violation is the end.
+    #[inline(always)]
     fn answer<W: Watch>(&mut self, told: Told, watch: &mut W)
         requires { self.old.state.generation < 2 ^ 64 - 1 }
         ensures { (p : pieces.Piece) (buffer : List ℕ) → Does W.has watch.old watch.new self.old self.new
@@ -144,6 +145,7 @@ impl Endpoint {
     }
 
     /// The peer is told, with the next packet, that there is no such stream.
+    #[inline(never)]
     fn answer_no_stream(&mut self, stream: u16)
         ensures { self.new ≡ record self.old { state = answered (no_stream stream) self.old.state } }
     {
@@ -153,6 +155,7 @@ impl Endpoint {
     }
 
     /// It is over, by ABORT; of a fragment of no stream the peer is told the stream, too.
+    #[inline(never)]
     fn end_for<W: Watch>(&mut self, violation: Violation, watch: &mut W)
         requires { self.old.state.generation < 2 ^ 64 - 1 }
         ensures { Does W.has watch.old watch.new self.old self.new

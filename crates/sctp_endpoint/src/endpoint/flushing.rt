@@ -8,8 +8,8 @@ ghost use Rattle.sctp_bundling.specs.Replies.{size_of};
 ghost use Rattle.sctp_endpoint.specs.Endpoints.{Does};
 ghost use Rattle.sctp_endpoint.specs.Flushing.{way_of_peer};
 
-use crate::endpoint::Endpoint;
 use crate::endpoint::sacks::takes_sack;
+use crate::endpoint::{Endpoint, NO_WAY};
 use sctp_bundling::{Draft, Watch};
 
 impl Endpoint {
@@ -19,20 +19,51 @@ impl Endpoint {
         ensures { Does W.has watch.old watch.new self.old self.new
             (flush self.old.settings now self.old.state) }
     {
-        let mut draft = self.blank_draft();
-        self.begin_draft(&mut draft);
-        self.bundle_acknowledgement(&mut draft, now, watch);
-        self.bundle_messages(&mut draft, now, watch);
+        match self.take_draft() {
+            Some(mut draft) => {
+                self.flush_into(&mut draft, now, watch);
+                self.keep_draft(draft);
+            }
+            None => self.flush_into(&mut Draft::new(NO_WAY), now, watch),
+        }
+    }
+
+    /// Takes the packet that is kept for writing: it is neither made nor cleared anew.
+    #[inline(always)]
+    fn take_draft(&mut self) -> Option<Box<Draft>>
+        ensures { self.new ≡ self.old }
+    {
+        self.draft.take()
+    }
+
+    /// Keeps a packet for writing.
+    #[inline(always)]
+    fn keep_draft(&mut self, draft: Box<Draft>)
+        ensures { self.new ≡ self.old }
+    {
+        self.draft = Some(draft);
+    }
+
+    /// The same; packets are written into this one, one after another. What it had before is dropped.
+    fn flush_into<W: Watch>(&mut self, draft: &mut Draft, now: u64, watch: &mut W)
+        requires { now ≤ 2 ^ 63 }
+        ensures { Does W.has watch.old watch.new self.old self.new
+            (flush self.old.settings now self.old.state) }
+    {
+        self.turn_draft(draft);
+        self.begin_draft(draft);
+        self.bundle_acknowledgement(draft, now, watch);
+        self.bundle_messages(draft, now, watch);
         draft.put_rest(watch);
         self.control.clear();
     }
 
-    /// A packet to the peer that hasn't begun.
+    /// A packet goes to the peer.
     #[inline(always)]
-    fn blank_draft(&self) -> Draft
-        ensures { result.way ≡ way_of_peer self.now }
+    fn turn_draft(&self, draft: &mut Draft)
+        ensures { draft.new.way ≡ way_of_peer self.now }
     {
-        Draft::new(self.way(&self.address, self.far_tag))
+        draft.turn(self.way(&self.address, self.far_tag));
     }
 
     /// A packet to the peer begins with the answers that wait.

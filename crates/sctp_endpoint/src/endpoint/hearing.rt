@@ -1,6 +1,6 @@
 //! Datagrams that come (RFC 9260 §8.4, §8.5).
 
-ghost use Rattle.std.specs.Prelude.{◌≡◌, ◌+◌, ◌<◌, ◌≤◌, ◌^◌, ◌-◌, length};
+ghost use Rattle.std.specs.Prelude.{◌≡◌, ◌+◌, ◌<◌, ◌≤◌, ◌^◌, ◌-◌, IsTrue, length};
 ghost use Rattle.sctp_codec.specs.Reading.{read_packet};
 ghost use Rattle.sctp_codec.specs.Values.{chunk_value, chunks_of, packet_of};
 ghost use Rattle.sctp_rules.specs.Packets.{
@@ -16,7 +16,7 @@ ghost use Rattle.sctp_rules.specs.Packets.{
 };
 ghost use Rattle.sctp_bundling.specs.Settings.{address_of};
 ghost use Rattle.sctp_endpoint.specs.Endpoints.{Does, secrets_of};
-ghost use Rattle.sctp_endpoint.specs.Dispatching.{heard_datagram, heard_echo};
+ghost use Rattle.sctp_endpoint.specs.Dispatching.{heard_datagram, heard_echo, is_established_by};
 
 use crate::endpoint::Endpoint;
 use crate::endpoint::handling::{has_peer_tag, is_closed};
@@ -55,11 +55,52 @@ impl Endpoint {
             self.old.state) }
     {
         if packet.destination == self.settings.own_port && packet.source == self.settings.far_port {
-            self.hear_all(source, packet.tag, packet.chunks(), now, watch);
+            if self.is_established_by(packet.tag) {
+                self.hear_established(packet, source, now, watch);
+            } else {
+                self.hear_all(source, packet.tag, packet.chunks(), now, watch);
+            }
+        }
+    }
+
+    /// Whether an association is there that takes packets by this tag, and neither end shuts it down.
+    fn is_established_by(&self, tag: u32) -> bool
+        ensures { result ≡ is_established_by tag self.now.state.association }
+    {
+        matches!(self.phase, Phase::Established) && tag == self.own_tag
+    }
+
+    /// A packet of an established association came. Most are a lone DATA or SACK: it does what it does, and isn't
+    /// looked at for what else it might be.
+    fn hear_established<W: Watch>(
+        &mut self,
+        packet: &Packet<'_>,
+        source: &Address,
+        now: u64,
+        watch: &mut W,
+    )
+        requires generation { self.old.state.generation + length (packet_of packet.now).chunks < 2 ^ 64 - 1 }
+        requires now { now ≤ 2 ^ 63 }
+        requires established { IsTrue (is_established_by packet.now.tag self.old.state.association) }
+        ensures { Does W.has watch.old watch.new self.old self.new
+            (heard_all self.old.settings (secrets_of self.old) now (address_of source.now) packet.now.tag
+            (packet_of packet.now).chunks self.old.state) }
+    {
+        match packet.lone_chunk() {
+            Some(Chunk::Data(carried)) => {
+                self.note_source(source);
+                self.hear_data(&carried, watch);
+            }
+            Some(Chunk::Sack(sack)) => {
+                self.note_source(source);
+                self.hear_sack(&sack, now, watch);
+            }
+            _ => self.hear_all(source, packet.tag, packet.chunks(), now, watch),
         }
     }
 
     /// The chunks of a packet for this endpoint came.
+    #[inline(never)]
     fn hear_all<W: Watch>(
         &mut self,
         source: &Address,

@@ -1,19 +1,11 @@
-use Rattle.std.proofs.Common.{ap, List, [], ◌∙◌}
-use Rattle.sctp_codec.specs.Packets.{ChunkValue}
-use Rattle.sctp_rules.specs.State.{with_association}
-use Rattle.sctp_endpoint.specs.Inside.{endpoint_in}
-use Rattle.sctp_endpoint.specs.Endpoints.{Endpoint}
-use Rattle.sctp_endpoint.proofs.Flushing.{flushed-does}
+use Rattle.std.proofs.Common.{refl}
+use Rattle.sctp_endpoint.proofs.Flushing.{in-its-place}
 use Rattle.sctp_endpoint.proofs.endpoint.Endpoint.flush.Goals as goal
 
-pub returns : goal.returns
-returns g c =
-    let begun = c.begin_draft in
-    let acknowledged = c.bundle_acknowledgement in
-    let sent = c.bundle_messages in
-    let left : Endpoint = endpoint_in c.self.inside in
-    flushed-does g.W.Watch.has c.args.self.now acknowledged.new.self sent.new.self (record left { state = with_association left.state (record left.state.association { control = c.clear.new.self }) }) c.args.now
-    c.args.watch.now acknowledged.new.watch sent.new.watch c.put_rest.new.watch begun.new.draft acknowledged.new.draft sent.new.draft
-    begun.ensures.few begun.ensures.way begun.ensures.text acknowledged.ensures.bundled acknowledged.ensures.left sent.ensures.bundled sent.ensures.left c.put_rest.ensures
-    (ap (λ (xs : List ChunkValue). record left { state = with_association left.state (record left.state.association { control = xs }) }) c.clear.ensures
-    ∙ ap (λ (e : Endpoint). record e { state = with_association e.state (record e.state.association { control = [] }) }) c.self.view_is)
+pub returns-in-Some : goal.returns-in-Some
+returns-in-Some g c =
+    in-its-place g.W.Watch.has c.args.watch.now c.flush_into.new.watch c.args.self.now c.take_draft.new.self c.flush_into.new.self c.keep_draft.new.self c.args.now c.take_draft.ensures c.keep_draft.ensures c.flush_into.ensures
+
+pub returns-in-None : goal.returns-in-None
+returns-in-None g c =
+    in-its-place g.W.Watch.has c.args.watch.now c.flush_into-in-None.new.watch c.args.self.now c.take_draft.new.self c.flush_into-in-None.new.self c.flush_into-in-None.new.self c.args.now c.take_draft.ensures refl c.flush_into-in-None.ensures
