@@ -10,7 +10,7 @@ use settings::LinkId;
 
 /// How many user messages that a choice takes wait at the near exchange: on its links, behind the last message that the
 /// far one accepted there, and in Held.
-pub(crate) fn count_waiting<P: Pick>(near: &Exchange, far: &Exchange, pick: &P) -> u128
+pub fn count_waiting<P: Pick>(near: &Exchange, far: &Exchange, pick: &P) -> u128
     ensures { result ≡ kept_waiting (P.picks pick.now) near.now far.now }
 {
     let links = near.settings().link_count() as u8;

@@ -3,7 +3,7 @@
 
 mod act;
 mod bringing;
-mod counting;
+pub mod counting;
 pub mod fault;
 mod flight;
 mod hearing;
