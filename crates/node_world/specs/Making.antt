@@ -1,5 +1,5 @@
 -- What two nodes with gates are made of, and what is kept of them at first.
-use Rattle.std.specs.Prelude.{◌≤◌, ◌+◌, ◌^◌, ℕ, true, false, List, [], ◌∷◌, Option, Some, None, slice_get}
+use Rattle.std.specs.Prelude.{◌≡◌, ◌≤◌, ◌+◌, ◌^◌, ℕ, true, false, List, [], ◌∷◌, Option, Some, None, slice_get, length}
 use Rattle.settings_rows.specs.Configuration.{Configuration}
 use Rattle.sctp_sending.specs.declared.bounds.Bounds.{Bounds}
 use Rattle.sctp_rules.specs.Settings.{Settings}
@@ -51,6 +51,15 @@ make_of c gates = record { configuration = c; gates = λ link. gate_make_of (sli
 -- the ports of all gates have 16 bits
 abbrev pub HaveAllPorts : List GateMaking → Type 0
 HaveAllPorts gates = (link : ℕ) → HasPorts (gate_make_of (slice_get gates link)).settings
+
+-- the bounds of all are in order
+abbrev pub AreAllInOrder : List GateMaking → Type 0
+AreAllInOrder gates = (link : ℕ) → AreInOrder (gate_make_of (slice_get gates link)).settings.bounds
+
+-- there are as many gates as links, and the bounds of each gate's timeouts are in order
+pub record Suits (c : Configuration) (gates : List GateMaking) : Type 0 where
+  pub many : length gates ≡ length c.links
+  pub order : AreAllInOrder gates
 
 -- ---- what is kept at first
 

@@ -8,7 +8,7 @@ ghost use Rattle.exchange_rules.specs.Queues.{whole};
 ghost use Rattle.sctp_rules.specs.WrittenPackets.{HasPorts};
 ghost use Rattle.gate_rules.specs.Octets.{HavePorts};
 ghost use Rattle.node_world.specs.Kept.{sent_on, octets_of, is_whole_on, due_on};
-ghost use Rattle.node_world.specs.Making.{make_of, gate_make, gate_make_of, first_node, first_port, first_ports, HaveAllPorts};
+ghost use Rattle.node_world.specs.Making.{make_of, gate_make, gate_make_of, first_node, first_port, first_ports, HaveAllPorts, AreInOrder, AreAllInOrder, Suits};
 ghost use Rattle.node_world.specs.Calls.{told, NodeCalls, is_there, octets_heard};
 
 use crate::call::Call;
@@ -56,8 +56,9 @@ impl Node {
     ) -> Result<Node, WorldFault>
         ensures first { IfOk result (λ node. node ≡ first_node settings gates.now) }
         ensures ports { OnOk result (HavePorts (make_of settings gates.now)) }
-        ensures many { OnOk result (length gates.now ≡ length settings.links) }
+        ensures suit { OnOk result (Suits settings gates.now) }
         ensures fault { IfErr result (λ fault. fault ≢ WorldFault.NotFacing) }
+        ensures bad { IfErr result (λ fault. fault ≡ WorldFault.BadGates → ¬ (Suits settings gates.now)) }
     {
         if gates.len() != settings.link_count() {
             return Err(WorldFault::BadGates);
@@ -169,7 +170,9 @@ fn ports_of(alloc: Global, gates: &[GateMaking], links: u8) -> Result<Vec<Port>,
     requires { links ≡ length gates.now }
     ensures first { IfOk result (λ ports. ports.items ≡ first_ports 0 gates.now) }
     ensures ports { OnOk result (HaveAllPorts gates.now) }
+    ensures order { OnOk result (AreAllInOrder gates.now) }
     ensures fault { IfErr result (λ fault. fault ≢ WorldFault.NotFacing) }
+    ensures bad { IfErr result (λ fault. fault ≡ WorldFault.BadGates → ¬ (AreAllInOrder gates.now)) }
 {
     let mut ports = Vec::new(alloc);
     for link in 0..links {
@@ -185,7 +188,10 @@ fn ports_of(alloc: Global, gates: &[GateMaking], links: u8) -> Result<Vec<Port>,
 fn port_in(alloc: Global, gates: &[GateMaking], link: LinkId) -> Result<Port, WorldFault>
     ensures first { IfOk result (λ port. port ≡ first_port link (gate_make_of (slice_get gates.now link))) }
     ensures ports { OnOk result (HasPorts (gate_make_of (slice_get gates.now link)).settings) }
+    ensures order { OnOk result (AreInOrder (gate_make_of (slice_get gates.now link)).settings.bounds) }
     ensures fault { IfErr result (λ fault. fault ≢ WorldFault.NotFacing) }
+    ensures bad { IfErr result (λ fault. fault ≡ WorldFault.BadGates → link < length gates.now →
+        ¬ (AreInOrder (gate_make_of (slice_get gates.now link)).settings.bounds)) }
 {
     match gates.get(link.index()) {
         Some(making) => port_of(alloc, link, making),
@@ -197,7 +203,10 @@ fn port_in(alloc: Global, gates: &[GateMaking], link: LinkId) -> Result<Port, Wo
 fn port_of(alloc: Global, link: LinkId, making: &GateMaking) -> Result<Port, WorldFault>
     ensures first { IfOk result (λ port. port ≡ first_port link (gate_make making.now)) }
     ensures ports { OnOk result (HasPorts (gate_make making.now).settings) }
+    ensures order { OnOk result (AreInOrder making.now.settings.bounds) }
     ensures fault { IfErr result (λ fault. fault ≢ WorldFault.NotFacing) }
+    ensures bad { IfErr result (λ fault. fault ≡ WorldFault.BadGates →
+        ¬ (AreInOrder making.now.settings.bounds)) }
 {
     if !are_in_order(making) {
         return Err(WorldFault::BadGates);

@@ -16,7 +16,7 @@ ghost use Rattle.pair_world.specs.Promised.{ComeOrWait};
 ghost use Rattle.pair_world.specs.Waiting.{kept_waiting};
 ghost use Rattle.gate_rules.specs.Worlds as worlds;
 ghost use Rattle.gate_rules.specs.Promises.{ends_of};
-ghost use Rattle.node_world.specs.Making.{make_of};
+ghost use Rattle.node_world.specs.Making.{make_of, Suits};
 ghost use Rattle.node_world.specs.Kept.{kept_at, sent_on};
 ghost use Rattle.node_world.specs.Calls.{told, octets_heard, is_made, NodeCalls};
 ghost use Rattle.node_world.specs.Stands.{StandsFor, IsSentBy, HasAll};
@@ -81,6 +81,10 @@ impl World {
         ensures facing { OnOk result (IsFacing near far) }
         // and the fault says whether they do.
         ensures fault { IfErr result (λ fault. (fault ≡ WorldFault.NotFacing) ↔ (¬ (IsFacing near far))) }
+        // Each link has a gate, whose timeouts are in order; BadGates says that it isn't so.
+        ensures suit { OnOk result (Suits near near_gates.now × Suits far far_gates.now) }
+        ensures bad { IfErr result (λ fault. fault ≡ WorldFault.BadGates →
+            ¬ (Suits near near_gates.now × Suits far far_gates.now)) }
     {
         near.are_well();
         far.are_well();

@@ -3,8 +3,8 @@ use Rattle.std.proofs.Common.{rules, ◌≡◌, ◌<◌, ◌≤◌, ◌+◌, ℕ
 use Rattle.std.specs.Prelude.{slice_get}
 use Rattle.sctp_rules.specs.WrittenPackets.{HasPorts}
 use Rattle.node_world.specs.Kept.{KeptPort}
-use Rattle.node_world.specs.Making.{gate_make_of, first_port, first_ports}
-use Rattle.node_world.proofs.MadeGates.{ports-more, have-more, have-all}
+use Rattle.node_world.specs.Making.{gate_make_of, first_port, first_ports, AreInOrder}
+use Rattle.node_world.proofs.MadeGates.{ports-more, have-more, ports-are, are-in-order}
 use Rattle.node_world.proofs.node.ports_of.Goals as goal
 
 pub loop-link-preserved : goal.loop-link-preserved
@@ -15,11 +15,18 @@ loop-link-preserved c =
       first = subst (λ (l : List KeptPort). l ++ first_ports (c.loop-link.link + 1) (drop (c.loop-link.link + 1) c.args.gates.now) ≡ first_ports 0 c.args.gates.now) (sym grown)
           (ports-more c.args.gates.now c.loop-link.link c.loop-link.ports.items c.in_ok-port.port below
           (c.in_ok-port.ensures.first ∙ ap (λ (i : ℕ). first_port i (gate_make_of (slice_get c.args.gates.now i))) c.new.ensures) c.loop-link.invariant.first);
-      ports = have-more c.args.gates.now c.loop-link.link
+      ports = have-more (λ m. HasPorts m.settings) c.args.gates.now c.loop-link.link
           (subst (λ (i : ℕ). HasPorts (gate_make_of (slice_get c.args.gates.now i)).settings) c.new.ensures c.in_ok-port.ensures.ports) c.loop-link.invariant.ports;
+      order = have-more (λ m. AreInOrder m.settings.bounds) c.args.gates.now c.loop-link.link
+          (subst (λ (i : ℕ). AreInOrder (gate_make_of (slice_get c.args.gates.now i)).settings.bounds) c.new.ensures c.in_ok-port.ensures.order) c.loop-link.invariant.order;
     }
 
 pub returns-clause-ports : goal.returns-clause-ports
 returns-clause-ports c =
     let past : length c.args.gates.now ≤ c.loop-link.link = omega (arith, c.requires, c.loop-link-test.false) in
-    have-all c.args.gates.now c.loop-link.link past c.loop-link.invariant.ports
+    ports-are c.args.gates.now c.loop-link.link past c.loop-link.invariant.ports
+
+pub returns-clause-order : goal.returns-clause-order
+returns-clause-order c =
+    let past : length c.args.gates.now ≤ c.loop-link.link = omega (arith, c.requires, c.loop-link-test.false) in
+    are-in-order c.args.gates.now c.loop-link.link past c.loop-link.invariant.order
