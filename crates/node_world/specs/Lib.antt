@@ -1,0 +1,5 @@
+pub mod Kept
+pub mod Making
+pub mod Calls
+pub mod Stands
+pub mod Worlds
