@@ -1,9 +1,9 @@
 //! A link that stops while another one that stopped before takes its flows back.
 
+use crate::rounds::{Clock, settle, steps_over};
 use crate::stops::{Stop, Stopped, round_with, stop_and_return};
+use crate::total::Total;
 use exchange::LinkId;
-use link_trials::rounds::{Clock, settle, steps_over};
-use link_trials::total::Total;
 use std::alloc::Global;
 
 /// So many links there are.

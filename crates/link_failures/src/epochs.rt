@@ -1,11 +1,11 @@
 //! An answer about a link, which comes only in the link's next epoch if the link may open before.
 
-use exchange::LinkId;
-use link_trials::rounds::{
+use crate::rounds::{
     Clock, bring_up, carry, carry_statuses, come_back, prove_links, settle, submit_all,
 };
-use link_trials::total::Total;
-use link_trials::world::World;
+use crate::total::Total;
+use crate::world::World;
+use exchange::LinkId;
 use pair_world::End;
 use std::alloc::Global;
 

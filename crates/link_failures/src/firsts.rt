@@ -1,10 +1,10 @@
 //! A link that stops at each place, and opens at one end before it opens at the other.
 
+use crate::rounds::{Clock, pass_round, serve, settle, steps_over, submit_all};
 use crate::stops::{ROUNDS, Stop, Stopped, stop_and_settle};
+use crate::total::Total;
+use crate::world::World;
 use exchange::LinkId;
-use link_trials::rounds::{Clock, pass_round, serve, settle, steps_over, submit_all};
-use link_trials::total::Total;
-use link_trials::world::World;
 use pair_world::End;
 use std::alloc::Global;
 

@@ -1,7 +1,7 @@
 //! Two nodes whose links stop and come back, at each place of a busy exchange and at random.
 //!
 //! Two nodes (`Pair` of `pair_world`) with the built-in timers have one to four links of one set between them, and
-//! each other as the one destination, but for the group with third neighbours. All that is done to them is a `Pair::turn`. A round is, for each end and each link in
+//! each other as the one destination. All that is done is a `Pair::turn`. A round is, for each end and each link in
 //! order, a frame that is taken and then delivered at the other end. Each message carries its flow in its label, and
 //! behind that its number in the flow: the accepted messages of a flow are numbered 1, 2, 3 and so on.
 //!
@@ -22,9 +22,6 @@
 //! - `unended`: in how many runs a link that was to open didn't, rounds never came to rest, not all messages came
 //!   while one of several links was down, though no end had set `lost_any`, or an order to add or remove a translation
 //!   row didn't.
-//! - `failures`, `reroutings`, `refused in transit`, `passed through`, where there are third neighbours: how often an end
-//!   lost a link; how often its route to the point behind the other end's neighbour took another set; how many messages
-//!   that came by a frame it refused, and how many it led on.
 //!
 //! That is what `Pair::accepted`, `Pair::received` and `Pair::waiting` promise, and no more. Nothing is promised after
 //! `lost_any`, so what comes then isn't judged; the numbers in brackets show how much was.
@@ -48,14 +45,6 @@
 //! - An answer late: both ends lose a link. The answer to one end's order stays behind, the link opens if it may,
 //!   carries messages and is lost again, and only then the answer comes: for each end and each link, with 0 to 3
 //!   messages that come before and 1 to 4 that are lost.
-//! - Third neighbours: two links are between the ends, and two lead from each to a neighbour of its own, point 3 or 4; one
-//!   more is between these. The ends know each link by another number. End 1 submits a message on each of 8 flows to end
-//!   2, and on each to point 4; point 3 submits one on each of 8 others to end 2, and one to a point that end 1 doesn't
-//!   know; and so do end 2 and point 4. A link between the ends stops as in Stopped, without a tick. In these rounds the
-//!   link between points 3 and 4 fails, so that each end is told and takes the other way to the point behind, and then one
-//!   link of each end to its neighbour. All is submitted again, the link comes back, then the others do, and all is
-//!   submitted a third time. So each run accepts 96 messages of one end for the other; it has 4 failures and 4 reroutings
-//!   at the ends, and refuses 6 messages. Of those that pass through, 48 are for the other end.
 //! - By chance: 400 steps from a seed. Of 256 steps 78 submit a message, 86 take a frame, 67 deliver one, 4 lose a link
 //!   status, 4 double one, 3 lose a link at an end, 3 let a tick pass, 1 keeps a link from opening by an operator's
 //!   order or lets it open, 2 add or remove a translation row by one, 5 open a link at one end, and 3 let an end
@@ -76,22 +65,30 @@
 #![tactic(auto)]
 
 mod again;
+mod book;
 mod epochs;
 mod firsts;
-mod neighbours;
+mod ledger;
+mod marking;
+mod outcomes;
+mod points;
 mod random;
+mod rounds;
 mod stops;
+mod sums;
+mod titles;
+mod total;
+mod world;
 
 use again::stop_again;
 use epochs::late_answers;
 use firsts::{Way, open_in_turn};
-use link_trials::ledger::Verdict;
-use link_trials::rounds::Clock;
-use link_trials::total::Total;
-use neighbours::stop_beside_others;
+use ledger::Verdict;
 use random::schedules;
+use rounds::Clock;
 use std::io;
 use stops::{Group, stop_everywhere};
+use total::Total;
 
 /// So many schedules there are over each number of links.
 const SCHEDULES: u64 = 1250;
@@ -105,7 +102,6 @@ fn main(rt: HostRuntime) -> io::Result<()> {
     open_first(&rt)?;
     stop_again_or_late(&rt)?;
     stop_fewer(&rt)?;
-    stop_in_ring(&rt)?;
     try_chance(&rt)
 }
 
@@ -192,18 +188,6 @@ fn stop_again_or_late(rt: &HostRuntime) -> io::Result<()> {
     report(rt, "stopped again at 13 places, 3 links, end 1", &again)?;
     let late = late_answers(rt.alloc());
     report(rt, "an answer late, 3 links, 2 ends, 16 counts", &late)
-}
-
-/// One link of two stops at each place, while both ends have a third neighbour.
-fn stop_in_ring(rt: &HostRuntime) -> io::Result<()> {
-    let total = stop_beside_others(rt.alloc());
-    let name = "third neighbours, stopped at 65 places, 2 links, 3 ends";
-    print_group(rt, name, &total)?;
-    let passing = total.passing;
-    println!(rt;
-        ", failures {}, reroutings {}, refused in transit {}, passed through {}",
-        passing.failures, passing.reroutings, passing.refused, passing.passed
-    )
 }
 
 /// Random schedules.

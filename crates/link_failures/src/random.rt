@@ -1,10 +1,10 @@
 //! Random schedules.
 
+use crate::marking::FLOWS;
+use crate::rounds::{Clock, bring_up, open_all, prove_links, settle};
+use crate::total::Total;
+use crate::world::World;
 use exchange::LinkId;
-use link_trials::marking::FLOWS;
-use link_trials::rounds::{Clock, bring_up, open_all, prove_links, settle};
-use link_trials::total::Total;
-use link_trials::world::World;
 use pair_world::End;
 use std::alloc::Global;
 use test_nodes::Dice;

@@ -1,11 +1,9 @@
 //! A link that stops at each place of a busy exchange, and comes back.
 
+use crate::rounds::{Clock, bring_up, come_back, settle, step_of_round, steps_over, submit_all};
+use crate::total::Total;
+use crate::world::World;
 use exchange::LinkId;
-use link_trials::rounds::{
-    Clock, bring_up, come_back, settle, step_of_round, steps_over, submit_all,
-};
-use link_trials::total::Total;
-use link_trials::world::World;
 use pair_world::End;
 use std::alloc::Global;
 

@@ -1,14 +1,13 @@
 //! Two nodes, what is done to them, and what they accepted.
 
 use crate::book::Book;
-use crate::marking::{Mark, far_mark, mark_of, message_of, unitdata_of};
+use crate::marking::{Mark, mark_of, message_of, unitdata_of};
 use crate::outcomes::{is_accepted, is_ignored};
-use crate::passing::{Passing, is_arrival};
-use crate::points::{beside_others, linked, points};
+use crate::points::{linked, points};
 use crate::sums::{Sums, compare};
 use crate::titles::title_step;
-use exchange::{FrameText, LinkId, LinkStanding, Msu, Outcome, SetId};
-use pair_world::{End, Step, Turned};
+use exchange::{LinkId, LinkStanding, Msu, Outcome};
+use pair_world::{End, Step};
 use std::alloc::Global;
 use std::marker::Model;
 use test_nodes::LinkedNodes;
@@ -16,16 +15,11 @@ use test_nodes::LinkedNodes;
 /// Before one of so many steps the sums are compared.
 const COMPARED_EVERY: u64 = 16;
 
-/// So many links are between two nodes that have third neighbours, and so many lead from each to its own.
-pub const LINKS_EACH: u8 = 2;
-
 /// Two nodes with some links between them. Most of what changes it says whether something came of it.
 #[derive(Drop)]
-pub struct World {
+pub(crate) struct World {
     nodes: LinkedNodes,
     links: u8,
-    /// The number of the first link to the other node at end 2; at end 1 it is 0.
-    first_at_two: u8,
     /// How many frames were taken.
     frames: u64,
     /// How many steps there were.
@@ -39,7 +33,6 @@ pub struct World {
     one: Book,
     two: Book,
     sums: Sums,
-    passing: Passing,
 }
 
 impl Model for World {
@@ -50,21 +43,10 @@ impl Model for World {
 
 impl World {
     /// Two nodes with so many links, before their first step. None where memory ran out.
-    pub fn new(alloc: Global, links: u8) -> Option<World> {
-        Some(World::of(alloc, linked(alloc, links)?, links, 0))
-    }
-
-    /// Two nodes with two links between them, and two more from each to a third neighbour. None where memory ran out.
-    pub fn beside_others(alloc: Global) -> Option<World> {
-        Some(World::of(alloc, beside_others(alloc)?, LINKS_EACH, LINKS_EACH))
-    }
-
-    /// These nodes, before their first step.
-    fn of(alloc: Global, nodes: LinkedNodes, links: u8, first_at_two: u8) -> World {
-        World {
-            nodes,
+    pub(crate) fn new(alloc: Global, links: u8) -> Option<World> {
+        Some(World {
+            nodes: linked(alloc, links)?,
             links,
-            first_at_two,
             frames: 0,
             steps: 0,
             starved: false,
@@ -73,47 +55,36 @@ impl World {
             one: Book::new(alloc),
             two: Book::new(alloc),
             sums: Sums::NONE,
-            passing: Passing::NOTHING,
-        }
+        })
     }
 
     /// How many links there are.
-    pub fn links(&self) -> u8 {
+    pub(crate) fn links(&self) -> u8 {
         self.links
     }
 
     /// How many frames were taken.
-    pub fn frames(&self) -> u64 {
+    pub(crate) fn frames(&self) -> u64 {
         self.frames
     }
 
     /// The sums that were compared between steps.
-    pub fn sums(&self) -> Sums {
+    pub(crate) fn sums(&self) -> Sums {
         self.sums
     }
 
-    /// What passed through the two nodes.
-    pub fn passing(&self) -> Passing {
-        self.passing
-    }
-
-    /// From now on that is counted.
-    pub fn count_anew(&mut self) {
-        self.passing = Passing::NOTHING;
-    }
-
     /// Whether memory ran out.
-    pub fn is_starved(&self) -> bool {
+    pub(crate) fn is_starved(&self) -> bool {
         self.starved
     }
 
     /// Whether each step about a translation row added or removed it.
-    pub fn kept_titles(&self) -> bool {
+    pub(crate) fn kept_titles(&self) -> bool {
         self.kept_titles
     }
 
     /// What an end submitted.
-    pub fn book(&self, end: End) -> &Book {
+    pub(crate) fn book(&self, end: End) -> &Book {
         match end {
             End::One => &self.one,
             End::Two => &self.two,
@@ -121,52 +92,38 @@ impl World {
     }
 
     /// The messages that an end received.
-    pub fn received(&self, end: End) -> &[Msu] {
+    pub(crate) fn received(&self, end: End) -> &[Msu] {
         self.nodes.received(end)
     }
 
     /// Whether an end says that a message may be lost.
-    pub fn may_have_lost(&self) -> bool {
+    pub(crate) fn may_have_lost(&self) -> bool {
         self.nodes.shown(End::One).lost_any() || self.nodes.shown(End::Two).lost_any()
     }
 
     /// Whether an end says that a message may be late.
-    pub fn may_be_late(&self) -> bool {
+    pub(crate) fn may_be_late(&self) -> bool {
         self.nodes.shown(End::One).late_any() || self.nodes.shown(End::Two).late_any()
     }
 
     /// Whether a link is down at an end.
-    pub fn is_down(&self, end: End, link: LinkId) -> bool {
-        match self.nodes.shown(end).link(self.at(end, link)) {
+    pub(crate) fn is_down(&self, end: End, link: LinkId) -> bool {
+        match self.nodes.shown(end).link(link) {
             Some(view) => view.standing == LinkStanding::Down,
             None => true,
         }
     }
 
     /// Whether a link is in service at an end.
-    pub fn serves(&self, end: End, link: LinkId) -> bool {
-        match self.nodes.shown(end).link(self.at(end, link)) {
+    pub(crate) fn serves(&self, end: End, link: LinkId) -> bool {
+        match self.nodes.shown(end).link(link) {
             Some(view) => view.standing == LinkStanding::InService,
             None => false,
         }
     }
 
-    /// The first set that messages for a destination take at an end, by the destination's number.
-    pub fn first_set(&self, end: End, destination: usize) -> Option<SetId> {
-        let route = self.nodes.shown(end).route(destination)?;
-        route.sets.first().copied()
-    }
-
-    /// The number that a link between the two has at an end.
-    fn at(&self, end: End, link: LinkId) -> LinkId {
-        match end {
-            End::One => link,
-            End::Two => numbered(link, self.first_at_two),
-        }
-    }
-
     /// Whether as many messages came as were accepted, or an end says that one may be lost.
-    pub fn has_brought_all(&self) -> bool {
+    pub(crate) fn has_brought_all(&self) -> bool {
         self.may_have_lost()
             || self.received(End::Two).len() == self.one.accepted.len()
                 && self.received(End::One).len() == self.two.accepted.len()
@@ -176,27 +133,15 @@ impl World {
 impl World {
     /// Takes a step. It is ignored where memory runs out.
     fn turn(&mut self, step: Step) -> Outcome {
-        self.turn_whole(step).outcome
-    }
-
-    /// The same, with the frame that went elsewhere.
-    fn turn_whole(&mut self, step: Step) -> Turned {
-        let arrives = is_arrival(&step);
         self.compare_now_and_then();
         let turned = self.nodes.turn(step);
         self.note_returned();
         self.note_received();
         match turned {
-            Ok(turned) => {
-                self.passing.note(arrives, &turned.outcome);
-                turned
-            }
+            Ok(turned) => turned.outcome,
             Err(_) => {
                 self.starved = true;
-                Turned {
-                    outcome: Outcome::Ignored,
-                    elsewhere: None,
-                }
+                Outcome::Ignored
             }
         }
     }
@@ -207,8 +152,8 @@ impl World {
     }
 
     /// An end sends the next frame of a link.
-    pub fn take(&mut self, end: End, link: LinkId) -> bool {
-        let taken = self.act(Step::Take(end, self.at(end, link)));
+    pub(crate) fn take(&mut self, end: End, link: LinkId) -> bool {
+        let taken = self.act(Step::Take(end, link));
         if taken {
             self.frames = self.frames.wrapping_add(1);
         }
@@ -216,68 +161,64 @@ impl World {
     }
 
     /// The next frame on a link to an end comes: a link status if there is one, else User Data.
-    pub fn deliver(&mut self, end: End, link: LinkId) -> bool {
-        let link = self.at(end, link);
+    pub(crate) fn deliver(&mut self, end: End, link: LinkId) -> bool {
         self.act(Step::DeliverStatus(end, link)) || self.act(Step::Deliver(end, link))
     }
 
     /// The next User Data on a link to an end comes, or where there is none a link status.
-    pub fn deliver_data_first(&mut self, end: End, link: LinkId) -> bool {
-        let link = self.at(end, link);
+    pub(crate) fn deliver_data_first(&mut self, end: End, link: LinkId) -> bool {
         self.act(Step::Deliver(end, link)) || self.act(Step::DeliverStatus(end, link))
     }
 
     /// The next link status on a link to an end is lost on its way.
-    pub fn lose_status(&mut self, end: End, link: LinkId) -> bool {
-        self.act(Step::LoseStatus(end, self.at(end, link)))
+    pub(crate) fn lose_status(&mut self, end: End, link: LinkId) -> bool {
+        self.act(Step::LoseStatus(end, link))
     }
 
     /// The next link status on a link to an end comes twice.
-    pub fn double_status(&mut self, end: End, link: LinkId) -> bool {
-        self.act(Step::DoubleStatus(end, self.at(end, link)))
+    pub(crate) fn double_status(&mut self, end: End, link: LinkId) -> bool {
+        self.act(Step::DoubleStatus(end, link))
     }
 
     /// An end loses the association of a link.
-    pub fn lose(&mut self, end: End, link: LinkId) -> bool {
-        let lost = self.act(Step::Lose(end, self.at(end, link)));
-        self.passing.fails(lost);
-        lost
+    pub(crate) fn lose(&mut self, end: End, link: LinkId) -> bool {
+        self.act(Step::Lose(end, link))
     }
 
     /// A link opens at end 1, where that wants it to and it may open at end 2, which then follows.
-    pub fn open(&mut self, link: LinkId) -> bool {
+    pub(crate) fn open(&mut self, link: LinkId) -> bool {
         self.open_first(End::One, link) && self.follow(End::Two, link)
     }
 
     /// A link opens at an end, before it opens at the other.
-    pub fn open_first(&mut self, end: End, link: LinkId) -> bool {
-        self.act(Step::OpenFirst(end, self.at(end, link)))
+    pub(crate) fn open_first(&mut self, end: End, link: LinkId) -> bool {
+        self.act(Step::OpenFirst(end, link))
     }
 
     /// A link opens at an end that may follow the other.
-    pub fn follow(&mut self, end: End, link: LinkId) -> bool {
-        self.act(Step::OpenSecond(end, self.at(end, link)))
+    pub(crate) fn follow(&mut self, end: End, link: LinkId) -> bool {
+        self.act(Step::OpenSecond(end, link))
     }
 
     /// So many ticks pass at an end.
-    pub fn tick(&mut self, end: End, count: u8) {
+    pub(crate) fn tick(&mut self, end: End, count: u8) {
         for _ in 0..count {
             self.act(Step::Tick(end));
         }
     }
 
     /// An operator keeps a link from opening.
-    pub fn deactivate(&mut self, end: End, link: LinkId) {
-        self.act(Step::Deactivate(end, self.at(end, link)));
+    pub(crate) fn deactivate(&mut self, end: End, link: LinkId) {
+        self.act(Step::Deactivate(end, link));
     }
 
     /// An operator lets a link open.
-    pub fn activate(&mut self, end: End, link: LinkId) {
-        self.act(Step::Activate(end, self.at(end, link)));
+    pub(crate) fn activate(&mut self, end: End, link: LinkId) {
+        self.act(Step::Activate(end, link));
     }
 
     /// An operator adds a translation row, or removes it where it is there.
-    pub fn translate(&mut self, end: End) {
+    pub(crate) fn translate(&mut self, end: End) {
         let was_there = self.has_title(end);
         let (_, adjacent) = points(end);
         if let Some(step) = title_step(end, was_there, adjacent) {
@@ -292,7 +233,7 @@ impl World {
     }
 
     /// An end submits its next message on a flow.
-    pub fn submit(&mut self, end: End, flow: u8) {
+    pub(crate) fn submit(&mut self, end: End, flow: u8) {
         let mark = self.book(end).next_mark(flow);
         let Some(message) = self.message(end, mark) else {
             return;
@@ -315,7 +256,7 @@ impl World {
     }
 
     /// From now on end 1 hands over SCCP, which its translation row leads to end 2.
-    pub fn relay(&mut self) {
+    pub(crate) fn relay(&mut self) {
         self.translate(End::One);
         self.relays = true;
     }
@@ -370,53 +311,4 @@ impl World {
         self.one.note(there, self.nodes.shown(End::One).late_any());
         self.two.note(back, self.nodes.shown(End::Two).late_any());
     }
-}
-
-impl World {
-    /// An end sends the next frame of a link to its third neighbour.
-    pub fn take_away(&mut self, end: End, link: LinkId) -> Option<FrameText> {
-        self.turn_whole(Step::Take(end, beside(end, link)))
-            .elsewhere
-    }
-
-    /// A frame comes to an end from its third neighbour.
-    pub fn hear(&mut self, end: End, link: LinkId, text: FrameText) {
-        let (_, adjacent) = points(end);
-        let mark = far_mark(text.octets(), adjacent);
-        let outcome = self.turn(Step::HearElsewhere(end, beside(end, link), text));
-        if let Some(mark) = mark
-            && is_accepted(&outcome)
-        {
-            self.note_accepted(end, mark);
-        }
-    }
-
-    /// A link to its third neighbour opens at an end.
-    pub fn open_beside(&mut self, end: End, link: LinkId) -> bool {
-        self.act(Step::OpenElsewhere(end, beside(end, link)))
-    }
-
-    /// An end loses the association of a link to its third neighbour.
-    pub fn lose_beside(&mut self, end: End, link: LinkId) {
-        let lost = self.act(Step::Lose(end, beside(end, link)));
-        self.passing.fails(lost);
-    }
-
-    /// An end submits a message for some point. Says whether it was accepted.
-    pub fn submit_to(&mut self, end: End, message: Msu) -> bool {
-        is_accepted(&self.turn(Step::Submit(end, message)))
-    }
-}
-
-/// The number at an end of a link to its third neighbour: at end 1 those to the other end come first.
-fn beside(end: End, link: LinkId) -> LinkId {
-    match end {
-        End::One => numbered(link, LINKS_EACH),
-        End::Two => link,
-    }
-}
-
-/// The link that comes so many behind another.
-fn numbered(link: LinkId, behind: u8) -> LinkId {
-    LinkId::new((link.index() as u8).wrapping_add(behind))
 }

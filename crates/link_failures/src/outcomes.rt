@@ -3,7 +3,7 @@
 use exchange::Outcome;
 
 /// Whether a message that was submitted was accepted: it is queued or held.
-pub fn is_accepted(outcome: &Outcome) -> bool {
+pub(crate) fn is_accepted(outcome: &Outcome) -> bool {
     match outcome {
         Outcome::Queued(_) | Outcome::Held => true,
         _ => false,
@@ -11,7 +11,7 @@ pub fn is_accepted(outcome: &Outcome) -> bool {
 }
 
 /// Whether nothing came of a step.
-pub fn is_ignored(outcome: &Outcome) -> bool {
+pub(crate) fn is_ignored(outcome: &Outcome) -> bool {
     match outcome {
         Outcome::Ignored => true,
         _ => false,

@@ -1,15 +1,13 @@
 //! What became of a group of runs.
 
 use crate::ledger::{Verdict, judge};
-use crate::passing::Passing;
-use crate::ring::Ring;
 use crate::sums::Sums;
 use crate::world::World;
 use std::alloc::Global;
 
 /// What became of a group of runs.
 #[derive(Clone, Copy)]
-pub struct Total {
+pub(crate) struct Total {
     /// How many runs there were.
     pub runs: u64,
     /// How many frames were taken.
@@ -18,8 +16,6 @@ pub struct Total {
     pub verdict: Verdict,
     /// The sums that were compared between steps.
     pub sums: Sums,
-    /// What passed through two nodes with third neighbours.
-    pub passing: Passing,
     /// How many runs there were in which an end said that a message may be lost.
     pub lost_any: u64,
     /// How many runs there were in which an end said that a message may be late.
@@ -33,12 +29,11 @@ pub struct Total {
 
 impl Total {
     /// No run.
-    pub const NOTHING: Total = Total {
+    pub(crate) const NOTHING: Total = Total {
         runs: 0,
         frames: 0,
         verdict: Verdict::NOTHING,
         sums: Sums::NONE,
-        passing: Passing::NOTHING,
         lost_any: 0,
         late_any: 0,
         unended: 0,
@@ -46,28 +41,15 @@ impl Total {
     };
 
     /// Two nodes for one more run. None where memory ran out.
-    pub fn begin(&mut self, alloc: Global, links: u8) -> Option<World> {
+    pub(crate) fn begin(&mut self, alloc: Global, links: u8) -> Option<World> {
         let world = World::new(alloc, links);
         self.starved |= world.is_none();
         world
     }
 
-    /// Four nodes in a ring for one more run. None where memory ran out.
-    pub fn begin_ring(&mut self, alloc: Global) -> Option<Ring> {
-        let ring = Ring::new(alloc);
-        self.starved |= ring.is_none();
-        ring
-    }
-
-    /// A run of four nodes ended, and whether as it was to.
-    pub fn end_ring(&mut self, alloc: Global, ring: Ring, ended: bool) {
-        self.add(alloc, &ring.world, ended);
-        self.passing = self.passing.and(ring.passing());
-    }
-
     /// A run ended, and whether as it was to. Only here is a world dropped, since a function that does
     /// it has a long proof.
-    pub fn end(&mut self, alloc: Global, world: World, ended: bool) {
+    pub(crate) fn end(&mut self, alloc: Global, world: World, ended: bool) {
         self.add(alloc, &world, ended);
     }
 

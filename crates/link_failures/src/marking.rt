@@ -1,6 +1,6 @@
 //! How messages carry their marks.
 
-use exchange::{Frame, Label, Limits, Msu, PointCode, Sls, decode};
+use exchange::{Label, Limits, Msu, PointCode, Sls};
 
 /// The service information octet of the ISDN user part in the international network (Q.704 §14.2).
 const SIO: u8 = 0x85;
@@ -12,12 +12,12 @@ const SCCP_SIO: u8 = 0x83;
 const NUMBER_OCTETS: usize = 2;
 
 /// How many flows there are to a point: one for each signalling link selection.
-pub const FLOWS: u8 = Limits::SELECTIONS as u8;
+pub(crate) const FLOWS: u8 = Limits::SELECTIONS as u8;
 
 /// What no two messages that a node accepted have in common: their flow, and their number in it. The accepted messages
 /// of a flow have the numbers 1, 2, 3 and so on.
 #[derive(Clone, Copy, PartialEq, Eq)]
-pub struct Mark {
+pub(crate) struct Mark {
     /// The flow: the signalling link selection (Q.704 §2.2.4).
     pub flow: u8,
     /// The number.
@@ -25,7 +25,7 @@ pub struct Mark {
 }
 
 /// The message of a mark, from a point to another: two octets behind the label have its number.
-pub fn message_of(mark: Mark, own: u16, adjacent: u16) -> Option<Msu> {
+pub(crate) fn message_of(mark: Mark, own: u16, adjacent: u16) -> Option<Msu> {
     // The point that a message says it comes from isn't checked: on every other flow it is the far one.
     let origin = if mark.flow % 2 == 0 { own } else { adjacent };
     let label = Label {
@@ -38,22 +38,9 @@ pub fn message_of(mark: Mark, own: u16, adjacent: u16) -> Option<Msu> {
     Msu::new(SIO, &[a, b, c, d, high, low]).ok()
 }
 
-/// The mark of the user message for a point that a frame carries, where it carries one.
-pub fn far_mark(octets: &[u8], point: u16) -> Option<Mark> {
-    let Ok(Frame::Message { sio, sif, .. }) = decode(octets) else {
-        return None;
-    };
-    let message = Msu::new(sio, sif).ok()?;
-    let label = Label::read(message.sif())?;
-    if message.is_management() || label.dpc.code() != point {
-        return None;
-    }
-    mark_of(&message)
-}
-
 /// The UDT of a mark, which a user part hands over for its own point: its called address is by a title whose first digit
 /// is 7, its calling one by subsystem number, it asks for a return on error, and its data is the number (Q.713 §4.10).
-pub fn unitdata_of(mark: Mark, own: u16) -> Option<Msu> {
+pub(crate) fn unitdata_of(mark: Mark, own: u16) -> Option<Msu> {
     let label = Label {
         dpc: PointCode::new(own)?,
         opc: PointCode::new(own)?,
@@ -71,7 +58,7 @@ pub fn unitdata_of(mark: Mark, own: u16) -> Option<Msu> {
 }
 
 /// The mark of a message: its last two octets have the number.
-pub fn mark_of(message: &Msu) -> Option<Mark> {
+pub(crate) fn mark_of(message: &Msu) -> Option<Mark> {
     let label = Label::read(message.sif())?;
     let place = message.sif().len().checked_sub(NUMBER_OCTETS)?;
     let number = message.sif().get(place..)?;
@@ -82,12 +69,12 @@ pub fn mark_of(message: &Msu) -> Option<Mark> {
 }
 
 /// The place of a mark where all stand by their numbers, and by their flows.
-pub fn place_of(mark: Mark) -> usize {
+pub(crate) fn place_of(mark: Mark) -> usize {
     mark.number as usize * FLOWS as usize + mark.flow as usize
 }
 
 /// How many of these marks are of a flow.
-pub fn count_of_flow(flow: u8, marks: &[Mark]) -> u16 {
+pub(crate) fn count_of_flow(flow: u8, marks: &[Mark]) -> u16 {
     let mut count = 0u16;
     for mark in marks {
         if mark.flow == flow {
@@ -98,7 +85,7 @@ pub fn count_of_flow(flow: u8, marks: &[Mark]) -> u16 {
 }
 
 /// How many of these marks are this one.
-pub fn count_of(mark: Mark, marks: &[Mark]) -> usize {
+pub(crate) fn count_of(mark: Mark, marks: &[Mark]) -> usize {
     let mut count = 0usize;
     for other in marks {
         if *other == mark {
@@ -109,7 +96,7 @@ pub fn count_of(mark: Mark, marks: &[Mark]) -> usize {
 }
 
 /// How many of these messages have this mark.
-pub fn count_received(mark: Mark, messages: &[Msu]) -> usize {
+pub(crate) fn count_received(mark: Mark, messages: &[Msu]) -> usize {
     let mut count = 0usize;
     for message in messages {
         if mark_of(message) == Some(mark) {
@@ -120,7 +107,7 @@ pub fn count_received(mark: Mark, messages: &[Msu]) -> usize {
 }
 
 /// Whether the numbers of a flow are 1, 2, 3 and so on.
-pub fn counts_up(flow: u8, marks: &[Mark]) -> bool {
+pub(crate) fn counts_up(flow: u8, marks: &[Mark]) -> bool {
     let mut last = 0u16;
     for mark in marks {
         if mark.flow == flow {

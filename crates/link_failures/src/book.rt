@@ -5,7 +5,7 @@ use std::alloc::Global;
 
 /// What an end submitted, and how much of it came.
 #[derive(Drop)]
-pub struct Book {
+pub(crate) struct Book {
     /// The messages that were accepted, in order.
     pub accepted: Vec<Mark>,
     /// So many messages had come to the other end when neither end had yet said that one may be lost.
@@ -16,7 +16,7 @@ pub struct Book {
 
 impl Book {
     /// Nothing was submitted.
-    pub fn new(alloc: Global) -> Book {
+    pub(crate) fn new(alloc: Global) -> Book {
         Book {
             accepted: Vec::new(alloc),
             once: 0,
@@ -25,7 +25,7 @@ impl Book {
     }
 
     /// The mark of the next message on a flow.
-    pub fn next_mark(&self, flow: u8) -> Mark {
+    pub(crate) fn next_mark(&self, flow: u8) -> Mark {
         let before = count_of_flow(flow, self.accepted.as_slice());
         Mark {
             flow,
@@ -34,18 +34,18 @@ impl Book {
     }
 
     /// One of the marks of the accepted messages, by a number. None where none was accepted.
-    pub fn mark_by(&self, number: u64) -> Option<Mark> {
+    pub(crate) fn mark_by(&self, number: u64) -> Option<Mark> {
         let count = self.accepted.len().max(1);
         self.accepted.get(number as usize % count).copied()
     }
 
     /// A message was accepted. Says whether there was memory for it.
-    pub fn accept(&mut self, mark: Mark) -> bool {
+    pub(crate) fn accept(&mut self, mark: Mark) -> bool {
         self.accepted.push(mark).is_ok()
     }
 
     /// So many messages came by now, and one may be late.
-    pub fn note(&mut self, count: usize, late: bool) {
+    pub(crate) fn note(&mut self, count: usize, late: bool) {
         self.once = count;
         if !late {
             self.in_order = count;

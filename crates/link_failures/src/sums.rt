@@ -13,7 +13,7 @@ use test_nodes::LinkedNodes;
 
 /// Sums that were compared.
 #[derive(Clone, Copy)]
-pub struct Sums {
+pub(crate) struct Sums {
     /// How many.
     pub compared: u64,
     /// How many of them had two sides that weren't the same.
@@ -48,7 +48,7 @@ impl Pick for SameMessage {
 
 /// Compares the sums of all messages from an end to the other, and that of one message, which the number of this
 /// comparison chooses, where there is one.
-pub fn compare(nodes: &mut LinkedNodes, from: End, book: &Book, count: Option<u64>) -> Sums {
+pub(crate) fn compare(nodes: &mut LinkedNodes, from: End, book: &Book, count: Option<u64>) -> Sums {
     let all = compare_all(nodes, from, book);
     let Some(count) = count else {
         return all;
@@ -81,7 +81,7 @@ fn compare_one(nodes: &mut LinkedNodes, from: End, book: &Book, mark: Mark) -> S
 
 impl Sums {
     /// None was compared.
-    pub const NONE: Sums = Sums {
+    pub(crate) const NONE: Sums = Sums {
         compared: 0,
         wrong: 0,
     };
@@ -96,7 +96,7 @@ impl Sums {
     }
 
     /// These and others.
-    pub fn and(self, others: Sums) -> Sums {
+    pub(crate) fn and(self, others: Sums) -> Sums {
         Sums {
             compared: self.compared.wrapping_add(others.compared),
             wrong: self.wrong.wrapping_add(others.wrong),
