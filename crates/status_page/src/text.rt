@@ -225,7 +225,7 @@ function showMap(state) {
     y += high + gap;
     return { set, links, top, high };
   });
-  const tall = y - gap + 14, middle = tall / 2;
+  const tall = Math.max(y - gap + 14, 96), middle = tall / 2;
   for (const { set, links, top, high } of sets) {
     const centre = top + high / 2;
     links.forEach((link, i) => {
@@ -245,7 +245,7 @@ function showMap(state) {
     make('circle', { class: 'place', cx: left - 4, cy: middle, r: 38 }),
     make('text', { x: left - 4, y: middle + 4, 'text-anchor': 'middle' }, state.point));
   const map = $('map');
-  map.setAttribute('viewBox', '0 0 ' + wide + ' ' + Math.max(tall, 96));
+  map.setAttribute('viewBox', '0 0 ' + wide + ' ' + tall);
   map.replaceChildren(...shapes, ...labels);
 }
 
