@@ -81,6 +81,8 @@ pub mod Conserved
 pub mod Naming
 pub mod Counting
 pub mod AddingUp
+pub mod Flagging
+pub mod FlaggingAll
 pub mod Giving
 pub mod Fates
 pub mod NamedLinks

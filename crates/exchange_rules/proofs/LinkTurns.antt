@@ -165,7 +165,7 @@ module _ (c : Configuration) where
     both = λ n m o e f. record { stay = λ w. f.stay (e.stay w) };
     routed = λ link m n e. bounds-as n _ refl;
     noted = λ notice n e. bounds-as n _ refl;
-    lost = λ n. bounds-as n _ refl;
+    lost = λ notice n e. bounds-as n _ refl;
   }
 
   bounds-rules : IsOfRules c any any Bounds
@@ -174,7 +174,7 @@ module _ (c : Configuration) where
     tested = λ link point test n e f. bounds-as n _ refl;
     held = λ m n e. bounds-as n _ refl;
     taken_out = λ n. bounds-as n _ refl;
-    late = λ n. bounds-as n _ refl;
+    late = λ notice n e. bounds-as n _ refl;
     timed = λ r n e. record { stay = λ w. record { each = λ its t x h. w.each its t x (sym (e.links its t) ∙ h) } };
     rerouted = λ routes n e. bounds-as n _ refl;
     told = λ t n e. bounds-as n _ refl;

@@ -34,7 +34,7 @@ module _ {c : Configuration} {R : Node WholeQueues → Node WholeQueues → Type
 
   -- a message that is dropped
   unsent-steps : (cause : Cause) (m : Message) (n : Node WholeQueues) → R n (send whole c (Some cause) None m n)
-  unsent-steps cause m n = s.both _ _ _ (s.lost n) (s.noted (notices.Unsent cause (dpc_of m)) _ (record { lost = λ f. refl; late = λ f. absurd cc }))
+  unsent-steps cause m n = s.lost (notices.Unsent cause (dpc_of m)) n refl
 
   pub by_link-steps : (room : Option Cause) (link : Option ℕ) (m : Message) (n : Node WholeQueues) → link_of c n.parts (flow_of m) ≡ link → R n (send whole c room link m n)
   by_link-steps (Some cause) link m n e = unsent-steps cause m n

@@ -91,7 +91,7 @@ module _ (c : Configuration) where
     both = bounds-both most;
     routed = λ link m n e. bounds-as most n _ refl;
     noted = λ notice n e. bounds-as most n _ refl;
-    lost = λ n. bounds-as most n _ refl;
+    lost = λ notice n e. bounds-as most n _ refl;
   }
 
   gone-bounds : (link : ℕ) (why : FailureReason) (n : Node WholeQueues) → Bounds most n (make_unavailable whole c true link why n)
@@ -154,7 +154,7 @@ module _ (c : Configuration) where
     tested = λ link point test n e f. bounds-as most n _ refl;
     held = λ m n e. bounds-as most n _ refl;
     taken_out = λ n. bounds-as most n _ refl;
-    late = λ n. bounds-as most n _ refl;
+    late = λ notice n e. bounds-as most n _ refl;
     timed = λ r n e. bounds-same most n _ e.endings;
     rerouted = λ routes n e. bounds-as most n _ refl;
     told = λ t n e. bounds-as most n _ refl;

@@ -22,6 +22,7 @@ pub mod LastingLinks
 pub mod LastingHolds
 pub mod TickingAlone
 pub mod Touching
+pub mod Flagging
 pub mod LastingMessages
 pub mod LastingRoutes
 pub mod LoneRoutes

@@ -22,6 +22,8 @@ ghost use Rattle.exchange_rules.specs.Lasting.{no_flag_at_first, losses_stay, la
 ghost use Rattle.exchange_rules.specs.Lasting.{notices_raise_flags, unreasonable_numbers_raise_it};
 ghost use Rattle.exchange_rules.specs.Lasting.{notices_made_are_counted, new_notices_are_the_last};
 ghost use Rattle.exchange_rules.specs.Lasting.{notices_keep_their_limits};
+ghost use Rattle.exchange_rules.specs.Flagging.{events_flag_for_a_reason, completions_flag_for_a_reason};
+ghost use Rattle.exchange_rules.specs.Flagging.{takes_flag_nothing};
 ghost use Rattle.exchange_rules.specs.LawsOfFailures.{failures_hold_their_flows, failures_by_peer_hold_their_flows};
 ghost use Rattle.exchange_rules.specs.LawsOfFailures.{idle_failures_hold_nothing, idle_failures_by_peer_hold_nothing};
 ghost use Rattle.exchange_rules.specs.LawsOfReturns.{entries_hold_changed_flows, changed_flows_are_held};
@@ -144,6 +146,16 @@ pub fn flags_never_fall()
     ensures late { lateness_stays }
     ensures noted { notices_raise_flags }
     ensures number { unreasonable_numbers_raise_it }
+{}
+
+/// Flags rise only for a reason. Of each lateness that an event counts a notice of it tells, and so it does of each loss,
+/// unless a changeover is under way: of a link that the event is about, of one whose changeover wasn't complete, or of
+/// one that fails. What completes it counts one loss more where it has no reasonable number, and else none. A take
+/// counts neither. So where no notice tells of either and no changeover is under way, both flags stay as they were.
+pub fn flags_rise_for_a_reason()
+    ensures event { events_flag_for_a_reason }
+    ensures completion { completions_flag_for_a_reason }
+    ensures take { takes_flag_nothing }
 {}
 
 /// Each link is steady, at first, and whatever happens and whatever is taken: its counts are in order, it is down while
