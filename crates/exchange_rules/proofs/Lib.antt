@@ -29,6 +29,7 @@ pub mod Attracted
 pub mod Sound
 pub mod Returned
 pub mod Steps
+pub mod TimerSettings
 pub mod OwnRoutes
 pub mod Serving
 pub mod SteppingTimers
@@ -83,6 +84,7 @@ pub mod Counting
 pub mod AddingUp
 pub mod Flagging
 pub mod FlaggingAll
+pub mod SettingTimers
 pub mod Giving
 pub mod Fates
 pub mod NamedLinks

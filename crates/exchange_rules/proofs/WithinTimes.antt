@@ -11,7 +11,8 @@ use Rattle.exchange_rules.proofs.Asked.{any, IsOfAll}
 use Rattle.exchange_rules.proofs.SteppingMessages.{send_routed-steps}
 use Rattle.exchange_rules.proofs.SteppingEvents.{run_next-steps}
 use Rattle.exchange_rules.proofs.WillEnding.{untested-alike}
-use Rattle.exchange_rules.proofs.Eased.{Eased, is_waited_for, eased-same, cases-name, less-clear, completed-eased, expired-eased}
+use Rattle.exchange_rules.proofs.Eased.{Eased, is_waited_for, eased-same, less-clear, completed-eased, expired-eased}
+use Rattle.exchange_rules.proofs.TimerSettings.{cases-name}
 
 -- a timer that ends holds is waited for
 waited : (timer : TimerName) → ends_holds timer ≡ true → is_waited_for timer ≡ true

@@ -23,6 +23,7 @@ pub mod LastingHolds
 pub mod TickingAlone
 pub mod Touching
 pub mod Flagging
+pub mod TimerSettings
 pub mod LastingMessages
 pub mod LastingRoutes
 pub mod LoneRoutes

@@ -24,6 +24,8 @@ ghost use Rattle.exchange_rules.specs.Lasting.{notices_made_are_counted, new_not
 ghost use Rattle.exchange_rules.specs.Lasting.{notices_keep_their_limits};
 ghost use Rattle.exchange_rules.specs.Flagging.{events_flag_for_a_reason, completions_flag_for_a_reason};
 ghost use Rattle.exchange_rules.specs.Flagging.{takes_flag_nothing};
+ghost use Rattle.exchange_rules.specs.TimerSettings.{events_set_timers_to_their_settings, timers_keep_their_settings};
+ghost use Rattle.exchange_rules.specs.TimerSettings.{takes_set_timers_to_their_settings};
 ghost use Rattle.exchange_rules.specs.LawsOfFailures.{failures_hold_their_flows, failures_by_peer_hold_their_flows};
 ghost use Rattle.exchange_rules.specs.LawsOfFailures.{idle_failures_hold_nothing, idle_failures_by_peer_hold_nothing};
 ghost use Rattle.exchange_rules.specs.LawsOfReturns.{entries_hold_changed_flows, changed_flows_are_held};
@@ -175,6 +177,15 @@ pub fn links_stay_steady()
 pub fn every_hold_has_its_timer_or_its_word()
     ensures stays { holds_stay_timed }
     ensures always { every_hold_has_its_timer_or_its_word }
+{}
+
+/// Each timer is set to the ticks that the settings give it, whatever happens and whatever is taken: after an event or a
+/// take it has as many left as before, or as many as it is set to, or it doesn't run. A tick takes one from each first.
+/// So none ever has more left than its own setting.
+pub fn timers_are_set_to_their_settings()
+    ensures event { events_set_timers_to_their_settings }
+    ensures take { takes_set_timers_to_their_settings }
+    ensures always { timers_keep_their_settings }
 {}
 
 /// So where nothing but ticks happens, all holds end, from each state that comes of the first: after as many ticks as the
