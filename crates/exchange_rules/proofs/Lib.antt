@@ -85,6 +85,10 @@ pub mod AddingUp
 pub mod Flagging
 pub mod FlaggingAll
 pub mod SettingTimers
+pub mod LinkWaits
+pub mod Waiting
+pub mod Aligning
+pub mod AligningAll
 pub mod Giving
 pub mod Fates
 pub mod NamedLinks

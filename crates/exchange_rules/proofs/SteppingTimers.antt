@@ -7,7 +7,7 @@ use Rattle.timers.specs.declared.name.RouteTimer.TheVariants as route
 use Rattle.timers.specs.declared.name.TimerName.TheVariants as name
 use Rattle.exchange_rules.specs.TimerSettings.{setting_of}
 use Rattle.exchange_rules.proofs.TimerSettings.{runs-both, same-set, set-set, clear-set, clear_set-set}
-use Rattle.exchange_rules.proofs.Steps.{AreTimed, AreQuiet, ends_holds, takes_links}
+use Rattle.exchange_rules.proofs.Steps.{AreTimed, AreQuiet, ends_holds, is_of_link}
 
 -- where a timer that is due is due still, or has what is never due
 due-of : (b : Bool) (o p q : Option ℕ) → no_tick_left p ≡ false → no_tick_left (cond b (cond true p o) None) ≡ true → no_tick_left q ≡ true
@@ -86,7 +86,7 @@ clear_set-timed timer set r = record {
     of_route route.T8 link = refl
     of_route route.T10 link = refl
 
--- ---- and none that ends a hold, or takes a link into service or out of it
+-- ---- and none that ends a hold, or is a link's
 
 pub same-quiet : (c : Configuration) (r : Running) → AreQuiet c r r
 same-quiet c r = record { timed = same-timed r; endings = λ name e. refl; links = λ name e. refl; set = (same-set c r r refl).each }
@@ -106,25 +106,25 @@ apart-by kind name other not-of of same = (let goal : true ≡ false = sym of �
 pub apart-from : (name ending : TimerName) → ends_holds name ≡ false → ends_holds ending ≡ true → name ≢ ending
 apart-from name ending quiet ends = apart-by ends_holds name ending quiet ends
 
-pub set-quiet : (c : Configuration) (name : TimerName) (ticks : ℕ) (r : Running) → ((link : ℕ) → name ≢ L7 link) → ends_holds name ≡ false → takes_links name ≡ false
+pub set-quiet : (c : Configuration) (name : TimerName) (ticks : ℕ) (r : Running) → ((link : ℕ) → name ≢ L7 link) → ends_holds name ≡ false → is_of_link name ≡ false
     → ticks ≡ setting_of c.timers name → AreQuiet c r (set_timer name ticks r)
 set-quiet c name ticks r other quiet none own = record {
   timed = set-timed name ticks r other;
   endings = λ ending e. left-set_other name ending ticks r (apart-from name ending quiet e);
-  links = λ its e. left-set_other name its ticks r (apart-by takes_links name its none e);
+  links = λ its e. left-set_other name its ticks r (apart-by is_of_link name its none e);
   set = (set-set c name ticks r own).each;
 }
 
-pub clear-quiet : (c : Configuration) (name : TimerName) (r : Running) → ((link : ℕ) → name ≢ L7 link) → ends_holds name ≡ false → takes_links name ≡ false → AreQuiet c r (clear_timer name r)
+pub clear-quiet : (c : Configuration) (name : TimerName) (r : Running) → ((link : ℕ) → name ≢ L7 link) → ends_holds name ≡ false → is_of_link name ≡ false → AreQuiet c r (clear_timer name r)
 clear-quiet c name r other quiet none = record {
   timed = clear-timed name r other;
   endings = λ ending e. left-clear_other name ending r (apart-from name ending quiet e);
-  links = λ its e. left-clear_other name its r (apart-by takes_links name its none e);
+  links = λ its e. left-clear_other name its r (apart-by is_of_link name its none e);
   set = (clear-set c name r).each;
 }
 
 -- the timers of a set are of neither kind
-of_neither : (timer : RouteTimer) (set : ℕ) (name : TimerName) → is_of_set timer set name ≡ true → (ends_holds name ≡ false) × (takes_links name ≡ false)
+of_neither : (timer : RouteTimer) (set : ℕ) (name : TimerName) → is_of_set timer set name ≡ true → (ends_holds name ≡ false) × (is_of_link name ≡ false)
 of_neither timer set (name.T8 its destination) e = (refl, refl)
 of_neither timer set (name.T10 its destination) e = (refl, refl)
 of_neither route.T8 set (name.L1 link) e = absurd cc

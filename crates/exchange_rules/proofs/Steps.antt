@@ -141,11 +141,21 @@ takes_links (name.L6 link) = true
 takes_links (name.L7 link) = true
 takes_links _ = false
 
--- timers change, but none of these, and each that is set is set to its setting
+-- the timers of links
+abbrev pub is_of_link : TimerName → Bool
+is_of_link (name.L1 link) = true
+is_of_link (name.L2 link) = true
+is_of_link (name.L3 link) = true
+is_of_link (name.L4 link) = true
+is_of_link (name.L6 link) = true
+is_of_link (name.L7 link) = true
+is_of_link _ = false
+
+-- timers change, but none of a link and none that ends holds, and each that is set is set to its setting
 pub record AreQuiet (c : Configuration) (r s : Running) : Type 0 where
   pub timed : AreTimed r s
   pub endings : (name : TimerName) → ends_holds name ≡ true → s.left name ≡ r.left name
-  pub links : (name : TimerName) → takes_links name ≡ true → s.left name ≡ r.left name
+  pub links : (name : TimerName) → is_of_link name ≡ true → s.left name ≡ r.left name
   pub set : (name : TimerName) → RunsBy (setting_of c.timers name) (r.left name) (s.left name)
 
 -- no notice tells of both

@@ -24,6 +24,7 @@ pub mod TickingAlone
 pub mod Touching
 pub mod Flagging
 pub mod TimerSettings
+pub mod Aligning
 pub mod LastingMessages
 pub mod LastingRoutes
 pub mod LoneRoutes

@@ -26,6 +26,7 @@ ghost use Rattle.exchange_rules.specs.Flagging.{events_flag_for_a_reason, comple
 ghost use Rattle.exchange_rules.specs.Flagging.{takes_flag_nothing};
 ghost use Rattle.exchange_rules.specs.TimerSettings.{events_set_timers_to_their_settings, timers_keep_their_settings};
 ghost use Rattle.exchange_rules.specs.TimerSettings.{takes_set_timers_to_their_settings};
+ghost use Rattle.exchange_rules.specs.Aligning.{links_have_their_timers};
 ghost use Rattle.exchange_rules.specs.LawsOfFailures.{failures_hold_their_flows, failures_by_peer_hold_their_flows};
 ghost use Rattle.exchange_rules.specs.LawsOfFailures.{idle_failures_hold_nothing, idle_failures_by_peer_hold_nothing};
 ghost use Rattle.exchange_rules.specs.LawsOfReturns.{entries_hold_changed_flows, changed_flows_are_held};
@@ -168,6 +169,13 @@ pub fn links_stay_steady()
     ensures first { links_first_steady }
     ensures always { links_stay_steady }
     ensures watched { l7_watches }
+{}
+
+/// Each link has the timer of its state, whatever happens and whatever is taken. L2 runs just while it isn't aligned, L3
+/// while it is, L4 while it is proved, and L1 while it is ready and its peer isn't; and L6 while it is in service and its
+/// peer is busy. So no link waits without a timer on its way into service, and none fails by a timer of another state.
+pub fn links_have_the_timers_of_their_states()
+    ensures { links_have_their_timers }
 {}
 
 /// Every hold has its timer or its word, whatever happens and whatever is taken. The changeover that holds a flow isn't
