@@ -65,7 +65,7 @@ module _ (c : Configuration) where
     tested = λ link point test n e f. same-parts c n _ ((places c).tested link point test n e f) refl refl refl;
     held = λ m n e. same-parts c n _ ((places c).held m n e) refl refl refl;
     taken_out = λ n. same-parts c n _ ((places c).taken_out n) refl refl refl;
-    late = λ n. same-parts c n _ ((places c).late n) refl refl refl;
+    late = λ notice n e. same-parts c n _ ((places c).late notice n e) refl refl refl;
     timed = λ r n e. same-ends c n _ ((places c).timed r n e) refl refl e.endings;
     rerouted = λ routes n e. same-parts c n _ ((places c).rerouted routes n e) refl refl refl;
     told = λ t n e. same-parts c n _ ((places c).told t n e) refl refl refl;

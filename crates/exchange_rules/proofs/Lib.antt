@@ -29,6 +29,7 @@ pub mod Attracted
 pub mod Sound
 pub mod Returned
 pub mod Steps
+pub mod TimerSettings
 pub mod OwnRoutes
 pub mod Serving
 pub mod SteppingTimers
@@ -81,6 +82,13 @@ pub mod Conserved
 pub mod Naming
 pub mod Counting
 pub mod AddingUp
+pub mod Flagging
+pub mod FlaggingAll
+pub mod SettingTimers
+pub mod LinkWaits
+pub mod Waiting
+pub mod Aligning
+pub mod AligningAll
 pub mod Giving
 pub mod Fates
 pub mod NamedLinks

@@ -91,7 +91,7 @@ module _ {c : Configuration} {Own Counts : ℕ → Type 0} {R : Node WholeQueues
       let reset : Parts = with_set_reset c set n.parts in
       s.sends.both _ _ _ (s.rerouted reset.routes n (rerouted-reset n.parts.told n.parts.routes set))
       (s.sends.both _ _ _ (s.told reset.told _ (record { shape = reset_shape n.parts.told set; adjacents = refl }))
-      (s.timed reset.timers _ (both-quiet _ _ _ (clear_set-quiet of_set.T8 set n.parts.timers) (clear_set-quiet of_set.T10 set (clear_set of_set.T8 set n.parts.timers)))))
+      (s.timed reset.timers _ (both-quiet c _ _ _ (clear_set-quiet c of_set.T8 set n.parts.timers) (clear_set-quiet c of_set.T10 set (clear_set of_set.T8 set n.parts.timers)))))
 
   pub anew-steps : (first : Bool) (link : ℕ) (n : Node WholeQueues) → R n (with_parts n (begun_anew_if first c link n.parts))
   anew-steps true link n = set_reset-steps (set_of c link) n

@@ -14,15 +14,15 @@ use Rattle.exchange_rules.proofs.SteppingTimers.{same-quiet, set-quiet, clear-qu
 
 -- ---- timers
 
-timed_telling-quiet : (c : Configuration) (set destination : ℕ) (status : RouteStatus) (r : Running) → AreQuiet r (timed_telling c set destination status r)
-timed_telling-quiet c set destination Prohibited r = set-quiet (name.T8 set destination) c.timers.t8 r (λ link e. cc) refl refl
-timed_telling-quiet c set destination Restricted r = same-quiet r
-timed_telling-quiet c set destination Allowed r = same-quiet r
+timed_telling-quiet : (c : Configuration) (set destination : ℕ) (status : RouteStatus) (r : Running) → AreQuiet c r (timed_telling c set destination status r)
+timed_telling-quiet c set destination Prohibited r = set-quiet c (name.T8 set destination) c.timers.t8 r (λ link e. cc) refl refl refl
+timed_telling-quiet c set destination Restricted r = same-quiet c r
+timed_telling-quiet c set destination Allowed r = same-quiet c r
 
-timed_status-quiet : (c : Configuration) (set destination : ℕ) (status : RouteStatus) (r : Running) → AreQuiet r (timed_status c set destination status r)
-timed_status-quiet c set destination Prohibited r = set-quiet (name.T10 set destination) c.timers.t10 r (λ link e. cc) refl refl
-timed_status-quiet c set destination Restricted r = set-quiet (name.T10 set destination) c.timers.t10 r (λ link e. cc) refl refl
-timed_status-quiet c set destination Allowed r = clear-quiet (name.T10 set destination) r (λ link e. cc) refl refl
+timed_status-quiet : (c : Configuration) (set destination : ℕ) (status : RouteStatus) (r : Running) → AreQuiet c r (timed_status c set destination status r)
+timed_status-quiet c set destination Prohibited r = set-quiet c (name.T10 set destination) c.timers.t10 r (λ link e. cc) refl refl refl
+timed_status-quiet c set destination Restricted r = set-quiet c (name.T10 set destination) c.timers.t10 r (λ link e. cc) refl refl refl
+timed_status-quiet c set destination Allowed r = clear-quiet c (name.T10 set destination) r (λ link e. cc) refl refl
 
 -- of a point itself nothing is heard that changes anything
 heard-away : (is_own : Bool) (x : Heard) → (if is_own then hears.Ignored else x) ≡ hears.Changed → is_own ≡ false
@@ -34,7 +34,7 @@ module _ {c : Configuration} {R : Node WholeQueues → Node WholeQueues → Type
 
   -- a message that is dropped
   unsent-steps : (cause : Cause) (m : Message) (n : Node WholeQueues) → R n (send whole c (Some cause) None m n)
-  unsent-steps cause m n = s.both _ _ _ (s.lost n) (s.noted (notices.Unsent cause (dpc_of m)) _ (record { lost = λ f. refl; late = λ f. absurd cc }))
+  unsent-steps cause m n = s.lost (notices.Unsent cause (dpc_of m)) n refl
 
   pub by_link-steps : (room : Option Cause) (link : Option ℕ) (m : Message) (n : Node WholeQueues) → link_of c n.parts (flow_of m) ≡ link → R n (send whole c room link m n)
   by_link-steps (Some cause) link m n e = unsent-steps cause m n
@@ -70,7 +70,7 @@ module _ {c : Configuration} {Own Counts : ℕ → Type 0} {R : Node WholeQueues
   tell_owed-steps n = tell_each-steps (owed (facts c n.parts) n.parts.told) n
 
   pub inhibited-steps : (set destination : ℕ) (n : Node WholeQueues) → R n (with_parts n (inhibited c set destination n.parts))
-  inhibited-steps set destination n = s.timed _ n (set-quiet (name.T8 set destination) c.timers.t8 n.parts.timers (λ link e. cc) refl refl)
+  inhibited-steps set destination n = s.timed _ n (set-quiet c (name.T8 set destination) c.timers.t8 n.parts.timers (λ link e. cc) refl refl refl)
 
   prohibit-steps : (set destination : ℕ) (n : Node WholeQueues) → R n (prohibit whole c set destination n)
   prohibit-steps set destination n =
@@ -139,7 +139,7 @@ module _ {c : Configuration} {Own Counts : ℕ → Type 0} {R : Node WholeQueues
 
   ask-steps : (m : Message) (set destination : ℕ) (n : Node WholeQueues) → R n (ask whole c m set destination n)
   ask-steps m set destination n =
-      s.sends.both _ _ _ (s.timed _ n (set-quiet (name.T10 set destination) c.timers.t10 n.parts.timers (λ link e. cc) refl refl))
+      s.sends.both _ _ _ (s.timed _ n (set-quiet c (name.T10 set destination) c.timers.t10 n.parts.timers (λ link e. cc) refl refl refl))
       (send_routed-steps s.sends m (with_parts n (with_next_test whole c set destination n.parts)))
 
   ask_by-steps : (status : Option RouteStatus) (set destination : ℕ) (n : Node WholeQueues) → R n (ask_by whole c status set destination n)

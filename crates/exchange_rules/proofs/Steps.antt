@@ -1,9 +1,11 @@
 -- The steps that rules are made of: each change of a node that a rule makes, with what stands when it makes it. A relation between two nodes that
 -- holds of each step, and of one behind another, holds of every rule, every event and every take (`Stepping..`, `Rules`).
-use Rattle.exchange_rules.proofs.Basics.{◌≡◌, ℕ, Bool, true, false, List, [], length, Option, Some, find, if◌then◌else◌, slice_index_or, option_map}
+use Rattle.exchange_rules.proofs.Basics.{◌≡◌, ℕ, Bool, true, false, refl, List, [], length, Option, Some, find, if◌then◌else◌, slice_index_or, option_map}
 use Rattle.exchange_rules.proofs.Definitions.{Message, flow_of, Notice, FailureReason, Configuration, TitleEntry, Input, Go, Transition, action_at, Sending, LinkTestValue, TimerName, L7, Running, is_running, is_due, Route, RouteStatus, Allowed, leads_by, ToldTable, is_own_point, shape_of, Link, Standing, with_code, HoldSet, Parts, Node, Done, with_parts, lost_any, late_any, is_link, link_at, links_with, with_link, down, in_service, note, flagged, flagged_late, link_of, queue_on, waits, hold, is_adjacent, test_answer, changeover_of, with_changeover, fail_link, declaration, with_titles, step_on, timed_busy, timed_busy_ended, may_open, without_association, open_link, Carrying, carries, numbers, timed_parts, SendsMessage, next_message, after_sending, WholeQueues, whole, HasHoldsFor, tells_of_loss, tells_of_lateness, ChangeoverTimer, Facts, Procedure, lifted, fail, on_changeover_order, on_changeover_acknowledgement, on_changeover_timer, hold_flows, freed, held_by_rerouting}
 use Rattle.std.specs.Prelude.{map, Ok}
 use Rattle.timers.specs.declared.name.TimerName.TheVariants as name
+use Rattle.exchange_rules.specs.TimerSettings.{setting_of, RunsBy}
+use Rattle.signalling_types.specs.declared.notice.Notice.TheVariants as notices
 
 -- timers change, but none that watches a link: the same names exist, each L7 runs that ran, and no timer becomes due
 pub record AreTimed (r s : Running) : Type 0 where
@@ -139,22 +141,49 @@ takes_links (name.L6 link) = true
 takes_links (name.L7 link) = true
 takes_links _ = false
 
--- timers change, but none of these
-pub record AreQuiet (r s : Running) : Type 0 where
+-- the timers of links
+abbrev pub is_of_link : TimerName → Bool
+is_of_link (name.L1 link) = true
+is_of_link (name.L2 link) = true
+is_of_link (name.L3 link) = true
+is_of_link (name.L4 link) = true
+is_of_link (name.L6 link) = true
+is_of_link (name.L7 link) = true
+is_of_link _ = false
+
+-- timers change, but none of a link and none that ends holds, and each that is set is set to its setting
+pub record AreQuiet (c : Configuration) (r s : Running) : Type 0 where
   pub timed : AreTimed r s
   pub endings : (name : TimerName) → ends_holds name ≡ true → s.left name ≡ r.left name
-  pub links : (name : TimerName) → takes_links name ≡ true → s.left name ≡ r.left name
+  pub links : (name : TimerName) → is_of_link name ≡ true → s.left name ≡ r.left name
+  pub set : (name : TimerName) → RunsBy (setting_of c.timers name) (r.left name) (s.left name)
 
--- R holds of the steps of which it is made that a message goes out or is dropped
+-- no notice tells of both
+pub not-both : (notice : Notice) → tells_of_loss notice ≡ true → tells_of_lateness notice ≡ true → ⊥
+not-both (notices.Lost cause point sls) e f = absurd cc
+not-both (notices.Unsent cause point) e f = absurd cc
+not-both (notices.Expired timer link) e f = absurd cc
+not-both (notices.Refused cause link) e f = absurd cc
+not-both (notices.Frame fault link) e f = absurd cc
+not-both (notices.Failed link why) e f = absurd cc
+not-both (notices.Late timer number) e f = absurd cc
+
+-- R holds of the steps of which it is made that a message goes out or is dropped: what may be lost is noted and counted at once
 pub record IsOfSends (c : Configuration) (R : Node WholeQueues → Node WholeQueues → Type 0) : Type 0 where
   pub none : (n : Node WholeQueues) → R n n
   pub both : (n m o : Node WholeQueues) → R n m → R m o → R n o
   pub routed : (link : ℕ) (m : Message) (n : Node WholeQueues) → link_of c n.parts (flow_of m) ≡ Some link → R n (queue_on whole c link m n)
   pub noted : (notice : Notice) (n : Node WholeQueues) → IsTold notice n.parts → R n (with_parts n (note notice n.parts))
-  pub lost : (n : Node WholeQueues) → R n (with_parts n (flagged n.parts))
+  pub lost : (notice : Notice) (n : Node WholeQueues) → tells_of_loss notice ≡ true → R n (with_parts n (flagged (note notice n.parts)))
 
 abbrev pub sends-of : {c : Configuration} {Own Counts : ℕ → Type 0} {R : Node WholeQueues → Node WholeQueues → Type 0} → IsOfSteps c Own Counts R → IsOfSends c R
-sends-of s = record { none = s.none; both = s.both; routed = s.routed; noted = s.noted; lost = s.lost }
+sends-of s = record {
+  none = s.none;
+  both = s.both;
+  routed = s.routed;
+  noted = s.noted;
+  lost = λ notice n e. s.both _ _ _ (s.lost n) (s.noted notice _ (record { lost = λ f. refl; late = λ f. absurd (not-both notice e f) }));
+}
 
 -- R holds of each step that changes none of these, and of each rule that does. So a law may see a hold and its timer as one, which the steps show one
 -- after the other. Where R holds of each step, it holds of each rule (`rules-of`)
@@ -164,8 +193,8 @@ pub record IsOfRules (c : Configuration) (Own Counts : ℕ → Type 0) (R : Node
       → R n (queue_on whole c link (test_answer c point test) n)
   pub held : (m : Message) (n : Node WholeQueues) → waits c n.parts.holds m ≡ true → R n (hold whole m n)
   pub taken_out : (n : Node WholeQueues) → R n (record n { queues = whole.without_held n.queues })
-  pub late : (n : Node WholeQueues) → R n (with_parts n (flagged_late n.parts))
-  pub timed : (r : Running) (n : Node WholeQueues) → AreQuiet n.parts.timers r → R n (with_parts n (record n.parts { timers = r }))
+  pub late : (notice : Notice) (n : Node WholeQueues) → tells_of_lateness notice ≡ true → R n (with_parts n (flagged_late (note notice n.parts)))
+  pub timed : (r : Running) (n : Node WholeQueues) → AreQuiet c n.parts.timers r → R n (with_parts n (record n.parts { timers = r }))
   pub rerouted : (routes : List (List Route)) (n : Node WholeQueues) → AreRerouted n.parts.told n.parts.routes routes → R n (with_parts n (record n.parts { routes = routes }))
   pub told : (t : ToldTable) (n : Node WholeQueues) → AreToldMore n.parts.told t → R n (with_parts n (record n.parts { told = t }))
   pub titled : (rows : List TitleEntry) (n : Node WholeQueues) → R n (with_parts n (with_titles rows n.parts))

@@ -11,7 +11,8 @@ use Rattle.exchange_rules.proofs.Asked.{any, IsOfAll}
 use Rattle.exchange_rules.proofs.SteppingMessages.{send_routed-steps}
 use Rattle.exchange_rules.proofs.SteppingEvents.{run_next-steps}
 use Rattle.exchange_rules.proofs.WillEnding.{untested-alike}
-use Rattle.exchange_rules.proofs.Eased.{Eased, is_waited_for, eased-same, cases-name, less-clear, completed-eased, expired-eased}
+use Rattle.exchange_rules.proofs.Eased.{Eased, is_waited_for, eased-same, less-clear, completed-eased, expired-eased}
+use Rattle.exchange_rules.proofs.TimerSettings.{cases-name}
 
 -- a timer that ends holds is waited for
 waited : (timer : TimerName) → ends_holds timer ≡ true → is_waited_for timer ≡ true
@@ -91,7 +92,7 @@ module _ (c : Configuration) where
     both = bounds-both most;
     routed = λ link m n e. bounds-as most n _ refl;
     noted = λ notice n e. bounds-as most n _ refl;
-    lost = λ n. bounds-as most n _ refl;
+    lost = λ notice n e. bounds-as most n _ refl;
   }
 
   gone-bounds : (link : ℕ) (why : FailureReason) (n : Node WholeQueues) → Bounds most n (make_unavailable whole c true link why n)
@@ -154,7 +155,7 @@ module _ (c : Configuration) where
     tested = λ link point test n e f. bounds-as most n _ refl;
     held = λ m n e. bounds-as most n _ refl;
     taken_out = λ n. bounds-as most n _ refl;
-    late = λ n. bounds-as most n _ refl;
+    late = λ notice n e. bounds-as most n _ refl;
     timed = λ r n e. bounds-same most n _ e.endings;
     rerouted = λ routes n e. bounds-as most n _ refl;
     told = λ t n e. bounds-as most n _ refl;
