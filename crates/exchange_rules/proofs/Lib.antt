@@ -94,6 +94,7 @@ pub mod AligningAll
 pub mod Tested
 pub mod TestedAll
 pub mod TestedTicks
+pub mod TellingOnce
 pub mod Giving
 pub mod Fates
 pub mod NamedLinks
