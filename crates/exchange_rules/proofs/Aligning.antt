@@ -256,8 +256,8 @@ module _ (l : ℕ) where
       held = λ m n e. same n _ refl refl;
       taken_out = λ n. same n _ refl refl;
       late = λ notice n e. same n _ refl refl;
-      timed = λ r n e. alike n _ (record { links = refl; counts = e.timed.counts; timers = e.links });
-      rerouted = λ routes n e. same n _ refl refl;
+      timed = λ r n e k. alike n _ (record { links = refl; counts = e.timed.counts; timers = e.links });
+      rerouted = λ routes n e k. same n _ refl refl;
       told = λ t n e. same n _ refl refl;
       titled = λ rows n. same n _ refl refl;
       linked = λ link x n e.
@@ -267,7 +267,7 @@ module _ (l : ℕ) where
       opened = λ link n own there e f.
           on-link link _ n _ (is-set n.parts.links link _ down_link) (timed-for link c opening n.parts.timers)
           (λ h. waits-opened link c (link_at n.parts link) n.parts.timers h.named (not-associated (link_at n.parts link).association (link_at n.parts link).active e) h.waits);
-      stepped = λ link input step n own e.
+      stepped = λ link input step n own e k.
           on-link link _ n _ (is-set n.parts.links link _ down_link) (timed-for link c step n.parts.timers)
           (λ h. waits-stepped link c (link_at n.parts link) n.parts.timers input step h.named e h.waits);
       busied = λ link n own e f.

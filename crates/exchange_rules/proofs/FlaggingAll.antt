@@ -113,14 +113,14 @@ module _ (about : ℕ → Bool) where
       held = λ m n e. told-flags n _ (same-told n _ refl refl refl) (λ l away. ((lefts l).held m n e).left);
       taken_out = λ n. told-flags n _ (same-told n _ refl refl refl) (λ l away. ((lefts l).taken_out n).left);
       late = λ notice n e. told-flags n _ (late-told notice n _ e refl refl refl) (λ l away. ((lefts l).late notice n e).left);
-      timed = λ r n e. told-flags n _ (same-told n _ refl refl refl) (λ l away. ((lefts l).timed r n e).left);
-      rerouted = λ routes n e. told-flags n _ (same-told n _ refl refl refl) (λ l away. ((lefts l).rerouted routes n e).left);
+      timed = λ r n e k. told-flags n _ (same-told n _ refl refl refl) (λ l away. ((lefts l).timed r n e k).left);
+      rerouted = λ routes n e k. told-flags n _ (same-told n _ refl refl refl) (λ l away. ((lefts l).rerouted routes n e k).left);
       told = λ t n e. told-flags n _ (same-told n _ refl refl refl) (λ l away. ((lefts l).told t n e).left);
       titled = λ rows n. told-flags n _ (same-told n _ refl refl refl) (λ l away. ((lefts l).titled rows n).left);
       linked = λ link x n e. told-flags n _ (same-told n _ refl refl refl) (λ l away. ((lefts l).linked link x n e).left);
       parted = λ link n e. told-flags n _ (same-told n _ refl refl refl) (λ l away. ((lefts l).parted link n e).left);
       opened = λ link n own there e f. told-flags n _ (same-told n _ refl refl refl) (λ l away. ((lefts l).opened link n (its-own link l own away) there e f).left);
-      stepped = λ link input step n own e. told-flags n _ (same-told n _ refl refl refl) (λ l away. ((lefts l).stepped link input step n (its-own link l own away) e).left);
+      stepped = λ link input step n own e k. told-flags n _ (same-told n _ refl refl refl) (λ l away. ((lefts l).stepped link input step n (its-own link l own away) e k).left);
       busied = λ link n own e f. told-flags n _ (same-told n _ refl refl refl) (λ l away. ((lefts l).busied link n (its-own link l own away) e f).left);
       resumed = λ link n own e f. told-flags n _ (same-told n _ refl refl refl) (λ l away. ((lefts l).resumed link n (its-own link l own away) e f).left);
       accepted = λ link d confirmed n own e f. told-flags n _ (same-told n _ refl refl refl) (λ l away. ((lefts l).accepted link d confirmed n (its-own link l own away) e f).left);

@@ -66,14 +66,14 @@ module _ (c : Configuration) where
     held = λ m n e. same-parts c n _ ((places c).held m n e) refl refl refl;
     taken_out = λ n. same-parts c n _ ((places c).taken_out n) refl refl refl;
     late = λ notice n e. same-parts c n _ ((places c).late notice n e) refl refl refl;
-    timed = λ r n e. same-ends c n _ ((places c).timed r n e) refl refl e.endings;
-    rerouted = λ routes n e. same-parts c n _ ((places c).rerouted routes n e) refl refl refl;
+    timed = λ r n e k. same-ends c n _ ((places c).timed r n e k) refl refl e.endings;
+    rerouted = λ routes n e k. same-parts c n _ ((places c).rerouted routes n e k) refl refl refl;
     told = λ t n e. same-parts c n _ ((places c).told t n e) refl refl refl;
     titled = λ rows n. same-parts c n _ ((places c).titled rows n) refl refl refl;
     linked = λ link x n e. same-parts c n _ ((places c).linked link x n e) refl refl refl;
     parted = λ link n e. same-parts c n _ ((places c).parted link n e) refl refl refl;
     opened = λ link n own there e f. same-ends c n _ ((places c).opened link n own there e f) refl refl (timed-for link c opening n.parts.timers).endings;
-    stepped = λ link input step n own e. same-ends c n _ ((places c).stepped link input step n own e) refl refl (timed-for link c step n.parts.timers).endings;
+    stepped = λ link input step n own e k. same-ends c n _ ((places c).stepped link input step n own e k) refl refl (timed-for link c step n.parts.timers).endings;
     busied = λ link n own e f. same-ends c n _ ((places c).busied link n own e f) refl refl (timed_busy-for link c n.parts.timers).endings;
     resumed = λ link n own e f. same-ends c n _ ((places c).resumed link n own e f) refl refl (timed_busy_ended-for link c (whole.outstanding n.queues link) n.parts.timers).endings;
     accepted = λ link d confirmed n own e f.

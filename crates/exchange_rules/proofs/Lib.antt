@@ -33,6 +33,8 @@ pub mod TimerSettings
 pub mod OwnRoutes
 pub mod Serving
 pub mod SteppingTimers
+pub mod KeepingTests
+pub mod ResetFirst
 pub mod SteppingMessages
 pub mod SteppingFailures
 pub mod SteppingReturns
@@ -89,6 +91,10 @@ pub mod LinkWaits
 pub mod Waiting
 pub mod Aligning
 pub mod AligningAll
+pub mod Tested
+pub mod TestedAll
+pub mod TestedTicks
+pub mod TellingOnce
 pub mod Giving
 pub mod Fates
 pub mod NamedLinks

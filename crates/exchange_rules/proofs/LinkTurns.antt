@@ -190,14 +190,14 @@ module _ (c : Configuration) where
     held = λ m n e. bounds-as n _ refl;
     taken_out = λ n. bounds-as n _ refl;
     late = λ notice n e. bounds-as n _ refl;
-    timed = λ r n e. record { stay = λ w. record { each = λ its t x h. w.each its t x (sym (e.links its (taking-link its t)) ∙ h) } };
-    rerouted = λ routes n e. bounds-as n _ refl;
+    timed = λ r n e k. record { stay = λ w. record { each = λ its t x h. w.each its t x (sym (e.links its (taking-link its t)) ∙ h) } };
+    rerouted = λ routes n e k. bounds-as n _ refl;
     told = λ t n e. bounds-as n _ refl;
     titled = λ rows n. bounds-as n _ refl;
     linked = λ link x n e. bounds-as n _ refl;
     parted = λ link n e. bounds-as n _ refl;
     opened = λ link n own there e f. record { stay = timed-within link opening n.parts.timers };
-    stepped = λ link input step n own e. record { stay = timed-within link step n.parts.timers };
+    stepped = λ link input step n own e k. record { stay = timed-within link step n.parts.timers };
     busied = λ link n own e f. record { stay = λ w. set-within link timer.L6 (without_timer link timer.L7 n.parts.timers) (stopped-within link timer.L7 n.parts.timers w) };
     resumed = λ link n own e f. record { stay = resumed-within link (whole.outstanding n.queues link) n.parts.timers };
     accepted = λ link d confirmed n own e f. record {

@@ -23,14 +23,14 @@ module _ {c : Configuration} {Own Counts : ℕ → Type 0} {R : Node WholeQueues
     held = s.held;
     taken_out = s.taken_out;
     late = λ notice n e. s.both _ _ _ (s.late n) (s.noted notice _ (record { lost = λ f. absurd (not-both notice f e); late = λ f. refl }));
-    timed = λ r n e. s.timed r n e.timed;
-    rerouted = s.rerouted;
+    timed = λ r n e k. s.timed r n e.timed;
+    rerouted = λ routes n e k. s.rerouted routes n e;
     told = s.told;
     titled = s.titled;
     linked = s.linked;
     parted = s.parted;
     opened = s.opened;
-    stepped = s.stepped;
+    stepped = λ link input step n own e k. s.stepped link input step n own e;
     busied = s.busied;
     resumed = s.resumed;
     accepted = s.accepted;

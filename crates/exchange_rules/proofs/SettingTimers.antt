@@ -126,14 +126,14 @@ module _ (c : Configuration) where
     held = λ m n e. same n _ refl;
     taken_out = λ n. same n _ refl;
     late = λ notice n e. same n _ refl;
-    timed = λ r n e. record { timers = record { each = e.set } };
-    rerouted = λ routes n e. same n _ refl;
+    timed = λ r n e k. record { timers = record { each = e.set } };
+    rerouted = λ routes n e k. same n _ refl;
     told = λ t n e. same n _ refl;
     titled = λ rows n. same n _ refl;
     linked = λ link x n e. same n _ refl;
     parted = λ link n e. same n _ refl;
     opened = λ link n own there e f. record { timers = timed-set c link opening n.parts.timers };
-    stepped = λ link input step n own e. record { timers = timed-set c link step n.parts.timers };
+    stepped = λ link input step n own e k. record { timers = timed-set c link step n.parts.timers };
     busied = λ link n own e f. record { timers = timed_busy-set c link n.parts.timers };
     resumed = λ link n own e f. record { timers = timed_busy_ended-set c link (whole.outstanding n.queues link) n.parts.timers };
     accepted = λ link d confirmed n own e f. record {

@@ -1,10 +1,11 @@
 -- The steps that rules are made of: each change of a node that a rule makes, with what stands when it makes it. A relation between two nodes that
 -- holds of each step, and of one behind another, holds of every rule, every event and every take (`Stepping..`, `Rules`).
-use Rattle.exchange_rules.proofs.Basics.{◌≡◌, ℕ, Bool, true, false, refl, List, [], length, Option, Some, find, if◌then◌else◌, slice_index_or, option_map}
-use Rattle.exchange_rules.proofs.Definitions.{Message, flow_of, Notice, FailureReason, Configuration, TitleEntry, Input, Go, Transition, action_at, Sending, LinkTestValue, TimerName, L7, Running, is_running, is_due, Route, RouteStatus, Allowed, leads_by, ToldTable, is_own_point, shape_of, Link, Standing, with_code, HoldSet, Parts, Node, Done, with_parts, lost_any, late_any, is_link, link_at, links_with, with_link, down, in_service, note, flagged, flagged_late, link_of, queue_on, waits, hold, is_adjacent, test_answer, changeover_of, with_changeover, fail_link, declaration, with_titles, step_on, timed_busy, timed_busy_ended, may_open, without_association, open_link, Carrying, carries, numbers, timed_parts, SendsMessage, next_message, after_sending, WholeQueues, whole, HasHoldsFor, tells_of_loss, tells_of_lateness, ChangeoverTimer, Facts, Procedure, lifted, fail, on_changeover_order, on_changeover_acknowledgement, on_changeover_timer, hold_flows, freed, held_by_rerouting}
+use Rattle.exchange_rules.proofs.Basics.{◌≡◌, ◌⊎◌, ◌&&◌, not, ℕ, Bool, true, false, refl, List, [], length, Option, Some, find, if◌then◌else◌, slice_index_or, option_map}
+use Rattle.exchange_rules.proofs.Definitions.{set_timer, enters, has_other, set_of, Message, flow_of, Notice, FailureReason, Configuration, TitleEntry, Input, Go, Transition, action_at, Sending, LinkTestValue, TimerName, L7, Running, is_running, is_due, Route, RouteStatus, Allowed, leads_by, ToldTable, is_own_point, shape_of, Link, Standing, with_code, HoldSet, Parts, Node, Done, with_parts, lost_any, late_any, is_link, link_at, links_with, with_link, down, in_service, note, flagged, flagged_late, link_of, queue_on, waits, hold, is_adjacent, test_answer, changeover_of, with_changeover, fail_link, declaration, with_titles, step_on, timed_busy, timed_busy_ended, may_open, without_association, open_link, Carrying, carries, numbers, timed_parts, SendsMessage, next_message, after_sending, WholeQueues, whole, HasHoldsFor, tells_of_loss, tells_of_lateness, ChangeoverTimer, Facts, Procedure, lifted, fail, on_changeover_order, on_changeover_acknowledgement, on_changeover_timer, hold_flows, freed, held_by_rerouting}
 use Rattle.std.specs.Prelude.{map, Ok}
 use Rattle.timers.specs.declared.name.TimerName.TheVariants as name
 use Rattle.exchange_rules.specs.TimerSettings.{setting_of, RunsBy}
+use Rattle.exchange_rules.specs.Testing.{is_unsure}
 use Rattle.signalling_types.specs.declared.notice.Notice.TheVariants as notices
 
 -- timers change, but none that watches a link: the same names exist, each L7 runs that ran, and no timer becomes due
@@ -185,6 +186,26 @@ sends-of s = record {
   lost = λ notice n e. s.both _ _ _ (s.lost n) (s.noted notice _ (record { lost = λ f. refl; late = λ f. absurd (not-both notice e f) }));
 }
 
+-- T10 stops only of a route that is allowed, or isn't there
+pub record KeepsTests (p : Parts) (r : Running) : Type 0 where
+  pub each : (set destination : ℕ) → is_running (name.T10 set destination) p.timers ≡ true → is_running (name.T10 set destination) r ≡ false
+      → is_unsure (status_over set destination p.routes) ≡ false
+
+-- T10 was set last
+pub record IsJustSet (set destination : ℕ) (r : Running) : Type 0 where
+  pub before : Running
+  pub ticks : ℕ
+  pub is : r ≡ set_timer (name.T10 set destination) ticks before
+
+-- a route that isn't allowed now wasn't so before, either, or is tested from now on
+pub record AreTestedAs (p : Parts) (routes : List (List Route)) : Type 0 where
+  pub each : (set destination : ℕ) → is_unsure (status_over set destination routes) ≡ true
+      → (is_unsure (status_over set destination p.routes) ≡ true) ⊎ IsJustSet set destination p.timers
+
+-- where a link is the first of its set to enter service, all routes over that are allowed
+pub record BeginsClean (c : Configuration) (link : ℕ) (step : Transition) (p : Parts) : Type 0 where
+  pub clean : (enters link step p && not (has_other c link p)) ≡ true → (destination : ℕ) → is_unsure (status_over (set_of c link) destination p.routes) ≡ false
+
 -- R holds of each step that changes none of these, and of each rule that does. So a law may see a hold and its timer as one, which the steps show one
 -- after the other. Where R holds of each step, it holds of each rule (`rules-of`)
 pub record IsOfRules (c : Configuration) (Own Counts : ℕ → Type 0) (R : Node WholeQueues → Node WholeQueues → Type 0) : Type 0 where
@@ -194,8 +215,8 @@ pub record IsOfRules (c : Configuration) (Own Counts : ℕ → Type 0) (R : Node
   pub held : (m : Message) (n : Node WholeQueues) → waits c n.parts.holds m ≡ true → R n (hold whole m n)
   pub taken_out : (n : Node WholeQueues) → R n (record n { queues = whole.without_held n.queues })
   pub late : (notice : Notice) (n : Node WholeQueues) → tells_of_lateness notice ≡ true → R n (with_parts n (flagged_late (note notice n.parts)))
-  pub timed : (r : Running) (n : Node WholeQueues) → AreQuiet c n.parts.timers r → R n (with_parts n (record n.parts { timers = r }))
-  pub rerouted : (routes : List (List Route)) (n : Node WholeQueues) → AreRerouted n.parts.told n.parts.routes routes → R n (with_parts n (record n.parts { routes = routes }))
+  pub timed : (r : Running) (n : Node WholeQueues) → AreQuiet c n.parts.timers r → KeepsTests n.parts r → R n (with_parts n (record n.parts { timers = r }))
+  pub rerouted : (routes : List (List Route)) (n : Node WholeQueues) → AreRerouted n.parts.told n.parts.routes routes → AreTestedAs n.parts routes → R n (with_parts n (record n.parts { routes = routes }))
   pub told : (t : ToldTable) (n : Node WholeQueues) → AreToldMore n.parts.told t → R n (with_parts n (record n.parts { told = t }))
   pub titled : (rows : List TitleEntry) (n : Node WholeQueues) → R n (with_parts n (with_titles rows n.parts))
   pub linked : (link : ℕ) (x : Link) (n : Node WholeQueues) → IsSameLink (link_at n.parts link) x → R n (with_parts n (with_link n.parts link x))
@@ -203,7 +224,7 @@ pub record IsOfRules (c : Configuration) (Own Counts : ℕ → Type 0) (R : Node
   pub opened : (link : ℕ) (n : Node WholeQueues) → Counts link → is_link n.parts link ≡ true → may_open (link_at n.parts link) ≡ true
       → (changeover_of n.parts link).incomplete ≡ false → R n (open_link whole c link n)
   pub stepped : (link : ℕ) (input : Input) (step : Transition) (n : Node WholeQueues) → Own link → action_at (link_at n.parts link).alignment input ≡ Go step
-      → R n (with_parts n (step_on c link step n.parts))
+      → BeginsClean c link step n.parts → R n (with_parts n (step_on c link step n.parts))
   pub busied : (link : ℕ) (n : Node WholeQueues) → Own link → in_service n.parts link ≡ true → (link_at n.parts link).peer_busy ≡ false
       → R n (with_parts n (with_busy c link n.parts))
   pub resumed : (link : ℕ) (n : Node WholeQueues) → Own link → in_service n.parts link ≡ true → (link_at n.parts link).peer_busy ≡ true

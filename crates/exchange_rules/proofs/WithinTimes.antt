@@ -156,14 +156,14 @@ module _ (c : Configuration) where
     held = λ m n e. bounds-as most n _ refl;
     taken_out = λ n. bounds-as most n _ refl;
     late = λ notice n e. bounds-as most n _ refl;
-    timed = λ r n e. bounds-same most n _ e.endings;
-    rerouted = λ routes n e. bounds-as most n _ refl;
+    timed = λ r n e k. bounds-same most n _ e.endings;
+    rerouted = λ routes n e k. bounds-as most n _ refl;
     told = λ t n e. bounds-as most n _ refl;
     titled = λ rows n. bounds-as most n _ refl;
     linked = λ link x n e. bounds-as most n _ refl;
     parted = λ link n e. bounds-as most n _ refl;
     opened = λ link n own there e f. bounds-same most n _ (timed-for link c opening n.parts.timers).endings;
-    stepped = λ link input step n own e. bounds-same most n _ (timed-for link c step n.parts.timers).endings;
+    stepped = λ link input step n own e k. bounds-same most n _ (timed-for link c step n.parts.timers).endings;
     busied = λ link n own e f. bounds-same most n _ (timed_busy-for link c n.parts.timers).endings;
     resumed = λ link n own e f. bounds-same most n _ (timed_busy_ended-for link c (whole.outstanding n.queues link) n.parts.timers).endings;
     accepted = λ link d confirmed n own e f.

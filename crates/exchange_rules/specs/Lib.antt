@@ -25,6 +25,7 @@ pub mod Touching
 pub mod Flagging
 pub mod TimerSettings
 pub mod Aligning
+pub mod Testing
 pub mod LastingMessages
 pub mod LastingRoutes
 pub mod LoneRoutes

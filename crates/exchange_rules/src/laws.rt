@@ -27,10 +27,12 @@ ghost use Rattle.exchange_rules.specs.Flagging.{takes_flag_nothing};
 ghost use Rattle.exchange_rules.specs.TimerSettings.{events_set_timers_to_their_settings, timers_keep_their_settings};
 ghost use Rattle.exchange_rules.specs.TimerSettings.{takes_set_timers_to_their_settings};
 ghost use Rattle.exchange_rules.specs.Aligning.{links_have_their_timers};
+ghost use Rattle.exchange_rules.specs.Testing.{unsure_routes_are_tested, tests_are_repeated};
 ghost use Rattle.exchange_rules.specs.LawsOfFailures.{failures_hold_their_flows, failures_by_peer_hold_their_flows};
 ghost use Rattle.exchange_rules.specs.LawsOfFailures.{idle_failures_hold_nothing, idle_failures_by_peer_hold_nothing};
 ghost use Rattle.exchange_rules.specs.LawsOfReturns.{entries_hold_changed_flows, changed_flows_are_held};
 ghost use Rattle.exchange_rules.specs.LawsOfAnswers.{wanted_links_open, queued_stands_last};
+ghost use Rattle.exchange_rules.specs.LawsOfAnswers.{one_answer_within_t8};
 ghost use Rattle.exchange_rules.specs.LawsOfReturns.{returns_keep_holds};
 ghost use Rattle.exchange_rules.specs.LawsOfReturns.{flows_return_by_their_procedures, entries_are_returns};
 
@@ -74,6 +76,12 @@ pub fn links_open_where_they_want_to()
 /// stands there; only what the end of the event releases and tells may follow.
 pub fn queued_messages_stand_last()
     ensures { queued_stands_last }
+{}
+
+/// While T8 of a set and a destination runs, no message from the set that finds no route to the destination is answered
+/// with TFP; and where one is, T8 runs from then on, as long as it is set to (Q.704 §13.2).
+pub fn no_message_is_answered_while_t8_runs()
+    ensures { one_answer_within_t8 }
 {}
 
 /// The move of a completed changeover touches the queue of no other link. In Held the messages that it moves stand
@@ -228,6 +236,14 @@ pub fn messages_for_this_point_are_never_queued()
 /// whatever is taken: what such a point says of itself changes nothing.
 pub fn routes_to_adjacent_points_stay_allowed()
     ensures { own_routes_stay_allowed }
+{}
+
+/// Each route that isn't allowed, over a set with a link in service, is tested, whatever happens and whatever is taken:
+/// its T10 runs. When T10 of such a route runs out, the test for its status goes to the adjacent point, and T10 runs again
+/// (Q.704 §13.5).
+pub fn unsure_routes_are_tested_again_and_again()
+    ensures always { unsure_routes_are_tested }
+    ensures again { tests_are_repeated }
 {}
 
 /// Where the links of one set lead to a point, and no other set leads there, that stays so whatever happens and whatever
