@@ -1,0 +1,5 @@
+pub mod Alike
+pub mod Nodes
+pub mod Places
+pub mod Runs
+pub mod AllRuns
