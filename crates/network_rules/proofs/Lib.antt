@@ -3,3 +3,4 @@ pub mod Nodes
 pub mod Places
 pub mod Runs
 pub mod AllRuns
+pub mod Promised

@@ -2,10 +2,31 @@
 //! exchanges on. The steps are those of `specs/Networks.antt`. Each function says its law by its contract, and does
 //! nothing.
 
+ghost use Rattle.network_rules.specs.Pairs.{books_are_of_the_two, each_flow_in_order, each_message_once};
 ghost use Rattle.network_rules.specs.Pairs.{runs_are_runs_of_neighbours};
 
 /// Each set of a network is a pair of neighbours: by some steps of two neighbours (`neighbour_rules`) the same two
-/// exchanges come to be, with the same in flight between them.
+/// exchanges come to be, with the same books and the same in flight between them.
 pub fn each_set_is_a_pair_of_neighbours()
     ensures { runs_are_runs_of_neighbours }
+{}
+
+/// "Exactly once", in both directions. While neither exchange may have lost a message, as many user messages of any
+/// kind for the other point were accepted at one node as the other received from it and as wait: on the links between
+/// the two, and in Held.
+pub fn each_message_comes_once()
+    ensures { each_message_once }
+{}
+
+/// "Order", in both directions. While neither exchange may have lost a message, and no timer of the accepting node ended
+/// a hold, the user messages of a flow to the other point that one node accepted are, in order, those that the other
+/// received from it, and then those that wait.
+pub fn each_flow_keeps_its_order()
+    ensures { each_flow_in_order }
+{}
+
+/// All that a node booked as accepted for the other is for its point, all that it booked as received from it for its
+/// own, and none of it is of management or testing. This holds whatever has been lost.
+pub fn books_are_of_the_two_points()
+    ensures { books_are_of_the_two }
 {}

@@ -1,0 +1,83 @@
+-- What neighbours promise, two nodes of a network promise.
+use Rattle.pair_rules.proofs.Basics.{◌≡◌, ℕ, refl, ap, sym, subst, ◌∙◌}
+use Rattle.pair_rules.proofs.Definitions.{Configuration, Message, PairState, LostNothing, first_pair}
+use Rattle.std.specs.Prelude.{List}
+use Rattle.exchange_rules.specs.First.{Abstract}
+use Rattle.pair_rules.specs.Pairs.{End}
+use Rattle.pair_rules.specs.Promises.{BothWays, IsPunctual}
+use Rattle.pair_rules.specs.Sharing.{AreSharing}
+use Rattle.neighbour_rules.specs.Neighbours as neighbours
+use Rattle.neighbour_rules.specs.Promises.{AreBooked, EachOnce, InOrder}
+use Rattle.neighbour_rules.specs.Promises as neighbours_promise
+use Rattle.neighbour_rules.proofs.Promised.{each-in-order, each-once}
+use Rattle.neighbour_rules.proofs.Staying.{books-stay}
+use Rattle.network_rules.specs.Networks.{NetworkState, Step, after_steps, first_network}
+use Rattle.network_rules.specs.Pairs.{AllTheWay, AreAlike, ArePairsAlike, AreTheirPoints, IsRunOfNeighbours, NobodySpeaksForThem, books_are_of_the_two, each_flow_in_order, each_message_once, pair_of}
+use Rattle.network_rules.proofs.AllRuns.{runs, steps-keep}
+
+-- ---- a pair that is alike, with its books and exchanges written out
+
+abbrev written_end : (one other : End) → End
+written_end one other = record other { exchange = one.exchange; accepted = one.accepted; received = one.received }
+
+abbrev written : (one other : PairState) → PairState
+written one other = record { near = written_end one.near other.near; far = written_end one.far other.far }
+
+end-written : (near far : Configuration) (one other : End) → AreAlike near far one other → other ≡ written_end one other
+end-written near far one other h =
+    ap (λ (e : Abstract). record other { exchange = e }) h.exchange
+    ∙ ap (λ (ms : List Message). record other { exchange = one.exchange; accepted = ms }) h.accepted
+    ∙ ap (λ (ms : List Message). record other { exchange = one.exchange; accepted = one.accepted; received = ms }) h.received
+
+is-written : (one other : PairState) → ArePairsAlike one other → other ≡ written one other
+is-written one other h =
+    ap (λ (e : End). record other { near = e }) (end-written one.near.exchange.settings one.far.exchange.settings one.near other.near h.near_alike)
+    ∙ ap (λ (e : End). record { near = written_end one.near other.near; far = e }) (end-written one.far.exchange.settings one.near.exchange.settings one.far other.far h.far_alike)
+
+-- ---- what holds of the one, holds of the other
+
+module _ (settings : (point : ℕ) → Configuration) (steps : List Step) (near far : ℕ) (points : AreTheirPoints settings) (sharing : AreSharing (settings near) (settings far))
+    (silent : AllTheWay (NobodySpeaksForThem near far) steps (first_network settings)) where
+  abbrev p : PairState
+  p = pair_of (after_steps steps (first_network settings)) near far
+
+  run : IsRunOfNeighbours p
+  run = runs settings steps near far points sharing silent
+
+  abbrev its : PairState
+  its = written p (neighbours.after_steps run.steps (first_pair p.near.exchange.settings p.far.exchange.settings))
+
+  still-sharing : AreSharing p.near.exchange.settings p.far.exchange.settings
+  still-sharing =
+      subst (λ (c : Configuration). AreSharing c p.far.exchange.settings) (sym (steps-keep steps (first_network settings) near))
+      (subst (AreSharing (settings near)) (sym (steps-keep steps (first_network settings) far)) sharing)
+
+  holds-of : (Statement : PairState → Type 0) → neighbours_promise.Always Statement → Statement its
+  holds-of Statement always =
+      subst Statement (is-written p (neighbours.after_steps run.steps (first_pair p.near.exchange.settings p.far.exchange.settings)) run.is_alike)
+      (always p.near.exchange.settings p.far.exchange.settings run.steps still-sharing)
+
+  once-of : LostNothing p → BothWays EachOnce p
+  once-of kept =
+      let both : BothWays EachOnce its = holds-of (λ (q : PairState). LostNothing q → BothWays EachOnce q) each-once (record { near = kept.near; far = kept.far }) in
+      record { there = both.there; back = both.back }
+
+  order-of : LostNothing p → BothWays (λ (q : PairState). IsPunctual q → InOrder q) p
+  order-of kept =
+      let both : BothWays (λ (q : PairState). IsPunctual q → InOrder q) its =
+      holds-of (λ (q : PairState). LostNothing q → BothWays (λ (r : PairState). IsPunctual r → InOrder r) q) each-in-order (record { near = kept.near; far = kept.far }) in
+      record { there = both.there; back = both.back }
+
+  books-of : BothWays AreBooked p
+  books-of =
+      let both : BothWays AreBooked its = holds-of (BothWays AreBooked) books-stay in
+      record { there = record { accepted = both.there.accepted; received = both.there.received }; back = record { accepted = both.back.accepted; received = both.back.received } }
+
+pub once : each_message_once
+once settings steps near far points sharing silent = once-of settings steps near far points sharing silent
+
+pub order : each_flow_in_order
+order settings steps near far points sharing silent = order-of settings steps near far points sharing silent
+
+pub books : books_are_of_the_two
+books settings steps near far points sharing silent = books-of settings steps near far points sharing silent
