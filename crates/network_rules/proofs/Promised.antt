@@ -1,18 +1,21 @@
 -- What neighbours promise, two nodes of a network promise.
 use Rattle.pair_rules.proofs.Basics.{◌≡◌, ℕ, refl, ap, sym, subst, ◌∙◌}
-use Rattle.pair_rules.proofs.Definitions.{Configuration, Message, PairState, LostNothing, first_pair}
+use Rattle.pair_rules.proofs.Definitions.{Configuration, Message, PairState, LostNothing, first_pair, turned}
 use Rattle.std.specs.Prelude.{List}
 use Rattle.exchange_rules.specs.First.{Abstract}
 use Rattle.pair_rules.specs.Pairs.{End}
 use Rattle.pair_rules.specs.Promises.{BothWays, IsPunctual}
 use Rattle.pair_rules.specs.Sharing.{AreSharing}
 use Rattle.neighbour_rules.specs.Neighbours as neighbours
-use Rattle.neighbour_rules.specs.Promises.{AreBooked, EachOnce, InOrder}
+use Rattle.neighbour_rules.specs.Awaiting.{AwaitsNothingInVain}
+use Rattle.neighbour_rules.specs.Promises.{AreBooked, EachOnce, InOrder, StaysBetween}
+use Rattle.pair_rules.specs.Awaiting.{HoldInNoVain}
 use Rattle.neighbour_rules.specs.Promises as neighbours_promise
 use Rattle.neighbour_rules.proofs.Promised.{each-in-order, each-once}
-use Rattle.neighbour_rules.proofs.Staying.{books-stay}
+use Rattle.neighbour_rules.proofs.Awaited.{nothing-in-vain}
+use Rattle.neighbour_rules.proofs.Staying.{books-stay, held-in-no-vain, stay-between}
 use Rattle.network_rules.specs.Networks.{NetworkState, Step, after_steps, first_network}
-use Rattle.network_rules.specs.Pairs.{AllTheWay, AreAlike, ArePairsAlike, AreTheirPoints, IsRunOfNeighbours, NobodySpeaksForThem, books_are_of_the_two, each_flow_in_order, each_message_once, pair_of}
+use Rattle.network_rules.specs.Pairs.{AllTheWay, AreAlike, ArePairsAlike, AreTheirPoints, IsRunOfNeighbours, NobodySpeaksForThem, books_are_of_the_two, each_flow_in_order, each_message_once, flows_stay_between, nothing_is_awaited_in_vain, nothing_is_held_in_vain, pair_of}
 use Rattle.network_rules.proofs.AllRuns.{runs, steps-keep}
 
 -- ---- a pair that is alike, with its books and exchanges written out
@@ -73,6 +76,26 @@ module _ (settings : (point : ℕ) → Configuration) (steps : List Step) (near 
       let both : BothWays AreBooked its = holds-of (BothWays AreBooked) books-stay in
       record { there = record { accepted = both.there.accepted; received = both.there.received }; back = record { accepted = both.back.accepted; received = both.back.received } }
 
+  awaited-of : LostNothing p → BothWays AwaitsNothingInVain p
+  awaited-of kept =
+      let both : BothWays AwaitsNothingInVain its =
+      holds-of (λ (q : PairState). LostNothing q → BothWays AwaitsNothingInVain q) nothing-in-vain (record { near = kept.near; far = kept.far }) in
+      record { there = record { answers = both.there.answers; codes = both.there.codes }; back = record { answers = both.back.answers; codes = both.back.codes } }
+
+  stays : (q r : PairState) → StaysBetween (written q r) → StaysBetween q
+  stays q r s = record { destination = s.destination; known = s.known; set = s.set; leads = s.leads; route = s.route; flows = s.flows; elsewhere = s.elsewhere }
+
+  flows-of : BothWays StaysBetween p
+  flows-of =
+      let q : PairState = neighbours.after_steps run.steps (first_pair p.near.exchange.settings p.far.exchange.settings) in
+      let both : BothWays StaysBetween its = holds-of (BothWays StaysBetween) stay-between in
+      record { there = stays p q both.there; back = stays (turned p) (turned q) both.back }
+
+  held-of : HoldInNoVain p
+  held-of =
+      let both : HoldInNoVain its = holds-of HoldInNoVain held-in-no-vain in
+      record { near = both.near; far = both.far }
+
 pub once : each_message_once
 once settings steps near far points sharing silent = once-of settings steps near far points sharing silent
 
@@ -81,3 +104,12 @@ order settings steps near far points sharing silent = order-of settings steps ne
 
 pub books : books_are_of_the_two
 books settings steps near far points sharing silent = books-of settings steps near far points sharing silent
+
+pub awaited : nothing_is_awaited_in_vain
+awaited settings steps near far points sharing silent = awaited-of settings steps near far points sharing silent
+
+pub flows : flows_stay_between
+flows settings steps near far points sharing silent = flows-of settings steps near far points sharing silent
+
+pub held : nothing_is_held_in_vain
+held settings steps near far points sharing silent = held-of settings steps near far points sharing silent

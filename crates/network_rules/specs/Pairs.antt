@@ -4,11 +4,13 @@ use Rattle.std.specs.Prelude.{◌≡◌, ℕ, Bool, true, false, not, List, ◌�
 use Rattle.signalling_types.specs.Message.{Message}
 use Rattle.settings_rows.specs.Configuration.{Configuration}
 use Rattle.pair_rules.specs.Pairs.{End, PairState, Streams, first_pair, in_flight, may_follow}
+use Rattle.pair_rules.specs.Awaiting.{HoldInNoVain}
 use Rattle.pair_rules.specs.Promises.{BothWays, IsPunctual, LostNothing}
 use Rattle.pair_rules.specs.Sharing.{AreSharing}
 use Rattle.neighbour_rules.specs.Neighbours as neighbours
 use Rattle.neighbour_rules.specs.Neighbours.{leads_elsewhere, leads_elsewhere_by, speaks_for_either, users_to}
-use Rattle.neighbour_rules.specs.Promises.{AreBooked, EachOnce, InOrder}
+use Rattle.neighbour_rules.specs.Awaiting.{AwaitsNothingInVain}
+use Rattle.neighbour_rules.specs.Promises.{AreBooked, EachOnce, InOrder, StaysBetween}
 use Rattle.network_rules.specs.Networks.{Arrival, NetworkNode, NetworkState, Step, after_step, after_steps, first_network}
 
 -- ---- two nodes as a pair
@@ -116,6 +118,16 @@ each_message_once = Always (λ p. LostNothing p → BothWays EachOnce p)
 abbrev pub each_flow_in_order : Type 0
 each_flow_in_order = Always (λ p. LostNothing p → BothWays (λ q. IsPunctual q → InOrder q) p)
 
--- the books of the two, whatever has been lost
+-- nothing is awaited in vain
+abbrev pub nothing_is_awaited_in_vain : Type 0
+nothing_is_awaited_in_vain = Always (λ p. LostNothing p → BothWays AwaitsNothingInVain p)
+
+-- whatever has been lost: the books of the two; where their flows to each other go; and that nothing is held in vain
 abbrev pub books_are_of_the_two : Type 0
 books_are_of_the_two = Always (λ p. BothWays AreBooked p)
+
+abbrev pub flows_stay_between : Type 0
+flows_stay_between = Always (λ p. BothWays StaysBetween p)
+
+abbrev pub nothing_is_held_in_vain : Type 0
+nothing_is_held_in_vain = Always HoldInNoVain

@@ -3,6 +3,7 @@
 //! nothing.
 
 ghost use Rattle.network_rules.specs.Pairs.{books_are_of_the_two, each_flow_in_order, each_message_once};
+ghost use Rattle.network_rules.specs.Pairs.{flows_stay_between, nothing_is_awaited_in_vain, nothing_is_held_in_vain};
 ghost use Rattle.network_rules.specs.Pairs.{runs_are_runs_of_neighbours};
 
 /// Each set of a network is a pair of neighbours: by some steps of two neighbours (`neighbour_rules`) the same two
@@ -29,4 +30,23 @@ pub fn each_flow_keeps_its_order()
 /// own, and none of it is of management or testing. This holds whatever has been lost.
 pub fn books_are_of_the_two_points()
     ensures { books_are_of_the_two }
+{}
+
+/// Nothing is awaited in vain, in both directions. While neither exchange may have lost a message: while a node awaits
+/// the answer to its order to change over from a link between the two (Q.704 §5.4), or a code of their set awaits its
+/// acknowledgement (Q.704 §6.3), exactly one message that brings it is under way. Else none is.
+pub fn nothing_is_awaited_in_vain()
+    ensures { nothing_is_awaited_in_vain }
+{}
+
+/// The route to the other point stays allowed: each flow there that has a link has one that leads there, and no user
+/// message for it stands on a link that leads elsewhere (Q.704 §4.2). This holds whatever has been lost.
+pub fn flows_stay_between_the_two()
+    ensures { flows_stay_between }
+{}
+
+/// Nothing is held in vain, at either node: each hold has its timer or its word (Q.704 §16.8). This holds whatever has
+/// been lost.
+pub fn nothing_is_held_in_vain()
+    ensures { nothing_is_held_in_vain }
 {}
