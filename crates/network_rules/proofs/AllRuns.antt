@@ -4,16 +4,15 @@ use Rattle.pair_rules.proofs.Definitions.{Configuration, FrameValue, Open, Nothi
 use Rattle.exchange_rules.specs.declared.wants.Wants.{Wants}
 use Rattle.pair_rules.specs.Pairs as pairs
 use Rattle.pair_rules.specs.Pairs.{Doing, in_flight, may_follow, with_status_twice, without_data, without_status}
-use Rattle.pair_rules.specs.Promises.{BothWays}
 use Rattle.pair_rules.specs.Sharing.{AreSharing}
 use Rattle.neighbour_rules.specs.Neighbours as neighbours
 use Rattle.neighbour_rules.proofs.Sharing.{AreFacing, are-facing}
 use Rattle.network_rules.specs.Networks.{NetworkNode, NetworkState, Place, Step, after_step, after_steps, change_statuses, changed, comes_up, deliver_frame, did, did_here, end_of, first_network, is_led, may_open_there, opens_first, opens_second, other_end, place_there, reaches, sends, take_frame}
 use Rattle.pair_rules.proofs.Definitions.{Streams}
-use Rattle.network_rules.specs.Pairs.{AllTheWay, AreTheirPoints, ArePairsAlike, HearsNothingElsewhere, IsRunOfNeighbours, NobodySpeaksForThem, pair_between, pair_of, runs_are_runs_of_neighbours}
+use Rattle.network_rules.specs.Pairs.{AllTheWay, AreTheirPoints, ArePairsAlike, NobodySpeaksForThem, pair_between, pair_of, runs_are_runs_of_neighbours}
 use Rattle.network_rules.proofs.Alike.{away}
-use Rattle.network_rules.proofs.Nodes.{Next, idle, led-away, reach-away}
-use Rattle.network_rules.proofs.Places.{IsNamed, named-away, node-other, node-same, not-equal, place-named}
+use Rattle.network_rules.proofs.Nodes.{idle, led-away, reach-away}
+use Rattle.network_rules.proofs.Places.{IsNamed, named-away, not-equal, place-named}
 use Rattle.network_rules.proofs.Runs.{NextOf, alike-turned, near-next, next-turned, past-far, past-near, still-next}
 
 -- ---- settings stay

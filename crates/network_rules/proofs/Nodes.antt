@@ -2,7 +2,7 @@
 use Rattle.pair_rules.proofs.Basics.{◌≡◌, ℕ, Bool, true, false, not, List, [], ◌∷◌, ◌++◌, Option, Some, None, refl, ap, sym, subst, ◌∙◌, append-nil, map, filter, option_to_list, slice_get, slice_set, slice_index_or, length, length-set, if◌then◌else◌}
 use Rattle.std.proofs.lemmas.List.Elements.{filter-append}
 use Rattle.std.proofs.lemmas.List.{map-append}
-use Rattle.pair_rules.proofs.Definitions.{Message, Configuration, FrameValue, Happening, CameUp, FrameCame, Submitted, WholeQueues, whole, after, brought_in, new_message, PairState, Streams, turned, in_flight, happens, may_follow, wants_of, frame_to_take, Open, Nothing, Close}
+use Rattle.pair_rules.proofs.Definitions.{Message, Configuration, FrameValue, Happening, CameUp, FrameCame, Submitted, whole, after, brought_in, new_message, PairState, Streams, happens, may_follow, wants_of, frame_to_take, Open, Nothing, Close}
 use Rattle.pair_rules.specs.Pairs as pairs
 use Rattle.pair_rules.specs.Pairs.{emptied, may_open_at}
 use Rattle.exchange_rules.specs.declared.wants.Wants.{Wants}

@@ -1,5 +1,5 @@
 -- Where the other end of a link is: between the two, or elsewhere.
-use Rattle.pair_rules.proofs.Basics.{◌≡◌, ◌≢◌, ◌<◌, ℕ, Bool, true, false, not, ◌&&◌, List, [], Option, Some, None, length, nat_eq, refl, ap, sym, subst, ◌∙◌, arith, if◌then◌else◌, slice_get, slice_index_or, option_map, option_and_then, eq-eqb, nat_tests}
+use Rattle.pair_rules.proofs.Basics.{◌≡◌, ◌≢◌, ◌<◌, ℕ, Bool, true, false, not, ◌&&◌, [], Option, Some, None, length, nat_eq, refl, ap, sym, subst, ◌∙◌, arith, if◌then◌else◌, slice_get, slice_index_or, option_map, option_and_then, eq-eqb, nat_tests}
 use Rattle.std.proofs.lemmas.List.Quantifiers.{position-Some}
 use Rattle.std.proofs.lemmas.Option.{slice_get-get_or}
 use Rattle.exchange_rules.proofs.Basics.{eqb-true}

@@ -1,5 +1,5 @@
 -- What neighbours promise, two nodes of a network promise.
-use Rattle.pair_rules.proofs.Basics.{◌≡◌, ℕ, refl, ap, sym, subst, ◌∙◌}
+use Rattle.pair_rules.proofs.Basics.{◌≡◌, ℕ, ap, sym, subst, ◌∙◌}
 use Rattle.pair_rules.proofs.Definitions.{Configuration, Message, PairState, LostNothing, first_pair, turned}
 use Rattle.std.specs.Prelude.{List}
 use Rattle.exchange_rules.specs.First.{Abstract}
@@ -14,7 +14,7 @@ use Rattle.neighbour_rules.specs.Promises as neighbours_promise
 use Rattle.neighbour_rules.proofs.Promised.{each-in-order, each-once}
 use Rattle.neighbour_rules.proofs.Awaited.{nothing-in-vain}
 use Rattle.neighbour_rules.proofs.Staying.{books-stay, held-in-no-vain, stay-between}
-use Rattle.network_rules.specs.Networks.{NetworkState, Step, after_steps, first_network}
+use Rattle.network_rules.specs.Networks.{Step, after_steps, first_network}
 use Rattle.network_rules.specs.Pairs.{AllTheWay, AreAlike, ArePairsAlike, AreTheirPoints, IsRunOfNeighbours, NobodySpeaksForThem, books_are_of_the_two, each_flow_in_order, each_message_once, flows_stay_between, nothing_is_awaited_in_vain, nothing_is_held_in_vain, pair_of}
 use Rattle.network_rules.proofs.AllRuns.{runs, steps-keep}
 

@@ -1,15 +1,14 @@
 -- A step of a network is at most one step of each two of its nodes that share a set; and so are lists of steps.
-use Rattle.pair_rules.proofs.Basics.{◌≡◌, ◌≢◌, ℕ, Bool, true, false, List, [], ◌∷◌, ◌++◌, Option, Some, None, refl, ap, sym, subst, ◌∙◌, map, nat_eq, slice_get, if◌then◌else◌, ⊎_elim, cases_eq, eq-eqb}
-use Rattle.pair_rules.proofs.Definitions.{Configuration, LinkEntry, FrameValue, Open, Nothing, Close, Happening, whole, PairState, Streams, turned, in_flight, may_follow, wants_of, frame_to_take, link_with_code}
+use Rattle.pair_rules.proofs.Basics.{◌≡◌, ◌≢◌, ℕ, Bool, true, false, List, [], ◌∷◌, Option, Some, None, refl, ap, sym, subst, ◌∙◌, map, slice_get, ⊎_elim, cases_eq}
+use Rattle.pair_rules.proofs.Definitions.{Configuration, LinkEntry, FrameValue, Open, Nothing, Close, whole, PairState, turned, in_flight, may_follow, wants_of, frame_to_take, link_with_code}
 use Rattle.exchange_rules.specs.State.{WentDown, Ticked, Activated, Deactivated, TitleAdded, TitleRemoved}
 use Rattle.exchange_rules.specs.declared.wants.Wants.{Wants}
 use Rattle.exchange_rules.specs.First.{Abstract}
 use Rattle.pair_rules.specs.Pairs as pairs
 use Rattle.pair_rules.specs.Pairs.{Doing, may_open_at, with_status_twice, without_data, without_status}
-use Rattle.pair_rules.specs.Promises.{BothWays}
 use Rattle.neighbour_rules.specs.Neighbours as neighbours
 use Rattle.neighbour_rules.specs.Neighbours.{AtFar, AtNear, Does}
-use Rattle.network_rules.specs.Networks.{NetworkNode, NetworkState, Place, change_statuses, changed, comes_up, deliver_frame, did, did_here, end_of, is_led, may_open_there, opens_first, opens_second, place_there, reaches, sends, take_frame}
+use Rattle.network_rules.specs.Networks.{NetworkNode, NetworkState, Place, changed, comes_up, did, did_here, end_of, is_led, may_open_there, opens_first, place_there, reaches, sends, take_frame}
 use Rattle.network_rules.specs.Pairs.{ArePairsAlike, HearsNothingElsewhere, pair_between, pair_of}
 use Rattle.network_rules.proofs.Alike.{away, data-away, statuses-away, twice-alike, without_data-alike, without_status-alike}
 use Rattle.network_rules.proofs.Nodes.{Next, away-changed, away-first, away-heard, away-second, changed-pair, first-pair, happens-pair, heard-pair, idle, led-away, reach-away, second-pair, sent-nowhere, sent-there, submit-pair}
