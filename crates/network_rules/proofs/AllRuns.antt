@@ -71,7 +71,7 @@ first-keeps Open false point link there w other = refl
 first-keeps Nothing may point link there w other = refl
 first-keeps Close may point link there w other = refl
 
-did-keeps : (what : Doing) (point : ℕ) (w : NetworkState) (other : ℕ) → ((did what point w).node other).exchange.settings ≡ (w.node other).exchange.settings
+pub did-keeps : (what : Doing) (point : ℕ) (w : NetworkState) (other : ℕ) → ((did what point w).node other).exchange.settings ≡ (w.node other).exchange.settings
 did-keeps (pairs.Submits m) point w other = changed-keeps point (did_here (pairs.Submits m)) w (here-keeps (pairs.Submits m)) other
 did-keeps (pairs.Takes link) point w other = take-keeps (frame_to_take whole (w.node point).exchange link) point link (other_end w point link) w other
 did-keeps (pairs.Delivers link) point w other = changed-keeps point (did_here (pairs.Delivers link)) w (here-keeps (pairs.Delivers link)) other
@@ -98,7 +98,7 @@ steps-keep (step ∷ steps) w other = steps-keep steps (after_step step w) other
 pub record HasPoints (w : NetworkState) : Type 0 where
   pub own : (point : ℕ) → (w.node point).exchange.settings.own ≡ point
 
-still-points : (w v : NetworkState) → ((point : ℕ) → (v.node point).exchange.settings ≡ (w.node point).exchange.settings) → HasPoints w → HasPoints v
+pub still-points : (w v : NetworkState) → ((point : ℕ) → (v.node point).exchange.settings ≡ (w.node point).exchange.settings) → HasPoints w → HasPoints v
 still-points w v same h = record { own = λ point. ap (λ (c : Configuration). c.own) (same point) ∙ h.own point }
 
 -- ---- a third node does something
@@ -186,7 +186,7 @@ module _ (near far : ℕ) (apart : near ≢ far) (w : NetworkState) (own : HasPo
 -- ---- any node does
 
 module _ (near far : ℕ) (apart : near ≢ far) where
-  step-next : (step : Step) (w : NetworkState) (p : PairState) → HasPoints w → ArePairsAlike (pair_of w near far) p → NobodySpeaksForThem near far w
+  pub step-next : (step : Step) (w : NetworkState) (p : PairState) → HasPoints w → ArePairsAlike (pair_of w near far) p → NobodySpeaksForThem near far w
       → NextOf near far apart (after_step step w) p
   step-next step w p own h silent =
       ⊎_elim
@@ -220,7 +220,7 @@ module _ (near far : ℕ) (apart : near ≢ far) where
 
 -- ---- from the first on
 
-first-alike : (settings : (point : ℕ) → Configuration) (near far : ℕ) → ArePairsAlike (pair_of (first_network settings) near far) (first_pair (settings near) (settings far))
+pub first-alike : (settings : (point : ℕ) → Configuration) (near far : ℕ) → ArePairsAlike (pair_of (first_network settings) near far) (first_pair (settings near) (settings far))
 first-alike settings near far = record {
   near_alike = record {
     exchange = refl;

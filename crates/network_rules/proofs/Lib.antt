@@ -4,3 +4,10 @@ pub mod Places
 pub mod Runs
 pub mod AllRuns
 pub mod Promised
+pub mod Passing
+pub mod PassingEvents
+pub mod Signals
+pub mod Texts
+pub mod Ends
+pub mod Thirds
+pub mod Quiet

@@ -33,8 +33,8 @@ module _ (c z : Configuration) (point slc link : ℕ) where
   abbrev no_set : SetEntry
   no_set = record { name = []; adjacent = 0 }
 
-  of-set : (set : ℕ) → set_place c point ≡ Some set → link_in_set c slc set ≡ Some link → nat_eq point z.own ≡ false → leads_elsewhere_by c z (slice_get c.links link) ≡ true
-  of-set set e f d =
+  of-set : (set : ℕ) → set_place c point ≡ Some set → link_in_set c slc set ≡ Some link → leads_elsewhere_by c z (slice_get c.links link) ≡ not (nat_eq point z.own)
+  of-set set e f =
       let found : (link < length c.links) × ((nat_eq (slice_index_or c.links link no_link).set set && nat_eq (slice_index_or c.links link no_link).slc slc) ≡ true)
       × ((k : ℕ) → k < link → (nat_eq (slice_index_or c.links k no_link).set set && nat_eq (slice_index_or c.links k no_link).slc slc) ≡ false) = position-Some _ c.links link no_link f in
       let its : (set < length c.sets) × (nat_eq point (slice_index_or c.sets set no_set).adjacent ≡ true)
@@ -42,14 +42,17 @@ module _ (c z : Configuration) (point slc link : ℕ) where
       let same : (slice_index_or c.links link no_link).set ≡ set = eqb-true _ _ (left-true _ _ found.1) in
       ap (leads_elsewhere_by c z) (slice_get-get_or c.links link no_link found.0)
       ∙ ap (λ (s : ℕ). not (nat_eq (adjacent_of c s) z.own)) same
-      ∙ ap (λ (n : ℕ). not (nat_eq n z.own)) (sym (eqb-true _ _ its.1)) ∙ ap not d
+      ∙ ap (λ (n : ℕ). not (nat_eq n z.own)) (sym (eqb-true _ _ its.1))
+
+  pub named-leads : link_with_code c point slc ≡ Some link → leads_elsewhere_by c z (slice_get c.links link) ≡ not (nat_eq point z.own)
+  named-leads e = by (set_place c point) refl
+    where
+      by : (set : Option ℕ) → set_place c point ≡ set → leads_elsewhere_by c z (slice_get c.links link) ≡ not (nat_eq point z.own)
+      by (Some set) f = of-set set f (sym (ap (option_and_then (link_in_set c slc)) f) ∙ e)
+      by None f = absurd (let no : None ≡ Some link = sym (ap (option_and_then (link_in_set c slc)) f) ∙ e in cc)
 
   pub named-away : link_with_code c point slc ≡ Some link → nat_eq point z.own ≡ false → leads_elsewhere_by c z (slice_get c.links link) ≡ true
-  named-away e d = by (set_place c point) refl
-    where
-      by : (set : Option ℕ) → set_place c point ≡ set → leads_elsewhere_by c z (slice_get c.links link) ≡ true
-      by (Some set) f = of-set set f (sym (ap (option_and_then (link_in_set c slc)) f) ∙ e) d
-      by None f = absurd (let no : None ≡ Some link = sym (ap (option_and_then (link_in_set c slc)) f) ∙ e in cc)
+  named-away e d = named-leads e ∙ ap not d
 
 -- ---- the other end of a link
 

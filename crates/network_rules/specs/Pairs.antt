@@ -1,8 +1,9 @@
 -- What two nodes of a network that share a link set have between them is what two neighbours have: so what neighbours
 -- promise holds between any two nodes of a network that share a set.
-use Rattle.std.specs.Prelude.{◌≡◌, ℕ, true, false, not, List, ◌∷◌, [], filter, length, map, Some, slice_get}
+use Rattle.std.specs.Prelude.{◌≡◌, ◌⊎◌, ℕ, true, false, not, List, ◌∷◌, [], filter, length, map, Some, slice_get}
 use Rattle.signalling_types.specs.Message.{Message}
 use Rattle.settings_rows.specs.Configuration.{Configuration}
+use Rattle.settings.specs.Well.{IsWell}
 use Rattle.pair_rules.specs.Pairs.{End, PairState, Streams, first_pair, in_flight, may_follow}
 use Rattle.pair_rules.specs.Awaiting.{HoldInNoVain}
 use Rattle.pair_rules.specs.Promises.{BothWays, IsPunctual, LostNothing}
@@ -80,6 +81,10 @@ pub record IsRunOfNeighbours (p : PairState) : Type 0 where
 -- each node is told the point at which it is
 abbrev pub AreTheirPoints : ((point : ℕ) → Configuration) → Type 0
 AreTheirPoints settings = (point : ℕ) → (settings point).own ≡ point
+
+-- each keeps every limit, as accepted settings do, or has no link
+abbrev pub AreWellOrAlone : ((point : ℕ) → Configuration) → Type 0
+AreWellOrAlone settings = (point : ℕ) → IsWell (settings point) ⊎ ((settings point).links ≡ [])
 
 -- the frame that comes next to the near end by a link that leads elsewhere carries no management of one of the two for
 -- the other
