@@ -1,15 +1,16 @@
--- Any step of a network, and lists of them.
+-- Any step of a network, and where it begins.
 use Rattle.pair_rules.proofs.Basics.{◌≡◌, ◌≢◌, ℕ, Bool, true, false, List, [], ◌∷◌, ◌++◌, Option, Some, None, refl, ap, sym, subst, ◌∙◌, nat_eq, slice_get, if◌then◌else◌, ⊎_elim, cases_eq}
 use Rattle.pair_rules.proofs.Definitions.{Configuration, FrameValue, Open, Nothing, Close, whole, PairState, turned, wants_of, frame_to_take, link_with_code, first_pair}
 use Rattle.exchange_rules.specs.declared.wants.Wants.{Wants}
 use Rattle.pair_rules.specs.Pairs as pairs
 use Rattle.pair_rules.specs.Pairs.{Doing, in_flight, may_follow, with_status_twice, without_data, without_status}
+use Rattle.pair_rules.specs.Promises.{BothWays}
 use Rattle.pair_rules.specs.Sharing.{AreSharing}
 use Rattle.neighbour_rules.specs.Neighbours as neighbours
 use Rattle.neighbour_rules.proofs.Sharing.{AreFacing, are-facing}
 use Rattle.network_rules.specs.Networks.{NetworkNode, NetworkState, Place, Step, after_step, after_steps, change_statuses, changed, comes_up, deliver_frame, did, did_here, end_of, first_network, is_led, may_open_there, opens_first, opens_second, other_end, place_there, reaches, sends, take_frame}
 use Rattle.pair_rules.proofs.Definitions.{Streams}
-use Rattle.network_rules.specs.Pairs.{AllTheWay, AreTheirPoints, ArePairsAlike, NobodySpeaksForThem, pair_between, pair_of, runs_are_runs_of_neighbours}
+use Rattle.network_rules.specs.Pairs.{AreTheirPoints, ArePairsAlike, HearsNothingElsewhere, pair_between, pair_of}
 use Rattle.network_rules.proofs.Alike.{away}
 use Rattle.network_rules.proofs.Nodes.{idle, led-away, reach-away}
 use Rattle.network_rules.proofs.Places.{IsNamed, named-away, not-equal, place-named}
@@ -186,7 +187,7 @@ module _ (near far : ℕ) (apart : near ≢ far) (w : NetworkState) (own : HasPo
 -- ---- any node does
 
 module _ (near far : ℕ) (apart : near ≢ far) where
-  pub step-next : (step : Step) (w : NetworkState) (p : PairState) → HasPoints w → ArePairsAlike (pair_of w near far) p → NobodySpeaksForThem near far w
+  pub step-next : (step : Step) (w : NetworkState) (p : PairState) → HasPoints w → ArePairsAlike (pair_of w near far) p → BothWays HearsNothingElsewhere (pair_of w near far)
       → NextOf near far apart (after_step step w) p
   step-next step w p own h silent =
       ⊎_elim
@@ -201,22 +202,9 @@ module _ (near far : ℕ) (apart : near ≢ far) where
       (cases_eq step.point far))
       (cases_eq step.point near)
 
-  steps-join : (one other : List neighbours.Step) (p : PairState) → neighbours.after_steps (one ++ other) p ≡ neighbours.after_steps other (neighbours.after_steps one p)
+  pub steps-join : (one other : List neighbours.Step) (p : PairState) → neighbours.after_steps (one ++ other) p ≡ neighbours.after_steps other (neighbours.after_steps one p)
   steps-join [] other p = refl
   steps-join (step ∷ one) other p = steps-join one other (neighbours.turn step p).left
-
-  steps-next : (steps : List Step) (w : NetworkState) (p : PairState) → HasPoints w → ArePairsAlike (pair_of w near far) p → AllTheWay (NobodySpeaksForThem near far) steps w
-      → NextOf near far apart (after_steps steps w) p
-  steps-next [] w p own h silent = idle (w.node near) (w.node far) p h
-  steps-next (step ∷ steps) w p own h silent =
-      let v : NetworkState = after_step step w in
-      let one : NextOf near far apart v p = step-next step w p own h silent.0 in
-      let others : NextOf near far apart (after_steps steps v) (neighbours.after_steps one.steps p) =
-      steps-next steps v (neighbours.after_steps one.steps p) (still-points w v (did-keeps step.what step.point w) own) one.pair silent.1 in
-      record {
-        steps = one.steps ++ others.steps;
-        pair = subst (ArePairsAlike (pair_of (after_steps steps v) near far)) (sym (steps-join one.steps others.steps p)) others.pair;
-      }
 
 -- ---- from the first on
 
@@ -244,17 +232,3 @@ pub are-apart : (settings : (point : ℕ) → Configuration) (near far : ℕ) �
 are-apart settings near far points sharing =
     let facing : AreFacing (settings near) (settings far) = are-facing (settings near) (settings far) sharing in
     λ e. facing.apart (points near ∙ e ∙ sym (points far))
-
-pub runs : runs_are_runs_of_neighbours
-runs settings steps near far points sharing silent =
-    let first : PairState = first_pair (settings near) (settings far) in
-    let w : NetworkState = after_steps steps (first_network settings) in
-    let n : NextOf near far (are-apart settings near far points sharing) w first =
-    steps-next near far (are-apart settings near far points sharing) steps (first_network settings) first (record { own = points }) (first-alike settings near far) silent in
-    record {
-      steps = n.steps;
-      is_alike =
-          subst (λ (c : Configuration). ArePairsAlike (pair_of w near far) (neighbours.after_steps n.steps (first_pair c (w.node far).exchange.settings))) (sym (steps-keep steps (first_network settings) near))
-          (subst (λ (z : Configuration). ArePairsAlike (pair_of w near far) (neighbours.after_steps n.steps (first_pair (settings near) z))) (sym (steps-keep steps (first_network settings) far))
-          n.pair);
-    }

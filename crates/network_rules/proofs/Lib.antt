@@ -11,3 +11,4 @@ pub mod Texts
 pub mod Ends
 pub mod Thirds
 pub mod Quiet
+pub mod Always

@@ -15,8 +15,9 @@ use Rattle.neighbour_rules.proofs.Promised.{each-in-order, each-once}
 use Rattle.neighbour_rules.proofs.Awaited.{nothing-in-vain}
 use Rattle.neighbour_rules.proofs.Staying.{books-stay, held-in-no-vain, stay-between}
 use Rattle.network_rules.specs.Networks.{Step, after_steps, first_network}
-use Rattle.network_rules.specs.Pairs.{AllTheWay, AreAlike, ArePairsAlike, AreTheirPoints, IsRunOfNeighbours, NobodySpeaksForThem, books_are_of_the_two, each_flow_in_order, each_message_once, flows_stay_between, nothing_is_awaited_in_vain, nothing_is_held_in_vain, pair_of}
-use Rattle.network_rules.proofs.AllRuns.{runs, steps-keep}
+use Rattle.network_rules.specs.Pairs.{AreAlike, ArePairsAlike, AreTheirPoints, AreWellOrAlone, IsRunOfNeighbours, books_are_of_the_two, each_flow_in_order, each_message_once, flows_stay_between, nothing_is_awaited_in_vain, nothing_is_held_in_vain, pair_of}
+use Rattle.network_rules.proofs.AllRuns.{steps-keep}
+use Rattle.network_rules.proofs.Always.{runs}
 
 -- ---- a pair that is alike, with its books and exchanges written out
 
@@ -39,13 +40,13 @@ is-written one other h =
 
 -- ---- what holds of the one, holds of the other
 
-module _ (settings : (point : ℕ) → Configuration) (steps : List Step) (near far : ℕ) (points : AreTheirPoints settings) (sharing : AreSharing (settings near) (settings far))
-    (silent : AllTheWay (NobodySpeaksForThem near far) steps (first_network settings)) where
+module _ (settings : (point : ℕ) → Configuration) (steps : List Step) (near far : ℕ) (points : AreTheirPoints settings) (well : AreWellOrAlone settings)
+    (sharing : AreSharing (settings near) (settings far)) where
   abbrev p : PairState
   p = pair_of (after_steps steps (first_network settings)) near far
 
   run : IsRunOfNeighbours p
-  run = runs settings steps near far points sharing silent
+  run = runs settings steps near far points well sharing
 
   abbrev its : PairState
   its = written p (neighbours.after_steps run.steps (first_pair p.near.exchange.settings p.far.exchange.settings))
@@ -97,19 +98,19 @@ module _ (settings : (point : ℕ) → Configuration) (steps : List Step) (near 
       record { near = both.near; far = both.far }
 
 pub once : each_message_once
-once settings steps near far points sharing silent = once-of settings steps near far points sharing silent
+once settings steps near far points well sharing = once-of settings steps near far points well sharing
 
 pub order : each_flow_in_order
-order settings steps near far points sharing silent = order-of settings steps near far points sharing silent
+order settings steps near far points well sharing = order-of settings steps near far points well sharing
 
 pub books : books_are_of_the_two
-books settings steps near far points sharing silent = books-of settings steps near far points sharing silent
+books settings steps near far points well sharing = books-of settings steps near far points well sharing
 
 pub awaited : nothing_is_awaited_in_vain
-awaited settings steps near far points sharing silent = awaited-of settings steps near far points sharing silent
+awaited settings steps near far points well sharing = awaited-of settings steps near far points well sharing
 
 pub flows : flows_stay_between
-flows settings steps near far points sharing silent = flows-of settings steps near far points sharing silent
+flows settings steps near far points well sharing = flows-of settings steps near far points well sharing
 
 pub held : nothing_is_held_in_vain
-held settings steps near far points sharing silent = held-of settings steps near far points sharing silent
+held settings steps near far points well sharing = held-of settings steps near far points well sharing

@@ -56,11 +56,11 @@ and-turned true false = refl
 and-turned false true = refl
 and-turned false false = refl
 
-harmless-turned : (one two : ℕ) (text : List ℕ) → IsHarmless (is_fine one two) text → IsHarmless (is_fine two one) text
+pub harmless-turned : (one two : ℕ) (text : List ℕ) → IsHarmless (is_fine one two) text → IsHarmless (is_fine two one) text
 harmless-turned one two text h =
     record { carried = λ m e. and-turned (not (is_management_between two one m)) (not (is_management_between one two m)) ∙ h.carried m e }
 
-abbrev speaks_between : (one two : ℕ) → Option Message → Bool
+abbrev pub speaks_between : (one two : ℕ) → Option Message → Bool
 speaks_between one two o = list_any (λ m. is_management_between one two m || is_management_between two one m) (option_to_list o)
 
 neither : (a b : Bool) → (not a && not b) ≡ true → ((a || b) || false) ≡ false
@@ -68,20 +68,20 @@ neither true b e = absurd cc
 neither false true e = absurd cc
 neither false false e = refl
 
-speaks-none : (one two : ℕ) (o : Option Message) → ((m : Message) → o ≡ Some m → is_fine one two m ≡ true) → speaks_between one two o ≡ false
+pub speaks-none : (one two : ℕ) (o : Option Message) → ((m : Message) → o ≡ Some m → is_fine one two m ≡ true) → speaks_between one two o ≡ false
 speaks-none one two None h = refl
 speaks-none one two (Some m) h = neither (is_management_between one two m) (is_management_between two one m) (h m refl)
 
 -- ---- of two nodes, one that sends elsewhere
 
 module _ (settings : (point : ℕ) → Configuration) (near far : ℕ) (points : AreTheirPoints settings) (a : AreFacing (settings near) (settings far)) where
-  abbrev c : Configuration
+  abbrev pub c : Configuration
   c = settings near
 
-  abbrev z : Configuration
+  abbrev pub z : Configuration
   z = settings far
 
-  abbrev j : Joint c z
+  abbrev pub j : Joint c z
   j = near_joint c z a
 
   -- the settings of each node
@@ -132,22 +132,22 @@ module _ (settings : (point : ℕ) → Configuration) (near far : ℕ) (points :
 -- ---- a network
 
 module _ (settings : (point : ℕ) → Configuration) (near far : ℕ) (points : AreTheirPoints settings) (well : AreWellOrAlone settings) (a : AreFacing (settings near) (settings far)) where
-  abbrev one : Configuration
+  abbrev pub one : Configuration
   one = settings near
 
-  abbrev two : Configuration
+  abbrev pub two : Configuration
   two = settings far
 
-  abbrev joint : Joint one two
+  abbrev pub joint : Joint one two
   joint = near_joint one two a
 
-  abbrev back : Joint two one
+  abbrev pub back : Joint two one
   back = far_joint one two a
 
-  abbrev fine : Message → Bool
+  abbrev pub fine : Message → Bool
   fine m = is_fine one.own two.own m
 
-  abbrev Harmless : List ℕ → Type 0
+  abbrev pub Harmless : List ℕ → Type 0
   Harmless text = IsHarmless fine text
 
   -- a link by which nothing of the two comes to one of them: one that leads elsewhere, or one of a third node
@@ -279,7 +279,7 @@ module _ (settings : (point : ℕ) → Configuration) (near far : ℕ) (points :
     pub near_says : SaysElsewhere settings near far points a w
     pub far_says : SaysElsewhere settings far near points (facing_back one two a) w
 
-  are-kept : (w : NetworkState) → IsQuiet w → (point : ℕ) → (w.node point).exchange.settings ≡ settings point
+  pub are-kept : (w : NetworkState) → IsQuiet w → (point : ℕ) → (w.node point).exchange.settings ≡ settings point
   are-kept w h point = (h.each point).kept
 
   third-harmless : (w : NetworkState) (point link : ℕ) (frame : FrameValue) (there : Place) → IsQuiet w → near ≢ point → far ≢ point

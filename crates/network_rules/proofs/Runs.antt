@@ -1,4 +1,4 @@
--- A step of a network is at most one step of each two of its nodes that share a set; and so are lists of steps.
+-- A step of a network is at most one step of each two of its nodes that share a set: one at either of them.
 use Rattle.pair_rules.proofs.Basics.{◌≡◌, ◌≢◌, ℕ, Bool, true, false, List, [], ◌∷◌, Option, Some, None, refl, ap, sym, subst, ◌∙◌, map, slice_get, ⊎_elim, cases_eq}
 use Rattle.pair_rules.proofs.Definitions.{Configuration, LinkEntry, FrameValue, Open, Nothing, Close, whole, PairState, turned, in_flight, may_follow, wants_of, frame_to_take, link_with_code}
 use Rattle.exchange_rules.specs.State.{WentDown, Ticked, Activated, Deactivated, TitleAdded, TitleRemoved}

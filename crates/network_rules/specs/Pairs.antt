@@ -12,7 +12,7 @@ use Rattle.neighbour_rules.specs.Neighbours as neighbours
 use Rattle.neighbour_rules.specs.Neighbours.{leads_elsewhere, leads_elsewhere_by, speaks_for_either, users_to}
 use Rattle.neighbour_rules.specs.Awaiting.{AwaitsNothingInVain}
 use Rattle.neighbour_rules.specs.Promises.{AreBooked, EachOnce, InOrder, StaysBetween}
-use Rattle.network_rules.specs.Networks.{Arrival, NetworkNode, NetworkState, Step, after_step, after_steps, first_network}
+use Rattle.network_rules.specs.Networks.{Arrival, NetworkNode, NetworkState, Step, after_steps, first_network}
 
 -- ---- two nodes as a pair
 
@@ -86,34 +86,28 @@ AreTheirPoints settings = (point : ℕ) → (settings point).own ≡ point
 abbrev pub AreWellOrAlone : ((point : ℕ) → Configuration) → Type 0
 AreWellOrAlone settings = (point : ℕ) → IsWell (settings point) ⊎ ((settings point).links ≡ [])
 
+-- ---- always
+
+-- after every list of steps of a network, of each two nodes in it that share a set
+abbrev pub Always : (PairState → Type 0) → Type 0
+Always Statement =
+    (settings : (point : ℕ) → Configuration) (steps : List Step) (near far : ℕ) → AreTheirPoints settings →
+    AreWellOrAlone settings → AreSharing (settings near) (settings far) →
+    Statement (pair_of (after_steps steps (first_network settings)) near far)
+
+abbrev pub runs_are_runs_of_neighbours : Type 0
+runs_are_runs_of_neighbours = Always IsRunOfNeighbours
+
 -- the frame that comes next to the near end by a link that leads elsewhere carries no management of one of the two for
--- the other
+-- the other: so what the guard of neighbours asks holds by itself
 pub record HearsNothingElsewhere (p : PairState) : Type 0 where
   pub user_data : (link : ℕ) (text : List ℕ) → leads_elsewhere p link ≡ true →
       slice_get (in_flight p.near.incoming.user_data link) 0 ≡ Some text → speaks_for_either p text ≡ false
   pub statuses : (link : ℕ) (text : List ℕ) → leads_elsewhere p link ≡ true →
       slice_get (in_flight p.near.incoming.statuses link) 0 ≡ Some text → speaks_for_either p text ≡ false
 
-abbrev pub NobodySpeaksForThem : (near far : ℕ) → NetworkState → Type 0
-NobodySpeaksForThem near far w = BothWays HearsNothingElsewhere (pair_of w near far)
-
--- a statement holds before each of some steps
-abbrev pub AllTheWay : (NetworkState → Type 0) → List Step → NetworkState → Type 0
-AllTheWay Statement [] w = Unit {0}
-AllTheWay Statement (step ∷ steps) w = Statement w × AllTheWay Statement steps (after_step step w)
-
--- ---- always
-
--- after every list of steps of a network, of each two nodes in it that share a set, while nobody else speaks for them
-abbrev pub Always : (PairState → Type 0) → Type 0
-Always Statement =
-    (settings : (point : ℕ) → Configuration) (steps : List Step) (near far : ℕ) → AreTheirPoints settings →
-    AreSharing (settings near) (settings far) →
-    AllTheWay (NobodySpeaksForThem near far) steps (first_network settings) →
-    Statement (pair_of (after_steps steps (first_network settings)) near far)
-
-abbrev pub runs_are_runs_of_neighbours : Type 0
-runs_are_runs_of_neighbours = Always IsRunOfNeighbours
+abbrev pub nobody_speaks_for_another : Type 0
+nobody_speaks_for_another = Always (BothWays HearsNothingElsewhere)
 
 -- "Exactly once"
 abbrev pub each_message_once : Type 0

@@ -4,12 +4,20 @@
 
 ghost use Rattle.network_rules.specs.Pairs.{books_are_of_the_two, each_flow_in_order, each_message_once};
 ghost use Rattle.network_rules.specs.Pairs.{flows_stay_between, nothing_is_awaited_in_vain, nothing_is_held_in_vain};
-ghost use Rattle.network_rules.specs.Pairs.{runs_are_runs_of_neighbours};
+ghost use Rattle.network_rules.specs.Pairs.{nobody_speaks_for_another, runs_are_runs_of_neighbours};
 
 /// Each set of a network is a pair of neighbours: by some steps of two neighbours (`neighbour_rules`) the same two
 /// exchanges come to be, with the same books and the same in flight between them.
 pub fn each_set_is_a_pair_of_neighbours()
     ensures { runs_are_runs_of_neighbours }
+{}
+
+/// What the guard of neighbours asks holds by itself: the frame that comes next to one of the two by a link that leads
+/// elsewhere carries no management (SI 0) of one of them for the other. A node makes management in its own name alone,
+/// and sends it to an adjacent point on links of the set that leads there; and it passes on what it hears, which nobody
+/// else can have made.
+pub fn nobody_speaks_for_another()
+    ensures { nobody_speaks_for_another }
 {}
 
 /// "Exactly once", in both directions. While neither exchange may have lost a message, as many user messages of any
