@@ -1,6 +1,6 @@
 -- Lists of steps of a network, as each two of its nodes that share a set see them; and nobody speaks for another meanwhile.
-use Rattle.pair_rules.proofs.Basics.{◌≡◌, ◌≢◌, ℕ, true, false, List, [], ◌∷◌, ◌++◌, Some, refl, ap, sym, subst, ◌∙◌, length, replicate, slice_get}
-use Rattle.pair_rules.proofs.Definitions.{Message, Configuration, Queue, first_queue, WholeQueues, queue_at, PairState, first_pair, in_flight, set_of, each-replicate, read_frame, turned}
+use Rattle.pair_rules.proofs.Basics.{◌≡◌, ◌≢◌, ℕ, true, false, List, [], ◌∷◌, ◌++◌, refl, ap, sym, subst, ◌∙◌, length}
+use Rattle.pair_rules.proofs.Definitions.{Message, Configuration, Queue, first_queue, queue_at, PairState, first_pair, in_flight, each-replicate, read_frame}
 use Rattle.std.specs.List.{list_all}
 use Rattle.exchange_rules.specs.Laws.{carried_message}
 use Rattle.exchange_rules.specs.First.{Abstract, first_state}
@@ -18,10 +18,10 @@ use Rattle.network_rules.specs.Networks.{NetworkState, Step, after_step, after_s
 use Rattle.network_rules.specs.Pairs.{AreTheirPoints, AreWellOrAlone, ArePairsAlike, HearsNothingElsewhere, IsRunOfNeighbours, nobody_speaks_for_another, pair_of, runs_are_runs_of_neighbours}
 use Rattle.network_rules.proofs.Alike.{away}
 use Rattle.network_rules.proofs.Ends.{EndOk, first-ok, first-stands}
-use Rattle.network_rules.proofs.Nodes.{Next}
 use Rattle.network_rules.proofs.AllRuns.{HasPoints, are-apart, first-alike, step-next, steps-join, steps-keep}
 use Rattle.network_rules.proofs.Runs.{NextOf}
-use Rattle.network_rules.proofs.Quiet.{FliesOk, IsQuiet, NodeOk, SayElsewhere, Watched, are-kept, did-quiet, fine, harmless-turned, speaks-none, speaks_between}
+use Rattle.network_rules.proofs.Quiet.{IsQuiet, SayElsewhere, Watched, are-kept, did-quiet, fine}
+use Rattle.network_rules.proofs.Elsewhere.{harmless-turned, speaks-none, speaks_between}
 use Rattle.network_rules.proofs.Texts.{IsHarmless}
 
 module _ (settings : (point : ℕ) → Configuration) (near far : ℕ) (points : AreTheirPoints settings) (well : AreWellOrAlone settings) (sharing : AreSharing (settings near) (settings far)) where

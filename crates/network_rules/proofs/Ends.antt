@@ -1,9 +1,9 @@
 -- What one of two nodes that share a set sends elsewhere is no management of one of the two for the other.
 use Rattle.exchange_rules.proofs.Basics.{arith, nat_tests, ◌≡◌, ◌≢◌, ◌&&◌, ◌||◌, ℕ, zero, suc, Bool, true, false, not, List, [], ◌∷◌, Option, Some, None, Result, Ok, Err, refl, ap, sym, subst, ◌∙◌, if◌then◌else◌, slice_get, nat_eq, nat_lt, ◌-◌, length, replicate, list_all, list_any, length-replicate}
-use Rattle.exchange_rules.proofs.Definitions.{Message, is_management, opc_of, dpc_of, service_indicator, Configuration, IsWell, Management, ChangebackDeclaration, MgmtFault, read_management, FrameValue, EmptyFrame, MessageFrame, StatusFrame, LinkStatus, Node, WholeQueues, queue_at, whole, Queue, Sending, Outgoing, goes_out, frame_taken, next_message, may_send, message_first, if_owed, status_first, link_at, set_of, apply, after_take, Happening, first_state}
+use Rattle.exchange_rules.proofs.Definitions.{Message, is_management, opc_of, dpc_of, service_indicator, Configuration, Management, ChangebackDeclaration, MgmtFault, read_management, FrameValue, EmptyFrame, MessageFrame, StatusFrame, LinkStatus, Node, WholeQueues, queue_at, whole, Queue, Sending, frame_taken, next_message, may_send, message_first, status_first, link_at, set_of, apply, after_take, Happening, first_state}
 use Rattle.mtp3_codec.specs.declared.management.Management.TheVariants as kinds
 use Rattle.exchange_rules.specs.Sending.{frame_from}
-use Rattle.exchange_rules.specs.LastingMessages.{AreOnward, is_onward, all_onward}
+use Rattle.exchange_rules.specs.LastingMessages.{AreOnward, is_onward}
 use Rattle.exchange_rules.specs.State.{Happens, Takes}
 use Rattle.exchange_rules.proofs.Lists.{each-replicate}
 use Rattle.exchange_rules.proofs.Settling.{left-true, right-true}
@@ -12,13 +12,12 @@ use Rattle.exchange_rules.proofs.SteppingEvents.{take-steps}
 use Rattle.exchange_rules.proofs.LastingMessages.{first-onward, messages-stay}
 use Rattle.link.specs.Queue.{forward_number, numbered}
 use Rattle.m2pa_codec.specs.Frames as m2pa
-use Rattle.pair_moves.specs.Sayings.{Other, Saying, is_other}
+use Rattle.pair_moves.specs.Sayings.{Other, is_other}
 use Rattle.pair_rules.proofs.Good.{Each, each-get}
 use Rattle.pair_rules.proofs.Going.{goes-same}
 use Rattle.pair_rules.proofs.First.{nothing_flies}
 use Rattle.pair_rules.proofs.Standing.{AreTexts}
-use Rattle.pair_rules.proofs.Definitions.{PairState, first_pair}
-use Rattle.neighbour_rules.specs.Neighbours as neighbours
+use Rattle.pair_rules.proofs.Definitions.{first_pair}
 use Rattle.neighbour_rules.specs.Neighbours.{is_management_between, leads_elsewhere_by}
 use Rattle.neighbour_rules.proofs.World.{is_between, read_says, says_by, says_of}
 use Rattle.neighbour_rules.proofs.Good.{Joint, set}
@@ -26,8 +25,7 @@ use Rattle.neighbour_rules.proofs.FarEnds.{leads-away}
 use Rattle.neighbour_rules.proofs.First.{first-good, first-shown}
 use Rattle.neighbour_rules.proofs.Adjacents.{asked-knows}
 use Rattle.neighbour_rules.proofs.Standing.{Stands}
-use Rattle.neighbour_rules.proofs.AllSteps.{steps-stand}
-use Rattle.neighbour_rules.proofs.Sharing.{AreFacing, facing_back, far_joint, near_joint}
+use Rattle.neighbour_rules.proofs.Sharing.{AreFacing, far_joint, near_joint}
 use Rattle.network_rules.proofs.Signals.{IsLone, is_declaration, is_signal, lone-all, lone-first}
 use Rattle.network_rules.proofs.Texts.{IsHarmless, message-harmless, status-harmless}
 

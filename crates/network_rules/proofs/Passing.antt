@@ -1,33 +1,23 @@
 -- Whatever happens at a node, what then stands in its queues and in Held stood there before, was made there, is a user message, or came by the frame: so what
 -- is fine of all these is fine of all that stands there.
-use Rattle.exchange_rules.proofs.Basics.{◌<◌, ◌^◌, ◌≡◌, ◌&&◌, ◌||◌, ℕ, zero, suc, Bool, true, false, not, List, [], ◌∷◌, ◌++◌, Option, Some, None, Result, Ok, Err, refl, ap, sym, subst, ◌∙◌, if◌then◌else◌, filter, drop, slice_get, slice_set, nat_eq, nat_lt, length, list_all, and_from as pair}
+use Rattle.exchange_rules.proofs.Basics.{◌<◌, ◌^◌, ◌≡◌, ◌&&◌, ℕ, zero, suc, Bool, true, false, not, List, [], ◌∷◌, ◌++◌, Option, Some, None, Result, Ok, Err, refl, sym, subst, ◌∙◌, if◌then◌else◌, filter, drop, slice_set, nat_eq, nat_lt, length, list_all, and_from as pair}
 use Rattle.std.proofs.lemmas.List.Folds.{list_all-append}
-use Rattle.exchange_rules.proofs.Definitions.{Message, is_management, opc_of, dpc_of, flow_of, service_indicator, Configuration, TitleEntry, Cause, NoSuchName, LostUnconfirmed, Management, TrafficRestartAllowed, ExtendedChangeoverOrder, ExtendedChangeoverAcknowledgement, EmergencyChangeoverOrder, EmergencyChangeoverAcknowledgement, ChangebackDeclaration, ChangebackAcknowledgement, TransferProhibited, TransferRestricted, TransferAllowed, RouteSetTestProhibited, RouteSetTestRestricted, MgmtFault, LinkTestValue, TestKind, Test, Acknowledgement, TitleKey, RelayedValue, relay, returned, Discrimination, FailureReason, ChangeoverTimer, LinkStatus, LinkTimer, Transition, Input, UserData, Expiry, Status, Facts, RouteStatus, Allowed, Restricted, Prohibited, RouteTest, Heard, Owed, Found, Node, Done, Parts, with_parts, answer, refuse, WholeQueues, queue_at, whole, queue_on, hold, Queue, Sending, first_queue, emptied, after_answer, accept_answer, to_send, appended, SeqFault, behind, moved, accepted_count, managements_of, declaration, test_answer, carries, link_of, no_room, waits, is_flow_held, is_destination, destination_place, set_place, is_link, link_at, down, in_service, set_of, peer_of, point_of, adjacent_of, telling, entry_of, facts, note, route_about, owed, owing}
-use Rattle.exchange_rules.proofs.Definitions.{send, send_on, send_routed, send_anew, send_each, transfer, offer, route_message, told_parts, tell, tell_if, tell_each, tell_owed, may_tell, inhibited, is_inhibited, prohibit, prohibit_if, answer_no_route, answered_parts, send_route_status, answer_route_test, on_route_test, on_route_status, apply_route_status, ask, ask_by, ask_again, with_next_test, prohibited_test, restricted_test, status_of, management_to, own_of, in_place_of, send_udts, return_outcome, relay_by, on_unitdata, add_title_unless, title_refusal, add_title, remove_title, place_of, has_row, without_row, with_titles}
-use Rattle.exchange_rules.proofs.Definitions.{is_adjacent, is_user, sccp, testing, cause_of, local, do_kind, do_test, do_order, do_acknowledgement, do_management, link_with_code, manage, distribute, deliver_to, deliver, note_outcome, submit_to, submit, whither_goes, make_unavailable, begin, change_over, fail, begin_by_peer, fail_by_peer, fail_by_order, conclude, complete_if, concluded, complete_by_order, acknowledge_changeover, on_changeover_order, on_changeover_acknowledgement, on_changeover_timer, changeover_order, changeover_acknowledgement, changeback_acknowledgement, changeover_of, with_changeover, completed, changing, has_other, with_changeover_acknowledged, with_expiry, freed, is_outstanding, on_changeback_acknowledgement}
-use Rattle.exchange_rules.proofs.Definitions.{hold_flows, declare_by, code_for, take_back, take_back_each, change_back, loses_flows, advance, moved_on, return_if, enters, serve_status, step_by_status, act_by_status, on_link_status, act_by_timer, run_out, action_at, Carrying, empty_data, message_data, numbers, accept, carry, handle_by, act_by_data, receive_data, receive_frame, leave_aside, read, receive, FrameValue, EmptyFrame, MessageFrame, StatusFrame, read_frame, carried_message, may_open, open_link, may_restart, association_up, fail_if_up, end_association, association_down, set_active, activate, deactivate}
-use Rattle.exchange_rules.proofs.Definitions.{go_on, go_by, go, go_each, release, with_timers, run_timer, run_due, run_next, run_times, tick, handle_event, apply, Happening, CameUp, WentDown, FrameCame, Ticked, Submitted, Activated, Deactivated, TitleAdded, TitleRemoved, after_sending, after_take, Outgoing, SendsStatus, SendsMessage, Acknowledges, SendsNothing, goes_out}
-use Rattle.exchange_rules.specs.ChangingBack.{declared, on_changeback_declaration}
+use Rattle.exchange_rules.proofs.Definitions.{Message, is_management, dpc_of, flow_of, service_indicator, Configuration, Cause, Management, ExtendedChangeoverOrder, ExtendedChangeoverAcknowledgement, ChangebackDeclaration, RouteSetTestProhibited, RouteSetTestRestricted, LinkTestValue, RelayedValue, relay, returned, FailureReason, ChangeoverTimer, LinkStatus, LinkTimer, Transition, Expiry, Facts, RouteStatus, Allowed, Restricted, Prohibited, RouteTest, Heard, Owed, Node, Done, Parts, with_parts, answer, refuse, WholeQueues, queue_at, whole, queue_on, Queue, first_queue, emptied, appended, behind, moved, accepted_count, declaration, test_answer, link_of, no_room, waits, is_destination, destination_place, is_link, link_at, down, in_service, set_of, peer_of, point_of, adjacent_of, telling, entry_of, facts, owed}
+use Rattle.exchange_rules.proofs.Definitions.{send, send_routed, send_anew, send_each, transfer, offer, route_message, told_parts, tell, tell_if, tell_each, tell_owed, may_tell, inhibited, is_inhibited, prohibit, answer_no_route, answered_parts, send_route_status, on_route_test, on_route_status, apply_route_status, ask_by, ask_again, with_next_test, prohibited_test, restricted_test, status_of, management_to, own_of, in_place_of, send_udts, return_outcome, relay_by, on_unitdata}
+use Rattle.exchange_rules.proofs.Definitions.{is_user, sccp, local, make_unavailable, begin, change_over, fail, begin_by_peer, fail_by_peer, fail_by_order, conclude, complete_if, concluded, complete_by_order, on_changeover_order, on_changeover_acknowledgement, on_changeover_timer, changeover_order, changeover_acknowledgement, changeover_of, with_changeover, completed, changing, has_other, with_changeover_acknowledged, with_expiry}
+use Rattle.exchange_rules.proofs.Definitions.{hold_flows, code_for, take_back_each, loses_flows, advance, moved_on, return_if, enters, serve_status, act_by_status, act_by_timer, run_out, action_at}
 use Rattle.exchange_rules.proofs.Lists.{each-set}
 use Rattle.exchange_rules.proofs.Settling.{left-true, right-true}
-use Rattle.exchange_rules.proofs.LastingMessages.{accepted-all, sent-all}
-use Rattle.link.specs.Queue as queue
 use Rattle.link.specs.declared.action.Action.{Action}
 use Rattle.link.specs.declared.action.Action.TheVariants as act
 use Rattle.m2pa_codec.specs.declared.status.LinkStatus.TheVariants as says
-use Rattle.mtp3_codec.specs.declared.discrimination.Discrimination.TheVariants as whither
 use Rattle.route_management.specs.Told as told
 use Rattle.route_management.specs.declared.heard.Heard.TheVariants as hears
 use Rattle.sccp_relay.specs.Relay as relays
 use Rattle.signalling_types.specs.declared.cause.Cause.TheVariants as causes
 use Rattle.signalling_types.specs.declared.notice.FailureReason.TheVariants as reasons
-use Rattle.signalling_types.specs.declared.notice.FrameFault.{FrameFault}
-use Rattle.signalling_types.specs.declared.notice.FrameFault.TheVariants as faults
 use Rattle.signalling_types.specs.declared.outcome.Outcome.{Outcome}
 use Rattle.signalling_types.specs.declared.outcome.Outcome.TheVariants.{Queued, Held, Local, Handled, Ignored, Refused}
-use Rattle.timers.specs.declared.name.TimerName.{TimerName}
-use Rattle.timers.specs.declared.name.TimerName.TheVariants as name
-use Rattle.timers.specs.Timers.{Running, ticked, due_name, due_count, after_due}
 
 -- what is made at a node for the points that codes name is fine, and each user message
 pub record IsFine (c : Configuration) (fine : Message → Bool) : Type 0 where

@@ -1,38 +1,30 @@
 -- So it is with every event, and with every frame that goes out.
-use Rattle.exchange_rules.proofs.Basics.{◌<◌, ◌^◌, ◌%◌, ◌/◌, arith, ◌≡◌, ◌&&◌, ◌||◌, ℕ, zero, suc, Bool, true, false, not, List, [], ◌∷◌, ◌++◌, Option, Some, None, Result, Ok, Err, refl, ap, sym, subst, ◌∙◌, if◌then◌else◌, filter, drop, slice_get, slice_set, nat_eq, nat_lt, length, list_all, and_from as pair}
+use Rattle.exchange_rules.proofs.Basics.{◌<◌, ◌^◌, ◌%◌, arith, ◌≡◌, ◌&&◌, ℕ, zero, suc, Bool, true, false, List, [], ◌∷◌, Option, Some, None, Result, Ok, Err, refl, ap, sym, subst, ◌∙◌, if◌then◌else◌, nat_eq, list_all, and_from as pair}
 use Rattle.std.proofs.lemmas.List.Folds.{list_all-append}
-use Rattle.exchange_rules.proofs.Definitions.{Message, is_management, opc_of, dpc_of, flow_of, service_indicator, Configuration, TitleEntry, Cause, NoSuchName, LostUnconfirmed, Management, TrafficRestartAllowed, ExtendedChangeoverOrder, ExtendedChangeoverAcknowledgement, EmergencyChangeoverOrder, EmergencyChangeoverAcknowledgement, ChangebackDeclaration, ChangebackAcknowledgement, TransferProhibited, TransferRestricted, TransferAllowed, RouteSetTestProhibited, RouteSetTestRestricted, MgmtFault, LinkTestValue, TestKind, Test, Acknowledgement, TitleKey, RelayedValue, relay, returned, Discrimination, FailureReason, ChangeoverTimer, LinkStatus, LinkTimer, Transition, Input, UserData, Expiry, Status, Facts, RouteStatus, Allowed, Restricted, Prohibited, RouteTest, Heard, Owed, Found, Node, Done, Parts, with_parts, answer, refuse, WholeQueues, queue_at, whole, queue_on, hold, Queue, Sending, first_queue, emptied, after_answer, accept_answer, to_send, appended, SeqFault, behind, moved, accepted_count, managements_of, declaration, test_answer, carries, link_of, no_room, waits, is_flow_held, is_destination, destination_place, set_place, is_link, link_at, down, in_service, set_of, peer_of, point_of, adjacent_of, telling, entry_of, facts, note, route_about, owed, owing}
-use Rattle.exchange_rules.proofs.Definitions.{send, send_on, send_routed, send_anew, send_each, transfer, offer, route_message, told_parts, tell, tell_if, tell_each, tell_owed, may_tell, inhibited, is_inhibited, prohibit, prohibit_if, answer_no_route, answered_parts, send_route_status, answer_route_test, on_route_test, on_route_status, apply_route_status, ask, ask_by, ask_again, with_next_test, prohibited_test, restricted_test, status_of, management_to, own_of, in_place_of, send_udts, return_outcome, relay_by, on_unitdata, add_title_unless, title_refusal, add_title, remove_title, place_of, has_row, without_row, with_titles}
-use Rattle.exchange_rules.proofs.Definitions.{is_adjacent, is_user, sccp, testing, cause_of, local, do_kind, do_test, do_order, do_acknowledgement, do_management, link_with_code, manage, distribute, deliver_to, deliver, note_outcome, submit_to, submit, whither_goes, make_unavailable, begin, change_over, fail, begin_by_peer, fail_by_peer, fail_by_order, conclude, complete_if, concluded, complete_by_order, acknowledge_changeover, on_changeover_order, on_changeover_acknowledgement, on_changeover_timer, changeover_order, changeover_acknowledgement, changeback_acknowledgement, changeover_of, with_changeover, completed, changing, has_other, with_changeover_acknowledged, with_expiry, freed, is_outstanding, on_changeback_acknowledgement}
-use Rattle.exchange_rules.proofs.Definitions.{hold_flows, declare_by, code_for, take_back, take_back_each, change_back, loses_flows, advance, moved_on, return_if, enters, serve_status, step_by_status, act_by_status, on_link_status, act_by_timer, run_out, action_at, Carrying, empty_data, message_data, numbers, accept, carry, handle_by, act_by_data, receive_data, receive_frame, leave_aside, read, receive, FrameValue, EmptyFrame, MessageFrame, StatusFrame, read_frame, carried_message, may_open, open_link, may_restart, association_up, fail_if_up, end_association, association_down, set_active, activate, deactivate}
-use Rattle.exchange_rules.proofs.Definitions.{go_on, go_by, go, go_each, release, with_timers, run_timer, run_due, run_next, run_times, tick, handle_event, apply, Happening, CameUp, WentDown, FrameCame, Ticked, Submitted, Activated, Deactivated, TitleAdded, TitleRemoved, after_sending, after_take, Outgoing, SendsStatus, SendsMessage, Acknowledges, SendsNothing, goes_out}
-use Rattle.exchange_rules.specs.ChangingBack.{declared, on_changeback_declaration}
-use Rattle.exchange_rules.proofs.Lists.{each-set}
+use Rattle.exchange_rules.proofs.Definitions.{Message, is_management, opc_of, flow_of, service_indicator, Configuration, TitleEntry, Cause, NoSuchName, Management, TrafficRestartAllowed, ExtendedChangeoverOrder, ExtendedChangeoverAcknowledgement, EmergencyChangeoverOrder, EmergencyChangeoverAcknowledgement, ChangebackDeclaration, ChangebackAcknowledgement, TransferProhibited, TransferRestricted, TransferAllowed, RouteSetTestProhibited, RouteSetTestRestricted, MgmtFault, LinkTestValue, TestKind, Test, Acknowledgement, TitleKey, Discrimination, FailureReason, UserData, Status, Allowed, Restricted, Prohibited, Node, Done, with_parts, answer, refuse, WholeQueues, queue_at, whole, Queue, first_queue, accept_answer, to_send, SeqFault, test_answer, carries, link_of, no_room, waits, destination_place, set_place, is_link, link_at, down, route_about}
+use Rattle.exchange_rules.proofs.Definitions.{send_on, transfer, tell_owed, add_title_unless, title_refusal, remove_title, place_of, has_row, without_row, with_titles}
+use Rattle.exchange_rules.proofs.Definitions.{is_adjacent, local, do_kind, do_test, do_order, do_acknowledgement, do_management, link_with_code, manage, deliver_to, deliver, submit_to, whither_goes, fail, changeback_acknowledgement, changeover_of, freed, is_outstanding, on_changeback_acknowledgement}
+use Rattle.exchange_rules.proofs.Definitions.{advance, action_at, Carrying, empty_data, message_data, numbers, accept, carry, handle_by, act_by_data, receive_frame, leave_aside, read, receive, FrameValue, EmptyFrame, MessageFrame, StatusFrame, read_frame, carried_message, may_open, open_link, may_restart, association_up, fail_if_up, end_association, association_down, set_active, activate, deactivate}
+use Rattle.exchange_rules.proofs.Definitions.{go_on, go_by, go, go_each, release, with_timers, run_timer, run_due, run_times, tick, handle_event, apply, Happening, CameUp, WentDown, FrameCame, Ticked, Submitted, Activated, Deactivated, TitleAdded, TitleRemoved, after_sending, after_take, Outgoing, SendsStatus, SendsMessage, Acknowledges, SendsNothing, goes_out}
 use Rattle.exchange_rules.proofs.Settling.{left-true, right-true}
 use Rattle.exchange_rules.proofs.LastingMessages.{accepted-all, sent-all}
 use Rattle.link.specs.Queue as queue
 use Rattle.link.specs.declared.action.Action.{Action}
 use Rattle.link.specs.declared.action.Action.TheVariants as act
-use Rattle.m2pa_codec.specs.declared.status.LinkStatus.TheVariants as says
 use Rattle.mtp3_codec.specs.declared.discrimination.Discrimination.TheVariants as whither
-use Rattle.route_management.specs.Told as told
-use Rattle.route_management.specs.declared.heard.Heard.TheVariants as hears
-use Rattle.sccp_relay.specs.Relay as relays
 use Rattle.signalling_types.specs.declared.cause.Cause.TheVariants as causes
 use Rattle.signalling_types.specs.declared.notice.FailureReason.TheVariants as reasons
 use Rattle.signalling_types.specs.declared.notice.FrameFault.{FrameFault}
 use Rattle.signalling_types.specs.declared.notice.FrameFault.TheVariants as faults
-use Rattle.signalling_types.specs.declared.outcome.Outcome.{Outcome}
-use Rattle.signalling_types.specs.declared.outcome.Outcome.TheVariants.{Queued, Held, Local, Handled, Ignored, Refused}
+use Rattle.signalling_types.specs.declared.outcome.Outcome.TheVariants.{Handled, Ignored}
 use Rattle.timers.specs.declared.name.TimerName.{TimerName}
 use Rattle.timers.specs.declared.name.TimerName.TheVariants as name
-use Rattle.timers.specs.Timers.{Running, ticked, due_name, due_count, after_due}
+use Rattle.timers.specs.Timers.{ticked, due_name, due_count, after_due}
 use Rattle.mtp3_codec.specs.Management.{read_link_test, read_management}
 use Rattle.route_management.specs.declared.heard.RouteTest.TheVariants as tests
 use Rattle.link.specs.declared.action.LinkTimer.TheVariants as its
 use Rattle.signalling_types.specs.declared.notice.ChangeoverTimer.TheVariants as changeover
-
-use Rattle.network_rules.proofs.Passing.{IsFine, AreFine, AllFine, Keeps, same, and-then, either, either_done, stays, queue-keeps, send-keeps, queued, routed, tell_owed-keeps, test-keeps, status-keeps, ask-keeps, transfer-keeps, local-keeps, fail-keeps, order-keeps, acknowledged-keeps, expired-keeps, advance-keeps, by_status-keeps, run_out-keeps}
+use Rattle.network_rules.proofs.Passing.{IsFine, AllFine, Keeps, same, and-then, either, either_done, stays, queue-keeps, send-keeps, queued, routed, tell_owed-keeps, test-keeps, status-keeps, ask-keeps, transfer-keeps, local-keeps, fail-keeps, order-keeps, acknowledged-keeps, expired-keeps, advance-keeps, by_status-keeps, run_out-keeps}
 
 low-bits : (n : ℕ) → n % 2 ^ 14 < 2 ^ 14
 low-bits n = omega arith

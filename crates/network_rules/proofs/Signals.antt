@@ -1,18 +1,10 @@
 -- Where one set alone leads to a point, management for it from here stands on links of that set, but for declarations.
-use Rattle.exchange_rules.proofs.Basics.{Result, Ok, Err, ◌*◌, ◌%◌, ◌≡◌, ◌≢◌, ◌<◌, ◌≤◌, ◌⊎◌, inl, inr, ℕ, zero, suc, ◌+◌, ◌-◌, Bool, true, false, ◌&&◌, ◌||◌, not, cond, List, [], ◌∷◌, ◌++◌, length, map, nat_eq, get_or, slice_set, refl, ap, sym, subst, ◌∙◌, arith, if◌then◌else◌, find, slice_index_or, Option, Some, None, option_map, option_and_then, Contains, list_any, position, ⊎_elim, cases_eq, cases_lt, eq-eqb, eqb-true, get_or_past, get_or-set_same, get_or-set_other, get_or-map, length-set, append-nil, get_or_append_left, get_or-append_right, Contains-append_right, position-Some}
-use Rattle.exchange_rules.proofs.Definitions.{Message, dpc_of, flow_of, is_management, Configuration, LinkEntry, SetEntry, DestinationEntry, destination_place, Queue, first_queue, emptied, appended, Route, RouteStatus, Allowed, first_route, first_routes, first_sets, Facts, chosen_link, ToldTable, is_number, is_own_point, Parts, Node, facts, link_of, queue_on, declaration, test_answer, entry_of, peer_of, set_of, carries, WholeQueues, queue_at, whole, first_state}
+use Rattle.exchange_rules.proofs.Basics.{Result, Ok, Err, ◌*◌, ◌%◌, ◌≡◌, ◌≢◌, ◌<◌, ◌≤◌, ◌⊎◌, inl, inr, ℕ, ◌+◌, Bool, true, false, ◌&&◌, ◌||◌, not, List, [], ◌∷◌, ◌++◌, length, map, nat_eq, get_or, slice_set, refl, ap, sym, subst, ◌∙◌, arith, if◌then◌else◌, find, slice_index_or, Option, Some, None, option_map, option_and_then, list_any, position, ⊎_elim, cases_eq, cases_lt, eq-eqb, eqb-true, get_or_past, get_or-set_same, get_or-set_other, get_or-map, length-set, position-Some}
+use Rattle.exchange_rules.proofs.Definitions.{Message, dpc_of, flow_of, Configuration, SetEntry, DestinationEntry, destination_place, Queue, first_queue, emptied, appended, Route, RouteStatus, Allowed, first_route, first_routes, chosen_link, ToldTable, is_number, is_own_point, Node, facts, link_of, queue_on, declaration, test_answer, set_of, carries, WholeQueues, queue_at, whole, first_state}
 use Rattle.std.proofs.lemmas.List.Folds.{list_any-append}
-use Rattle.std.proofs.lemmas.List.Sorted.{Contains-permutation, IsPermutation-sym}
 use Rattle.std.proofs.lemmas.List.{get_or-map as get_or-map_inside}
-use Rattle.std.proofs.lemmas.List.Concat.{flat_map-cons}
-use Rattle.std.specs.Prelude.{unwrap_or}
 use Rattle.link.specs.Queue as queue
 use Rattle.link.specs.Queue.{accept_answer, to_send}
-use Rattle.routes.specs.declared.link_group.Member.{Member}
-use Rattle.routes.specs.declared.route.RouteStatus.TheVariants.{Restricted}
-use Rattle.routes.specs.Routes.{members_of, preference, serves, is_in_service, has_link, set_at, links_of, is_open, allowed_or, Choice, choice_among, members, sets_of, taken_by, link_by}
-use Rattle.node_links.specs.NodeLinks.{Link, down_link, is_in_service as is_link_in_service}
-use Rattle.routes.proofs.Preference.{preference_permutes}
 use Rattle.route_management.specs.Told.{adjacent_place}
 use Rattle.settings.specs.Sharing.{sets_to, LeadsAlone}
 use Rattle.exchange_rules.proofs.LoneRoutes.{lone-chosen}
@@ -22,15 +14,11 @@ use Rattle.mtp3_codec.specs.declared.fault.MgmtFault.{MgmtFault}
 use Rattle.mtp3_codec.specs.declared.management.Management.{Management}
 use Rattle.mtp3_codec.specs.declared.management.Management.TheVariants.{ChangebackDeclaration}
 use Rattle.signalling_types.specs.Message.{opc_of, service_indicator}
-
-use Rattle.exchange_rules.proofs.Belonging.{IsLinkOf, below-of, none, length-sets}
 use Rattle.exchange_rules.proofs.LastingMessages.{accepted-all, sent-all}
 use Rattle.exchange_rules.proofs.LastingRoutes.{as-told, routes-first}
 use Rattle.exchange_rules.proofs.Lists.{each-replicate}
-use Rattle.exchange_rules.proofs.OwnManagement.{made-management, answer-management}
 use Rattle.exchange_rules.proofs.Steps.{IsOfSteps, AreOwnAllowed, any_status, ways_of}
-use Rattle.exchange_rules.proofs.Asked.{any, IsOfAll, all-of, asked-all}
-
+use Rattle.exchange_rules.proofs.Asked.{any, IsOfAll, all-of}
 
 -- what a message says that is a changeback declaration
 abbrev pub is_declaration : Result Management MgmtFault → Bool
@@ -234,4 +222,3 @@ module _ (c : Configuration) (set point destination : ℕ) (leads : LeadsAlone c
     own = routes-first c;
     queues = λ link away. each-replicate (λ (q : Queue). list_any (is_signal c point) q.all ≡ false) (length c.links) link first_queue refl;
   }
-

@@ -1,6 +1,5 @@
 -- What a frame that was written reads as.
-use Rattle.exchange_rules.proofs.Basics.{◌≡◌, ◌||◌, ◌==◌, ℕ, Bool, true, false, not, List, [], ◌∷◌, Option, Some, None, Result, Ok, Err, refl, ap, sym, subst, ◌∙◌, if◌then◌else◌, length, list_any, option_to_list, drop}
-use Rattle.std.specs.Prelude.{slice_index}
+use Rattle.exchange_rules.proofs.Basics.{◌≡◌, ◌==◌, ℕ, Bool, true, false, List, Option, Some, None, Ok, refl, sym, subst, ◌∙◌, if◌then◌else◌, length}
 use Rattle.exchange_rules.proofs.Definitions.{Message, FrameValue, EmptyFrame, MessageFrame, StatusFrame, read_frame, carried_message}
 use Rattle.m2pa_codec.specs.Frames.{bsn_field, fault_of, fsn_field, spelled, unless}
 use Rattle.signalling_types.specs.declared.notice.FrameFault.{FrameFault}

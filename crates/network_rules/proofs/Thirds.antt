@@ -1,7 +1,6 @@
 -- What is made at a third node, and each user message, is no management of one of two others for the other.
-use Rattle.exchange_rules.proofs.Basics.{◌≡◌, ◌≢◌, ◌<◌, ◌≤◌, ◌&&◌, ℕ, ◌+◌, ◌*◌, ◌/◌, ◌%◌, ◌^◌, Bool, true, false, not, List, [], ◌∷◌, refl, ap, sym, ◌∙◌, arith, nat_tests, nat_eq, nat_lt, length, slice_index_or, ⊎_elim, cases_lt, get_or_past}
-use Rattle.exchange_rules.proofs.Definitions.{Message, is_management, opc_of, dpc_of, service_indicator, Configuration, SetEntry, IsWell, IsSet, Management, LinkTestValue, management_to, test_answer, adjacent_of, link_code_of}
-use Rattle.neighbour_rules.specs.Neighbours.{is_management_between}
+use Rattle.exchange_rules.proofs.Basics.{◌≡◌, ◌≢◌, ◌<◌, ◌≤◌, ◌&&◌, ℕ, ◌+◌, ◌*◌, ◌/◌, ◌%◌, ◌^◌, Bool, true, false, [], refl, ap, ◌∙◌, arith, nat_tests, nat_eq, nat_lt, length, slice_index_or, ⊎_elim, cases_lt, get_or_past}
+use Rattle.exchange_rules.proofs.Definitions.{Message, opc_of, dpc_of, service_indicator, Configuration, SetEntry, IsWell, IsSet, Management, management_to, test_answer, adjacent_of, link_code_of}
 use Rattle.network_rules.proofs.Ends.{fine-both, is_fine}
 use Rattle.network_rules.proofs.Passing.{IsFine}
 use Rattle.network_rules.proofs.Places.{not-equal}

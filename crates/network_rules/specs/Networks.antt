@@ -149,7 +149,8 @@ is_led link x = record x {
 
 -- where it wants to, and where the link may open at the other end too
 abbrev pub opens_first : Wants → (may : Bool) → (point link : ℕ) → Option Place → NetworkState → NetworkState
-opens_first Open true point link (Some there) w = changed there.point (is_led there.link) (changed point (comes_up link) w)
+opens_first Open true point link (Some there) w =
+    changed there.point (is_led there.link) (changed point (comes_up link) w)
 opens_first wants may point link there w = w
 
 -- ---- what each does

@@ -1,6 +1,6 @@
 -- What two nodes of a network that share a link set have between them is what two neighbours have: so what neighbours
 -- promise holds between any two nodes of a network that share a set.
-use Rattle.std.specs.Prelude.{◌≡◌, ◌⊎◌, ℕ, true, false, not, List, ◌∷◌, [], filter, length, map, Some, slice_get}
+use Rattle.std.specs.Prelude.{◌≡◌, ◌⊎◌, ℕ, true, false, not, List, [], filter, length, map, Some, slice_get}
 use Rattle.signalling_types.specs.Message.{Message}
 use Rattle.settings_rows.specs.Configuration.{Configuration}
 use Rattle.settings.specs.Well.{IsWell}
