@@ -13,3 +13,4 @@ pub mod Elsewhere
 pub mod Quiet
 pub mod Always
 pub mod Promised
+pub mod Row

@@ -1,2 +1,3 @@
 pub mod Networks
 pub mod Pairs
+pub mod Row

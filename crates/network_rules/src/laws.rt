@@ -5,6 +5,7 @@
 ghost use Rattle.network_rules.specs.Pairs.{books_are_of_the_two, each_flow_in_order, each_message_once};
 ghost use Rattle.network_rules.specs.Pairs.{flows_stay_between, nothing_is_awaited_in_vain, nothing_is_held_in_vain};
 ghost use Rattle.network_rules.specs.Pairs.{nobody_speaks_for_another, runs_are_runs_of_neighbours};
+ghost use Rattle.network_rules.specs.Row.{OpensInRow};
 
 /// Each set of a network is a pair of neighbours: by some steps of two neighbours (`neighbour_rules`) the same two
 /// exchanges come to be, with the same books and the same in flight between them.
@@ -57,4 +58,10 @@ pub fn flows_stay_between_the_two()
 /// been lost.
 pub fn nothing_is_held_in_vain()
     ensures { nothing_is_held_in_vain }
+{}
+
+/// The premises aren't empty: three nodes in a row keep them, and in four steps a link opens, at one end before the
+/// other, on either side of the middle one.
+pub fn links_open_in_a_row()
+    ensures { OpensInRow }
 {}
