@@ -14,3 +14,4 @@ pub mod Quiet
 pub mod Always
 pub mod Promised
 pub mod Row
+pub mod Transit

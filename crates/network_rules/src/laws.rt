@@ -6,6 +6,7 @@ ghost use Rattle.network_rules.specs.Pairs.{books_are_of_the_two, each_flow_in_o
 ghost use Rattle.network_rules.specs.Pairs.{flows_stay_between, nothing_is_awaited_in_vain, nothing_is_held_in_vain};
 ghost use Rattle.network_rules.specs.Pairs.{nobody_speaks_for_another, runs_are_runs_of_neighbours};
 ghost use Rattle.network_rules.specs.Row.{OpensInRow};
+ghost use Rattle.network_rules.specs.Transit.{messages_pass_through};
 
 /// Each set of a network is a pair of neighbours: by some steps of two neighbours (`neighbour_rules`) the same two
 /// exchanges come to be, with the same books and the same in flight between them.
@@ -58,6 +59,13 @@ pub fn flows_stay_between_the_two()
 /// been lost.
 pub fn nothing_is_held_in_vain()
     ensures { nothing_is_held_in_vain }
+{}
+
+/// A message that comes to a node for another point, whatever happened before, is queued, held or refused. The node books
+/// it as accepted, once, exactly if it isn't refused. Where it is accepted for an adjacent point, what is promised of the
+/// set that leads there begins.
+pub fn messages_pass_through()
+    ensures { messages_pass_through }
 {}
 
 /// The premises aren't empty: three nodes in a row keep them, and in four steps a link opens, at one end before the
