@@ -1,0 +1,171 @@
+-- Lists of steps of a network, as each two of its nodes that share a set see them; and nobody speaks for another meanwhile.
+use Rattle.pair_rules.proofs.Basics.{◌≡◌, ◌≢◌, ℕ, true, false, List, [], ◌∷◌, ◌++◌, refl, ap, sym, subst, ◌∙◌, length}
+use Rattle.pair_rules.proofs.Definitions.{Message, Configuration, Queue, first_queue, queue_at, PairState, first_pair, in_flight, each-replicate, read_frame}
+use Rattle.std.specs.List.{list_all}
+use Rattle.exchange_rules.specs.Laws.{carried_message}
+use Rattle.exchange_rules.specs.First.{Abstract, first_state}
+use Rattle.pair_moves.specs.Sayings.{Other}
+use Rattle.pair_rules.specs.Promises.{BothWays}
+use Rattle.pair_rules.specs.Sharing.{AreSharing}
+use Rattle.pair_rules.proofs.Good.{Each, each-get}
+use Rattle.neighbour_rules.specs.Neighbours as neighbours
+use Rattle.neighbour_rules.specs.Neighbours.{leads_elsewhere, speaks_for_either}
+use Rattle.neighbour_rules.proofs.World.{says_of}
+use Rattle.neighbour_rules.proofs.Sharing.{AreFacing, are-facing, far_joint, near_joint}
+use Rattle.neighbour_rules.proofs.Standing.{Stands}
+use Rattle.neighbour_rules.proofs.AllSteps.{steps-stand}
+use Rattle.network_rules.specs.Networks.{NetworkState, Step, after_step, after_steps, first_network}
+use Rattle.network_rules.specs.Pairs.{AreTheirPoints, AreWellOrAlone, ArePairsAlike, HearsNothingElsewhere, IsRunOfNeighbours, nobody_speaks_for_another, pair_of, runs_are_runs_of_neighbours}
+use Rattle.network_rules.proofs.Alike.{away}
+use Rattle.network_rules.proofs.Ends.{EndOk, first-ok, first-stands}
+use Rattle.network_rules.proofs.AllRuns.{HasPoints, are-apart, first-alike, step-next, steps-join, steps-keep}
+use Rattle.network_rules.proofs.Runs.{NextOf}
+use Rattle.network_rules.proofs.Quiet.{IsQuiet, SayElsewhere, Watched, are-kept, did-quiet, fine}
+use Rattle.network_rules.proofs.Elsewhere.{harmless-turned, speaks-none, speaks_between}
+use Rattle.network_rules.proofs.Texts.{IsHarmless}
+
+module _ (settings : (point : ℕ) → Configuration) (near far : ℕ) (points : AreTheirPoints settings) (well : AreWellOrAlone settings) (sharing : AreSharing (settings near) (settings far)) where
+  abbrev c : Configuration
+  c = settings near
+
+  abbrev z : Configuration
+  z = settings far
+
+  a : AreFacing c z
+  a = are-facing c z sharing
+
+  apart : near ≢ far
+  apart = are-apart settings near far points sharing
+
+  abbrev IsCalm : NetworkState → Type 0
+  IsCalm w = IsQuiet settings near far points well a w
+
+  abbrev Harmless : List ℕ → Type 0
+  Harmless text = IsHarmless (fine settings near far points well a) text
+
+  -- ---- at first
+
+  first-calm : IsCalm (first_network settings)
+  first-calm = record {
+    each = λ point. record {
+      kept = refl;
+      third = λ d e f. record { held = refl; links = λ link. each-replicate (λ (q : Queue). list_all (fine settings near far points well a) q.all ≡ true) (length (settings point).links) link first_queue refl };
+      near_end = λ e. subst (λ (n : ℕ). EndOk c z (near_joint c z a) (first_state (settings n)).node) e (first-ok c z (near_joint c z a));
+      far_end = λ e. subst (λ (n : ℕ). EndOk z c (far_joint c z a) (first_state (settings n)).node) e (first-ok z c (far_joint c z a));
+      flying = record {
+        user_data = λ link q. each-replicate (λ (ts : List (List ℕ)). Each Harmless ts) (length (settings point).links) link [] tt;
+        statuses = λ link q. each-replicate (λ (ts : List (List ℕ)). Each Harmless ts) (length (settings point).links) link [] tt;
+      };
+    };
+  }
+
+  -- ---- what comes from elsewhere
+
+  module _ (w : NetworkState) (h : IsCalm w) where
+    abbrev cw : Configuration
+    cw = (w.node near).exchange.settings
+
+    abbrev zw : Configuration
+    zw = (w.node far).exchange.settings
+
+    near-kept : cw ≡ c
+    near-kept = are-kept settings near far points well a w h near
+
+    far-kept : zw ≡ z
+    far-kept = are-kept settings near far points well a w h far
+
+    near-watched : (link : ℕ) → away cw zw link ≡ true → Watched settings near far points well a near link
+    near-watched link e = record {
+      of_near = λ i. ap (λ (s : Configuration). away c s link) (sym far-kept) ∙ ap (λ (s : Configuration). away s zw link) (sym near-kept) ∙ e;
+      of_far = λ i. absurd (apart (sym i));
+    }
+
+    far-watched : (link : ℕ) → away zw cw link ≡ true → Watched settings near far points well a far link
+    far-watched link e = record {
+      of_near = λ i. absurd (apart i);
+      of_far = λ i. ap (λ (s : Configuration). away z s link) (sym near-kept) ∙ ap (λ (s : Configuration). away s cw link) (sym far-kept) ∙ e;
+    }
+
+    near-silent : (text : List ℕ) → Harmless text → speaks_for_either (pair_of w near far) text ≡ false
+    near-silent text g =
+        ap (λ (s : Configuration). speaks_between s.own zw.own (carried_message (read_frame text))) near-kept
+        ∙ ap (λ (s : Configuration). speaks_between c.own s.own (carried_message (read_frame text))) far-kept
+        ∙ speaks-none c.own z.own (carried_message (read_frame text)) g.carried
+
+    far-silent : (text : List ℕ) → Harmless text → speaks_for_either (pair_of w far near) text ≡ false
+    far-silent text g =
+        ap (λ (s : Configuration). speaks_between s.own cw.own (carried_message (read_frame text))) far-kept
+        ∙ ap (λ (s : Configuration). speaks_between z.own s.own (carried_message (read_frame text))) near-kept
+        ∙ speaks-none z.own c.own (carried_message (read_frame text)) (harmless-turned c.own z.own text g).carried
+
+    nobody : BothWays HearsNothingElsewhere (pair_of w near far)
+    nobody = record {
+      there = record {
+        user_data = λ link text e g.
+            near-silent text (each-get Harmless (in_flight (w.node near).incoming.user_data link) 0 text ((h.each near).flying.user_data link (near-watched link e)) g);
+        statuses = λ link text e g.
+            near-silent text (each-get Harmless (in_flight (w.node near).incoming.statuses link) 0 text ((h.each near).flying.statuses link (near-watched link e)) g);
+      };
+      back = record {
+        user_data = λ link text e g.
+            far-silent text (each-get Harmless (in_flight (w.node far).incoming.user_data link) 0 text ((h.each far).flying.user_data link (far-watched link e)) g);
+        statuses = λ link text e g.
+            far-silent text (each-get Harmless (in_flight (w.node far).incoming.statuses link) 0 text ((h.each far).flying.statuses link (far-watched link e)) g);
+      };
+    }
+
+    own-points : HasPoints w
+    own-points = record { own = λ point. ap (λ (s : Configuration). s.own) (are-kept settings near far points well a w h point) ∙ points point }
+
+  -- ---- what the two say elsewhere
+
+  abbrev SaysOther : (one two : Configuration) → Message → Type 0
+  SaysOther one two m = says_of one.own two.own m ≡ Other
+
+  elsewhere-of : (w : NetworkState) (p : PairState) → Stands c z a p → ArePairsAlike (pair_of w near far) p → SayElsewhere settings near far points well a w
+  elsewhere-of w p s h = record {
+    near_says = λ link d. subst (λ (e : Abstract). Each (SaysOther c z) (queue_at e.node.queues link).all) h.near_alike.exchange (s.near_good.elsewhere link d);
+    far_says = λ link d. subst (λ (e : Abstract). Each (SaysOther z c) (queue_at e.node.queues link).all) h.far_alike.exchange (s.far_good.elsewhere link d);
+  }
+
+  -- ---- steps
+
+  record Goes (w : NetworkState) (p : PairState) : Type 0 where
+    pub steps : List neighbours.Step
+    pub pair : ArePairsAlike (pair_of w near far) (neighbours.after_steps steps p)
+    pub calm : IsCalm w
+
+  goes : (steps : List Step) (w : NetworkState) (p : PairState) → IsCalm w → Stands c z a p → ArePairsAlike (pair_of w near far) p → Goes (after_steps steps w) p
+  goes [] w p calm s h = record { steps = []; pair = h; calm = calm }
+  goes (step ∷ steps) w p calm s h =
+      let v : NetworkState = after_step step w in
+      let one : NextOf near far apart v p = step-next near far apart step w p (own-points w calm) h (nobody w calm) in
+      let q : PairState = neighbours.after_steps one.steps p in
+      let others : Goes (after_steps steps v) q =
+      goes steps v q (did-quiet settings near far points well a step.what step.point w calm (elsewhere-of w p s h)) (steps-stand c z a one.steps p s) one.pair in
+      record {
+        steps = one.steps ++ others.steps;
+        pair = subst (ArePairsAlike (pair_of (after_steps steps v) near far)) (sym (steps-join near far apart one.steps others.steps p)) others.pair;
+        calm = others.calm;
+      }
+
+  all-goes : (steps : List Step) → Goes (after_steps steps (first_network settings)) (first_pair c z)
+  all-goes steps = goes steps (first_network settings) (first_pair c z) first-calm (first-stands c z a) (first-alike settings near far)
+
+  run-of : (steps : List Step) → IsRunOfNeighbours (pair_of (after_steps steps (first_network settings)) near far)
+  run-of steps =
+      let w : NetworkState = after_steps steps (first_network settings) in
+      let g : Goes w (first_pair c z) = all-goes steps in
+      record {
+        steps = g.steps;
+        is_alike =
+            subst (λ (s : Configuration). ArePairsAlike (pair_of w near far) (neighbours.after_steps g.steps (first_pair s (w.node far).exchange.settings))) (sym (steps-keep steps (first_network settings) near))
+            (subst (λ (s : Configuration). ArePairsAlike (pair_of w near far) (neighbours.after_steps g.steps (first_pair c s))) (sym (steps-keep steps (first_network settings) far)) g.pair);
+      }
+
+pub runs : runs_are_runs_of_neighbours
+runs settings steps near far points well sharing = run-of settings near far points well sharing steps
+
+pub silence : nobody_speaks_for_another
+silence settings steps near far points well sharing =
+    nobody settings near far points well sharing (after_steps steps (first_network settings)) (all-goes settings near far points well sharing steps).calm

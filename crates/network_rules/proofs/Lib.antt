@@ -1,0 +1,17 @@
+pub mod Alike
+pub mod Nodes
+pub mod Places
+pub mod Runs
+pub mod AllRuns
+pub mod Passing
+pub mod PassingEvents
+pub mod Signals
+pub mod Texts
+pub mod Ends
+pub mod Thirds
+pub mod Elsewhere
+pub mod Quiet
+pub mod Always
+pub mod Promised
+pub mod Row
+pub mod Transit

@@ -1,0 +1,4 @@
+pub mod Networks
+pub mod Pairs
+pub mod Transit
+pub mod Row

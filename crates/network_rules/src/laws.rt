@@ -1,0 +1,75 @@
+//! What holds of each two nodes of a network that share a link set, after every list of steps from newly booted
+//! exchanges on. The steps are those of `specs/Networks.antt`. Each function says its law by its contract, and does
+//! nothing.
+
+ghost use Rattle.network_rules.specs.Pairs.{books_are_of_the_two, each_flow_in_order, each_message_once};
+ghost use Rattle.network_rules.specs.Pairs.{flows_stay_between, nothing_is_awaited_in_vain, nothing_is_held_in_vain};
+ghost use Rattle.network_rules.specs.Pairs.{nobody_speaks_for_another, runs_are_runs_of_neighbours};
+ghost use Rattle.network_rules.specs.Row.{OpensInRow};
+ghost use Rattle.network_rules.specs.Transit.{messages_pass_through};
+
+/// Each set of a network is a pair of neighbours: by some steps of two neighbours (`neighbour_rules`) the same two
+/// exchanges come to be, with the same books and the same in flight between them.
+pub fn each_set_is_a_pair_of_neighbours()
+    ensures { runs_are_runs_of_neighbours }
+{}
+
+/// What the guard of neighbours asks holds by itself: the frame that comes next to one of the two by a link that leads
+/// elsewhere carries no management (SI 0) of one of them for the other. A node makes management in its own name alone,
+/// and sends it to an adjacent point on links of the set that leads there; and it passes on what it hears, which nobody
+/// else can have made.
+pub fn nobody_speaks_for_another()
+    ensures { nobody_speaks_for_another }
+{}
+
+/// "Exactly once", in both directions. While neither exchange may have lost a message, as many user messages of any
+/// kind for the other point were accepted at one node as the other received from it and as wait: on the links between
+/// the two, and in Held.
+pub fn each_message_comes_once()
+    ensures { each_message_once }
+{}
+
+/// "Order", in both directions. While neither exchange may have lost a message, and no timer of the accepting node ended
+/// a hold, the user messages of a flow to the other point that one node accepted are, in order, those that the other
+/// received from it, and then those that wait.
+pub fn each_flow_keeps_its_order()
+    ensures { each_flow_in_order }
+{}
+
+/// All that a node booked as accepted for the other is for its point, all that it booked as received from it for its
+/// own, and none of it is of management or testing. This holds whatever has been lost.
+pub fn books_are_of_the_two_points()
+    ensures { books_are_of_the_two }
+{}
+
+/// Nothing is awaited in vain, in both directions. While neither exchange may have lost a message: while a node awaits
+/// the answer to its order to change over from a link between the two (Q.704 §5.4), or a code of their set awaits its
+/// acknowledgement (Q.704 §6.3), exactly one message that brings it is under way. Else none is.
+pub fn nothing_is_awaited_in_vain()
+    ensures { nothing_is_awaited_in_vain }
+{}
+
+/// The route to the other point stays allowed: each flow there that has a link has one that leads there, and no user
+/// message for it stands on a link that leads elsewhere (Q.704 §4.2). This holds whatever has been lost.
+pub fn flows_stay_between_the_two()
+    ensures { flows_stay_between }
+{}
+
+/// Nothing is held in vain, at either node: each hold has its timer or its word (Q.704 §16.8). This holds whatever has
+/// been lost.
+pub fn nothing_is_held_in_vain()
+    ensures { nothing_is_held_in_vain }
+{}
+
+/// A message that comes to a node for another point, whatever happened before, is queued, held or refused. The node books
+/// it as accepted, once, exactly if it isn't refused. Where it is accepted for an adjacent point, what is promised of the
+/// set that leads there begins.
+pub fn messages_pass_through()
+    ensures { messages_pass_through }
+{}
+
+/// The premises aren't empty: three nodes in a row keep them, and in four steps a link opens, at one end before the
+/// other, on either side of the middle one.
+pub fn links_open_in_a_row()
+    ensures { OpensInRow }
+{}
