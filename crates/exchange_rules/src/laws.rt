@@ -159,10 +159,11 @@ pub fn flags_never_fall()
     ensures number { unreasonable_numbers_raise_it }
 {}
 
-/// Flags rise only for a reason. Of each lateness that an event counts a notice tells that it makes, and so it is of each
-/// loss, unless a changeover is under way: of a link that the event is about, of one whose changeover wasn't complete, or
-/// of one that fails. What completes it counts one loss more where it has no reasonable number, and else none. A take
-/// counts neither. So where no notice tells of either and no changeover is under way, both flags stay as they were.
+/// Flags rise only for a reason. Of each lateness that an event counts a notice tells that it makes, and so it is of
+/// each loss, unless a changeover is under way: of a link that the event is about, of one whose changeover wasn't
+/// complete, or of one that fails. What completes it counts one loss more where it has no reasonable number, and else
+/// none. A take counts neither. So where no notice tells of either and no changeover is under way, both flags stay as
+/// they were.
 pub fn flags_rise_for_a_reason()
     ensures event { events_flag_for_a_reason }
     ensures completion { completions_flag_for_a_reason }
@@ -180,8 +181,9 @@ pub fn links_stay_steady()
 {}
 
 /// Each link has the timer of its state, whatever happens and whatever is taken. L2 runs just while it isn't aligned,
-/// L3 while it is, L4 while it is proved, and L1 while it is ready and its peer isn't; and L6 while it is in service and
-/// its peer is busy. So no link waits without a timer on its way into service, and none fails by a timer of another state.
+/// L3 while it is, L4 while it is proved, and L1 while it is ready and its peer isn't; and L6 while it is in service
+/// and its peer is busy. So no link waits without a timer on its way into service, and none fails by a timer of another
+/// state.
 pub fn links_have_the_timers_of_their_states()
     ensures { links_have_their_timers }
 {}
@@ -196,8 +198,8 @@ pub fn every_hold_has_its_timer_or_its_word()
 {}
 
 /// Each timer is set to the ticks that the settings give it, whatever happens and whatever is taken: after an event or
-/// a take it has as many left as before, or as many as it is set to, or it doesn't run. A tick takes one from each first.
-/// So none ever has more left than its own setting.
+/// a take it has as many left as before, or as many as it is set to, or it doesn't run. A tick takes one from each
+/// first. So none ever has more left than its own setting.
 pub fn timers_are_set_to_their_settings()
     ensures event { events_set_timers_to_their_settings }
     ensures take { takes_set_timers_to_their_settings }
