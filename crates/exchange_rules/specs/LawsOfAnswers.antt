@@ -42,5 +42,6 @@ abbrev pub one_answer_within_t8 : Type 0
 one_answer_within_t8 =
     (c : Configuration) (link destination : ℕ) (m : Message) (node : Node WholeQueues) → HasAllPlaces c node →
     set_of c link < length c.sets → destination < length c.destinations →
-    destination_place c (dpc_of m) ≡ Some destination → (transfer whole c (Some link) m node).outcome ≡ Refused NoRoute →
+    destination_place c (dpc_of m) ≡ Some destination →
+    (transfer whole c (Some link) m node).outcome ≡ Refused NoRoute →
     IsToldOnce c (set_of c link) destination node (transfer whole c (Some link) m node).left

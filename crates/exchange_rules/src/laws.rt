@@ -159,10 +159,11 @@ pub fn flags_never_fall()
     ensures number { unreasonable_numbers_raise_it }
 {}
 
-/// Flags rise only for a reason. Of each lateness that an event counts a notice of it tells, and so it does of each loss,
-/// unless a changeover is under way: of a link that the event is about, of one whose changeover wasn't complete, or of
-/// one that fails. What completes it counts one loss more where it has no reasonable number, and else none. A take
-/// counts neither. So where no notice tells of either and no changeover is under way, both flags stay as they were.
+/// Flags rise only for a reason. Of each lateness that an event counts a notice tells that it makes, and so it is of
+/// each loss, unless a changeover is under way: of a link that the event is about, of one whose changeover wasn't
+/// complete, or of one that fails. What completes it counts one loss more where it has no reasonable number, and else
+/// none. A take counts neither. So where no notice tells of either and no changeover is under way, both flags stay as
+/// they were.
 pub fn flags_rise_for_a_reason()
     ensures event { events_flag_for_a_reason }
     ensures completion { completions_flag_for_a_reason }
@@ -179,9 +180,10 @@ pub fn links_stay_steady()
     ensures watched { l7_watches }
 {}
 
-/// Each link has the timer of its state, whatever happens and whatever is taken. L2 runs just while it isn't aligned, L3
-/// while it is, L4 while it is proved, and L1 while it is ready and its peer isn't; and L6 while it is in service and its
-/// peer is busy. So no link waits without a timer on its way into service, and none fails by a timer of another state.
+/// Each link has the timer of its state, whatever happens and whatever is taken. L2 runs just while it isn't aligned,
+/// L3 while it is, L4 while it is proved, and L1 while it is ready and its peer isn't; and L6 while it is in service
+/// and its peer is busy. So no link waits without a timer on its way into service, and none fails by a timer of another
+/// state.
 pub fn links_have_the_timers_of_their_states()
     ensures { links_have_their_timers }
 {}
@@ -195,9 +197,9 @@ pub fn every_hold_has_its_timer_or_its_word()
     ensures always { every_hold_has_its_timer_or_its_word }
 {}
 
-/// Each timer is set to the ticks that the settings give it, whatever happens and whatever is taken: after an event or a
-/// take it has as many left as before, or as many as it is set to, or it doesn't run. A tick takes one from each first.
-/// So none ever has more left than its own setting.
+/// Each timer is set to the ticks that the settings give it, whatever happens and whatever is taken: after an event or
+/// a take it has as many left as before, or as many as it is set to, or it doesn't run. A tick takes one from each
+/// first. So none ever has more left than its own setting.
 pub fn timers_are_set_to_their_settings()
     ensures event { events_set_timers_to_their_settings }
     ensures take { takes_set_timers_to_their_settings }
@@ -239,8 +241,8 @@ pub fn routes_to_adjacent_points_stay_allowed()
 {}
 
 /// Each route that isn't allowed, over a set with a link in service, is tested, whatever happens and whatever is taken:
-/// its T10 runs. When T10 of such a route runs out, the test for its status goes to the adjacent point, and T10 runs again
-/// (Q.704 §13.5).
+/// its T10 runs. When T10 of such a route runs out, the test for its status goes to the adjacent point, and T10 runs
+/// again (Q.704 §13.5).
 pub fn unsure_routes_are_tested_again_and_again()
     ensures always { unsure_routes_are_tested }
     ensures again { tests_are_repeated }
