@@ -1,7 +1,9 @@
 pub mod Asked
 pub mod Staying
-pub mod Special
 pub mod World
+pub mod Bound
+pub mod Lone
+pub mod Special
 pub mod Good
 pub mod Lines
 pub mod FarEnds

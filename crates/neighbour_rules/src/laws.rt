@@ -72,7 +72,8 @@ pub fn completions_move_what_the_peer_lacks()
 
 /// Two nodes that have only each other are the special case: settings that face each other (`AreJoined`
 /// of `pair_rules`) share a set, and each step between them comes to what it comes to there, and leaves
-/// the same.
+/// the same. All that an end accepted is for the other, and "Exactly once" and "Order" hold of all user
+/// messages.
 pub fn a_pair_alone_is_the_special_case()
     ensures { alone_is_special }
 {}
