@@ -4,6 +4,7 @@ pub mod World
 pub mod Bound
 pub mod Lone
 pub mod Special
+pub mod Outcomes
 pub mod Good
 pub mod Lines
 pub mod FarEnds

@@ -299,13 +299,20 @@ as-once p e h = λ test. h test ∙ ap (λ (ms : List Message). count_by (user t
 as-order : (p : PairState) → waiting p ≡ alone.waiting p → (IsPunctual p → InOrder p) → IsPunctual p → alone.InOrder p
 as-order p e h punctual = λ flow. h punctual flow ∙ ap (λ (ms : List Message). of_flow flow p.far.received ++ of_flow flow ms) e
 
+-- so the general machine shows what comes of steps between the two
+pub stands-alone : (near far : Configuration) (g : AreJoined near far) (steps : List Step) → Stands near far (facing near far g) (pairs.after_steps steps (first_pair near far))
+stands-alone near far g steps =
+    let first : PairState = first_pair near far in
+    let f : AreFacing near far = facing near far g in
+    subst (Stands near far f) (steps-same near far g steps first (first-stands near far f)) (steps-stand near far f (map lifted steps) first (first-stands near far f))
+
 pub is-special : alone_is_special
 is-special near far steps g =
     let first : PairState = first_pair near far in
     let f : AreFacing near far = facing near far g in
     let alike : after_steps (map lifted steps) first ≡ pairs.after_steps steps first = steps-same near far g steps first (first-stands near far f) in
     let q : PairState = pairs.after_steps steps first in
-    let s : Stands near far f q = subst (Stands near far f) alike (steps-stand near far f (map lifted steps) first (first-stands near far f)) in
+    let s : Stands near far f q = stands-alone near far g steps in
     let there : waiting q ≡ alone.waiting q = near-waits near far g f q s in
     let back : waiting (turned q) ≡ alone.waiting (turned q) = near-waits far near (joined-back near far g) (facing_back near far f) (turned q) (stands-turned near far f q s) in
     let once : LostNothing q → BothWays EachOnce q = subst (λ (x : PairState). LostNothing x → BothWays EachOnce x) alike (each-once near far (map lifted steps) (sharing near far g)) in
