@@ -1,7 +1,8 @@
 -- Each call of a gate is a list of steps of its node.
-use Rattle.std.proofs.Common.{◌≡◌, ◌≢◌, ◌⊎◌, inl, inr, ◌<◌, ◌≤◌, ◌+◌, ℕ, Bool, true, false, List, [], ◌∷◌, ◌++◌, Option, Some, None, length, map, refl, ap, sym, ◌∙◌, subst, nat_eq, arith}
+use Rattle.std.proofs.Common.{◌≡◌, ◌≢◌, ◌⊎◌, inl, inr, ◌≤◌, ◌+◌, ℕ, Bool, true, false, List, [], ◌∷◌, ◌++◌, Option, Some, None, map, refl, ap, sym, ◌∙◌, subst, nat_eq, arith}
 use Rattle.std.proofs.lemmas.Bool.Decides.{nat_tests}
 use Rattle.std.specs.Prelude.{if◌then◌else◌}
+use Rattle.settings_rows.specs.Configuration.{Configuration}
 use Rattle.m2pa_codec.specs.Frames.{FrameValue}
 use Rattle.sctp_rules.specs.declared.loss.Loss.{Loss}
 use Rattle.sctp_rules.specs.declared.loss.Loss.TheVariants.{Local}
@@ -31,7 +32,7 @@ use Rattle.sctp_gate.specs.Handing.{after_told, sights_of}
 use Rattle.sctp_gate.specs.Gates.{Gate, Did, nothing, followed_by, is_lasting, may_try, handed, does, aborted, opened, wanted, settled_by, settled, between}
 use Rattle.sctp_gate.specs.Laws.{Agrees}
 use Rattle.sctp_gate.proofs.Agreeing.{agrees}
-use Rattle.node_rules.specs.Worlds.{Make, Node, Books, Port, associated, wish_left, wished, Doing, Associates, did, MayDo, MayAssociate}
+use Rattle.node_rules.specs.Worlds.{Make, Node, Books, Port, associated, wish_left, wished, Doing, Associates, did, IsBetween, MayDo, MayAssociate}
 use Rattle.node_rules.specs.Worlds as worlds
 use Rattle.node_rules.specs.Promises.{IsShort}
 use Rattle.gate_rules.specs.Calls.{is_served, is_seeking, Shows, seen_all, messages_in, dids, MayAll}
@@ -70,15 +71,15 @@ alike-ended now false false why p = record { up = refl; seeks = refl }
 -- ---- what holds of a node whatever it may do
 
 -- by that the state of the link's endpoint is one that may be, and frames are short
-pub record Lasts (m : Make) (other : Node) (k : ℕ) (Holds : Node → Type 0) : Type 0 where
-  pub stays : (n : Node) (what : Doing) → Holds n → MayDo m other what n → Holds (did m what n)
+pub record Lasts (m : Make) (peer : Configuration) (other : Node) (k : ℕ) (Holds : Node → Type 0) : Type 0 where
+  pub stays : (n : Node) (what : Doing) → Holds n → MayDo m.configuration peer other what n → Holds (did m what n)
   pub right : (n : Node) → Holds n → Right (n.ports k).site.state
   pub fits : (n : Node) → Holds n → Fits (Some (n.ports k).wish) (n.ports k).site.state
   pub short : (n : Node) → Holds n → (frame : FrameValue) → frame_to_take whole n.books.exchange k ≡ Some frame → IsShort frame
 
 -- ---- steps
 
-module _ (m : Make) (other : Node) (k : ℕ) (k-in : k < length m.configuration.links) (Holds : Node → Type 0) (lasts : Lasts m other k Holds) where
+module _ (m : Make) (peer : Configuration) (other : Node) (k : ℕ) (k-in : IsBetween m.configuration peer k) (Holds : Node → Type 0) (lasts : Lasts m peer other k Holds) where
   -- a node after what is done, with the mark that its endpoint is left with
   pub record Leaves (n l : Node) (d : Did WholeQueues) (mark : ℕ) : Type 0 where
     pub shows : Shows m l k d.gate
@@ -93,7 +94,7 @@ module _ (m : Make) (other : Node) (k : ℕ) (k-in : k < length m.configuration.
 
   pub record AreDone (n : Node) (d : Did WholeQueues) (mark : ℕ) : Type 0 where
     pub steps : List Doing
-    pub may : MayAll m other steps n
+    pub may : MayAll m peer other steps n
     pub leaves : Leaves n (dids m steps n) d mark
 
   -- where the mark stays
@@ -107,7 +108,7 @@ module _ (m : Make) (other : Node) (k : ℕ) (k-in : k < length m.configuration.
 
   pub record AreCalled (n : Node) (d : Did WholeQueues) (flushes : Bool) : Type 0 where
     pub steps : List Doing
-    pub may : MayAll m other steps n
+    pub may : MayAll m peer other steps n
     pub mark : ℕ
     pub leaves : Leaves n (dids m steps n) d mark
     pub is_mark : IsMark flushes n (dids m steps n) mark
@@ -119,7 +120,7 @@ module _ (m : Make) (other : Node) (k : ℕ) (k-in : k < length m.configuration.
   dids-append [] more n = refl
   dids-append (what ∷ list) more n = dids-append list more (did m what n)
 
-  pub may-append : (list more : List Doing) (n : Node) → MayAll m other list n → MayAll m other more (dids m list n) → MayAll m other (list ++ more) n
+  pub may-append : (list more : List Doing) (n : Node) → MayAll m peer other list n → MayAll m peer other more (dids m list n) → MayAll m peer other (list ++ more) n
   may-append [] more n h g = g
   may-append (what ∷ list) more n h g = (h.0, may-append list more (did m what n) h.1 g)
 
@@ -218,7 +219,7 @@ module _ (m : Make) (other : Node) (k : ℕ) (k-in : k < length m.configuration.
     in-emitted x xs i = in-map (emitted site.mark) xs x i
 
     -- a rule, with its events handed in, where the gate knows what the user wants then; it gives no message
-    one-done : (what : Happening) (now : ℕ) (p : Standing) (d : Done) (w : Wish) → d ≡ rule what → MayDo m other (Associates k what) n
+    one-done : (what : Happening) (now : ℕ) (p : Standing) (d : Done) (w : Wish) → d ≡ rule what → MayDo m.configuration peer other (Associates k what) n
         → given_by what site.state site.given ≡ site.given
         → (associated m k what n).wish ≡ w → Alike (stands_after now d.told p) w
         → (s : Abstract) → n.books.exchange ≡ s → AreDone n (handed whole now d (record g { standing = p }) s) (ends.marked_by what site)
@@ -346,7 +347,7 @@ module _ (m : Make) (other : Node) (k : ℕ) (k-in : k < length m.configuration.
       pub quiet : given_by what site.state site.given ≡ site.given
 
     pub plain-done : (what : Happening) → IsPlain what → (now : ℕ) (f : Settings → Secrets → rules.State → Done)
-        → ((c : Settings) (r : Secrets) (t : rules.State) → f c r t ≡ after c r what t) → MayAssociate other k what n
+        → ((c : Settings) (r : Secrets) (t : rules.State) → f c r t ≡ after c r what t) → MayAssociate (other.ports k-in.there).site k what n
         → (s : Abstract) → n.books.exchange ≡ s
         → AreDone n (handed whole now (f g.endpoint.settings (secrets_of g.endpoint) g.endpoint.state) g s) (ends.marked_by what site)
     plain-done what plain now f f-is may s e =

@@ -99,21 +99,23 @@ module _ (m : nodes.Make) (ports : (k : ℕ) → HasPorts (m.endpoints k).settin
       record { each = port-fits m n k (associated m k (endpoint.Sends (message_of (spelled frame))) n) f (one-fits n k (endpoint.Sends (message_of (spelled frame))) (omega arith) f) }
 
   module _ (o : nodes.Make) (other : nodes.Node) (there : NodeFits o other) where
-    may-fit : (n : nodes.Node) (k : ℕ) (what : Happening) → nodes.MayAssociate other k what n → Fits what
-    may-fit n k (endpoint.Opens now is_active) may = tt
-    may-fit n k (endpoint.Came now source packet) may =
+    may-fit : (n : nodes.Node) (k j : ℕ) (what : Happening) → nodes.MayAssociate (other.ports j).site k what n → Fits what
+    may-fit n k j (endpoint.Opens now is_active) may = tt
+    may-fit n k j (endpoint.Came now source packet) may =
         let one : Emitted = may.0.one in
-        fit-of packet (subst IsPacket may.0.is (All-contains Written (other.ports k).site.packets one (there.each k).packets may.0.there))
-    may-fit n k (endpoint.Ticked now) may = tt
-    may-fit n k (endpoint.Sends message) may = absurd may
-    may-fit n k endpoint.Aborts may = tt
-    may-fit n k (endpoint.ShutsDown now) may = tt
-    may-fit n k (endpoint.Flushes now) may = tt
+        fit-of packet (subst IsPacket may.0.is (All-contains Written (other.ports j).site.packets one (there.each j).packets may.0.there))
+    may-fit n k j (endpoint.Ticked now) may = tt
+    may-fit n k j (endpoint.Sends message) may = absurd may
+    may-fit n k j endpoint.Aborts may = tt
+    may-fit n k j (endpoint.ShutsDown now) may = tt
+    may-fit n k j (endpoint.Flushes now) may = tt
 
-    did-fits : (n : nodes.Node) (what : nodes.Doing) → nodes.MayDo m other what n → NodeFits m n → NodeFits m (nodes.did m what n)
+    did-fits : (n : nodes.Node) (what : nodes.Doing) → nodes.MayDo m.configuration o.configuration other what n → NodeFits m n → NodeFits m (nodes.did m what n)
     did-fits n (nodes.Happens what) may f = record { each = f.each }
-    did-fits n (nodes.Associates k what) may f = record { each = port-fits m n k (associated m k what n) f (one-fits n k what (may-fit n k what may.1) f) }
+    did-fits n (nodes.Associates k what) may f = record { each = port-fits m n k (associated m k what n) f (one-fits n k what (may-fit n k may.0.there what may.1) f) }
     did-fits n (nodes.Sends k) may f = sent-fits n k (frame_to_take whole n.books.exchange k) f
+    did-fits n (nodes.Brings what) may f = record { each = f.each }
+    did-fits n (nodes.Leaves k) may f = record { each = f.each }
 
 -- ---- two nodes
 
@@ -154,8 +156,8 @@ read-so m g n b f link one i =
     (subst IsPacket t.same (All-contains Written (n.ports link).site.packets t.one (f.each link).packets (contains-from (n.ports link).site.packets t.one t.there)))
 
 pub all-read : packets_are_read
-all-read near far joined list steps near_ports far_ports =
-    let r : Reaches near far joined (last_world (new_world near far) list) = all-reach near far joined list steps in
+all-read near far sharing list steps near_ports far_ports =
+    let r : Reaches near far sharing (last_world (new_world near far) list) = all-reach near far sharing list steps in
     let f : WorldFits (node_make near) (node_make far) near_ports far_ports (λ k. keyed-fit (near.gates k).tag_key (near.gates k).cookie_key)
     (λ k. keyed-fit (far.gates k).tag_key (far.gates k).cookie_key) (nodes.last_world (first_nodes near far) r.list) =
     all-fit (node_make near) (node_make far) near_ports far_ports _ _ r.list (first_nodes near far) r.steps

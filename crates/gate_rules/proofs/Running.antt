@@ -1,7 +1,9 @@
 -- Runs of two nodes with gates are runs of two nodes of `node_rules`, whose promises they have.
-use Rattle.std.proofs.Common.{◌≡◌, ◌⊎◌, inl, inr, ◌<◌, ◌≤◌, ◌+◌, ℕ, Bool, true, false, List, [], ◌∷◌, ◌++◌, Some, None, length, map, refl, ap, sym, ◌∙◌, subst, nat_eq, arith}
+use Rattle.std.proofs.Common.{◌≡◌, ◌⊎◌, inl, inr, ◌≤◌, ◌+◌, ℕ, Bool, true, false, List, [], ◌∷◌, ◌++◌, Some, None, map, refl, ap, sym, ◌∙◌, subst, nat_eq, arith}
 use Rattle.std.proofs.lemmas.Bool.Decides.{nat_tests}
 use Rattle.std.specs.Prelude.{if◌then◌else◌}
+use Rattle.settings_rows.specs.Configuration.{Configuration}
+use Rattle.exchange_rules.specs.Exchange.{frame_to_take}
 use Rattle.sctp_codec.specs.Packets.{PacketValue}
 use Rattle.sctp_moves.proofs.Members.{In, in-from, contains-from, in-unmap}
 use Rattle.sctp_ends.specs.Worlds as ends
@@ -11,20 +13,28 @@ use Rattle.exchange_rules.specs.First.{Abstract}
 use Rattle.exchange_rules.specs.Queues.{WholeQueues, whole}
 use Rattle.sctp_gate.specs.Gates.{Gate, Did}
 use Rattle.sctp_gate.specs.Calling.{Call, Hears, Ticks, Settles, Fills, Closes, called}
-use Rattle.pair_rules.specs.Promises.{AreJoined, LostNothing, EachOnce, InOrder, IsPunctual, BothWays}
+use Rattle.pair_rules.specs.Pairs.{PairState}
+use Rattle.pair_rules.specs.Promises as alone
+use Rattle.pair_rules.specs.Promises.{LostNothing, IsPunctual, BothWays}
+use Rattle.pair_rules.specs.Sharing.{AreSharing}
+use Rattle.neighbour_rules.specs.Promises.{EachOnce, InOrder}
+use Rattle.neighbour_rules.proofs.Special.{sharing}
 use Rattle.node_rules.specs.Worlds as nodes
-use Rattle.node_rules.specs.Worlds.{Books, Port}
-use Rattle.node_rules.specs.Promises.{AreFacing}
-use Rattle.node_rules.proofs.Runs.{IsRun, all-run}
+use Rattle.node_rules.specs.Worlds.{Books, IsBetween, Port}
+use Rattle.node_rules.specs.Promises.{AreNeighbours, end_of}
+use Rattle.node_rules.specs.Alone as nodes_alone
+use Rattle.node_rules.specs.Alone.{whole_end}
+use Rattle.node_rules.proofs.Alone as special
+use Rattle.node_rules.proofs.Runs.{IsRun, all-run, facing}
 use Rattle.node_rules.proofs.Promised.{once, in-order}
 use Rattle.gate_rules.specs.Calls.{is_served, is_seeking, Shows, seen_all, messages_in, dids, MayAll, does_flush}
 use Rattle.gate_rules.specs.Calls as calls
 use Rattle.gate_rules.specs.Worlds as gates
 use Rattle.gate_rules.specs.Worlds.{Make, World, new_world, at_near, at_far, Steps, last_world, done_by, port_after, with_call}
-use Rattle.gate_rules.specs.Promises.{node_make, first_nodes, IsRunOfNodes, runs_are_runs_of_nodes, end_with, each_message_once, each_flow_in_order}
+use Rattle.gate_rules.specs.Promises.{node_make, first_nodes, IsRunOfNodes, runs_are_runs_of_nodes, each_message_once, each_flow_in_order, alone_is_special}
 use Rattle.gate_rules.proofs.Seen.{in-either}
 use Rattle.gate_rules.proofs.Calling.{Lasts, AreCalled, IsMark}
-use Rattle.gate_rules.proofs.Lawful.{called-done, links, near-lasts, far-lasts, here-too, new-shows}
+use Rattle.gate_rules.proofs.Lawful.{called-done, near-lasts, far-lasts, new-shows}
 
 -- ---- what a gate put out, beside what its endpoint did
 
@@ -49,13 +59,13 @@ arrives s p packet a h =
       young = (let x = t.young in let y = h.young in omega (arith, x, y));
     }
 
-may-call : (n : nodes.Node) (k : ℕ) (p : gates.Port) (call : Call) → Ages (n.ports k).site p → gates.MayCall p call → calls.MayCall n k call
-may-call n k p (Hears now None source) a may = tt
-may-call n k p (Hears now (Some packet) source) a may = arrives (n.ports k).site p packet a may
-may-call n k p (Ticks now) a may = tt
-may-call n k p (Settles now) a may = tt
-may-call n k p (Fills now) a may = tt
-may-call n k p (Closes now) a may = tt
+may-call : (s : ends.Site) (p : gates.Port) (call : Call) → Ages s p → gates.MayCall p call → calls.MayCall s call
+may-call s p (Hears now None source) a may = tt
+may-call s p (Hears now (Some packet) source) a may = arrives s p packet a may
+may-call s p (Ticks now) a may = tt
+may-call s p (Settles now) a may = tt
+may-call s p (Fills now) a may = tt
+may-call s p (Closes now) a may = tt
 
 -- ---- a node with gates beside one of `node_rules`
 
@@ -87,7 +97,8 @@ each-port P k port ports h f j = by (nat_eq j k) refl where
 
 -- ---- after a call
 
-module _ (m : Make) (other : nodes.Node) (k : ℕ) (k-in : k < length m.configuration.links) (Holds : nodes.Node → Type 0) (lasts : Lasts (node_make m) other k Holds) where
+module _ (m : Make) (peer : Configuration) (other : nodes.Node) (k : ℕ) (k-in : IsBetween m.configuration peer k) (Holds : nodes.Node → Type 0)
+    (lasts : Lasts (node_make m) peer other k Holds) where
   module _ (g : gates.Node) (n : nodes.Node) (b : Beside m g n) (call : Call) where
     abbrev d : Did WholeQueues
     d = done_by call k g
@@ -98,7 +109,7 @@ module _ (m : Make) (other : nodes.Node) (k : ℕ) (k-in : k < length m.configur
     abbrev q : gates.Port
     q = port_after call d p
 
-    module _ (f : AreCalled (node_make m) other k k-in Holds lasts n d (does_flush call p.gate)) where
+    module _ (f : AreCalled (node_make m) peer other k k-in Holds lasts n d (does_flush call p.gate)) where
       abbrev l : nodes.Node
       l = dids (node_make m) f.steps n
 
@@ -126,7 +137,7 @@ module _ (m : Make) (other : nodes.Node) (k : ℕ) (k-in : k < length m.configur
           let a : IsThere s p x = (b.ages k).packets x i in
           record { one = a.one; there = f.leaves.kept a.one a.there; same = a.same; young = older x a.one a.young }
 
-      marked-by : (flushes : Bool) → IsMark (node_make m) other k k-in Holds lasts flushes n l f.mark
+      marked-by : (flushes : Bool) → IsMark (node_make m) peer other k k-in Holds lasts flushes n l f.mark
           → messages_at t + (if flushes then p.messages + messages_in d.seen else p.mark) ≤ f.mark + (p.messages + messages_in d.seen)
       marked-by true is = omega (arith, is)
       marked-by false is =
@@ -155,16 +166,16 @@ module _ (m : Make) (other : nodes.Node) (k : ℕ) (k-in : k < length m.configur
 
   pub record Goes (g : gates.Node) (n : nodes.Node) (what : gates.Doing) : Type 0 where
     pub steps : List nodes.Doing
-    pub may : MayAll (node_make m) other steps n
+    pub may : MayAll (node_make m) peer other steps n
     pub beside : Beside m (gates.did what g) (dids (node_make m) steps n)
 
-  pub call-goes : (g : gates.Node) (n : nodes.Node) (o : gates.Port) (call : Call) → Beside m g n → Holds n → Ages (other.ports k).site o → gates.MayCall o call
+  pub call-goes : (g : gates.Node) (n : nodes.Node) (o : gates.Port) (call : Call) → Beside m g n → Holds n → Ages (other.ports k-in.there).site o → gates.MayCall o call
       → Goes g n (gates.Calls k call)
   call-goes g n o call b z a may =
-      let f : AreCalled (node_make m) other k k-in Holds lasts n (called whole call (g.ports k).gate n.books.exchange) (does_flush call (g.ports k).gate) =
-      called-done (node_make m) other k k-in Holds lasts n (g.ports k).gate call (b.shows k) z (may-call other k o call a may) in
-      let h : AreCalled (node_make m) other k k-in Holds lasts n (done_by call k g) (does_flush call (g.ports k).gate) =
-      subst (λ (x : Books). AreCalled (node_make m) other k k-in Holds lasts n (called whole call (g.ports k).gate x.exchange) (does_flush call (g.ports k).gate)) b.books f in
+      let f : AreCalled (node_make m) peer other k k-in Holds lasts n (called whole call (g.ports k).gate n.books.exchange) (does_flush call (g.ports k).gate) =
+      called-done (node_make m) peer other k k-in Holds lasts n (g.ports k).gate call (b.shows k) z (may-call (other.ports k-in.there).site o call a may) in
+      let h : AreCalled (node_make m) peer other k k-in Holds lasts n (done_by call k g) (does_flush call (g.ports k).gate) =
+      subst (λ (x : Books). AreCalled (node_make m) peer other k k-in Holds lasts n (called whole call (g.ports k).gate x.exchange) (does_flush call (g.ports k).gate)) b.books f in
       record { steps = h.steps; may = h.may; beside = beside-after g n b call h }
 
 -- what its links don't bring
@@ -193,11 +204,11 @@ far-last : (m : nodes.Make) (list : List nodes.Doing) (w : nodes.World) → node
 far-last m [] w = refl
 far-last m (what ∷ more) w = far-last m more (record w { far = nodes.did m what w.far })
 
-near-steps : (near far : nodes.Make) (list : List nodes.Doing) (w : nodes.World) → MayAll near w.far list w.near → nodes.Steps near far w (near-through near list w)
+near-steps : (near far : nodes.Make) (list : List nodes.Doing) (w : nodes.World) → MayAll near far.configuration w.far list w.near → nodes.Steps near far w (near-through near list w)
 near-steps near far [] w may = tt
 near-steps near far (what ∷ more) w may = (nodes.at_near what may.0 refl, near-steps near far more (record w { near = nodes.did near what w.near }) may.1)
 
-far-steps : (near far : nodes.Make) (list : List nodes.Doing) (w : nodes.World) → MayAll far w.near list w.far → nodes.Steps near far w (far-through far list w)
+far-steps : (near far : nodes.Make) (list : List nodes.Doing) (w : nodes.World) → MayAll far near.configuration w.near list w.far → nodes.Steps near far w (far-through far list w)
 far-steps near far [] w may = tt
 far-steps near far (what ∷ more) w may = (nodes.at_far what may.0 refl, far-steps near far more (record w { far = nodes.did far what w.far }) may.1)
 
@@ -210,7 +221,7 @@ steps-more : (near far : nodes.Make) (xs ys : List nodes.World) (w : nodes.World
 steps-more near far [] ys w h g = g
 steps-more near far (x ∷ xs) ys w h g = (h.0, steps-more near far xs ys x h.1 g)
 
-module _ (near far : Make) (joined : AreJoined near.configuration far.configuration) where
+module _ (near far : Make) (sharing : AreSharing near.configuration far.configuration) where
   abbrev near_node : nodes.Make
   near_node = node_make near
 
@@ -220,9 +231,9 @@ module _ (near far : Make) (joined : AreJoined near.configuration far.configurat
   abbrev first : nodes.World
   first = first_nodes near far
 
-  facing : AreFacing near_node far_node
-  facing = record {
-    joined = joined;
+  neighbours : AreNeighbours near_node far_node
+  neighbours = record {
+    sharing = sharing;
     near_good = λ link. keyed-good (near.gates link).tag_key (near.gates link).cookie_key;
     far_good = λ link. keyed-good (far.gates link).tag_key (far.gates link).cookie_key;
   }
@@ -246,32 +257,52 @@ module _ (near far : Make) (joined : AreJoined near.configuration far.configurat
         far_beside = subst (λ (x : nodes.World). Beside far u.far x.far) (sym last) c;
       }
 
-  near-goes : (v : World) (what : gates.Doing) → gates.MayDo near v.far what → (r : Reaches v) → Reaches (record v { near = gates.did what v.near })
-  near-goes v (gates.Happens what) may r =
+  -- what no link between the two brings, which changes books alone
+  near-alone : (v : World) (what : nodes.Doing) (books : Books → Books) (r : Reaches v)
+      → nodes.MayDo near.configuration far.configuration (nodes.last_world first r.list).far what (nodes.last_world first r.list).near
+      → nodes.did near_node what (nodes.last_world first r.list).near ≡ record (nodes.last_world first r.list).near { books = books (nodes.last_world first r.list).near.books }
+      → Reaches (record v { near = record v.near { books = books v.near.books } })
+  near-alone v what books r may is =
       let w : nodes.World = nodes.last_world first r.list in
-      goes-on v (record v { near = gates.did (gates.Happens what) v.near }) r (near-through near_node (nodes.Happens what ∷ []) w) _
-      (near-steps near_node far_node (nodes.Happens what ∷ []) w (may, tt)) (near-last near_node (nodes.Happens what ∷ []) w)
-      (own-goes near v.near w.near (nodes.Happens what) (nodes.happened what) r.near_beside refl) r.far_beside
+      goes-on v (record v { near = record v.near { books = books v.near.books } }) r (near-through near_node (what ∷ []) w) _
+      (near-steps near_node far_node (what ∷ []) w (may, tt)) (near-last near_node (what ∷ []) w)
+      (own-goes near v.near w.near what books r.near_beside is) r.far_beside
+
+  far-alone : (v : World) (what : nodes.Doing) (books : Books → Books) (r : Reaches v)
+      → nodes.MayDo far.configuration near.configuration (nodes.last_world first r.list).near what (nodes.last_world first r.list).far
+      → nodes.did far_node what (nodes.last_world first r.list).far ≡ record (nodes.last_world first r.list).far { books = books (nodes.last_world first r.list).far.books }
+      → Reaches (record v { far = record v.far { books = books v.far.books } })
+  far-alone v what books r may is =
+      let w : nodes.World = nodes.last_world first r.list in
+      goes-on v (record v { far = record v.far { books = books v.far.books } }) r (far-through far_node (what ∷ []) w) _
+      (far-steps near_node far_node (what ∷ []) w (may, tt)) (far-last far_node (what ∷ []) w)
+      r.near_beside (own-goes far v.far w.far what books r.far_beside is)
+
+  near-goes : (v : World) (what : gates.Doing) → gates.MayDo near.configuration far.configuration v.far what → (r : Reaches v) → Reaches (record v { near = gates.did what v.near })
+  near-goes v (gates.Happens what) may r = near-alone v (nodes.Happens what) (nodes.happened what) r may refl
+  near-goes v (gates.Brings what) may r = near-alone v (nodes.Brings what) (nodes.happened_elsewhere what) r may refl
+  near-goes v (gates.Leaves k) may r =
+      near-alone v (nodes.Leaves k) (λ b. nodes.left_by k (frame_to_take whole b.exchange k) b) r may refl
   near-goes v (gates.Calls k call) may r =
       let w : nodes.World = nodes.last_world first r.list in
-      let run : IsRun near_node far_node (links near_node far_node facing) w = all-run near_node far_node facing r.list r.steps in
-      let e : Goes near w.far k may.0 _ (near-lasts near_node far_node facing w.far k may.0) v.near w.near (gates.Calls k call) =
-      call-goes near w.far k may.0 _ (near-lasts near_node far_node facing w.far k may.0) v.near w.near (v.far.ports k) call r.near_beside run (r.far_beside.ages k) may.1 in
+      let run : IsRun near_node far_node (facing near_node far_node neighbours) w = all-run near_node far_node neighbours r.list r.steps in
+      let e : Goes near far.configuration w.far k may.0 _ (near-lasts near_node far_node neighbours w.far k may.0) v.near w.near (gates.Calls k call) =
+      call-goes near far.configuration w.far k may.0 _ (near-lasts near_node far_node neighbours w.far k may.0) v.near w.near (v.far.ports may.0.there) call r.near_beside run
+      (r.far_beside.ages may.0.there) may.1 in
       goes-on v (record v { near = gates.did (gates.Calls k call) v.near }) r (near-through near_node e.steps w) _
       (near-steps near_node far_node e.steps w e.may) (near-last near_node e.steps w) e.beside r.far_beside
 
-  far-goes : (v : World) (what : gates.Doing) → gates.MayDo far v.near what → (r : Reaches v) → Reaches (record v { far = gates.did what v.far })
-  far-goes v (gates.Happens what) may r =
-      let w : nodes.World = nodes.last_world first r.list in
-      goes-on v (record v { far = gates.did (gates.Happens what) v.far }) r (far-through far_node (nodes.Happens what ∷ []) w) _
-      (far-steps near_node far_node (nodes.Happens what ∷ []) w (may, tt)) (far-last far_node (nodes.Happens what ∷ []) w)
-      r.near_beside (own-goes far v.far w.far (nodes.Happens what) (nodes.happened what) r.far_beside refl)
+  far-goes : (v : World) (what : gates.Doing) → gates.MayDo far.configuration near.configuration v.near what → (r : Reaches v) → Reaches (record v { far = gates.did what v.far })
+  far-goes v (gates.Happens what) may r = far-alone v (nodes.Happens what) (nodes.happened what) r may refl
+  far-goes v (gates.Brings what) may r = far-alone v (nodes.Brings what) (nodes.happened_elsewhere what) r may refl
+  far-goes v (gates.Leaves k) may r =
+      far-alone v (nodes.Leaves k) (λ b. nodes.left_by k (frame_to_take whole b.exchange k) b) r may refl
   far-goes v (gates.Calls k call) may r =
       let w : nodes.World = nodes.last_world first r.list in
-      let run : IsRun near_node far_node (links near_node far_node facing) w = all-run near_node far_node facing r.list r.steps in
-      let k-in : k < links near_node far_node facing = here-too near_node far_node facing k may.0 in
-      let e : Goes far w.near k may.0 _ (far-lasts near_node far_node facing w.near k k-in) v.far w.far (gates.Calls k call) =
-      call-goes far w.near k may.0 _ (far-lasts near_node far_node facing w.near k k-in) v.far w.far (v.near.ports k) call r.far_beside run (r.near_beside.ages k) may.1 in
+      let run : IsRun near_node far_node (facing near_node far_node neighbours) w = all-run near_node far_node neighbours r.list r.steps in
+      let e : Goes far near.configuration w.near k may.0 _ (far-lasts near_node far_node neighbours w.near k may.0) v.far w.far (gates.Calls k call) =
+      call-goes far near.configuration w.near k may.0 _ (far-lasts near_node far_node neighbours w.near k may.0) v.far w.far (v.near.ports may.0.there) call r.far_beside run
+      (r.near_beside.ages may.0.there) may.1 in
       goes-on v (record v { far = gates.did (gates.Calls k call) v.far }) r (far-through far_node e.steps w) _
       (far-steps near_node far_node e.steps w e.may) (far-last far_node e.steps w) r.near_beside e.beside
 
@@ -301,30 +332,64 @@ module _ (near far : Make) (joined : AreJoined near.configuration far.configurat
 -- ---- the laws
 
 pub are-runs : runs_are_runs_of_nodes
-are-runs near far joined list steps =
-    let r : Reaches near far joined (last_world (new_world near far) list) = all-reach near far joined list steps in
+are-runs near far sharing list steps =
+    let r : Reaches near far sharing (last_world (new_world near far) list) = all-reach near far sharing list steps in
     record { list = r.list; steps = r.steps; near_is = r.near_beside.books; far_is = r.far_beside.books }
 
 -- what is said of books
 books-as : (P : Books → Books → Type 0) (a b c d : Books) → a ≡ c → b ≡ d → P a b → P c d
 books-as P a b c d e f h = subst (λ (x : Books). P x d) e (subst (λ (y : Books). P a y) f h)
 
+module _ (near far : Make) (w : World) (r : IsRunOfNodes near far w) where
+  abbrev v : nodes.World
+  v = nodes.last_world (first_nodes near far) r.list
+
+  -- what is said of the books of nodes is said of those of nodes with gates
+  pub of-nodes : (P : Books → Books → Type 0) → P v.near.books v.far.books → P w.near.books w.far.books
+  of-nodes P h = books-as P v.near.books v.far.books w.near.books w.far.books r.near_is r.far_is h
+
+  pub of-gates : (P : Books → Books → Type 0) → P w.near.books w.far.books → P v.near.books v.far.books
+  of-gates P h = books-as P w.near.books w.far.books v.near.books v.far.books (sym r.near_is) (sym r.far_is) h
+
+  -- a pair with these books
+  abbrev pub pair-of : Books → Books → PairState
+  pair-of x y = record {
+    near = end_of near.configuration.own far.configuration.own x;
+    far = end_of far.configuration.own near.configuration.own y;
+  }
+
 pub each-once : each_message_once
-each-once near far joined list steps lost =
+each-once near far sharing list steps lost =
     let w : World = last_world (new_world near far) list in
-    let r : IsRunOfNodes near far w = are-runs near far joined list steps in
-    let v : nodes.World = nodes.last_world (first_nodes near far) r.list in
-    let there : LostNothing (record { near = end_with v.near.books; far = end_with v.far.books }) =
-    books-as (λ x y. LostNothing (record { near = end_with x; far = end_with y })) w.near.books w.far.books v.near.books v.far.books (sym r.near_is) (sym r.far_is) lost in
-    books-as (λ x y. BothWays EachOnce (record { near = end_with x; far = end_with y })) v.near.books v.far.books w.near.books w.far.books r.near_is r.far_is
-    (once (node_make near) (node_make far) (facing near far joined) r.list r.steps there)
+    let r : IsRunOfNodes near far w = are-runs near far sharing list steps in
+    of-nodes near far w r (λ x y. BothWays EachOnce (pair-of near far w r x y))
+    (once (node_make near) (node_make far) (neighbours near far sharing) r.list r.steps (of-gates near far w r (λ x y. LostNothing (pair-of near far w r x y)) lost))
 
 pub each-in-order : each_flow_in_order
-each-in-order near far joined list steps lost =
+each-in-order near far sharing list steps lost =
     let w : World = last_world (new_world near far) list in
-    let r : IsRunOfNodes near far w = are-runs near far joined list steps in
-    let v : nodes.World = nodes.last_world (first_nodes near far) r.list in
-    let there : LostNothing (record { near = end_with v.near.books; far = end_with v.far.books }) =
-    books-as (λ x y. LostNothing (record { near = end_with x; far = end_with y })) w.near.books w.far.books v.near.books v.far.books (sym r.near_is) (sym r.far_is) lost in
-    books-as (λ x y. BothWays (λ p. IsPunctual p → InOrder p) (record { near = end_with x; far = end_with y })) v.near.books v.far.books w.near.books w.far.books r.near_is r.far_is
-    (in-order (node_make near) (node_make far) (facing near far joined) r.list r.steps there)
+    let r : IsRunOfNodes near far w = are-runs near far sharing list steps in
+    of-nodes near far w r (λ x y. BothWays (λ p. IsPunctual p → InOrder p) (pair-of near far w r x y))
+    (in-order (node_make near) (node_make far) (neighbours near far sharing) r.list r.steps (of-gates near far w r (λ x y. LostNothing (pair-of near far w r x y)) lost))
+
+-- ---- nodes alone
+
+pub is-special : alone_is_special
+is-special near far joined list steps =
+    let w : World = last_world (new_world near far) list in
+    let both : AreSharing near.configuration far.configuration = sharing near.configuration far.configuration joined in
+    let r : IsRunOfNodes near far w = are-runs near far both list steps in
+    let n : AreNeighbours (node_make near) (node_make far) = neighbours near far both in
+    let s : nodes_alone.IsSpecial (node_make near) (node_make far) (nodes.last_world (first_nodes near far) r.list) =
+    special.is-special (node_make near) (node_make far) (record { joined = joined; near_good = n.near_good; far_good = n.far_good }) r.list r.steps in
+    record {
+      sharing = both;
+      near_links = s.near_links;
+      far_links = s.far_links;
+      all_booked = of-nodes near far w r (λ x y. pair-of near far w r x y ≡ whole-of x y) s.all_booked;
+      once = of-nodes near far w r (λ x y. LostNothing (whole-of x y) → BothWays alone.EachOnce (whole-of x y)) s.once;
+      in_order = of-nodes near far w r (λ x y. LostNothing (whole-of x y) → BothWays (λ p. IsPunctual p → alone.InOrder p) (whole-of x y)) s.in_order;
+    }
+  where
+    whole-of : Books → Books → PairState
+    whole-of x y = record { near = whole_end x; far = whole_end y }

@@ -1,6 +1,7 @@
 -- What a gate does, as steps of a node.
-use Rattle.std.specs.Prelude.{◌≡◌, ◌<◌, ◌+◌, ℕ, Bool, true, false, List, [], ◌∷◌, Some, None, length, map}
+use Rattle.std.specs.Prelude.{◌≡◌, ◌+◌, ℕ, Bool, true, false, List, [], ◌∷◌, Some, None, map}
 use Rattle.std.specs.List.{Contains}
+use Rattle.settings_rows.specs.Configuration.{Configuration}
 use Rattle.sctp_codec.specs.Packets.{PacketValue}
 use Rattle.sctp_rules.specs.State.{Datagram}
 use Rattle.sctp_rules.specs.Wishing.{Wish, Idle, Seeking, Served}
@@ -12,7 +13,7 @@ use Rattle.exchange_rules.specs.Queues.{WholeQueues, whole}
 use Rattle.sctp_gate.specs.Watching.{Sight, Rose, CameIn, Dropped, Fell, Failed, WentOut}
 use Rattle.sctp_gate.specs.Gates.{Gate, Did, is_lasting, new_gate}
 use Rattle.sctp_gate.specs.Calling.{Call, Hears, Ticks, Settles, Fills, Closes, called}
-use Rattle.node_rules.specs.Worlds.{Books, happened, Make, Node, new_node, Doing, did, MayDo, World}
+use Rattle.node_rules.specs.Worlds.{Books, happened, Make, Node, new_node, Doing, did, IsBetween, MayDo, World}
 use Rattle.node_rules.specs.Promises.{Always}
 
 -- ---- a gate beside a node
@@ -70,10 +71,10 @@ abbrev pub dids : Make → List Doing → Node → Node
 dids m [] n = n
 dids m (what ∷ more) n = dids m more (did m what n)
 
--- each may be done, while the other node stands still
-abbrev pub MayAll : Make → (other : Node) → List Doing → Node → Type 0
-MayAll m other [] n = Unit {0}
-MayAll m other (what ∷ more) n = MayDo m other what n × MayAll m other more (did m what n)
+-- each may be done, while the other node, which has these settings, stands still
+abbrev pub MayAll : Make → (peer : Configuration) → (other : Node) → List Doing → Node → Type 0
+MayAll m peer other [] n = Unit {0}
+MayAll m peer other (what ∷ more) n = MayDo m.configuration peer other what n × MayAll m peer other more (did m what n)
 
 -- all packets that the endpoint of a link put out
 abbrev pub packets_of : Node → (link : ℕ) → List PacketValue
@@ -81,9 +82,9 @@ packets_of n link = map (λ e. e.packet) (n.ports link).site.packets
 
 -- what a call does is what steps do: the gate and the exchange afterwards are those of the node, which accepted and
 -- received what is seen of the call; and the endpoint put out what the call puts out
-pub record AreSteps (m : Make) (other n : Node) (link : ℕ) (d : Did WholeQueues) : Type 0 where
+pub record AreSteps (m : Make) (peer : Configuration) (other n : Node) (link : ℕ) (d : Did WholeQueues) : Type 0 where
   pub steps : List Doing
-  pub may : MayAll m other steps n
+  pub may : MayAll m peer other steps n
   pub shows : Shows m (dids m steps n) link d.gate
   pub exchange : (dids m steps n).books.exchange ≡ d.exchange
   pub books : (dids m steps n).books ≡ seen_all link d.seen n.books
@@ -92,13 +93,13 @@ pub record AreSteps (m : Make) (other n : Node) (link : ℕ) (d : Did WholeQueue
 -- ---- calls
 
 -- a packet that comes was put out at the other end of the link, and isn't too old. All else may be called at any moment
-abbrev pub MayCall : (other : Node) → (link : ℕ) → Call → Type 0
-MayCall other link (Hears now None source) = Unit {0}
-MayCall other link (Hears now (Some packet) source) = ends.Arrives (other.ports link).site packet
-MayCall other link (Ticks now) = Unit {0}
-MayCall other link (Settles now) = Unit {0}
-MayCall other link (Fills now) = Unit {0}
-MayCall other link (Closes now) = Unit {0}
+abbrev pub MayCall : (there : ends.Site) → Call → Type 0
+MayCall there (Hears now None source) = Unit {0}
+MayCall there (Hears now (Some packet) source) = ends.Arrives there packet
+MayCall there (Ticks now) = Unit {0}
+MayCall there (Settles now) = Unit {0}
+MayCall there (Fills now) = Unit {0}
+MayCall there (Closes now) = Unit {0}
 
 -- whether a call asks the endpoint for packets
 abbrev pub does_flush : Call → Gate → Bool
@@ -108,15 +109,15 @@ does_flush (Settles now) g = false
 does_flush (Fills now) g = is_lasting now g.endpoint
 does_flush (Closes now) g = false
 
--- of a node and the other one, whatever was done before
-abbrev pub CallsAreSteps : (m : Make) → (other n : Node) → Type 0
-CallsAreSteps m other n =
-    (link : ℕ) (g : Gate) (call : Call) → link < length m.configuration.links → Shows m n link g →
-    MayCall other link call → AreSteps m other n link (called whole call g n.books.exchange)
+-- of a node and the other one, whatever was done before: of the gate of each link between the two
+abbrev pub CallsAreSteps : (m : Make) → (peer : Configuration) → (other n : Node) → Type 0
+CallsAreSteps m peer other n =
+    (link : ℕ) (g : Gate) (call : Call) (between : IsBetween m.configuration peer link) → Shows m n link g →
+    MayCall (other.ports between.there).site call → AreSteps m peer other n link (called whole call g n.books.exchange)
 
 pub record BothCall (near far : Make) (w : World) : Type 0 where
-  pub near_calls : CallsAreSteps near w.far w.near
-  pub far_calls : CallsAreSteps far w.near w.far
+  pub near_calls : CallsAreSteps near far.configuration w.far w.near
+  pub far_calls : CallsAreSteps far near.configuration w.near w.far
 
 abbrev pub calls_are_steps : Type 0
 calls_are_steps = Always BothCall

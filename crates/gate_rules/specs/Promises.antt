@@ -1,16 +1,20 @@
--- What two nodes with gates promise each other over any network.
-use Rattle.std.specs.Prelude.{◌≡◌, List, []}
+-- What two nodes with gates promise each other over any network, whatever further neighbours each has.
+use Rattle.std.specs.Prelude.{◌≡◌, List}
 use Rattle.sctp_ends.specs.Keyed.{keyed}
-use Rattle.pair_rules.specs.Pairs.{End, PairState, nothing_in_flight}
-use Rattle.pair_rules.specs.Promises.{AreJoined, LostNothing, EachOnce, InOrder, IsPunctual, BothWays}
+use Rattle.pair_rules.specs.Pairs.{PairState}
+use Rattle.pair_rules.specs.Promises as alone
+use Rattle.pair_rules.specs.Promises.{AreJoined, LostNothing, IsPunctual, BothWays}
+use Rattle.pair_rules.specs.Sharing.{AreSharing}
+use Rattle.neighbour_rules.specs.Promises.{EachOnce, InOrder}
+use Rattle.node_rules.specs.Alone.{AreBetween, whole_end}
+use Rattle.node_rules.specs.Promises.{end_of}
 use Rattle.node_rules.specs.Worlds as nodes
-use Rattle.node_rules.specs.Worlds.{Books}
 use Rattle.gate_rules.specs.Worlds.{Make, World, new_world, Steps, last_world}
 
--- after every list of steps of two nodes whose settings face each other, whatever their keys
+-- after every list of steps of two nodes whose settings share a set, whatever their keys
 abbrev pub Always : ((near far : Make) → World → Type 0) → Type 0
 Always Statement =
-    (near far : Make) → AreJoined near.configuration far.configuration → (list : List World) →
+    (near far : Make) → AreSharing near.configuration far.configuration → (list : List World) →
     Steps near far (new_world near far) list → Statement near far (last_world (new_world near far) list)
 
 -- ---- runs are runs of nodes
@@ -39,25 +43,46 @@ pub record IsRunOfNodes (near far : Make) (w : World) : Type 0 where
 abbrev pub runs_are_runs_of_nodes : Type 0
 runs_are_runs_of_nodes = Always IsRunOfNodes
 
--- ---- the promises: they speak of exchanges, and of what these accepted and received
+-- ---- the promises: they speak of exchanges, and of what these accepted and received for each other
 
-abbrev pub end_with : Books → End
-end_with b = record {
-  exchange = b.exchange;
-  incoming = nothing_in_flight 0;
-  following = [];
-  accepted = b.accepted;
-  received = b.received;
+abbrev pub ends_of : (near far : Make) → World → PairState
+ends_of near far w = record {
+  near = end_of near.configuration.own far.configuration.own w.near.books;
+  far = end_of far.configuration.own near.configuration.own w.far.books;
 }
-
-abbrev pub ends_of : World → PairState
-ends_of w = record { near = end_with w.near.books; far = end_with w.far.books }
 
 -- "Exactly once"
 abbrev pub each_message_once : Type 0
-each_message_once = Always (λ near far w. LostNothing (ends_of w) → BothWays EachOnce (ends_of w))
+each_message_once =
+    Always (λ near far w. LostNothing (ends_of near far w) → BothWays EachOnce (ends_of near far w))
 
 -- "Order"
 abbrev pub each_flow_in_order : Type 0
 each_flow_in_order =
-    Always (λ near far w. LostNothing (ends_of w) → BothWays (λ p. IsPunctual p → InOrder p) (ends_of w))
+    Always (λ near far w.
+    LostNothing (ends_of near far w) → BothWays (λ p. IsPunctual p → InOrder p) (ends_of near far w))
+
+-- ---- nodes alone
+
+-- after every list of steps of two nodes whose settings face each other
+abbrev pub AlwaysAlone : ((near far : Make) → World → Type 0) → Type 0
+AlwaysAlone Statement =
+    (near far : Make) → AreJoined near.configuration far.configuration → (list : List World) →
+    Steps near far (new_world near far) list → Statement near far (last_world (new_world near far) list)
+
+-- the ends of a pair that have all that the nodes accepted and received
+abbrev pub whole_ends : World → PairState
+whole_ends w = record { near = whole_end w.near.books; far = whole_end w.far.books }
+
+pub record IsSpecial (near far : Make) (w : World) : Type 0 where
+  pub sharing : AreSharing near.configuration far.configuration
+  pub near_links : AreBetween near.configuration far.configuration
+  pub far_links : AreBetween far.configuration near.configuration
+  -- all that either accepted is for the other, and all that it received for itself
+  pub all_booked : ends_of near far w ≡ whole_ends w
+  -- "Exactly once" and "Order" of all user messages
+  pub once : LostNothing (whole_ends w) → BothWays alone.EachOnce (whole_ends w)
+  pub in_order : LostNothing (whole_ends w) → BothWays (λ p. IsPunctual p → alone.InOrder p) (whole_ends w)
+
+abbrev pub alone_is_special : Type 0
+alone_is_special = AlwaysAlone IsSpecial

@@ -1,6 +1,7 @@
--- Two nodes, each an exchange with a gate for each link, and all packets that these ever put out: what is done at them
--- are calls of gates, and what happens to exchanges besides.
-use Rattle.std.specs.Prelude.{◌≡◌, ◌<◌, ◌≤◌, ◌+◌, ◌*◌, ℕ, Bool, List, [], ◌∷◌, ◌++◌, Some, None, length, map, nat_eq, if◌then◌else◌}
+-- Two nodes that share a link set, each an exchange with a gate for each link of it, and all packets that these ever
+-- put out: what is done at them are calls of gates, and what happens to exchanges besides. Each may have whatever
+-- further links and neighbours, on which anything may happen.
+use Rattle.std.specs.Prelude.{◌≡◌, ◌≤◌, ◌+◌, ◌*◌, ℕ, Bool, List, [], ◌∷◌, ◌++◌, Some, None, map, nat_eq, if◌then◌else◌}
 use Rattle.std.specs.List.{Contains}
 use Rattle.settings_rows.specs.Configuration.{Configuration}
 use Rattle.sctp_codec.specs.Packets.{PacketValue}
@@ -8,11 +9,12 @@ use Rattle.sctp_rules.specs.Settings.{Settings}
 use Rattle.sctp_moves.specs.Numbers.{modulus, window}
 use Rattle.sctp_ends.specs.Worlds.{Emitted, emitted}
 use Rattle.exchange_rules.specs.State.{Happening}
+use Rattle.exchange_rules.specs.Exchange.{frame_to_take}
 use Rattle.exchange_rules.specs.First.{first_state}
 use Rattle.exchange_rules.specs.Queues.{WholeQueues, whole}
 use Rattle.sctp_gate.specs.Gates.{Gate, Did, new_gate}
 use Rattle.sctp_gate.specs.Calling.{Call, Hears, Ticks, Settles, Fills, Closes, called}
-use Rattle.node_rules.specs.Worlds.{Books, happened, IsOwn}
+use Rattle.node_rules.specs.Worlds.{Books, happened, happened_elsewhere, left_by, IsBetween, IsOwn, LeadsElsewhere, MayBring}
 use Rattle.gate_rules.specs.Calls.{seen_all, messages_in, does_flush}
 
 -- ---- a node
@@ -59,8 +61,11 @@ new_node m = record {
 pub data Doing : Type 0 where
   -- something happens to the exchange that its links don't bring
   Happens : (what : Happening) → Doing
-  -- the gate of a link is called
+  -- the gate of a link between the two is called
   Calls : (link : ℕ) (call : Call) → Doing
+  -- a link that leads elsewhere brings something, or its next frame goes there
+  Brings : (what : Happening) → Doing
+  Leaves : (link : ℕ) → Doing
 
 -- what a call does
 abbrev pub done_by : Call → (link : ℕ) → Node → Did WholeQueues
@@ -88,6 +93,8 @@ with_call call link d n = record {
 abbrev pub did : Doing → Node → Node
 did (Happens what) n = record n { books = happened what n.books }
 did (Calls link call) n = with_call call link (done_by call link n) n
+did (Brings what) n = record n { books = happened_elsewhere what n.books }
+did (Leaves link) n = record n { books = left_by link (frame_to_take whole n.books.exchange link) n.books }
 
 -- ---- when
 
@@ -108,13 +115,15 @@ MayCall other (Settles now) = Unit {0}
 MayCall other (Fills now) = Unit {0}
 MayCall other (Closes now) = Unit {0}
 
-abbrev pub MayDo : Make → (other : Node) → Doing → Type 0
-MayDo m other (Happens what) = IsOwn what
-MayDo m other (Calls link call) = (link < length m.configuration.links) × MayCall (other.ports link) call
+abbrev pub MayDo : (own other : Configuration) → (there : Node) → Doing → Type 0
+MayDo own other there (Happens what) = IsOwn what
+MayDo own other there (Calls link call) = (b : IsBetween own other link) × MayCall (there.ports b.there) call
+MayDo own other there (Brings what) = MayBring own other what
+MayDo own other there (Leaves link) = LeadsElsewhere own other link
 
 -- ---- two nodes
 
--- each link of one is that link of the other. The network is what each put out: any of it may come, at any moment, any
+-- the network between them is what each put out: any of it may come to the other end of its link, at any moment, any
 -- number of times, in any order, or never
 pub record World : Type 0 where
   pub near : Node
@@ -124,8 +133,10 @@ abbrev pub new_world : (near far : Make) → World
 new_world near far = record { near = new_node near; far = new_node far }
 
 pub data Step (near far : Make) (w v : World) : Type 0 where
-  at_near : (what : Doing) → MayDo near w.far what → v ≡ record w { near = did what w.near } → Step near far w v
-  at_far : (what : Doing) → MayDo far w.near what → v ≡ record w { far = did what w.far } → Step near far w v
+  at_near : (what : Doing) → MayDo near.configuration far.configuration w.far what →
+      v ≡ record w { near = did what w.near } → Step near far w v
+  at_far : (what : Doing) → MayDo far.configuration near.configuration w.near what →
+      v ≡ record w { far = did what w.far } → Step near far w v
 
 -- from one world on, by steps, through the worlds of a list
 abbrev pub Steps : (near far : Make) → World → List World → Type 0

@@ -3,32 +3,41 @@
 ghost use Rattle.gate_rules.specs.Calls.{calls_are_steps, new_gates_show};
 ghost use Rattle.gate_rules.specs.Octets.{packets_are_read};
 ghost use Rattle.gate_rules.specs.Promises.{runs_are_runs_of_nodes, each_message_once, each_flow_in_order};
+ghost use Rattle.gate_rules.specs.Promises.{alone_is_special};
 
-/// Whatever was done at two nodes before: each call of the gate of a link does what a list of steps of its node does,
-/// each of which that may do: where a datagram or the time comes, where the gate settles, where it takes frames, and
-/// where it closes. So a gate is as careful as the promises of two nodes ask. A new gate stands beside a new node.
+/// Whatever was done at two nodes before: each call of the gate of a link between them does what a list of steps of its
+/// node does, each of which that may do: where a datagram or the time comes, where the gate settles, where it takes
+/// frames, and where it closes. So a gate is as careful as the promises of two nodes ask. A new gate stands beside a
+/// new node.
 pub fn calls_of_gates_are_steps()
     ensures calls { calls_are_steps }
     ensures new { new_gates_show }
 {}
 
-/// Whatever the network does, what two nodes do that call their gates, as they like, is what two nodes of `node_rules`
-/// may do.
+/// Whatever the network does, and whatever happens on links that lead elsewhere, what two nodes do that call their
+/// gates, as they like, is what two nodes of `node_rules` may do.
 pub fn runs_of_gates_are_runs_of_nodes()
     ensures { runs_are_runs_of_nodes }
 {}
 
-/// "Exactly once" over datagrams, of two nodes with gates, in both directions. While neither exchange may have lost a
-/// message, as many user messages of any kind were accepted at one node as the other received and as wait between them.
+/// "Exactly once" over datagrams, of two nodes with gates, in both directions, whatever further neighbours each has.
+/// While neither exchange may have lost a message, as many user messages of any kind were accepted at one node for the
+/// other as the other received for itself and as wait between them.
 pub fn each_message_comes_once()
     ensures { each_message_once }
 {}
 
 /// "Order" over datagrams, of two nodes with gates, in both directions. While neither exchange may have lost a message,
-/// and no timer of the accepting node ended a hold, the user messages of a flow that one node accepted are, in order,
-/// those that the other received, and then those that wait.
+/// and no timer of the accepting node ended a hold, the user messages of a flow to the other that one node accepted
+/// are, in order, those that the other received, and then those that wait.
 pub fn each_flow_keeps_its_order()
     ensures { each_flow_in_order }
+{}
+
+/// Two nodes that have only each other are the special case, as in `node_rules`: each link is between the two, all that
+/// either accepted is for the other, and both promises hold of all user messages.
+pub fn nodes_alone_are_the_special_case()
+    ensures { alone_is_special }
 {}
 
 /// What a gate puts out is octets on its way (`sent_as`), and a gate that hears these octets hears the packet that was

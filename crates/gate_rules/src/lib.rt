@@ -1,5 +1,6 @@
-//! What gates do about links is what nodes of `node_rules` may do. So the promises over datagrams hold of two nodes that
-//! have a gate for each link, however these are called. The crate has no code; docs/EXACTLY_ONCE.md tells it.
+//! What gates do about links is what nodes of `node_rules` may do. So the promises over datagrams hold of two nodes
+//! that share a link set and have a gate for each link of it, however these are called, and whatever further neighbours
+//! each has. The crate has no code; docs/EXACTLY_ONCE.md tells it.
 #![tactic(auto)]
 
 pub mod laws;

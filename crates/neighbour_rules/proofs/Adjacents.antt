@@ -1,17 +1,22 @@
--- A node knows which destinations its adjacent points are, and so it stays.
+-- A node knows which destinations its adjacent points are, and what it has for other points is bound for such as it
+-- knows; and so it stays.
 use Rattle.pair_rules.proofs.Basics.{◌≡◌, ◌<◌, ℕ, true, false, List, length, map, [], Option, Some, None, refl, ap, sym, ◌∙◌, nat_eq, slice_index_or, position, eq-eqb}
-use Rattle.pair_rules.proofs.Definitions.{Configuration, SetEntry, DestinationEntry, destination_place, IsOfSteps, ToldTable, is_own_point, adjacent_place, Node, Happening, WholeQueues, whole, apply}
+use Rattle.pair_rules.proofs.Definitions.{IsWell, Configuration, SetEntry, DestinationEntry, destination_place, IsOfSteps, ToldTable, is_own_point, adjacent_place, Node, Happening, WholeQueues, whole, apply}
 use Rattle.std.proofs.lemmas.List.{get_or-map}
 use Rattle.std.proofs.lemmas.List.Quantifiers.{position-Some}
 use Rattle.settings.specs.Sharing.{LeadsAlone}
 use Rattle.route_management.specs.Told.{is_number}
 use Rattle.exchange_rules.specs.First.{first_state}
-use Rattle.exchange_rules.specs.Lasting.{after_each}
-use Rattle.exchange_rules.specs.State.{Asking}
-use Rattle.exchange_rules.proofs.Asked.{any, IsOfAll, all-of, asked-all, event-all}
+use Rattle.exchange_rules.specs.Sending.{after_take}
+use Rattle.exchange_rules.proofs.Asked.{any, IsOfAll, all-of, event-all}
+use Rattle.exchange_rules.proofs.Rules.{rules-of}
+use Rattle.exchange_rules.proofs.SteppingEvents.{take-steps}
+use Rattle.neighbour_rules.proofs.Bound.{AreBound, KeepsBound, bound-steps, first-bound}
 use Rattle.exchange_rules.proofs.Basics.{eqb-true}
 
 pub record KnowsPoints (c : Configuration) (n : Node WholeQueues) : Type 0 where
+  pub well : IsWell c
+  pub bound : AreBound c n
   pub adjacents : n.parts.told.adjacents ≡ map (adjacent_place c.destinations) c.sets
 
 -- ---- from one node to another
@@ -19,8 +24,8 @@ pub record KnowsPoints (c : Configuration) (n : Node WholeQueues) : Type 0 where
 pub record KeepsPoints (n m : Node WholeQueues) : Type 0 where
   pub same : m.parts.told.adjacents ≡ n.parts.told.adjacents
 
-pub still-knows : (c : Configuration) (n m : Node WholeQueues) → KeepsPoints n m → KnowsPoints c n → KnowsPoints c m
-still-knows c n m k h = record { adjacents = k.same ∙ h.adjacents }
+pub still-knows : (c : Configuration) (n m : Node WholeQueues) → KeepsPoints n m → KeepsBound c n m → KnowsPoints c n → KnowsPoints c m
+still-knows c n m k b h = record { well = h.well; bound = b.stay h.bound; adjacents = k.same ∙ h.adjacents }
 
 pub points-steps : (c : Configuration) → IsOfSteps c any any KeepsPoints
 points-steps c = record {
@@ -57,12 +62,18 @@ points-steps c = record {
 points-all : (c : Configuration) → IsOfAll c KeepsPoints
 points-all c = all-of (points-steps c) (λ n. record { same = refl }) (λ n. record { same = refl })
 
--- through an event, and from the first state on
-pub event-knows : (c : Configuration) (what : Happening) (n : Node WholeQueues) → KnowsPoints c n → KnowsPoints c (apply whole c what n).left
-event-knows c what n h = still-knows c n (apply whole c what n).left (event-all (points-all c) what n) h
+bound-all : (c : Configuration) → IsWell c → IsOfAll c (KeepsBound c)
+bound-all c well = all-of (bound-steps c well) (λ n. record { stay = λ h. record { held = h.held; queued = h.queued } }) (λ n. record { stay = λ h. record { held = h.held; queued = h.queued } })
 
-pub asked-knows : (c : Configuration) (asked : List Asking) → KnowsPoints c (after_each asked (first_state c)).node
-asked-knows c asked = record { adjacents = (asked-all (points-all c) asked (first_state c) refl).same }
+-- through an event and a take, and from the first state on
+pub event-knows : (c : Configuration) (what : Happening) (n : Node WholeQueues) → KnowsPoints c n → KnowsPoints c (apply whole c what n).left
+event-knows c what n h = still-knows c n _ (event-all (points-all c) what n) (event-all (bound-all c h.well) what n) h
+
+pub take-knows : (c : Configuration) (link : ℕ) (n : Node WholeQueues) → KnowsPoints c n → KnowsPoints c (after_take whole c link n)
+take-knows c link n h = still-knows c n _ (take-steps (rules-of (points-steps c)) link n tt) (take-steps (rules-of (bound-steps c h.well)) link n tt) h
+
+pub first-knows : (c : Configuration) → IsWell c → KnowsPoints c (first_state c).node
+first-knows c well = record { well = well; bound = first-bound c; adjacents = refl }
 
 -- ---- the point that a set leads to is one
 

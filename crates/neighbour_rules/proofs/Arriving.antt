@@ -105,7 +105,7 @@ module _ (c z : Configuration) (j : Joint c z) where
         → ((other : ℕ) → Each (IsFlying z c j.shares.far_set) (w.to_near.user_data other))
         → Passes c z j (at c z j w n [] []) (read_as w (bringing c z j (popped c z j w f)) n link text (Ok frame))
     data-read f _ (empty bsn fsn s) p up each = empty-acted c z j w link bsn fsn f p (action_at (link_at n.parts link).alignment UserData) n refl up
-    data-read f _ (carrying bsn fsn sio sif s is) p up each =
+    data-read f _ (carrying bsn fsn sio sif s is bound) p up each =
         message-acted c z j w link bsn fsn sio sif f p (action_at (link_at n.parts link).alignment UserData) n refl up each wait knows
 
     pub data-comes : (f : ℕ → List FrameValue) (frame : FrameValue) → IsNext w.to_near.user_data f link frame → read_frame text ≡ Ok frame

@@ -37,7 +37,7 @@ module _ (c z : Configuration) (its : ℕ) where
 
   flies-data : (frame : FrameValue) → IsFlying c z its frame → is_data frame ≡ true
   flies-data _ (good.empty bsn fsn s) = refl
-  flies-data _ (good.carrying bsn fsn sio sif s b) = refl
+  flies-data _ (good.carrying bsn fsn sio sif s b bound) = refl
 
   text-carries : (frame : FrameValue) → IsFlying c z its frame → carried_message (read_frame (spelled frame)) ≡ carried_message (Ok frame)
   text-carries frame f = ap carried_message (flies-back c z its frame f)

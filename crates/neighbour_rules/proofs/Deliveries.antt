@@ -17,6 +17,7 @@ use Rattle.pair_rules.proofs.Lines.{link-here}
 use Rattle.neighbour_rules.proofs.World.{code_of, is_between, line_of, says_of, shown}
 use Rattle.neighbour_rules.proofs.Good.{IsFlying, IsSent, Joint, Passes, at, carrying, passes-both, passes-good, set}
 use Rattle.neighbour_rules.proofs.Adjacents.{KnowsPoints, points-steps, still-knows}
+use Rattle.neighbour_rules.proofs.Bound.{AreBound, bound-steps}
 use Rattle.neighbour_rules.proofs.Bringing.{accepting, none-accepted}
 use Rattle.neighbour_rules.proofs.Entries.{data-heard}
 use Rattle.neighbour_rules.proofs.Failures.{fail-passes}
@@ -64,8 +65,17 @@ module _ (c z : Configuration) (j : Joint c z) where
       (λ h gone. (let no : true ≡ false = sym gone ∙ up in absurd cc))
       (owing-steps (rules-of (fit-steps c)) link (Some m) n)
 
+  -- User Data is accepted, with its message
+  confirmed-knows : (d : Carrying) (n : Node WholeQueues) (confirmed : ℕ) (m : Message) (link : ℕ) → in_service n.parts link ≡ true → numbers whole c link d n ≡ Ok confirmed → KnowsPoints c n
+      → KnowsPoints c (with_parts (confirming c link d confirmed n) (owing link (Some m) (confirming c link d confirmed n).parts))
+  confirmed-knows d n confirmed m link serves e knows =
+      let b : AreBound c (confirming c link d confirmed n) = ((bound-steps c knows.well).accepted link d confirmed n tt serves e).stay knows.bound in
+      record { well = knows.well; bound = record { held = b.held; queued = b.queued }; adjacents = knows.adjacents }
+
   next-knows : (link : ℕ) (step : _) (n : Node WholeQueues) → action_at (link_at n.parts link).alignment UserData ≡ act.Go step → KnowsPoints c n → KnowsPoints c (advance whole c link step n)
-  next-knows link step n e knows = still-knows c n (advance whole c link step n) (advance-steps (rules-of (points-steps c)) link UserData step n tt e) knows
+  next-knows link step n e knows =
+      still-knows c n (advance whole c link step n) (advance-steps (rules-of (points-steps c)) link UserData step n tt e)
+      (advance-steps (rules-of (bound-steps c knows.well)) link UserData step n tt e) knows
 
   -- ---- between the two
 
@@ -136,7 +146,7 @@ module _ (c z : Configuration) (j : Joint c z) where
     sent each = by (subst (Each (IsFlying z c j.shares.far_set)) p.first (each link)).0
       where
         by : IsFlying z c j.shares.far_set (MessageFrame bsn fsn sio sif) → IsSent z c j.shares.far_set came
-        by (carrying b k s t sayable x) = x
+        by (carrying b k s t sayable x bound) = x
 
     message-taken : (n : Node WholeQueues) (confirmed : ℕ) → in_service n.parts link ≡ true → numbers whole c link d n ≡ Ok confirmed
         → Passes c z j (at c z j w n [] []) (at c z j (popped c z j w f) (confirming c link d confirmed n) (came ∷ []) [])
@@ -171,7 +181,7 @@ module _ (c z : Configuration) (j : Joint c z) where
         let o : Node WholeQueues = confirming c link d confirmed n in
         passes-both c z j _ _ _ (message-taken n confirmed serves e)
         (passes-both c z j _ _ _ (owed-passes (popped c z j w f) o link came (came ∷ []) (serving-up (link_at n.parts link).alignment serves))
-        (deliver-passes c z j (popped c z j w f) (accept whole c link d confirmed n) link came (serves-owing link came o serves) wait (record { adjacents = knows.adjacents }) (sent each)))
+        (deliver-passes c z j (popped c z j w f) (accept whole c link d confirmed n) link came (serves-owing link came o serves) wait (confirmed-knows d n confirmed came link serves e knows) (sent each)))
     message-handled (Err fault) n serves e each wait knows = failing-frame w link (MessageFrame bsn fsn sio sif) f p n reasons.Sequence (serving-up (link_at n.parts link).alignment serves)
 
     pub message-acted : (a : Action) (n : Node WholeQueues) → action_at (link_at n.parts link).alignment UserData ≡ a → down n.parts link ≡ false
@@ -229,7 +239,7 @@ module _ (c z : Configuration) (j : Joint c z) where
           let o : Node WholeQueues = confirming c link y confirmed n in
           passes-both c z j _ _ _ (accepted-elsewhere c z j w n link away y confirmed serves e [] [])
           (passes-both c z j _ _ _ (owed-passes w o link m [] (serving-up (link_at n.parts link).alignment serves))
-          (deliver-away c z j w link m (accept whole c link y confirmed n) (serves-owing link m o serves) wait (record { adjacents = knows.adjacents }) apart))
+          (deliver-away c z j w link m (accept whole c link y confirmed n) (serves-owing link m o serves) wait (confirmed-knows y n confirmed m link serves e knows) apart))
       message-past (Err fault) n serves e wait knows = failing-away n reasons.Sequence (serving-up (link_at n.parts link).alignment serves)
 
       pub message-away : (a : Action) (n : Node WholeQueues) → action_at (link_at n.parts link).alignment UserData ≡ a → down n.parts link ≡ false → all_wait c n.parts.holds n.queues.held ≡ true → KnowsPoints c n

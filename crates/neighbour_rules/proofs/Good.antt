@@ -9,6 +9,7 @@ use Rattle.pair_moves.specs.Sayings.{Other}
 use Rattle.pair_rules.proofs.World.{Flying, World}
 use Rattle.pair_rules.proofs.Good.{Each, IsSilent, IsTelling}
 use Rattle.pair_rules.proofs.Going.{Goes, goes-none, goes-both}
+use Rattle.neighbour_rules.proofs.Bound.{IsBound}
 use Rattle.neighbour_rules.proofs.World.{code_of, says_of, shown}
 
 -- ---- messages from one node to the other, and past it
@@ -48,7 +49,8 @@ pub data IsSent (c z : Configuration) (set : ℕ) (m : Message) : Type 0 where
 -- User Data in flight from the node with settings c
 pub data IsFlying (c z : Configuration) (set : ℕ) : FrameValue → Type 0 where
   empty : (bsn fsn : ℕ) → IsSayable (EmptyFrame bsn fsn) → IsFlying c z set (EmptyFrame bsn fsn)
-  carrying : (bsn fsn sio : ℕ) (sif : List ℕ) → IsSayable (MessageFrame bsn fsn sio sif) → IsSent c z set (record { sio = sio; sif = sif }) → IsFlying c z set (MessageFrame bsn fsn sio sif)
+  carrying : (bsn fsn sio : ℕ) (sif : List ℕ) → IsSayable (MessageFrame bsn fsn sio sif) → IsSent c z set (record { sio = sio; sif = sif }) → IsBound c (record { sio = sio; sif = sif })
+      → IsFlying c z set (MessageFrame bsn fsn sio sif)
 
 -- all that is in flight to a node from the one with settings c
 pub record AreFlying (c z : Configuration) (set : ℕ) (f : Flying) : Type 0 where

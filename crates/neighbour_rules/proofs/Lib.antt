@@ -1,7 +1,10 @@
 pub mod Asked
 pub mod Staying
-pub mod Special
 pub mod World
+pub mod Bound
+pub mod Lone
+pub mod Special
+pub mod Outcomes
 pub mod Good
 pub mod Lines
 pub mod FarEnds

@@ -34,12 +34,12 @@ use Rattle.neighbour_rules.proofs.Messages.{word-says}
 use Rattle.neighbour_rules.proofs.Good.{Joint}
 use Rattle.neighbour_rules.proofs.Lines.{at-line}
 use Rattle.neighbour_rules.proofs.Made.{not-same}
-use Rattle.neighbour_rules.proofs.Special.{all-to}
+use Rattle.neighbour_rules.proofs.Lone.{all-to}
 use Rattle.neighbour_rules.proofs.Staying.{books-stay, with_settings, written}
 use Rattle.neighbour_rules.proofs.Sharing.{AreFacing, are-facing, facing_back, far_joint, near_joint}
 use Rattle.neighbour_rules.proofs.FarEnds.{IsLine, far-own, is-line, line-known, of-no-set}
 use Rattle.neighbour_rules.proofs.First.{first-good, first-shown}
-use Rattle.neighbour_rules.proofs.Adjacents.{asked-knows}
+use Rattle.neighbour_rules.proofs.Adjacents.{first-knows}
 use Rattle.neighbour_rules.proofs.Summed.{are-own, join-lines, sum-lines}
 use Rattle.neighbour_rules.proofs.Standing.{Stands}
 use Rattle.neighbour_rules.proofs.AllSteps.{stands-turned, steps-stand}
@@ -341,14 +341,14 @@ module _ (c z : Configuration) (a : AreFacing c z) (q : PairState) (s : Stands c
 no-texts : (c : Configuration) → AreTexts c (replicate (length c.links) []) (λ link. [])
 no-texts c = record { many = length-replicate (length c.links) []; each = λ link. each-replicate (λ (ts : List (List ℕ)). ts ≡ []) (length c.links) link [] refl }
 
-first-stands : (near far : Configuration) (a : AreFacing near far) → Stands near far a (first_pair near far)
+pub first-stands : (near far : Configuration) (a : AreFacing near far) → Stands near far a (first_pair near far)
 first-stands near far a = record {
   near_settings = refl;
   far_settings = refl;
   near_waits = refl;
   far_waits = refl;
-  near_knows = asked-knows near [];
-  far_knows = asked-knows far [];
+  near_knows = first-knows near a.near_well;
+  far_knows = first-knows far a.far_well;
   to_near = nothing_flies;
   to_far = nothing_flies;
   near_texts = record { statuses = no-texts near; user_data = no-texts near };
@@ -364,7 +364,7 @@ first-stands near far a = record {
   goes = goes-same (says_of near.own far.own) _ _ (sym (first-shown near far a.near_set a.far_set));
 }
 
-all-stand : (near far : Configuration) (steps : List Step) (a : AreFacing near far) → Stands near far a (after_steps steps (first_pair near far))
+pub all-stand : (near far : Configuration) (steps : List Step) (a : AreFacing near far) → Stands near far a (after_steps steps (first_pair near far))
 all-stand near far steps a = steps-stand near far a steps (first_pair near far) (first-stands near far a)
 
 -- a statement about one direction, that follows from what stands and from the books

@@ -1,6 +1,6 @@
 -- Each step of a pair goes by moves.
 use Rattle.pair_rules.proofs.Basics.{◌≡◌, ◌≢◌, ◌<◌, ℕ, Bool, List, [], ◌∷◌, ◌++◌, length, Option, Some, None, Ok, refl, ap, sym, subst, ◌∙◌, drop, slice_get, slice_set, take, ⊎_elim, cases_eq}
-use Rattle.pair_rules.proofs.Definitions.{Message, Outcome, Configuration, FrameValue, EmptyFrame, MessageFrame, StatusFrame, spelled, read_frame, Node, Happening, FrameCame, Submitted, WholeQueues, whole, whither_goes, apply, handle_event, outcome_of, frame_to_take, after_take, frame_taken, Outgoing, SendsStatus, SendsMessage, Acknowledges, SendsNothing, after_sending, goes_out, done-waits, PairState, Streams, change_statuses, in_flight, may_follow, brought_in, brought_to}
+use Rattle.pair_rules.proofs.Definitions.{Message, Outcome, Configuration, FrameValue, EmptyFrame, MessageFrame, StatusFrame, spelled, read_frame, Node, Happening, FrameCame, Submitted, WholeQueues, whole, whither_goes, apply, handle_event, outcome_of, frame_to_take, after_take, frame_taken, done-waits, PairState, Streams, change_statuses, in_flight, may_follow, brought_in, brought_to}
 use Rattle.std.specs.Prelude.{map}
 use Rattle.exchange_rules.proofs.Settling.{take-waits}
 use Rattle.pair_rules.specs.Pairs as pairs
@@ -17,7 +17,7 @@ use Rattle.neighbour_rules.proofs.Good.{AreFlying, Good, IsFlying, Joint, Passes
 use Rattle.neighbour_rules.proofs.Good as good
 use Rattle.neighbour_rules.proofs.Bringing.{accepting}
 use Rattle.neighbour_rules.proofs.Events.{submitting-passes}
-use Rattle.neighbour_rules.proofs.Adjacents.{KnowsPoints, event-knows}
+use Rattle.neighbour_rules.proofs.Adjacents.{event-knows, take-knows}
 use Rattle.neighbour_rules.proofs.Sharing.{AreFacing, far_joint, near_joint}
 use Rattle.neighbour_rules.proofs.FarEnds.{HasEnd, IsLine, has-end, is-line, its-far, none-there, of-no-set}
 use Rattle.neighbour_rules.proofs.FarEnds as ends
@@ -31,20 +31,10 @@ pub outcome-same : (c : Configuration) (what : Happening) (n : Node WholeQueues)
 unfolding apply
 outcome-same c what n = refl
 
--- a frame that is fetched tells nothing of points
-take-knows : (c : Configuration) (link : ℕ) (n : Node WholeQueues) → KnowsPoints c n → KnowsPoints c (after_take whole c link n)
-take-knows c link n h = record { adjacents = by (goes_out whole c link n) ∙ h.adjacents }
-  where
-    by : (out : Outgoing) → (after_sending whole c link n out).parts.told.adjacents ≡ n.parts.told.adjacents
-    by (SendsStatus status) = refl
-    by (SendsMessage next) = refl
-    by Acknowledges = refl
-    by SendsNothing = refl
-
 -- a frame that flies reads back
 pub flies-back : (c z : Configuration) (its : ℕ) (frame : FrameValue) → IsFlying c z its frame → read_frame (spelled frame) ≡ Ok frame
 flies-back c z its _ (good.empty bsn fsn s) = read_frame-spelled (EmptyFrame bsn fsn) s
-flies-back c z its _ (good.carrying bsn fsn sio sif s b) = read_frame-spelled (MessageFrame bsn fsn sio sif) s
+flies-back c z its _ (good.carrying bsn fsn sio sif s b bound) = read_frame-spelled (MessageFrame bsn fsn sio sif) s
 
 -- ---- a link with frames in flight is one between the two
 
@@ -185,7 +175,7 @@ module _ (c z : Configuration) (a : AreFacing c z) where
             far_alone = s.far_alone;
             near_good = x.passes.good s.near_good;
             far_good = far-good f s.to_far s.to_near (after_take whole c link n) s.far_good
-                (record { statuses = s.far_good.coming.statuses; user_data = one-more (IsFlying c z a.near_set) other g frame s.far_good.coming.user_data (x.flies s.near_good) });
+                (record { statuses = s.far_good.coming.statuses; user_data = one-more (IsFlying c z a.near_set) other g frame s.far_good.coming.user_data (x.flies s.near_good s.near_knows.bound) });
             goes = goes-both (says_of c.own z.own) _ _ _ s.goes (x.passes.goes s.near_good);
           }
 

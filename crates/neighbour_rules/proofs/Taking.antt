@@ -19,6 +19,7 @@ use Rattle.pair_rules.proofs.Going.{goes-one, goes-same}
 use Rattle.pair_rules.proofs.Lines.{queue-here, queue-other, served-listed}
 use Rattle.pair_rules.proofs.Silences.{IsNext, by-up, is-next, message-is-next, next-sends, next-serves, owed-out, status-out}
 use Rattle.neighbour_rules.proofs.World.{code_of, line_of, link_at_code, route_of, says_of, shown}
+use Rattle.neighbour_rules.proofs.Bound.{AreBound, IsBound}
 use Rattle.neighbour_rules.proofs.Good.{AreFlying, Good, IsFlying, IsSent, Joint, Passes, accepted, at, carrying, empty, made, passes-both, passes-none, passes_by, set}
 use Rattle.neighbour_rules.proofs.FarEnds.{IsLine, line-becomes, line_at, near-own}
 use Rattle.neighbour_rules.proofs.Lines.{none-becomes}
@@ -286,13 +287,14 @@ module _ (c z : Configuration) (j : Joint c z) (w : World) (link : ℕ) where
       }
 
       -- and the frame is one that flies
-      message-flies : Each (IsSent c z (set c z j)) (queue_at n.queues link).all → IsFlying c z (set c z j) (carrier n next)
-      message-flies each =
+      message-flies : Each (IsSent c z (set c z j)) (queue_at n.queues link).all → Each (IsBound c) (queue_at n.queues link).all → IsFlying c z (set c z j) (carrier n next)
+      message-flies each bound =
           let q : Queue = queue_at n.queues link in
           let s : IsNext q c.window next = is-next q c.window next goes.sends in
           let b : IsSent c z (set c z j) next.message = each-get (IsSent c z (set c z j)) q.all q.sent next.message each s.stands in
           carrying (last_accepted q) next.number next.message.sio next.message.sif
           (sayable-message (last_accepted q) next.number next.message (previous-fits q.received) (subst (λ (k : ℕ). k < 2 ^ 24) (sym s.number) (number-fits q q.sent)) (short-enough next.message b)) b
+          (each-get (IsBound c) q.all q.sent next.message bound s.stands)
 
     -- ---- what goes out
 
@@ -305,7 +307,7 @@ module _ (c z : Configuration) (j : Joint c z) (w : World) (link : ℕ) where
     -- a frame is fetched, and the node is left as it is after that; the frame is one that flies on its stream
     pub record Fetches (f : ℕ → List FrameValue) (frame : FrameValue) (n o : Node WholeQueues) : Type 0 where
       pub passes : Passes c z j (at c z j w n [] []) (at c z j (launched f) o [] [])
-      pub flies : Good c z j (at c z j w n [] []) → IsFlying c z (set c z j) frame
+      pub flies : Good c z j (at c z j w n [] []) → AreBound c n → IsFlying c z (set c z j) frame
 
     pub record FetchesStatus (f : ℕ → List FrameValue) (frame : FrameValue) (n o : Node WholeQueues) : Type 0 where
       pub passes : Passes c z j (at c z j w n [] []) (at c z j (launched_status f) o [] [])
@@ -359,7 +361,7 @@ module _ (c z : Configuration) (j : Joint c z) (w : World) (link : ℕ) where
             passes =
                 passes-good _ _
                 (λ g. passes-both c z j _ _ _ (message-sent f n next goes adds (g.fits.queues.each link).limit) (message-left (launched f) n next g.fits stay));
-            flies = λ g. message-flies f n next goes adds (g.queued link);
+            flies = λ g b. message-flies f n next goes adds (g.queued link) (b.queued link);
           })
       fetched Acknowledges frame e is a stay =
           let s : FrameValue = EmptyFrame bsn fsn in
@@ -369,7 +371,7 @@ module _ (c z : Configuration) (j : Joint c z) (w : World) (link : ℕ) where
             passes =
                 passes-good _ _
                 (λ g. passes-both c z j _ _ _ (empty-sent f n (owed-up n e g) (subst (λ (x : FrameValue). AddsTo x f) (sym same) a)) (owed-left (launched f) n stay));
-            flies = λ g. empty-flies bsn fsn bsn-fits fsn-fits;
+            flies = λ g b. empty-flies bsn fsn bsn-fits fsn-fits;
           })
       fetched SendsNothing frame e is a stay = absurd cc
 

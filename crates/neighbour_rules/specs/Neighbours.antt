@@ -142,14 +142,16 @@ far_may_open p None = false
 
 -- ---- on links that lead elsewhere
 
--- whether a frame carries management in the name of one of the two for the other, which nobody else may send
-abbrev pub speaks_for_either : PairState → (text : List ℕ) → Bool
-speaks_for_either p text =
-    let near : ℕ = p.near.exchange.settings.own in
-    let far : ℕ = p.far.exchange.settings.own in
+-- whether a frame carries management in the name of one of two points for the other
+abbrev pub speaks_for : (near far : ℕ) → (text : List ℕ) → Bool
+speaks_for near far text =
     list_any
     (λ m. is_management_between near far m || is_management_between far near m)
     (option_to_list (carried_message (read_frame text)))
+
+-- whether it does so of the two nodes, for which nobody else may speak
+abbrev pub speaks_for_either : PairState → (text : List ℕ) → Bool
+speaks_for_either p text = speaks_for p.near.exchange.settings.own p.far.exchange.settings.own text
 
 -- anything may happen on a link that leads elsewhere, but that a frame speaks for either
 abbrev pub takes_elsewhere : (elsewhere speaks : Bool) → Happening → PairState → Turn

@@ -2,6 +2,7 @@
 //! of steps from two newly booted exchanges on. The steps are those of `specs/Neighbours.antt`. Each
 //! function says its law by its contract, and does nothing.
 
+ghost use Rattle.pair_rules.specs.Deliveries.{deliveries_tell};
 ghost use Rattle.neighbour_rules.specs.Alone.{alone_is_special};
 ghost use Rattle.neighbour_rules.specs.Awaiting.{nothing_is_awaited_in_vain, nothing_is_held_in_vain};
 ghost use Rattle.neighbour_rules.specs.Laws.{frames_carry, none_is_left, words_are_final};
@@ -72,7 +73,8 @@ pub fn completions_move_what_the_peer_lacks()
 
 /// Two nodes that have only each other are the special case: settings that face each other (`AreJoined`
 /// of `pair_rules`) share a set, and each step between them comes to what it comes to there, and leaves
-/// the same.
+/// the same. All that an end accepted is for the other, and "Exactly once" and "Order" hold of all user
+/// messages.
 pub fn a_pair_alone_is_the_special_case()
     ensures { alone_is_special }
 {}
@@ -103,4 +105,15 @@ pub fn flows_stay_between_the_two()
 /// been lost.
 pub fn nothing_is_held_in_vain()
     ensures { nothing_is_held_in_vain }
+{}
+
+/// Of two nodes that have only each other: received means delivered, or handled by SCCP, at either end.
+/// A frame that is handed in comes to Local exactly if what the end received grew by a message of a
+/// user part that its settings list, or by one of SCCP for a subsystem there; to NoUserPart exactly if
+/// it grew by one of another part; and to Queued or Held exactly if it grew by one of SCCP that goes on
+/// by its title. What the end accepted then grew by that one as its relay wrote it, and by nothing
+/// else. If one of SCCP is refused, it grew by the UDTS that returns it, or by nothing; otherwise it
+/// didn't grow (Q.704 §2.4, Q.714 §2.3, §4.2). This holds whether or not a message may be lost.
+pub fn deliveries_tell_what_came()
+    ensures { deliveries_tell }
 {}

@@ -24,6 +24,7 @@ use Rattle.sctp_rules.specs.Sending.{may_send}
 use Rattle.sctp_ends.specs.Example.{packet_at}
 use Rattle.sctp_ends.proofs.Happening.{good, arrives}
 use Rattle.pair_rules.proofs.RunSettings.{joined}
+use Rattle.neighbour_rules.proofs.Special.{sharing}
 use Rattle.flow_hold.specs.Holds.{HoldSet, holds, is_held, no_holds}
 use Rattle.flow_hold.specs.declared.procedure.Procedure.{Procedure}
 use Rattle.exchange_rules.specs.Routing.{no_room, waits, link_of}
@@ -35,9 +36,10 @@ use Rattle.exchange_rules.specs.Conserving.{taken_in}
 use Rattle.exchange_rules.specs.Queues.{WholeQueues}
 use Rattle.signalling_types.specs.Message.{flow_of}
 use Rattle.pair_rules.proofs.Definitions.{held_by, none_at_first}
-use Rattle.pair_rules.specs.OneEndFirst.{near_settings, the_message}
-use Rattle.pair_rules.specs.Promises as promises
+use Rattle.pair_rules.specs.OneEndFirst.{near_settings, far_settings, the_message}
+use Rattle.neighbour_rules.specs.Promises as promises
 use Rattle.node_rules.specs.Promises.{ends_of}
+use Rattle.node_rules.proofs.Happening.{near-between, far-between}
 use Rattle.node_rules.specs.Worlds.{Doing, Happens, Associates, Sends, at_near, at_far, message_of, World, Step, Steps, Node, CanGo, IsLooked, MayDo, new_world}
 use Rattle.sctp_ends.specs.Worlds.{Arrives}
 use Rattle.node_rules.specs.Example.{near_make, far_make, near_does, far_does, near_hears, far_hears}
@@ -172,33 +174,33 @@ c3 = far_hears c2
 
 -- ---- steps
 
-near-step : (what : Doing) (w : World) → MayDo near_make w.far what w.near → Step near_make far_make w (near_does what w)
+near-step : (what : Doing) (w : World) → MayDo near_settings far_settings w.far what w.near → Step near_make far_make w (near_does what w)
 near-step what w may = at_near what may refl
 
-far-step : (what : Doing) (w : World) → MayDo far_make w.near what w.far → Step near_make far_make w (far_does what w)
+far-step : (what : Doing) (w : World) → MayDo far_settings near_settings w.near what w.far → Step near_make far_make w (far_does what w)
 far-step what w may = at_far what may refl
 
 near-sends : (w : World) → CanGo 0 w.near → Step near_make far_make w (near_sends w)
-near-sends w can = near-step (Sends 0) w (omega arith, can)
+near-sends w can = near-step (Sends 0) w (near-between, can)
 
 far-sends : (w : World) → CanGo 0 w.far → Step near_make far_make w (far_sends w)
-far-sends w can = far-step (Sends 0) w (omega arith, can)
+far-sends w can = far-step (Sends 0) w (far-between, can)
 
 near-flushes : (w : World) → Step near_make far_make w (near_flushes w)
-near-flushes w = near-step (Associates 0 (endpoint.Flushes 10)) w (omega arith, tt)
+near-flushes w = near-step (Associates 0 (endpoint.Flushes 10)) w (near-between, tt)
 
 far-flushes : (w : World) → Step near_make far_make w (far_flushes w)
-far-flushes w = far-step (Associates 0 (endpoint.Flushes 10)) w (omega arith, tt)
+far-flushes w = far-step (Associates 0 (endpoint.Flushes 10)) w (far-between, tt)
 
 -- what comes to an end
 abbrev latest_to : Node → endpoint.Happening
 latest_to other = endpoint.Came 10 address (packet_at (other.ports 0).site 0)
 
 near-hears : (w : World) → Arrives (w.far.ports 0).site (packet_at (w.far.ports 0).site 0) → IsLooked 0 (latest_to w.far) w.near → Step near_make far_make w (near_hears w)
-near-hears w comes looked = near-step (Associates 0 (latest_to w.far)) w (omega arith, (comes, looked))
+near-hears w comes looked = near-step (Associates 0 (latest_to w.far)) w (near-between, (comes, looked))
 
 far-hears : (w : World) → Arrives (w.near.ports 0).site (packet_at (w.near.ports 0).site 0) → IsLooked 0 (latest_to w.near) w.far → Step near_make far_make w (far_hears w)
-far-hears w comes looked = far-step (Associates 0 (latest_to w.near)) w (omega arith, (comes, looked))
+far-hears w comes looked = far-step (Associates 0 (latest_to w.near)) w (far-between, (comes, looked))
 
 -- one list of steps, and then another
 all-steps : (xs : List (World → World)) (w : World) → Steps near_make far_make w (through xs w) → (zs : List World) → Steps near_make far_make (after_all xs w) zs
@@ -211,9 +213,9 @@ all-steps (x ∷ xs) w h zs g = (h.0, all-steps xs (x w) h.1 zs g)
 opens : Steps near_make far_make (new_world near_make far_make) (through opening (new_world near_make far_make))
 unfolding after going drained run_from blocks_from lost_from named_below passed_below given next_place gone_again gone_first confirmation confirmed settled acknowledged after_t3 apply tell_owed first_sets links_below status_of set_timer clear_timer start_unless_running clear_set due_name after_due due_count names_of choice_among link_by changes_of changes take_back_each owes_nothing any_flow flows
 opens = (
-  far-step (Associates 0 (endpoint.Opens 10 false)) (new_world near_make far_make) (omega arith, record { wants = refl; down = λ e. absurd cc }),
+  far-step (Associates 0 (endpoint.Opens 10 false)) (new_world near_make far_make) (far-between, record { wants = refl; down = λ e. absurd cc }),
   (
-    near-step (Associates 0 (endpoint.Opens 10 true)) o1 (omega arith, record { wants = refl; down = λ e. absurd cc }),
+    near-step (Associates 0 (endpoint.Opens 10 true)) o1 (near-between, record { wants = refl; down = λ e. absurd cc }),
     (
       far-hears o2 (arrives (o2.near.ports 0).site 0 1 0 refl (omega arith) refl (omega arith)) (λ e. refl),
       (
@@ -326,15 +328,15 @@ the-run =
 pub crosses : run.Crosses
 unfolding after going drained run_from blocks_from lost_from named_below passed_below given next_place gone_again gone_first confirmation confirmed settled acknowledged after_t3 apply tell_owed first_sets links_below status_of set_timer clear_timer start_unless_running clear_set due_name after_due due_count names_of choice_among link_by changes_of changes take_back_each owes_nothing any_flow flows
 crosses = record {
-  facing = record { joined = joined; near_good = λ link. good 1000; far_good = λ link. good 2000 };
+  neighbours = record { sharing = sharing near_settings far_settings joined; near_good = λ link. good 1000; far_good = λ link. good 2000 };
   steps = the-run;
   near_serves = refl;
   far_serves = refl;
   accepted = submitted-so (λ w. w.near.books.accepted ≡ the_message ∷ []) refl;
   missing = submitted-so (λ w. w.far.books.received ≡ []) refl;
-  waits = submitted-so (λ w. promises.waiting (ends_of w) ≡ the_message ∷ []) refl;
+  waits = submitted-so (λ w. promises.waiting (ends_of near_make far_make w) ≡ the_message ∷ []) refl;
   received = submitted-so (λ w. (after_all crossing w).far.books.received ≡ the_message ∷ []) refl;
-  nothing_waits = submitted-so (λ w. promises.waiting (ends_of (after_all crossing w)) ≡ []) refl;
+  nothing_waits = submitted-so (λ w. promises.waiting (ends_of near_make far_make (after_all crossing w)) ≡ []) refl;
   lost_nothing = record {
     near = submitted-so (λ w. lost_any (after_all crossing w).near.books.exchange.node.parts ≡ false) refl;
     far = submitted-so (λ w. lost_any (after_all crossing w).far.books.exchange.node.parts ≡ false) refl;

@@ -1,5 +1,5 @@
--- No frame is longer than what an endpoint takes: what a queue has the far exchange takes for a message of its own, and
--- that has no more octets than a field has.
+-- No frame is longer than what an endpoint takes: no message of a queue has more octets than a field has, one that the
+-- far exchange takes for its own, or one that passes by.
 use Rattle.std.proofs.Common.{◌≡◌, ◌≤◌, ◌+◌, ℕ, arith, Bool, true, false, List, ◌∷◌, Option, Some, None, length, refl, sym, subst}
 use Rattle.std.proofs.lemmas.Bool.Decides.{nat_tests}
 use Rattle.std.specs.Prelude.{if◌then◌else◌, nat_lt, slice_get}
@@ -7,6 +7,7 @@ use Rattle.signalling_types.specs.Message.{Message}
 use Rattle.signalling_types.specs.declared.cause.Cause.TheVariants as causes
 use Rattle.signalling_types.specs.declared.limits.TheConstants.Limits.{SIF_OCTETS}
 use Rattle.mtp3_codec.specs.declared.discrimination.Discrimination.TheVariants as whither
+use Rattle.mtp3_codec.specs.declared.label.Label.{Label}
 use Rattle.mtp3_codec.specs.Headings.{discrimination}
 use Rattle.settings_rows.specs.Configuration.{Configuration}
 use Rattle.m2pa_codec.specs.Frames.{FrameValue, EmptyFrame, MessageFrame, StatusFrame, spelled}
@@ -17,22 +18,31 @@ use Rattle.exchange_rules.specs.Sending.{Outgoing, SendsStatus, SendsMessage, Ac
 use Rattle.exchange_rules.specs.Exchange.{frame_to_take}
 use Rattle.exchange_rules.specs.First.{Abstract}
 use Rattle.exchange_rules.specs.Queues.{queue_at, whole}
-use Rattle.pair_rules.specs.Pairs.{PairState, first_pair, after_steps}
-use Rattle.pair_rules.proofs.Good.{Each, each-get, IsBetween}
-use Rattle.pair_rules.proofs.Standing.{Stands}
-use Rattle.pair_rules.proofs.Promised.{all-stand}
+use Rattle.exchange_rules.specs.Messages.{whither_goes}
+use Rattle.pair_rules.specs.Pairs.{PairState, first_pair}
+use Rattle.pair_rules.proofs.Good.{Each, each-get}
+use Rattle.neighbour_rules.specs.Neighbours.{after_steps}
+use Rattle.neighbour_rules.proofs.Good.{IsSent, made, accepted, passes_by}
+use Rattle.neighbour_rules.proofs.Sharing.{AreFacing}
+use Rattle.neighbour_rules.proofs.Standing.{Stands}
+use Rattle.neighbour_rules.proofs.Promised.{all-stand}
 use Rattle.node_rules.specs.Worlds.{Make, World, new_world, last_world}
-use Rattle.node_rules.specs.Promises.{AreFacing, IsShort, BothAreShort, frames_are_short}
-use Rattle.node_rules.proofs.Runs.{IsRun, all-run}
+use Rattle.node_rules.specs.Promises.{IsShort, BothAreShort, frames_are_short}
+use Rattle.node_rules.proofs.Runs.{IsRun, all-run, facing}
 
 -- ---- a message that the far exchange takes for its own
 
-short-enough : (c z : Configuration) (m : Message) → IsBetween c z m → length m.sif ≤ SIF_OCTETS
-short-enough c z m b = by (nat_lt SIF_OCTETS (length m.sif)) refl b.here where
-  by : (long : Bool) → nat_lt SIF_OCTETS (length m.sif) ≡ long → (if long then whither.Refused causes.TooLong else discrimination m z.own z.network) ≡ whither.Here b.label
+goes-here : (z : Configuration) (m : Message) (label : Label) → whither_goes z m ≡ whither.Here label → length m.sif ≤ SIF_OCTETS
+goes-here z m label here = by (nat_lt SIF_OCTETS (length m.sif)) refl here where
+  by : (long : Bool) → nat_lt SIF_OCTETS (length m.sif) ≡ long → (if long then whither.Refused causes.TooLong else discrimination m z.own z.network) ≡ whither.Here label
       → length m.sif ≤ SIF_OCTETS
   by true e f = absurd cc
   by false e f = grind (arith, nat_tests, e)
+
+short-enough : (c z : Configuration) (set : ℕ) (m : Message) → IsSent c z set m → length m.sif ≤ SIF_OCTETS
+short-enough c z set m (made b) = goes-here z m b.label b.here
+short-enough c z set m (accepted b) = goes-here z m b.label b.here
+short-enough c z set m (passes_by other short) = short
 
 -- ---- frames
 
@@ -80,7 +90,7 @@ sent-is : (b : Bool) (o : Option Sending) (next : Sending) → (if b then o else
 sent-is true o next e = e
 sent-is false o next e = absurd cc
 
-module _ (c z : Configuration) (link : ℕ) (a : Abstract) (queued : Each (IsBetween c z) (queue_at a.node.queues link).all) where
+module _ (c z : Configuration) (set link : ℕ) (a : Abstract) (queued : Each (IsSent c z set) (queue_at a.node.queues link).all) where
   abbrev q : Queue
   q = queue_at a.node.queues link
 
@@ -90,7 +100,7 @@ module _ (c z : Configuration) (link : ℕ) (a : Abstract) (queued : Each (IsBet
       message-is (slice_get (link_at a.node.parts link).waiting 0) (next_message whole a.settings link a.node) (link_at a.node.parts link).acknowledgement_owed next e in
       let sending : to_send q a.settings.window ≡ Some next = sent-is (may_send (link_at a.node.parts link)) (to_send q a.settings.window) next message in
       let stands : slice_get q.all q.sent ≡ Some next.message = queued-is _ (forward_number q q.sent) (slice_get q.all q.sent) next sending in
-      short-enough c z next.message (each-get (IsBetween c z) q.all q.sent next.message queued stands)
+      short-enough c z set next.message (each-get (IsSent c z set) q.all q.sent next.message queued stands)
 
   taken-short : (frame : FrameValue) → frame_to_take whole a link ≡ Some frame → IsShort frame
   taken-short frame e =
@@ -98,17 +108,16 @@ module _ (c z : Configuration) (link : ℕ) (a : Abstract) (queued : Each (IsBet
 
 -- ---- after every list of steps
 
-pub run-short : (near far : Make) → AreFacing near far → (n : ℕ) (w : World) → IsRun near far n w → BothAreShort w
-run-short near far facing n w r =
+pub run-short : (near far : Make) (f : AreFacing near.configuration far.configuration) (w : World) → IsRun near far f w → BothAreShort w
+run-short near far f w r =
     let p : PairState = after_steps r.steps (first_pair near.configuration far.configuration) in
-    let s : Stands near.configuration far.configuration p = all-stand near.configuration far.configuration r.steps facing.joined in
+    let s : Stands near.configuration far.configuration f p = all-stand near.configuration far.configuration r.steps f in
     record {
       near = λ link. subst (λ (a : Abstract). (frame : FrameValue) → frame_to_take whole a link ≡ Some frame → IsShort frame) (sym r.meets.shows.near_has.exchange)
-          (taken-short near.configuration far.configuration link p.near.exchange (s.near_good.queued link));
+          (taken-short near.configuration far.configuration f.near_set link p.near.exchange (s.near_good.queued link));
       far = λ link. subst (λ (a : Abstract). (frame : FrameValue) → frame_to_take whole a link ≡ Some frame → IsShort frame) (sym r.meets.shows.far_has.exchange)
-          (taken-short far.configuration near.configuration link p.far.exchange (s.far_good.queued link));
+          (taken-short far.configuration near.configuration f.far_set link p.far.exchange (s.far_good.queued link));
     }
 
 pub all-short : frames_are_short
-all-short near far facing list steps =
-    run-short near far facing (length near.configuration.links) (last_world (new_world near far) list) (all-run near far facing list steps)
+all-short near far n list steps = run-short near far (facing near far n) (last_world (new_world near far) list) (all-run near far n list steps)

@@ -1,12 +1,20 @@
 -- What is in flight between two exchanges on each link, as the messages that associations still carry; and two books
 -- that a pair has.
-use Rattle.std.proofs.Common.{◌≡◌, ◌≢◌, ◌<◌, ℕ, Bool, true, false, List, [], ◌∷◌, ◌++◌, length, refl, ap, sym, subst, nat_eq, arith, ⊎_elim}
+use Rattle.std.proofs.Common.{◌≡◌, ◌≢◌, ℕ, Bool, true, false, List, [], ◌∷◌, ◌++◌, length, refl, ap, sym, subst, nat_eq, arith, ⊎_elim}
 use Rattle.std.proofs.lemmas.Bool.{cases_eq}
 use Rattle.std.proofs.lemmas.Bool.Decides.{nat_tests}
 use Rattle.std.specs.Prelude.{if◌then◌else◌, slice_index_or}
+use Rattle.settings_rows.specs.Configuration.{Configuration}
 use Rattle.sctp_moves.specs.Ends.{Message}
-use Rattle.pair_rules.specs.Pairs.{End, PairState, Streams, Doing, did, in_flight}
+use Rattle.pair_rules.specs.Pairs.{PairState, Streams, in_flight}
+use Rattle.pair_rules.specs.Promises.{AreJoined}
+use Rattle.neighbour_rules.specs.Neighbours.{Doing, did}
+use Rattle.neighbour_rules.proofs.Sharing.{AreFacing, facing_back}
+use Rattle.neighbour_rules.proofs.Special.{joined-back}
 use Rattle.node_rules.specs.Worlds.{Books}
+use Rattle.node_rules.specs.Promises.{IsOf}
+use Rattle.node_rules.proofs.Whole.{IsWhole, turned-whole}
+use Rattle.node_rules.proofs.Lines.{Ends, same-far, turned-ends}
 
 -- the octets of the messages of one stream
 abbrev pub texts : ℕ → List Message → List (List ℕ)
@@ -33,31 +41,29 @@ pub record Sized (n : ℕ) (s : Streams) (following : List Bool) : Type 0 where
   pub user_data : length s.user_data ≡ n
   pub may : length following ≡ n
 
--- an end has the books
-pub record Has (b : Books) (e : End) : Type 0 where
-  pub exchange : b.exchange ≡ e.exchange
-  pub accepted : b.accepted ≡ e.accepted
-  pub received : b.received ≡ e.received
+-- a pair has both books, and this is in the air of the links between the two
+pub record Shows (c z : Configuration) (a : AreFacing c z) (near far : Books) (air : ℕ → ℕ → Air) (p : PairState) : Type 0 where
+  pub near_settings : near.exchange.settings ≡ c
+  pub far_settings : far.exchange.settings ≡ z
+  pub near_has : IsOf c.own z.own near p.near
+  pub far_has : IsOf z.own c.own far p.far
+  pub near_sized : Sized (length c.links) p.near.incoming p.near.following
+  pub far_sized : Sized (length z.links) p.far.incoming p.far.following
+  pub to_near : (k j : ℕ) → Ends c z a k j → Flies k p.near.incoming p.near.following (air k j).to_near (air k j).near_follows
+  pub to_far : (k j : ℕ) → Ends c z a k j → Flies j p.far.incoming p.far.following (air k j).to_far (air k j).far_follows
+  -- between nodes that have only each other it has all that these books have
+  pub whole : AreJoined c z → IsWhole c z near far p
 
--- a pair has both books, and this is in the air of its links
-pub record Shows (n : ℕ) (near far : Books) (air : ℕ → Air) (p : PairState) : Type 0 where
-  pub near_has : Has near p.near
-  pub far_has : Has far p.far
-  pub near_sized : Sized n p.near.incoming p.near.following
-  pub far_sized : Sized n p.far.incoming p.far.following
-  pub to_near : (k : ℕ) → k < n → Flies k p.near.incoming p.near.following (air k).to_near (air k).near_follows
-  pub to_far : (k : ℕ) → k < n → Flies k p.far.incoming p.far.following (air k).to_far (air k).far_follows
+abbrev pub with_air : ℕ → Air → (ℕ → ℕ → Air) → ℕ → ℕ → Air
+with_air k x air = λ i o. if nat_eq i k then x else air i o
 
-abbrev pub with_air : ℕ → Air → (ℕ → Air) → ℕ → Air
-with_air k a air = λ j. if nat_eq j k then a else air j
-
-pub air-here : (k : ℕ) (a : Air) (air : ℕ → Air) → with_air k a air k ≡ a
-air-here k a air = ap (λ (b : Bool). if b then a else air k) (same k) where
+pub air-here : (k : ℕ) (x : Air) (air : ℕ → ℕ → Air) (o : ℕ) → with_air k x air k o ≡ x
+air-here k x air o = ap (λ (b : Bool). if b then x else air k o) (same k) where
   same : (n : ℕ) → nat_eq n n ≡ true
   same n = grind (arith, nat_tests)
 
-pub air-other : (k : ℕ) (a : Air) (air : ℕ → Air) (j : ℕ) → j ≢ k → with_air k a air j ≡ air j
-air-other k a air j d = ap (λ (b : Bool). if b then a else air j) (unlike j k d) where
+pub air-other : (k : ℕ) (x : Air) (air : ℕ → ℕ → Air) (i o : ℕ) → i ≢ k → with_air k x air i o ≡ air i o
+air-other k x air i o d = ap (λ (b : Bool). if b then x else air i o) (unlike i k d) where
   unlike : (m n : ℕ) → m ≢ n → nat_eq m n ≡ false
   unlike m n e = grind (arith, nat_tests, e)
 
@@ -68,47 +74,55 @@ dids [] p = p
 dids (what ∷ more) p = dids more (did what p).left
 
 -- by some steps of the near end
-pub record Reaches (n : ℕ) (near far : Books) (air : ℕ → Air) (p : PairState) : Type 0 where
+pub record Reaches (c z : Configuration) (a : AreFacing c z) (near far : Books) (air : ℕ → ℕ → Air) (p : PairState) : Type 0 where
   pub list : List Doing
-  pub shows : Shows n near far air (dids list p)
-
-pub by-one : (n : ℕ) (near far : Books) (air : ℕ → Air) (what : Doing) (p : PairState) → Shows n near far air (did what p).left → Reaches n near far air p
-by-one n near far air what p h = record { list = what ∷ []; shows = h }
-
-pub by-none : (n : ℕ) (near far : Books) (air : ℕ → Air) (p : PairState) → Shows n near far air p → Reaches n near far air p
-by-none n near far air p h = record { list = []; shows = h }
+  pub shows : Shows c z a near far air (dids list p)
 
 dids-append : (list more : List Doing) (p : PairState) → dids (list ++ more) p ≡ dids more (dids list p)
 dids-append [] more p = refl
 dids-append (what ∷ list) more p = dids-append list more (did what p).left
 
-pub reaches-on : (n : ℕ) (near far near' far' : Books) (air air' : ℕ → Air) (p : PairState) → (r : Reaches n near far air p)
-    → (Shows n near far air (dids r.list p) → Reaches n near' far' air' (dids r.list p)) → Reaches n near' far' air' p
-reaches-on n near far near' far' air air' p r f =
-    let q : Reaches n near' far' air' (dids r.list p) = f r.shows in
-    record {
-      list = r.list ++ q.list;
-      shows = subst (Shows n near' far' air') (sym (dids-append r.list q.list p)) q.shows;
-    }
+module _ (c z : Configuration) (a : AreFacing c z) where
+  pub by-one : (near far : Books) (air : ℕ → ℕ → Air) (what : Doing) (p : PairState) → Shows c z a near far air (did what p).left
+      → Reaches c z a near far air p
+  by-one near far air what p h = record { list = what ∷ []; shows = h }
 
--- ---- the pair seen from the other end
+  pub by-none : (near far : Books) (air : ℕ → ℕ → Air) (p : PairState) → Shows c z a near far air p → Reaches c z a near far air p
+  by-none near far air p h = record { list = []; shows = h }
 
-pub turned-shows : (n : ℕ) (near far : Books) (air : ℕ → Air) (p : PairState) → Shows n near far air p
-    → Shows n far near (λ k. turned_air (air k)) (record { near = p.far; far = p.near })
-turned-shows n near far air p h = record {
-  near_has = h.far_has;
-  far_has = h.near_has;
-  near_sized = h.far_sized;
-  far_sized = h.near_sized;
-  to_near = h.to_far;
-  to_far = h.to_near;
-}
+  pub reaches-on : (near far near' far' : Books) (air air' : ℕ → ℕ → Air) (p : PairState) → (r : Reaches c z a near far air p)
+      → (Shows c z a near far air (dids r.list p) → Reaches c z a near' far' air' (dids r.list p)) → Reaches c z a near' far' air' p
+  reaches-on near far near' far' air air' p r f =
+      let q : Reaches c z a near' far' air' (dids r.list p) = f r.shows in
+      record {
+        list = r.list ++ q.list;
+        shows = subst (Shows c z a near' far' air') (sym (dids-append r.list q.list p)) q.shows;
+      }
 
--- one link has something else in the air
-pub each-link : (P : ℕ → Air → Type 0) (n k : ℕ) (a : Air) (air : ℕ → Air) → P k a → ((j : ℕ) → j < n → j ≢ k → P j (air j))
-    → (j : ℕ) → j < n → P j (with_air k a air j)
-each-link P n k a air h f j l =
-    ⊎_elim
-    (λ (e : j ≡ k). subst (λ (i : ℕ). P i (with_air k a air i)) (sym e) (subst (P k) (sym (air-here k a air)) h))
-    (λ (d : j ≢ k). subst (P j) (sym (air-other k a air j d)) (f j l d))
-    (cases_eq j k)
+  -- ---- the pair seen from the other end
+
+  pub turned-shows : (near far : Books) (air : ℕ → ℕ → Air) (p : PairState) → Shows c z a near far air p
+      → Shows z c (facing_back c z a) far near (λ j k. turned_air (air k j)) (record { near = p.far; far = p.near })
+  turned-shows near far air p h = record {
+    near_settings = h.far_settings;
+    far_settings = h.near_settings;
+    near_has = h.far_has;
+    far_has = h.near_has;
+    near_sized = h.far_sized;
+    far_sized = h.near_sized;
+    to_near = λ j k e. h.to_far k j (turned-ends z c (facing_back c z a) j k e);
+    to_far = λ j k e. h.to_near k j (turned-ends z c (facing_back c z a) j k e);
+    whole = λ g. turned-whole c z near far p (h.whole (joined-back z c g));
+  }
+
+  -- one link has something else in the air
+  pub each-link : (P : ℕ → ℕ → Air → Type 0) (k j : ℕ) (e : Ends c z a k j) (x : Air) (air : ℕ → ℕ → Air) → P k j x
+      → ((i o : ℕ) → Ends c z a i o → i ≢ k → P i o (air i o)) → (i o : ℕ) → Ends c z a i o → P i o (with_air k x air i o)
+  each-link P k j e x air h f i o l =
+      ⊎_elim
+      (λ (q : i ≡ k).
+      let r : j ≡ o = same-far c z a k j o e (subst (λ (n : ℕ). Ends c z a n o) q l) in
+      subst (λ (n : ℕ). P n o (with_air k x air n o)) (sym q)
+      (subst (λ (n : ℕ). P k n (with_air k x air k n)) r (subst (P k j) (sym (air-here k x air j)) h)))
+      (λ (d : i ≢ k). subst (P i o) (sym (air-other k x air i o d)) (f i o l d))
+      (cases_eq i k)

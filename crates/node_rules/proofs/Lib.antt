@@ -1,6 +1,10 @@
 pub mod Staying
+pub mod Lines
+pub mod Whole
 pub mod Flights
 pub mod PairSteps
+pub mod PairFrames
+pub mod PairEvents
 pub mod Telling
 pub mod Linked
 pub mod Walk
@@ -8,6 +12,7 @@ pub mod Associating
 pub mod Sending
 pub mod Runs
 pub mod Promised
+pub mod Alone
 pub mod Fitting
 pub mod Happening
 pub mod Crossing

@@ -87,8 +87,9 @@ framed-air FarAhead x y h = h
 
 -- ---- a link
 
--- `s` and `t` are the ports of the link at both ends, whose exchanges have these books
-pub record Linked (k : ℕ) (m o : ends.Make) (s t : Port) (near far : Books) (a : Air) : Type 0 where
+-- `s` and `t` are the ports of the link at both ends, where it has the numbers `k` and `j`, and whose exchanges have
+-- these books
+pub record Linked (k j : ℕ) (m o : ends.Make) (s t : Port) (near far : Books) (a : Air) : Type 0 where
   pub x : End
   pub y : End
   pub sound : IsSound x y
@@ -105,13 +106,13 @@ pub record Linked (k : ℕ) (m o : ends.Make) (s t : Port) (near far : Books) (a
   pub far_framed : AreFramed (latest_sent y)
   -- while the other end may open first, the link may open here; and so it may while one is wanted
   pub near_ready : IsReady x y → MayOpen k near.exchange.node.parts
-  pub far_ready : IsReady y x → MayOpen k far.exchange.node.parts
+  pub far_ready : IsReady y x → MayOpen j far.exchange.node.parts
   pub near_seeks : s.wish ≡ Seeking → MayOpen k near.exchange.node.parts
-  pub far_seeks : t.wish ≡ Seeking → MayOpen k far.exchange.node.parts
+  pub far_seeks : t.wish ≡ Seeking → MayOpen j far.exchange.node.parts
 
-pub turned-linked : (k : ℕ) (m o : ends.Make) (s t : Port) (near far : Books) (a : Air) → Linked k m o s t near far a
-    → Linked k o m t s far near (turned_air a)
-turned-linked k m o s t near far a h = record {
+pub turned-linked : (k j : ℕ) (m o : ends.Make) (s t : Port) (near far : Books) (a : Air) → Linked k j m o s t near far a
+    → Linked j k o m t s far near (turned_air a)
+turned-linked k j m o s t near far a h = record {
   x = h.y;
   y = h.x;
   sound = turned-sound h.x h.y h.sound;
@@ -133,9 +134,9 @@ turned-linked k m o s t near far a h = record {
 }
 
 -- the books change, and the link may open there as before
-pub linked-as : (k : ℕ) (m o : ends.Make) (s t : Port) (near near' far : Books) (a : Air)
-    → (MayOpen k near.exchange.node.parts → MayOpen k near'.exchange.node.parts) → Linked k m o s t near far a → Linked k m o s t near' far a
-linked-as k m o s t near near' far a f h = record {
+pub linked-as : (k j : ℕ) (m o : ends.Make) (s t : Port) (near near' far : Books) (a : Air)
+    → (MayOpen k near.exchange.node.parts → MayOpen k near'.exchange.node.parts) → Linked k j m o s t near far a → Linked k j m o s t near' far a
+linked-as k j m o s t near near' far a f h = record {
   x = h.x;
   y = h.y;
   sound = h.sound;

@@ -29,7 +29,7 @@ use Rattle.sctp_ends.proofs.World.{site-after}
 use Rattle.node_rules.specs.Worlds.{Books, Port, m2pa, stream_of, message_of, wished}
 use Rattle.node_rules.proofs.Staying.{MayOpen}
 use Rattle.node_rules.proofs.Flights.{Air, with_air, air-here, Reaches}
-use Rattle.node_rules.proofs.PairSteps.{goes-out}
+use Rattle.node_rules.proofs.PairFrames.{goes-out}
 use Rattle.node_rules.proofs.Linked.{AreFramed, framed-behind, firsts, latest_sent, latest_received, air_of, Linked, StaysSo, IsJoint, is-joint, drop-within}
 use Rattle.node_rules.proofs.Associating.{Went, no-epochs}
 use Rattle.node_rules.proofs.Walk.{leaves}
@@ -65,7 +65,7 @@ framed-is (EmptyFrame bsn fsn) = inr refl
 framed-is (MessageFrame bsn fsn sio sif) = inr refl
 framed-is (StatusFrame bsn fsn status) = inl refl
 
-module _ (n k : ℕ) (m o : ends.Make) (good : AreGood m.secrets) (s t : Port) (near far : Books) (a : Air) (h : Linked k m o s t near far a)
+module _ (k j : ℕ) (m o : ends.Make) (good : AreGood m.secrets) (s t : Port) (near far : Books) (a : Air) (h : Linked k j m o s t near far a)
     (frame : FrameValue) (next : frame_to_take whole near.exchange k ≡ Some frame) (may : may_send (message_of (spelled frame)) s.site.state ≡ true)
     (stays-open : MayOpen k near.exchange.node.parts → MayOpen k (taken whole near.exchange k).node.parts) where
   abbrev given : outgoing.Message
@@ -164,7 +164,7 @@ module _ (n k : ℕ) (m o : ends.Make) (good : AreGood m.secrets) (s t : Port) (
       (subst (λ (ts : List Told). Fits (wish_after ts s.wish) d.left) told-none
       (happening-fits m.settings m.secrets (Sends given) s.site.state s.wish h.near_right h.near_fits))
 
-  pub sends : Went n k m o port t near books far a
+  pub sends : Went k j m o port t near books far a
   sends = record {
     air = air_of h.standing l h.y;
     linked = record {
@@ -187,11 +187,11 @@ module _ (n k : ℕ) (m o : ends.Make) (good : AreGood m.secrets) (s t : Port) (
       near_seeks = λ e. stays-open (h.near_seeks (sym wish-same ∙ e));
       far_seeks = h.far_seeks;
     };
-    reaches = λ k-in others p z.
-        let here : with_air k a others k ≡ air_of h.standing h.x h.y = air-here k a others ∙ h.air_is in
-        let out : Reaches n books far (with_air k (record (with_air k a others k) { to_far = (with_air k a others k).to_far ++ text ∷ [] }) (with_air k a others)) p =
-        goes-out n k k-in near far (with_air k a others) p z frame next in
-        leaves n k k-in far others books a (air_of h.standing l h.y) p
-        (subst (λ (b : Air). Reaches n books far (with_air k b (with_air k a others)) p)
+    reaches = λ c v g both others p z.
+        let here : with_air k a others k j ≡ air_of h.standing h.x h.y = air-here k a others j ∙ h.air_is in
+        let out : Reaches c v g books far (with_air k (record (with_air k a others k j) { to_far = (with_air k a others k j).to_far ++ text ∷ [] }) (with_air k a others)) p =
+        goes-out c v g near far (with_air k a others) p z k j both frame next in
+        leaves c v g k j both far others books a (air_of h.standing l h.y) p
+        (subst (λ (b : Air). Reaches c v g books far (with_air k b (with_air k a others)) p)
         (ap (λ (b : Air). record b { to_far = b.to_far ++ text ∷ [] }) here ∙ air-more h.standing h.stands) out);
   }

@@ -5,9 +5,10 @@ use Rattle.link.specs.declared.alignment.Alignment.TheVariants.{InService}
 use Rattle.exchange_rules.specs.State.{Ticked, Submitted}
 use Rattle.sctp_rules.specs.Endpoint as endpoint
 use Rattle.pair_rules.specs.OneEndFirst.{the_message}
-use Rattle.pair_rules.specs.Promises.{LostNothing, IsPunctual, waiting}
+use Rattle.pair_rules.specs.Promises.{LostNothing, IsPunctual}
+use Rattle.neighbour_rules.specs.Promises.{waiting}
 use Rattle.node_rules.specs.Worlds.{World, new_world, Happens, Associates, Sends, Steps}
-use Rattle.node_rules.specs.Promises.{AreFacing, ends_of}
+use Rattle.node_rules.specs.Promises.{AreNeighbours, ends_of}
 use Rattle.node_rules.specs.Example.{near_make, far_make, near_does, far_does, near_hears, far_hears, alignment_of}
 
 -- ---- lists of steps
@@ -80,7 +81,7 @@ run =
 -- ---- what is to hold
 
 pub record Crosses : Type 0 where
-  pub facing : AreFacing near_make far_make
+  pub neighbours : AreNeighbours near_make far_make
   pub steps : Steps near_make far_make (new_world near_make far_make) run
   -- the link enters service at both nodes
   pub near_serves : alignment_of served.near 0 ≡ InService
@@ -89,8 +90,8 @@ pub record Crosses : Type 0 where
   -- more
   pub accepted : submitted.near.books.accepted ≡ the_message ∷ []
   pub missing : submitted.far.books.received ≡ []
-  pub waits : waiting (ends_of submitted) ≡ the_message ∷ []
+  pub waits : waiting (ends_of near_make far_make submitted) ≡ the_message ∷ []
   pub received : crossed.far.books.received ≡ the_message ∷ []
-  pub nothing_waits : waiting (ends_of crossed) ≡ []
-  pub lost_nothing : LostNothing (ends_of crossed)
-  pub punctual : IsPunctual (ends_of crossed)
+  pub nothing_waits : waiting (ends_of near_make far_make crossed) ≡ []
+  pub lost_nothing : LostNothing (ends_of near_make far_make crossed)
+  pub punctual : IsPunctual (ends_of near_make far_make crossed)

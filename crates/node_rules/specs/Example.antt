@@ -9,7 +9,7 @@ use Rattle.sctp_rules.specs.Rows.{address}
 use Rattle.sctp_ends.specs.Example.{make_from, packet_at}
 use Rattle.pair_rules.specs.OneEndFirst.{near_settings, far_settings}
 use Rattle.node_rules.specs.Worlds.{Make, Node, World, new_world, Doing, Associates, Sends, did, Steps}
-use Rattle.node_rules.specs.Promises.{AreFacing}
+use Rattle.node_rules.specs.Promises.{AreNeighbours}
 
 abbrev pub near_make : Make
 near_make = record { configuration = near_settings; endpoints = λ link. make_from 1000 }
@@ -78,7 +78,7 @@ alignment_of n link = (link_at n.books.exchange.node.parts link).alignment
 -- ---- what is to hold
 
 pub record Happens : Type 0 where
-  pub facing : AreFacing near_make far_make
+  pub neighbours : AreNeighbours near_make far_make
   pub steps : Steps near_make far_make (new_world near_make far_make) run
   -- the link opens at the far node, while it is down at the near one; and then there
   pub far_opens : alignment_of opened_first.far 0 ≡ NotAligned

@@ -1,4 +1,5 @@
 pub mod Worlds
 pub mod Promises
+pub mod Alone
 pub mod Example
 pub mod Crossing

@@ -1,65 +1,79 @@
--- What two nodes promise each other over any network.
+-- What two nodes promise each other over any network, whatever further neighbours each has.
 use Rattle.std.specs.Prelude.{◌≡◌, ◌<◌, ◌≤◌, ℕ, List, [], Some, length}
 use Rattle.m2pa_codec.specs.Frames.{FrameValue, spelled}
 use Rattle.exchange_rules.specs.Exchange.{frame_to_take}
 use Rattle.exchange_rules.specs.Queues.{whole}
 use Rattle.sctp_sending.specs.Sending.{most_octets}
 use Rattle.sctp_ends.specs.Shown.{AreGood}
-use Rattle.pair_rules.specs.Pairs.{End, PairState, Step, first_pair, after_steps, nothing_in_flight}
-use Rattle.pair_rules.specs.Promises.{AreJoined, LostNothing, EachOnce, InOrder, IsPunctual, BothWays}
-use Rattle.node_rules.specs.Worlds.{Node, Make, World, new_world, Steps, last_world}
+use Rattle.pair_rules.specs.Pairs.{End, PairState, first_pair, nothing_in_flight}
+use Rattle.pair_rules.specs.Promises.{LostNothing, IsPunctual, BothWays}
+use Rattle.pair_rules.specs.Sharing.{AreSharing}
+use Rattle.neighbour_rules.specs.Neighbours.{Step, after_steps, users_to}
+use Rattle.neighbour_rules.specs.Promises.{EachOnce, InOrder}
+use Rattle.node_rules.specs.Worlds.{Books, Make, World, Node, new_world, Steps, last_world}
 
--- two nodes whose settings face each other; no endpoint draws a tag twice, and cookies open as what was signed
-pub record AreFacing (near far : Make) : Type 0 where
-  pub joined : AreJoined near.configuration far.configuration
+-- two nodes whose settings share a set; no endpoint draws a tag twice, and cookies open as what was signed
+pub record AreNeighbours (near far : Make) : Type 0 where
+  pub sharing : AreSharing near.configuration far.configuration
   pub near_good : (link : ℕ) → AreGood (near.endpoints link).secrets
   pub far_good : (link : ℕ) → AreGood (far.endpoints link).secrets
 
 -- after every list of steps
 abbrev pub Always : ((near far : Make) → World → Type 0) → Type 0
 Always Statement =
-    (near far : Make) → AreFacing near far → (list : List World) → Steps near far (new_world near far) list →
+    (near far : Make) → AreNeighbours near far → (list : List World) → Steps near far (new_world near far) list →
     Statement near far (last_world (new_world near far) list)
 
 -- ---- runs are runs of a pair
 
-pub record IsOf (n : Node) (e : End) : Type 0 where
-  pub exchange : n.books.exchange ≡ e.exchange
-  pub accepted : n.books.accepted ≡ e.accepted
-  pub received : n.books.received ≡ e.received
+-- an end has this exchange; it accepted just the messages for the other point that these books have, and received just
+-- those for its own
+pub record IsOf (own other : ℕ) (b : Books) (e : End) : Type 0 where
+  pub exchange : b.exchange ≡ e.exchange
+  pub accepted : users_to other b.accepted ≡ e.accepted
+  pub received : users_to own b.received ≡ e.received
 
--- by steps of two exchanges with frames in flight between them the same exchanges come to be, that accepted and received
--- the same
+-- by steps of two exchanges with frames in flight between them the same exchanges come to be, that accepted and
+-- received the same for each other
 pub record IsRunOfPair (near far : Make) (w : World) : Type 0 where
   pub steps : List Step
-  pub near_is : IsOf w.near (after_steps steps (first_pair near.configuration far.configuration)).near
-  pub far_is : IsOf w.far (after_steps steps (first_pair near.configuration far.configuration)).far
+  pub near_is :
+      IsOf near.configuration.own far.configuration.own w.near.books
+      (after_steps steps (first_pair near.configuration far.configuration)).near
+  pub far_is :
+      IsOf far.configuration.own near.configuration.own w.far.books
+      (after_steps steps (first_pair near.configuration far.configuration)).far
 
 abbrev pub runs_are_runs_of_pairs : Type 0
 runs_are_runs_of_pairs = Always IsRunOfPair
 
--- ---- the promises: they speak of exchanges, and of what these accepted and received
+-- ---- the promises: they speak of exchanges, and of what these accepted and received for each other
 
-abbrev pub end_of : Node → End
-end_of n = record {
-  exchange = n.books.exchange;
+abbrev pub end_of : (own other : ℕ) → Books → End
+end_of own other b = record {
+  exchange = b.exchange;
   incoming = nothing_in_flight 0;
   following = [];
-  accepted = n.books.accepted;
-  received = n.books.received;
+  accepted = users_to other b.accepted;
+  received = users_to own b.received;
 }
 
-abbrev pub ends_of : World → PairState
-ends_of w = record { near = end_of w.near; far = end_of w.far }
+abbrev pub ends_of : (near far : Make) → World → PairState
+ends_of near far w = record {
+  near = end_of near.configuration.own far.configuration.own w.near.books;
+  far = end_of far.configuration.own near.configuration.own w.far.books;
+}
 
 -- "Exactly once"
 abbrev pub each_message_once : Type 0
-each_message_once = Always (λ near far w. LostNothing (ends_of w) → BothWays EachOnce (ends_of w))
+each_message_once =
+    Always (λ near far w. LostNothing (ends_of near far w) → BothWays EachOnce (ends_of near far w))
 
 -- "Order"
 abbrev pub each_flow_in_order : Type 0
 each_flow_in_order =
-    Always (λ near far w. LostNothing (ends_of w) → BothWays (λ p. IsPunctual p → InOrder p) (ends_of w))
+    Always (λ near far w.
+    LostNothing (ends_of near far w) → BothWays (λ p. IsPunctual p → InOrder p) (ends_of near far w))
 
 -- ---- frames
 

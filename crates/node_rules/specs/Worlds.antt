@@ -1,5 +1,6 @@
--- Two exchanges, each with an endpoint of SCTP for each link, and all packets that any of them ever put out.
-use Rattle.std.specs.Prelude.{◌≡◌, ◌≢◌, ◌<◌, ℕ, Bool, true, List, [], ◌∷◌, ◌++◌, Option, Some, None, length, nat_eq, slice_index, option_to_list, if◌then◌else◌}
+-- Two exchanges that share a link set, with an endpoint of SCTP at each end of its links, and all packets that any of
+-- these ever put out. Each may have whatever further links and neighbours, on which anything may happen.
+use Rattle.std.specs.Prelude.{◌≡◌, ◌≢◌, ℕ, Bool, true, false, List, [], ◌∷◌, ◌++◌, Option, Some, None, nat_eq, slice_index, slice_get, option_to_list, if◌then◌else◌}
 use Rattle.signalling_types.specs.Message.{Message}
 use Rattle.settings_rows.specs.Configuration.{Configuration}
 use Rattle.m2pa_codec.specs.Frames.{FrameValue, spelled, link_status}
@@ -11,6 +12,7 @@ use Rattle.exchange_rules.specs.Queues.{whole}
 use Rattle.exchange_rules.specs.Conserving.{brought_in}
 use Rattle.exchange_rules.specs.Receiving.{new_message}
 use Rattle.exchange_rules.specs.declared.wants.Wants.TheVariants.{Open}
+use Rattle.neighbour_rules.specs.Neighbours.{end_there, leads_elsewhere_by, speaks_for}
 use Rattle.sctp_receiving.specs.Pieces as pieces
 use Rattle.sctp_sending.specs.Outgoing as outgoing
 use Rattle.sctp_rules.specs.State.{Told, Up, Heard, Down, Failed}
@@ -25,7 +27,7 @@ use Rattle.sctp_ends.specs.Worlds as ends
 abbrev pub m2pa : ℕ
 m2pa = 5
 
--- an exchange; all user messages that it accepted, and all that came to it from the other one
+-- an exchange; all user messages that it accepted, and all that came to it from the other one, whomever they are for
 pub record Books : Type 0 where
   pub exchange : Abstract
   pub accepted : List Message
@@ -43,6 +45,18 @@ happened what b = record {
   accepted = b.accepted ++ brought_in what b.exchange;
   received = b.received ++ carried what b.exchange;
 }
+
+-- something happens to it on a link that leads elsewhere: what comes by that doesn't come from the other one
+abbrev pub happened_elsewhere : Happening → Books → Books
+happened_elsewhere what b = record b {
+  exchange = after whole what b.exchange;
+  accepted = b.accepted ++ brought_in what b.exchange;
+}
+
+-- a frame goes out on a link that leads elsewhere, where one is next
+abbrev pub left_by : (link : ℕ) → Option FrameValue → Books → Books
+left_by link None b = b
+left_by link (Some frame) b = record b { exchange = taken whole b.exchange link }
 
 abbrev pub is_frame : pieces.Message → Bool
 is_frame m = nat_eq m.protocol m2pa
@@ -68,8 +82,8 @@ message_of frame = record { stream = stream_of frame; protocol = m2pa; octets = 
 
 -- ---- a node
 
--- the endpoint of a link, all that it put out and was told, and whether its user wants an association, by its calls and
--- by what it was told
+-- the endpoint of a link between the two, all that it put out and was told, and whether its user wants an association,
+-- by its calls and by what it was told
 pub record Port : Type 0 where
   pub site : ends.Site
   pub wish : Wish
@@ -104,6 +118,9 @@ pub data Doing : Type 0 where
   Associates : (link : ℕ) (what : endpoint.Happening) → Doing
   -- the next frame of a link is taken, and given to its endpoint
   Sends : (link : ℕ) → Doing
+  -- a link that leads elsewhere brings something, whatever joins it to a further neighbour; or its next frame goes
+  Brings : (what : Happening) → Doing
+  Leaves : (link : ℕ) → Doing
 
 abbrev pub wished : Option Wish → (otherwise : Wish) → Wish
 wished None otherwise = otherwise
@@ -139,6 +156,18 @@ did m (Happens what) n = record n { books = happened what n.books }
 did m (Associates link what) n =
     with_port link (associated m link what n) (record n { books = handed_all link (told_by m link what n) n.books })
 did m (Sends link) n = sent m link (frame_to_take whole n.books.exchange link) n
+did m (Brings what) n = record n { books = happened_elsewhere what n.books }
+did m (Leaves link) n = record n { books = left_by link (frame_to_take whole n.books.exchange link) n.books }
+
+-- ---- links between the two, and links that lead elsewhere
+
+-- a link of one node, and its number at the other one: they have the same signalling link code
+pub record IsBetween (own other : Configuration) (link : ℕ) : Type 0 where
+  pub there : ℕ
+  pub is : end_there own other (slice_get own.links link) ≡ Some there
+
+abbrev pub LeadsElsewhere : (own other : Configuration) → (link : ℕ) → Type 0
+LeadsElsewhere own other link = leads_elsewhere_by own other (slice_get own.links link) ≡ true
 
 -- ---- when
 
@@ -166,15 +195,15 @@ pub record IsAsked (link : ℕ) (n : Node) : Type 0 where
 
 -- packets that come were put out by the other end of the link and aren't too old; messages are frames of the link. An
 -- endpoint may be asked for packets at any moment, and told to end what it has, or the wish for it
-abbrev pub MayAssociate : (other : Node) → (link : ℕ) → endpoint.Happening → Node → Type 0
-MayAssociate other link (endpoint.Opens now is_active) n = IsAsked link n
-MayAssociate other link (endpoint.Came now source packet) n =
-    ends.Arrives (other.ports link).site packet × IsLooked link (endpoint.Came now source packet) n
-MayAssociate other link (endpoint.Ticked now) n = IsLooked link (endpoint.Ticked now) n
-MayAssociate other link (endpoint.Sends message) n = ⊥
-MayAssociate other link endpoint.Aborts n = Unit {0}
-MayAssociate other link (endpoint.ShutsDown now) n = IsLooked link (endpoint.ShutsDown now) n
-MayAssociate other link (endpoint.Flushes now) n = Unit {0}
+abbrev pub MayAssociate : (there : ends.Site) → (link : ℕ) → endpoint.Happening → Node → Type 0
+MayAssociate there link (endpoint.Opens now is_active) n = IsAsked link n
+MayAssociate there link (endpoint.Came now source packet) n =
+    ends.Arrives there packet × IsLooked link (endpoint.Came now source packet) n
+MayAssociate there link (endpoint.Ticked now) n = IsLooked link (endpoint.Ticked now) n
+MayAssociate there link (endpoint.Sends message) n = ⊥
+MayAssociate there link endpoint.Aborts n = Unit {0}
+MayAssociate there link (endpoint.ShutsDown now) n = IsLooked link (endpoint.ShutsDown now) n
+MayAssociate there link (endpoint.Flushes now) n = Unit {0}
 
 -- a frame is taken only when it can go out
 abbrev pub CanGo : (link : ℕ) → Node → Type 0
@@ -182,14 +211,30 @@ CanGo link n =
     (frame : FrameValue) → frame_to_take whole n.books.exchange link ≡ Some frame →
     may_send (message_of (spelled frame)) (n.ports link).site.state ≡ true
 
-abbrev pub MayDo : Make → (other : Node) → Doing → Node → Type 0
-MayDo m other (Happens what) n = IsOwn what
-MayDo m other (Associates link what) n = (link < length m.configuration.links) × MayAssociate other link what n
-MayDo m other (Sends link) n = (link < length m.configuration.links) × CanGo link n
+-- anything may happen on a link that leads elsewhere, but that a frame speaks for one of the two to the other
+abbrev pub MayBring : (own other : Configuration) → Happening → Type 0
+MayBring own other (CameUp link) = LeadsElsewhere own other link
+MayBring own other (WentDown link) = LeadsElsewhere own other link
+MayBring own other (FrameCame link text) =
+    LeadsElsewhere own other link × (speaks_for own.own other.own text ≡ false)
+MayBring own other Ticked = ⊥
+MayBring own other (Submitted message) = ⊥
+MayBring own other (Activated link) = ⊥
+MayBring own other (Deactivated link) = ⊥
+MayBring own other (TitleAdded row is_memory_refused) = ⊥
+MayBring own other (TitleRemoved key digits) = ⊥
+
+abbrev pub MayDo : (own other : Configuration) → (there : Node) → Doing → Node → Type 0
+MayDo own other there (Happens what) n = IsOwn what
+MayDo own other there (Associates link what) n =
+    (b : IsBetween own other link) × MayAssociate (there.ports b.there).site link what n
+MayDo own other there (Sends link) n = IsBetween own other link × CanGo link n
+MayDo own other there (Brings what) n = MayBring own other what
+MayDo own other there (Leaves link) n = LeadsElsewhere own other link
 
 -- ---- two nodes
 
--- each link of one is that link of the other. The network is what each put out: any of it may come, at any moment, any
+-- the network between them is what each put out: any of it may come to the other end of its link, at any moment, any
 -- number of times, in any order, or never
 pub record World : Type 0 where
   pub near : Node
@@ -202,8 +247,10 @@ abbrev pub new_world : (near far : Make) → World
 new_world near far = record { near = new_node near; far = new_node far }
 
 pub data Step (near far : Make) (w v : World) : Type 0 where
-  at_near : (what : Doing) → MayDo near w.far what w.near → v ≡ record w { near = did near what w.near } → Step near far w v
-  at_far : (what : Doing) → MayDo far w.near what w.far → v ≡ record w { far = did far what w.far } → Step near far w v
+  at_near : (what : Doing) → MayDo near.configuration far.configuration w.far what w.near →
+      v ≡ record w { near = did near what w.near } → Step near far w v
+  at_far : (what : Doing) → MayDo far.configuration near.configuration w.near what w.far →
+      v ≡ record w { far = did far what w.far } → Step near far w v
 
 -- from one world on, by steps, through the worlds of a list
 abbrev pub Steps : (near far : Make) → World → List World → Type 0

@@ -1,26 +1,38 @@
-//! What two nodes promise each other over any network. The statements are those of `specs/Promises.antt`.
+//! What two nodes promise each other over any network, whatever further neighbours each has. The statements are those
+//! of `specs/Promises.antt`.
 
+ghost use Rattle.node_rules.specs.Alone.{alone_is_special};
 ghost use Rattle.node_rules.specs.Crossing.{Crosses};
 ghost use Rattle.node_rules.specs.Example.{Happens};
 ghost use Rattle.node_rules.specs.Promises.{runs_are_runs_of_pairs, each_message_once, each_flow_in_order};
 ghost use Rattle.node_rules.specs.Promises.{frames_are_short};
 
-/// Whatever the network does, what two nodes do is what two exchanges do with frames in flight between them.
+/// Whatever the network does, and whatever happens on links that lead elsewhere, what two nodes do is what two
+/// exchanges of `neighbour_rules` do with frames in flight between them.
 pub fn runs_of_two_nodes_are_runs_of_pairs()
     ensures { runs_are_runs_of_pairs }
 {}
 
-/// "Exactly once" over datagrams, in both directions. While neither exchange may have lost a message, as many user
-/// messages of any kind were accepted at one node as the other received and as wait between them.
+/// "Exactly once" over datagrams, in both directions, whatever further neighbours each node has. While neither exchange
+/// may have lost a message, as many user messages of any kind were accepted at one node for the other as the other
+/// received for itself and as wait between them.
 pub fn each_message_comes_once()
     ensures { each_message_once }
 {}
 
 /// "Order" over datagrams, in both directions. While neither exchange may have lost a message, and no timer of the
-/// accepting node ended a hold, the user messages of a flow that one node accepted are, in order, those that the other
-/// received, and then those that wait.
+/// accepting node ended a hold, the user messages of a flow to the other that one node accepted are, in order, those
+/// that the other received, and then those that wait.
 pub fn each_flow_keeps_its_order()
     ensures { each_flow_in_order }
+{}
+
+/// Two nodes that have only each other are the special case. Settings that face each other share a set, each link is
+/// between the two and has one number at both, and none leads elsewhere. All that a node accepted is for the other, and
+/// all that it received for itself: it is what two exchanges of `pair_rules` do with frames in flight between them, and
+/// both promises hold of all user messages.
+pub fn nodes_alone_are_the_special_case()
+    ensures { alone_is_special }
 {}
 
 /// A frame that a link has to go out next has 1 to 290 octets: an endpoint takes it as a message.

@@ -1,6 +1,7 @@
-//! Two abstract exchanges with an endpoint of SCTP for each link, and the network between them: each of their steps is
-//! a list of steps of `pair_rules`, so its promises hold over any network that loses, doubles, reorders or delays
-//! datagrams. The crate has no code; docs/EXACTLY_ONCE.md tells it.
+//! Two abstract exchanges that share a link set, with an endpoint of SCTP at each end of its links, and the network
+//! between them: each of their steps is a list of steps of `neighbour_rules`, so its promises hold over any network
+//! that loses, doubles, reorders or delays datagrams, whatever further neighbours each has. The crate has no code;
+//! docs/EXACTLY_ONCE.md tells it.
 #![tactic(auto)]
 
 pub mod laws;

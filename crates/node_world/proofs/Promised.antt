@@ -10,8 +10,8 @@ use Rattle.pair_rules.specs.Promises.{BothWays, EachOnce, InOrder, IsPunctual, L
 use Rattle.pair_world.specs.declared.step.End.{End}
 use Rattle.pair_world.specs.declared.step.End.TheVariants.{One, Two}
 use Rattle.gate_rules.specs.Worlds.{World}
-use Rattle.gate_rules.specs.Promises.{ends_of}
-use Rattle.gate_rules.proofs.Running.{each-once, each-in-order}
+use Rattle.gate_rules.specs.Promises.{IsSpecial, whole_ends}
+use Rattle.gate_rules.proofs.Running.{is-special}
 use Rattle.node_world.specs.Kept.{KeptPort, KeptWorld, kept_at, sent_of, sent_on, whole_of, is_whole_on, due_of, due_on}
 use Rattle.node_world.specs.Stands.{IsReached, IsSentBy, HasAll, PortStands, StandsFor}
 use Rattle.node_world.specs.Worlds.{node_at}
@@ -36,13 +36,15 @@ module _ (k : KeptWorld) (w : World) (h : StandsFor k w) where
   r : IsReached (length k.near.ports) (length k.far.ports) w
   r = h.reached
 
-  pub come-once : LostNothing (ends_of w) → BothWays EachOnce (ends_of w)
-  come-once =
-      subst (λ (v : World). LostNothing (ends_of v) → BothWays EachOnce (ends_of v)) r.last (each-once r.near r.far r.joined r.list r.steps)
+  -- of nodes that have only each other
+  special : IsSpecial r.near r.far w
+  special = subst (IsSpecial r.near r.far) r.last (is-special r.near r.far r.joined r.list r.steps)
 
-  pub come-in-order : LostNothing (ends_of w) → BothWays (λ p. IsPunctual p → InOrder p) (ends_of w)
-  come-in-order =
-      subst (λ (v : World). LostNothing (ends_of v) → BothWays (λ p. IsPunctual p → InOrder p) (ends_of v)) r.last (each-in-order r.near r.far r.joined r.list r.steps)
+  pub come-once : LostNothing (whole_ends w) → BothWays EachOnce (whole_ends w)
+  come-once = special.once
+
+  pub come-in-order : LostNothing (whole_ends w) → BothWays (λ p. IsPunctual p → InOrder p) (whole_ends w)
+  come-in-order = special.in_order
 
   -- no flag, of either
   flags-same : (lost_any k.near.exchange.node.parts || lost_any k.far.exchange.node.parts) ≡ (lost_any w.near.books.exchange.node.parts || lost_any w.far.books.exchange.node.parts)
@@ -50,7 +52,7 @@ module _ (k : KeptWorld) (w : World) (h : StandsFor k w) where
       ap (λ (x : Kept). lost_any x.node.parts || lost_any k.far.exchange.node.parts) h.near.exchange.kept
       ∙ ap (λ (x : Kept). lost_any w.near.books.exchange.node.parts || lost_any x.node.parts) h.far.exchange.kept
 
-  pub nothing-lost : (lost_any k.near.exchange.node.parts || lost_any k.far.exchange.node.parts) ≡ false → LostNothing (ends_of w)
+  pub nothing-lost : (lost_any k.near.exchange.node.parts || lost_any k.far.exchange.node.parts) ≡ false → LostNothing (whole_ends w)
   nothing-lost e =
       let f : (lost_any w.near.books.exchange.node.parts || lost_any w.far.books.exchange.node.parts) ≡ false = sym flags-same ∙ e in
       record {

@@ -24,7 +24,8 @@ use Rattle.settings.specs.Well.{IsWell}
 use Rattle.signalling_types.specs.declared.outcome.Outcome.{Outcome}
 use Rattle.sctp_gate.specs.Calling as calling
 use Rattle.pair_rules.specs.Promises.{AreJoined}
-use Rattle.node_rules.specs.Worlds.{IsOwn}
+use Rattle.neighbour_rules.proofs.Special.{joined-back, same-end, sharing}
+use Rattle.node_rules.specs.Worlds.{IsBetween, IsOwn}
 use Rattle.gate_rules.specs.Worlds.{Node, Make, GateMake, World, Doing, Happens, Calls, did, MayCall, MayDo, Step, at_near, at_far, Steps, new_world, new_node, new_port, last_world}
 use Rattle.gate_rules.specs.Octets.{AreRead, BothAreRead, HavePorts}
 use Rattle.gate_rules.proofs.Reading.{all-read}
@@ -62,7 +63,7 @@ reached-more m n w v r step = record {
   last = last-on (new_world r.near r.far) v r.list;
 }
 
-goes-near : (what : Doing) (k : KeptWorld) (near : KeptNode) (w : World) (h : StandsFor k w) → MayDo h.reached.near w.far what → NodeStands near (did what w.near)
+goes-near : (what : Doing) (k : KeptWorld) (near : KeptNode) (w : World) (h : StandsFor k w) → MayDo h.reached.near.configuration h.reached.far.configuration w.far what → NodeStands near (did what w.near)
     → length near.ports ≡ length k.near.ports → StandsFor (record k { near = near }) (record w { near = did what w.near })
 goes-near what k near w h may n many = record {
   reached = subst (λ (count : ℕ). IsReached count (length k.far.ports) (record w { near = did what w.near })) (sym many)
@@ -71,7 +72,7 @@ goes-near what k near w h may n many = record {
   far = h.far;
 }
 
-goes-far : (what : Doing) (k : KeptWorld) (far : KeptNode) (w : World) (h : StandsFor k w) → MayDo h.reached.far w.near what → NodeStands far (did what w.far)
+goes-far : (what : Doing) (k : KeptWorld) (far : KeptNode) (w : World) (h : StandsFor k w) → MayDo h.reached.far.configuration h.reached.near.configuration w.near what → NodeStands far (did what w.far)
     → length far.ports ≡ length k.far.ports → StandsFor (record k { far = far }) (record w { far = did what w.far })
 goes-far what k far w h may n many = record {
   reached = subst (λ (count : ℕ). IsReached (length k.near.ports) count (record w { far = did what w.far })) (sym many)
@@ -120,7 +121,11 @@ happens-far e outcome k far w h own stands same =
 -- ---- a gate is called
 
 both-read : (m n : ℕ) (w : World) → IsReached m n w → BothAreRead w
-both-read m n w r = subst BothAreRead r.last (all-read r.near r.far r.joined r.list r.steps r.near_ports r.far_ports)
+both-read m n w r = subst BothAreRead r.last (all-read r.near r.far (sharing r.near.configuration r.far.configuration r.joined) r.list r.steps r.near_ports r.far_ports)
+
+-- between nodes that have only each other a link has one number at both
+abbrev between : (c z : Configuration) → AreJoined c z → (link : ℕ) → link < length c.links → IsBetween c z link
+between c z joined link l = record { there = link; is = same-end c z joined link l }
 
 -- octets that come are read as the packet that was put out
 may-call : (call : Call) (octets : List ℕ) (now : ℕ) (other : Node) (link : ℕ) → AreRead other → MayCome call octets (other.ports link)
@@ -141,14 +146,18 @@ module _ (call : Call) (octets : List ℕ) (now link : ℕ) (k : KeptWorld) (is 
       → StandsFor (record k { near = is }) (record w { near = did what w.near })
   calls-near l may c =
       let read : BothAreRead w = both-read (length k.near.ports) (length k.far.ports) w h.reached in
-      goes-near what k is w h (subst (λ (n : ℕ). link < n) h.reached.near_links l, may-call call octets now w.far link read.far may)
+      let r : IsReached (length k.near.ports) (length k.far.ports) w = h.reached in
+      goes-near what k is w h
+      (between r.near.configuration r.far.configuration r.joined link (subst (λ (n : ℕ). link < n) r.near_links l), may-call call octets now w.far link read.far may)
       (node-calls link (told call octets now) k.near is w.near h.near c) (as-many link (told call octets now) k.near is w.near h.near c)
 
   pub calls-far : link < length k.far.ports → MayCome call octets (w.near.ports link) → NodeCalls link (told call octets now) k.far is w.far.books.exchange
       → StandsFor (record k { far = is }) (record w { far = did what w.far })
   calls-far l may c =
       let read : BothAreRead w = both-read (length k.near.ports) (length k.far.ports) w h.reached in
-      goes-far what k is w h (subst (λ (n : ℕ). link < n) h.reached.far_links l, may-call call octets now w.near link read.near may)
+      let r : IsReached (length k.near.ports) (length k.far.ports) w = h.reached in
+      goes-far what k is w h
+      (between r.far.configuration r.near.configuration (joined-back r.near.configuration r.far.configuration r.joined) link (subst (λ (n : ℕ). link < n) r.far_links l), may-call call octets now w.near link read.near may)
       (node-calls link (told call octets now) k.far is w.far h.far c) (as-many link (told call octets now) k.far is w.far h.far c)
 
 both-first : (a b : Bool) → (a && b) ≡ true → a ≡ true

@@ -12,7 +12,7 @@ ghost use Rattle.exchange_rules.specs.State.{lost_any};
 ghost use Rattle.pair_rules.specs.Promises.{BothWays, EachOnce, InOrder, IsPunctual, LostNothing};
 ghost use Rattle.pair_world.specs.Told.{other};
 ghost use Rattle.gate_rules.specs.Worlds as worlds;
-ghost use Rattle.gate_rules.specs.Promises.{ends_of};
+ghost use Rattle.gate_rules.specs.Promises.{whole_ends};
 ghost use Rattle.node_world.specs.Making.{make_of, Suits};
 ghost use Rattle.node_world.specs.Kept.{kept_at, sent_on};
 ghost use Rattle.node_world.specs.Calls.{told, octets_heard, is_made, NodeCalls};
@@ -132,14 +132,14 @@ impl World {
 impl World {
     /// Whether a message may have been lost at either node (`Exchange::lost_any`).
     pub fn lost_any(&self) -> bool
-        ensures nothing { (w : worlds.World) → StandsFor self.now w → result ≡ false → LostNothing (ends_of w) }
+        ensures nothing { (w : worlds.World) → StandsFor self.now w → result ≡ false → LostNothing (whole_ends w) }
         // "Exactly once": while it is false, of every kind of user message, as many were accepted at one node as the
         // other received and as wait between them, in both directions.
-        ensures once { (w : worlds.World) → StandsFor self.now w → result ≡ false → BothWays EachOnce (ends_of w) }
+        ensures once { (w : worlds.World) → StandsFor self.now w → result ≡ false → BothWays EachOnce (whole_ends w) }
         // "Order": and while besides no timer of the accepting node ended a hold (`Exchange::late_any`), the messages
         // of each flow that were accepted are, in order, those that were received, and then those that wait.
         ensures order { (w : worlds.World) → StandsFor self.now w → result ≡ false →
-            BothWays (λ p. IsPunctual p → InOrder p) (ends_of w) }
+            BothWays (λ p. IsPunctual p → InOrder p) (whole_ends w) }
     {
         self.is_any_lost()
     }

@@ -1,15 +1,12 @@
 -- A link enters service: by the table of the alignment it was up and stays so, and each flow that had a link keeps it or takes the one that entered.
-use Rattle.pair_rules.proofs.Basics.{◌≡◌, ◌&&◌, ◌⊎◌, inl, inr, ℕ, Bool, true, false, not, List, [], ◌∷◌, Option, Some, None, refl, ap, sym, ◌∙◌, ◌==◌, nat_lt, if◌then◌else◌, list_all, option_and_then, ⊎_elim, and_parts}
-use Rattle.pair_rules.proofs.Definitions.{SELECTIONS, Flow, Configuration, destination_place, Alignment, Down, NotAligned, Aligned, Proving, AlignedReady, InService, Action, Input, Status, UserData, Expiry, Effect, Fails, Remembers, Enters, EntersServing, Serves, Cell, table, state_number, is_same_input, effect_in, action_of, action_at, is_down, is_in_service, with_link, chosen_link, Parts, facts, link_of, FrameValue, Node, WholeQueues, LinkEnd}
+use Rattle.pair_rules.proofs.Basics.{◌≡◌, ◌&&◌, ℕ, Bool, true, false, not, List, [], ◌∷◌, Option, Some, None, refl, ap, sym, ◌∙◌, ◌==◌, if◌then◌else◌, list_all, and_parts}
+use Rattle.pair_rules.proofs.Definitions.{Configuration, Alignment, Down, NotAligned, Aligned, Proving, AlignedReady, InService, Action, Input, Status, UserData, Expiry, Effect, Fails, Remembers, Enters, EntersServing, Serves, Cell, table, state_number, is_same_input, effect_in, action_of, action_at, is_down, is_in_service, with_link, chosen_link, Parts, facts, FrameValue, Node, WholeQueues, LinkEnd}
 use Rattle.link.specs.declared.action.Action.TheVariants.{Ignored, Fail, Go}
 use Rattle.link.specs.declared.action.LinkTimer.{LinkTimer}
 use Rattle.link.specs.declared.action.LinkTimer.TheVariants as its
 use Rattle.m2pa_codec.specs.declared.status.LinkStatus.TheVariants as says
 use Rattle.link.specs.declared.action.Transition.{Transition}
-use Rattle.routes.proofs.Leaving.{goes_or_stays, had_has}
-use Rattle.pair_rules.proofs.World.{World, end_of, is_heard, route_of}
-use Rattle.pair_rules.proofs.Good.{IsJoined}
-use Rattle.pair_rules.proofs.Routes.{IsRouted}
+use Rattle.pair_rules.proofs.World.{World, end_of, is_heard}
 
 -- ---- by the table of the alignment a link that takes a step is up, before and after
 
@@ -174,24 +171,3 @@ pub record IsComing (w : World) (link : ℕ) : Type 0 where
 -- once the link is taken out again, each flow takes the link that it took before
 pub record IsKnown (c : Configuration) (link : ℕ) (p q : Parts) : Type 0 where
   pub known : (destination sls : ℕ) → chosen_link (with_link link false (facts c q)) destination sls ≡ chosen_link (facts c p) destination sls
-
-module _ (c z : Configuration) (j : IsJoined c z) where
-  pub route-there : (p : Parts) (flow : Flow) → nat_lt flow.sls SELECTIONS ≡ true → flow.point ≡ z.own → route_of c p flow ≡ chosen_link (facts c p) 0 flow.sls
-  route-there p flow few e =
-      ap (λ (b : Bool). if b then link_of c p flow else None) few
-      ∙ ap (λ (o : Option ℕ). option_and_then (λ place. chosen_link (facts c p) place flow.sls) o) (ap (destination_place c) e ∙ j.place)
-
-  pub keeps-or-takes : (p q : Parts) (link : ℕ) (flow : Flow) (former : ℕ) → IsKnown c link p q → IsRouted c z j p flow former
-      → (chosen_link (facts c q) 0 flow.sls ≡ Some former) ⊎ (chosen_link (facts c q) 0 flow.sls ≡ Some link)
-  keeps-or-takes p q link flow former i h = by (chosen_link (facts c q) 0 flow.sls) refl
-    where
-      had : chosen_link (with_link link false (facts c q)) 0 flow.sls ≡ Some former
-      had = i.known 0 flow.sls ∙ h.chosen
-
-      by : (o : Option ℕ) → chosen_link (facts c q) 0 flow.sls ≡ o → (chosen_link (facts c q) 0 flow.sls ≡ Some former) ⊎ (chosen_link (facts c q) 0 flow.sls ≡ Some link)
-      by (Some now) f =
-          ⊎_elim
-          (λ (same : now ≡ link). inr (f ∙ ap (λ (k : ℕ). Some k) same))
-          (λ (kept : chosen_link (with_link link false (facts c q)) 0 flow.sls ≡ Some now). inl (f ∙ sym kept ∙ had))
-          (goes_or_stays (facts c q) link 0 flow.sls now f)
-      by None f = absurd (had_has (facts c q) link 0 flow.sls former had f)

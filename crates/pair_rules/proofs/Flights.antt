@@ -1,8 +1,8 @@
 -- The frames in flight on a link, by their texts.
-use Rattle.pair_rules.proofs.Basics.{◌≡◌, ◌≢◌, ◌<◌, ◌≤◌, ℕ, Bool, true, false, List, [], ◌∷◌, ◌++◌, length, map, Some, None, Ok, refl, ap, sym, subst, ◌∙◌, nat_eq, arith, if◌then◌else◌, drop, slice_get, slice_set, ⊎_elim, cases_eq, cases_lt, nat_tests, get_or_past, get_or-set_other, get_or-set_same, length-set}
-use Rattle.pair_rules.proofs.Definitions.{Configuration, FrameValue, EmptyFrame, MessageFrame, StatusFrame, spelled, read_frame, in_flight}
+use Rattle.pair_rules.proofs.Basics.{◌≡◌, ◌≢◌, ◌<◌, ℕ, Bool, true, false, List, [], ◌∷◌, ◌++◌, length, map, Some, None, Ok, refl, ap, sym, subst, ◌∙◌, nat_eq, arith, if◌then◌else◌, drop, slice_get, slice_set, ⊎_elim, cases_eq, nat_tests, get_or-set_other, get_or-set_same, length-set}
+use Rattle.pair_rules.proofs.Definitions.{Configuration, FrameValue, StatusFrame, spelled, read_frame, in_flight}
 use Rattle.m2pa_codec.proofs.FrameTexts.{read_frame-spelled}
-use Rattle.pair_rules.proofs.Good.{IsFlying, IsTelling}
+use Rattle.pair_rules.proofs.Good.{IsTelling}
 use Rattle.pair_rules.proofs.Good as good
 use Rattle.pair_rules.proofs.Standing.{AreTexts}
 
@@ -41,23 +41,8 @@ pub map-behind : (fs : List FrameValue) (frame : FrameValue) → map spelled fs 
 map-behind [] frame = refl
 map-behind (f ∷ fs) frame = ap (λ (xs : List (List ℕ)). spelled f ∷ xs) (map-behind fs frame)
 
--- a frame that flies reads back
-pub flies-back : (c z : Configuration) (frame : FrameValue) → IsFlying c z frame → read_frame (spelled frame) ≡ Ok frame
-flies-back c z _ (good.empty bsn fsn s) = read_frame-spelled (EmptyFrame bsn fsn) s
-flies-back c z _ (good.carrying bsn fsn sio sif s b) = read_frame-spelled (MessageFrame bsn fsn sio sif) s
-
 pub tells-back : (frame : FrameValue) → IsTelling frame → read_frame (spelled frame) ≡ Ok frame
 tells-back _ (good.telling bsn fsn status s) = read_frame-spelled (StatusFrame bsn fsn status) s
-
--- ---- a frame is in flight on a link that is there
-
-pub first-flies : (texts : List (List (List ℕ))) (link : ℕ) (text : List ℕ) → slice_get (in_flight texts link) 0 ≡ Some text → link < length texts
-first-flies texts link text e =
-    ⊎_elim (λ (l : link < length texts). l)
-    (λ (l : length texts ≤ link).
-    let none : slice_get (in_flight texts link) 0 ≡ None = ap (λ (ts : List (List ℕ)). slice_get ts 0) (get_or_past texts link [] l) in
-    absurd cc)
-    (cases_lt link (length texts))
 
 -- the first frame in flight, by its text
 pub record IsFirst (frames : List FrameValue) (texts : List (List ℕ)) (text : List ℕ) : Type 0 where

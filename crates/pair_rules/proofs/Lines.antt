@@ -1,10 +1,8 @@
 -- Of the lines between two nodes, the near end of one changes.
-use Rattle.pair_rules.proofs.Basics.{◌≡◌, ◌≢◌, ◌<◌, ◌≤◌, ℕ, true, false, not, List, [], ◌∷◌, length, ap, sym, subst, ◌∙◌, slice_set, slice_index_or, ⊎_elim, cases_lt, get_or_past, get_or-set_other, get_or-set_same}
-use Rattle.pair_rules.proofs.Definitions.{Message, Flow, Configuration, down_link, is_down, is_in_service, Link, Standing, no_changeover, Queue, first_queue, Node, Parts, down, in_service, link_at, WholeQueues, queue_at, with_queue, changeover_of, Fits, LinkEnd, BecomeAt}
-use Rattle.std.specs.Prelude.{Option}
+use Rattle.pair_rules.proofs.Basics.{◌≡◌, ◌≢◌, ◌<◌, ◌≤◌, ℕ, true, false, not, [], ◌∷◌, length, ap, sym, subst, ◌∙◌, slice_set, slice_index_or, ⊎_elim, cases_lt, get_or_past, get_or-set_other, get_or-set_same}
+use Rattle.pair_rules.proofs.Definitions.{Configuration, down_link, is_down, is_in_service, Link, Standing, no_changeover, Queue, first_queue, Node, Parts, down, in_service, link_at, WholeQueues, queue_at, with_queue, changeover_of, Fits, LinkEnd}
 use Rattle.exchange_rules.proofs.Moves.{serving-there}
-use Rattle.pair_rules.proofs.World.{World, is_heard, end_of, line_of, shown_by}
-use Rattle.pair_rules.proofs.Good.{at}
+use Rattle.pair_rules.proofs.World.{is_heard, end_of}
 
 module _ (c z : Configuration) where
   -- a link in service is one of the settings, and so is one that isn't down
@@ -29,17 +27,6 @@ module _ (c z : Configuration) where
 
   pub queue-other : (qs : WholeQueues) (link other : ℕ) (q : Queue) → other ≢ link → queue_at (with_queue qs link q) other ≡ queue_at qs other
   queue-other qs link other q d = get_or-set_other qs.links link other q first_queue d
-
-  -- ---- the near end of one line becomes this
-
-  pub becomes : (w : World) (n : Node WholeQueues) (arrived loose : List Message) (route : Flow → Option ℕ) (link : ℕ) (x : LinkEnd) → link < length c.links → end_of n link ≡ x
-      → ((other : ℕ) → other ≢ link → end_of n other ≡ end_of w.near.node other)
-      → BecomeAt (shown_by c z route w) link (record (line_of w link) { near = x }) (line_of (at c z w n arrived loose))
-  becomes w n arrived loose route link x l here others = record {
-    inside = l;
-    here = ap (λ (y : LinkEnd). record (line_of w link) { near = y }) here;
-    others = λ other d. ap (λ (y : LinkEnd). record (line_of w other) { near = y }) (others other d);
-  }
 
   -- ---- an end by its queue, its link and its changeover
 

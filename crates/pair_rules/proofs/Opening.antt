@@ -1,13 +1,9 @@
 -- A link opens at one end: by one move.
-use Rattle.pair_rules.proofs.Basics.{◌≡◌, ◌≢◌, ◌<◌, ◌&&◌, ℕ, Bool, true, false, not, List, [], length, map, Option, refl, ap, sym, subst, ◌∙◌, nat_lt, arith, if◌then◌else◌, ⊎_elim, and_parts, cases_eq, nat_tests}
-use Rattle.pair_rules.proofs.Definitions.{Flow, Handled, Configuration, FrameValue, Queue, first_queue, Standing, may_restart, Alignment, Link, down_link, is_down, is_in_service, opened, serving_alike, Facts, Nothing, Open, Close, Node, Parts, Done, answer, down, is_link, link_at, WholeQueues, queue_at, whole, changeover_of, association_up, may_open, open_link, wanted, wanted_down, facts, sets_in, Fits, fit-steps, each-set, LinkEnd, Line, MayOpen, opened_end}
+use Rattle.pair_rules.proofs.Basics.{◌≡◌, ◌≢◌, ◌<◌, ◌&&◌, ℕ, Bool, true, false, not, List, length, refl, ap, sym, subst, ◌∙◌, nat_lt, arith, if◌then◌else◌, and_parts, nat_tests}
+use Rattle.pair_rules.proofs.Definitions.{Handled, Configuration, first_queue, Standing, may_restart, Alignment, Link, down_link, is_down, is_in_service, opened, serving_alike, Nothing, Open, Close, Node, Parts, Done, answer, down, is_link, link_at, WholeQueues, queue_at, whole, changeover_of, association_up, may_open, open_link, wanted, wanted_down, facts, sets_in, Fits, MayOpen, opened_end}
 use Rattle.pair_rules.proofs.Deliveries.{serving-up}
-use Rattle.pair_moves.specs.Moves as moves
-use Rattle.pair_rules.proofs.World.{Flying, World, says_of, shown, shown_by, route_of, line_of, end_of, frame_of}
-use Rattle.pair_rules.proofs.Good.{AreFlying, Each, IsBetween, IsSilent, Good}
-use Rattle.pair_rules.proofs.Going.{Goes, goes-one}
+use Rattle.pair_rules.proofs.World.{Flying, World, end_of}
 use Rattle.pair_rules.proofs.Lines.{end-by, end_by, link-here, link-other, queue-here, queue-other}
-use Rattle.pair_rules.proofs.Relinked.{route_by}
 
 -- ---- a link that wants to open
 
@@ -95,9 +91,6 @@ module _ (c z : Configuration) (n : Node WholeQueues) (link : ℕ) (m : MayComeU
       ap (λ (serving : List Bool). record { sets = sets_in c; in_service = serving; routes = n.parts.routes })
       (serving_alike n.parts.links link down_link (opened (link_at n.parts link)) (sym (down-unserved (link_at n.parts link).alignment m.down)))
 
-  pub opened-route : route_of c o.parts ≡ route_of c n.parts
-  opened-route = ap (λ (f : Facts). route_by c z f) opened-known
-
   pub may_open-end : MayOpen (end_of n link)
   may_open-end = record {
     down = ap not m.down;
@@ -115,13 +108,6 @@ may_open-at n link e =
       unawaited = restarts-unawaited (changeover_of n.parts link) both.1;
     }
 
-pub may-open : (n : Node WholeQueues) (link : ℕ) → MayComeUp n.parts link → (down n.parts link && may_restart (changeover_of n.parts link)) ≡ true
-may-open n link m = by (down n.parts link) (may_restart (changeover_of n.parts link)) m.down m.restarts
-  where
-    by : (a b : Bool) → a ≡ true → b ≡ true → (a && b) ≡ true
-    by true b e f = f
-    by false b e f = e
-
 -- the world after a link opened at the near end
 abbrev pub opened_near : Configuration → World → (link : ℕ) → (near_may far_may : ℕ → Bool) → (to_near to_far : Flying) → World
 opened_near c w link near_may far_may to_near to_far = record {
@@ -132,109 +118,3 @@ opened_near c w link near_may far_may to_near to_far = record {
   near_may = near_may;
   far_may = far_may;
 }
-
-module _ (c z : Configuration) (w : World) (link : ℕ) (m : MayComeUp w.near.node.parts link) (near_may far_may : ℕ → Bool) (g f : Flying) where
-  abbrev after_opening : World
-  after_opening = opened_near c w link near_may far_may g f
-
-  -- the node is good in any world
-  pub opened-good : AreFlying z c g → Good c z w → Good c z after_opening
-  opened-good coming h = record {
-    fits = ((fit-steps c).opened link w.near.node tt m.there m.opens (restarts-complete (changeover_of w.near.node.parts link) m.restarts)).stay h.fits;
-    alone = record { routes = h.alone.routes; adjacents = h.alone.adjacents };
-    unawaited = λ other up.
-        ⊎_elim
-        (λ (same : other ≡ link). subst (λ (k : ℕ). (changeover_of w.near.node.parts k).awaited ≡ false) (sym same) (restarts-unawaited (changeover_of w.near.node.parts link) m.restarts))
-        (λ (d : other ≢ link).
-        h.unawaited other (ap (λ (x : Link). is_down x.alignment) (sym (link-other c z w.near.node.parts link other (opened (link_at w.near.node.parts link)) d)) ∙ up))
-        (cases_eq other link);
-    silent = λ other. each-set (λ (x : Link). IsSilent x) w.near.node.parts.links link other (opened (link_at w.near.node.parts link)) down_link h.silent
-        (λ gone. (let no : true ≡ false = sym gone in absurd cc));
-    queued = λ other. each-set (λ (q : Queue). Each (IsBetween c z) q.all) w.near.node.queues.links link other first_queue first_queue h.queued tt;
-    held = h.held;
-    loose = h.loose;
-    arrived = h.arrived;
-    coming = coming;
-  }
-
-  abbrev line_with : LinkEnd → LinkEnd → List FrameValue → List FrameValue → List FrameValue → List FrameValue → Bool → Bool → Line
-  line_with x y to_far to_near told_far told_near near far = record {
-    near = x;
-    far = y;
-    to_far = map frame_of to_far;
-    to_near = map frame_of to_near;
-    told_far = length told_far;
-    told_near = length told_near;
-    near_may_follow = near;
-    far_may_follow = far;
-  }
-
-  seven : {x a y : LinkEnd} {s i t k h l c d : List FrameValue} {n o v b : Bool} → x ≡ a → s ≡ i → t ≡ k → h ≡ l → c ≡ d → n ≡ o → v ≡ b → line_with x y s t h c n v ≡ line_with a y i k l d o b
-  seven {y = y} p r u h t q e = λ i. line_with (p i) y (r i) (u i) (h i) (t i) (q i) (e i)
-
-  routed : shown c z after_opening ≡ record (shown c z w) { line = line_of after_opening }
-  routed = ap (λ (route : Flow → Option ℕ). shown_by c z route after_opening) (opened-route c z w.near.node link m)
-
-  -- ---- it is the first to open: nothing is in flight then
-
-  pub record IsFirst : Type 0 where
-    pub near_here : g.user_data link ≡ []
-    pub far_here : f.user_data link ≡ []
-    pub near_told : g.statuses link ≡ []
-    pub far_told : f.statuses link ≡ []
-    pub near_follows : near_may link ≡ false
-    pub far_follows : far_may link ≡ true
-
-  pub record IsElsewhere : Type 0 where
-    pub to_near : (other : ℕ) → other ≢ link → g.user_data other ≡ w.to_near.user_data other
-    pub to_far : (other : ℕ) → other ≢ link → f.user_data other ≡ w.to_far.user_data other
-    pub told_near : (other : ℕ) → other ≢ link → g.statuses other ≡ w.to_near.statuses other
-    pub told_far : (other : ℕ) → other ≢ link → f.statuses other ≡ w.to_far.statuses other
-    pub near_follows : (other : ℕ) → other ≢ link → near_may other ≡ w.near_may other
-    pub far_follows : (other : ℕ) → other ≢ link → far_may other ≡ w.far_may other
-
-  elsewhere : IsElsewhere → (other : ℕ) → other ≢ link → line_of after_opening other ≡ line_of w other
-  elsewhere e other d = seven (opened-other c z w.near.node link m other d) (e.to_far other d) (e.to_near other d) (e.told_far other d) (e.told_near other d) (e.near_follows other d) (e.far_follows other d)
-
-  pub first-goes : IsFirst → IsElsewhere → MayOpen (end_of w.far.node link) → Good c z w → Goes (says_of c.links) (shown c z w) (shown c z after_opening)
-  first-goes i e far h =
-      goes-one (says_of c.links) (shown c z w) (shown c z after_opening)
-      (moves.opens_first (record {
-        link = link;
-        near_may = may_open-end c z w.near.node link m;
-        far_may = far;
-        lines = line_of after_opening;
-        set = record {
-          inside = listed c z w.near.node link m h.fits;
-          here = seven (opened-here c z w.near.node link m h.fits) i.far_here i.near_here i.far_told i.near_told i.near_follows i.far_follows;
-          others = elsewhere e;
-        };
-        after = routed;
-      }))
-
-  -- ---- it follows the other
-
-  pub record IsSecond : Type 0 where
-    pub followed : w.near_may link ≡ true
-    pub near_here : g.user_data link ≡ w.to_near.user_data link
-    pub far_here : f.user_data link ≡ w.to_far.user_data link
-    pub near_told : g.statuses link ≡ w.to_near.statuses link
-    pub far_told : f.statuses link ≡ w.to_far.statuses link
-    pub near_follows : near_may link ≡ false
-    pub far_follows : far_may link ≡ w.far_may link
-
-  pub second-goes : IsSecond → IsElsewhere → Good c z w → Goes (says_of c.links) (shown c z w) (shown c z after_opening)
-  second-goes i e h =
-      goes-one (says_of c.links) (shown c z w) (shown c z after_opening)
-      (moves.opens_second (record {
-        link = link;
-        follows = i.followed;
-        near_may = may_open-end c z w.near.node link m;
-        lines = line_of after_opening;
-        set = record {
-          inside = listed c z w.near.node link m h.fits;
-          here = seven (opened-here c z w.near.node link m h.fits) i.far_here i.near_here i.far_told i.near_told i.near_follows i.far_follows;
-          others = elsewhere e;
-        };
-        after = routed;
-      }))

@@ -1,15 +1,13 @@
 -- What stands between two ends, by counts, and what the words among it say.
-use Rattle.pair_rules.proofs.Basics.{◌≡◌, subst, ◌<◌, ◌≢◌, ◌⊎◌, inl, inr, ◌+◌, ℕ, Bool, true, false, zero, suc, List, [], ◌∷◌, length, Option, Some, None, Ok, refl, ap, sym, ◌∙◌, arith, Contains, count_by, drop, take, slice_get, if◌then◌else◌, option_map, ⊎_elim, cases_eq, Contains-append_left, Contains-append_right}
-use Rattle.pair_rules.proofs.Definitions.{Message, is_management, opc_of, Configuration, read_management, Management, ExtendedChangeoverOrder, ExtendedChangeoverAcknowledgement, ChangebackDeclaration, ChangebackAcknowledgement, entry_of, link_with_code, Order, Answer, UserMessage, Word, about, word_in, word_of, word_read}
+use Rattle.pair_rules.proofs.Basics.{◌≡◌, subst, ◌<◌, ◌≢◌, ◌+◌, ℕ, Bool, true, false, zero, suc, List, [], ◌∷◌, length, Some, refl, ap, sym, ◌∙◌, arith, Contains, count_by, drop, take, slice_get, ⊎_elim, cases_eq, Contains-append_left, Contains-append_right}
+use Rattle.pair_rules.proofs.Definitions.{Message}
 use Rattle.std.proofs.lemmas.Option.{slice_get_read}
 use Rattle.std.proofs.lemmas.Option.{get_or_from_slice_get, slice_get_within}
 use Rattle.link.proofs.Named.{slice_get-drop}
 use Rattle.pair_moves.specs.Order.{join_to}
 use Rattle.pair_moves.specs.Laws.{one_if}
 use Rattle.pair_moves.proofs.Counts.{count-cons}
-use Rattle.pair_rules.proofs.World.{link_of_code, read_says, said_by, says_of, unsaid}
-use Rattle.pair_rules.proofs.Good.{Each, each-behind, IsBetween, IsJoined, IsSaid, IsWord, each-get}
-use Rattle.pair_rules.proofs.Good as good
+use Rattle.pair_rules.proofs.Good.{Each, each-behind}
 
 -- ---- lists
 
@@ -24,9 +22,6 @@ each-join P f (suc n) e = each-behind P (join_to f n) (f n) (each-join P f n e) 
 
 got : (ms : List Message) (m : Message) (h : Contains ms m) → slice_get ms h.0 ≡ Some m
 got ms m h = slice_get_read ms (length ms) h.0 m refl h.1 (sym h.2)
-
-pub each-contained : (P : Message → Type 0) (ms : List Message) (m : Message) → Each P ms → Contains ms m → P m
-each-contained P ms m e h = each-get P ms h.0 m e (got ms m h)
 
 -- and back: what stands on a link behind a count is one of all
 pub contained-behind : (ms : List Message) (n : ℕ) (m : Message) → slice_get ms n ≡ Some m → Contains (drop n ms) m
@@ -66,60 +61,3 @@ none-at test (x ∷ ms) (suc k) m e f = none-at test ms k m (omega (arith, count
 -- where none passes a test, what stands there doesn't
 pub none-contained : (test : Message → Bool) (ms : List Message) (m : Message) → count_by test ms ≡ 0 → Contains ms m → test m ≡ false
 none-contained test ms m e h = none-at test ms h.0 m e (got ms m h)
-
--- ---- words
-
--- a message says this, as the moves read it
-abbrev pub Says : Configuration → Message → Word → Type 0
-Says c m word = (says_of c.links m ≡ Order word.link word.number) ⊎ (says_of c.links m ≡ Answer word.link word.number)
-
-same-word : (number link : ℕ) (word : Word) → Some (about number link) ≡ Some word → about number link ≡ word
-same-word number link word e = cc
-
-module _ (c z : Configuration) (j : IsJoined c z) (k : IsJoined z c) where
-  -- what is made of a word of this node by its links, and at the far node
-  order-says : (m : Message) (word : Word) (slc number link : ℕ) → is_management m ≡ true → opc_of m ≡ c.own → read_management m.sif ≡ Ok (ExtendedChangeoverOrder slc number)
-      → link_of_code c.links slc ≡ Some link → link_with_code z c.own slc ≡ Some link → word_of z m ≡ Some word → Says c m word
-  order-says m word slc number link kind from reads here there e =
-      let says : says_of c.links m ≡ Order link number =
-      ap (λ (b : Bool). if b then read_says c.links (read_management m.sif) else UserMessage) kind ∙ ap (read_says c.links) reads
-      ∙ ap (λ (o : Option ℕ). said_by unsaid (λ at. Order at number) o) here in
-      let same : about number link ≡ word =
-      same-word number link word
-      (sym (ap (λ (b : Bool). if b then word_read z (opc_of m) (read_management m.sif) else None) kind ∙ ap (word_read z (opc_of m)) reads
-      ∙ ap (λ (point : ℕ). option_map (about number) (link_with_code z point slc)) from ∙ ap (option_map (about number)) there) ∙ e) in
-      inl (says ∙ ap (λ (w : Word). Order w.link w.number) same)
-
-  answer-says : (m : Message) (word : Word) (slc number link : ℕ) → is_management m ≡ true → opc_of m ≡ c.own → read_management m.sif ≡ Ok (ExtendedChangeoverAcknowledgement slc number)
-      → link_of_code c.links slc ≡ Some link → link_with_code z c.own slc ≡ Some link → word_of z m ≡ Some word → Says c m word
-  answer-says m word slc number link kind from reads here there e =
-      let says : says_of c.links m ≡ Answer link number =
-      ap (λ (b : Bool). if b then read_says c.links (read_management m.sif) else UserMessage) kind ∙ ap (read_says c.links) reads
-      ∙ ap (λ (o : Option ℕ). said_by unsaid (λ at. Answer at number) o) here in
-      let same : about number link ≡ word =
-      same-word number link word
-      (sym (ap (λ (b : Bool). if b then word_read z (opc_of m) (read_management m.sif) else None) kind ∙ ap (word_read z (opc_of m)) reads
-      ∙ ap (λ (point : ℕ). option_map (about number) (link_with_code z point slc)) from ∙ ap (option_map (about number)) there) ∙ e) in
-      inr (says ∙ ap (λ (w : Word). Answer w.link w.number) same)
-
-  -- no other message says one
-  none-said : (m : Message) (word : Word) (w : Management) → is_management m ≡ true → read_management m.sif ≡ Ok w → word_of z m ≡ Some word → word_in z (opc_of m) w ≡ Some word
-  none-said m word w kind reads e =
-      sym (ap (λ (b : Bool). if b then word_read z (opc_of m) (read_management m.sif) else None) kind ∙ ap (word_read z (opc_of m)) reads) ∙ e
-
-  word-says : (m : Message) (word : Word) (w : Management) → is_management m ≡ true → opc_of m ≡ c.own → read_management m.sif ≡ Ok w → IsWord c w → word_of z m ≡ Some word → Says c m word
-  word-says m word _ kind from reads (good.orders link number l) e = order-says m word (entry_of c link).slc number link kind from reads (j.own_code link l) (k.heard link l) e
-  word-says m word _ kind from reads (good.answers link number l) e = answer-says m word (entry_of c link).slc number link kind from reads (j.own_code link l) (k.heard link l) e
-  word-says m word _ kind from reads (good.declares slc code a b) e =
-      (let no : None ≡ Some word = none-said m word (ChangebackDeclaration slc code) kind reads e in absurd cc)
-  word-says m word _ kind from reads (good.confirms slc code) e =
-      (let no : None ≡ Some word = none-said m word (ChangebackAcknowledgement slc code) kind reads e in absurd cc)
-
-  -- what a message between the two says to the far node, it says in the machine of moves
-  pub between-says : (m : Message) (word : Word) → IsBetween c z m → word_of z m ≡ Some word → Says c m word
-  between-says m word b e = by b.said
-    where
-      by : IsSaid c m → Says c m word
-      by (good.is_user kind) =
-          (let no : None ≡ Some word = sym (ap (λ (b : Bool). if b then word_read z (opc_of m) (read_management m.sif) else None) kind) ∙ e in absurd cc)
-      by (good.is_word kind zero_indicator from w reads is) = word-says m word w kind from reads is e

@@ -1,5 +1,5 @@
 -- What the orders and answers about a link of a shared set say to the node at its other end.
-use Rattle.pair_rules.proofs.Basics.{◌≡◌, ◌<◌, ◌^◌, ℕ, Bool, Some, None, length, ap, ◌∙◌, if◌then◌else◌, option_map}
+use Rattle.pair_rules.proofs.Basics.{◌≡◌, ◌<◌, ◌^◌, ℕ, Bool, None, ap, ◌∙◌, if◌then◌else◌, option_map}
 use Rattle.pair_rules.proofs.Definitions.{Message, opc_of, Configuration, IsManagement, read_management, Management, ExtendedChangeoverOrder, ExtendedChangeoverAcknowledgement, entry_of, management_to, link_with_code, set_of, made-opc, made-says, code-fits, about, word_in, word_of, word_read}
 use Rattle.exchange_rules.proofs.MadeManagement.{made-management}
 use Rattle.exchange_rules.proofs.SharingNodes.{AreEnds, shared-peer, shared-ends}

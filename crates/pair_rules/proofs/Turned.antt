@@ -1,11 +1,10 @@
 -- The same, seen from the far node.
-use Rattle.pair_rules.proofs.Basics.{◌≡◌, ℕ, List, [], ◌∷◌, map, length, refl, ap, ◌∙◌}
-use Rattle.pair_rules.proofs.Definitions.{Message, Configuration, Saying, Pair}
+use Rattle.pair_rules.proofs.Basics.{◌≡◌, List, [], ◌∷◌, map, refl, ap, ◌∙◌}
+use Rattle.pair_rules.proofs.Definitions.{Message, Saying, Pair}
 use Rattle.pair_moves.specs.Ends.{turned}
 use Rattle.pair_moves.specs.Moves.{Move, Moves, last_of}
 use Rattle.pair_moves.specs.Moves as moves
 use Rattle.pair_rules.proofs.Going.{Goes}
-use Rattle.pair_rules.proofs.World.{World, turned_world, shown}
 
 module _ (read : Message → Saying) where
   -- a move of one node is a move of the other, as that sees it
@@ -27,7 +26,3 @@ module _ (read : Message → Saying) where
     moves = moves-turned p g.through g.moves;
     ends = last-turned p g.through ∙ ap turned g.ends;
   }
-
--- what is shown of two nodes, by either
-pub shown-turned : (near far : Configuration) (w : World) → length far.links ≡ length near.links → shown far near (turned_world w) ≡ turned (shown near far w)
-shown-turned near far w e = ap (λ (links : ℕ). record (turned (shown near far w)) { links = links }) e

@@ -1,10 +1,8 @@
 -- Two nodes in the midst of an event at the near one, and the machine of moves as it shows them.
-use Rattle.pair_rules.proofs.Basics.{ℕ, Bool, true, false, not, nat_eq, nat_lt, List, Option, Some, None, length, Ok, Err, Result, ◌&&◌, if◌then◌else◌}
-use Rattle.pair_rules.proofs.Definitions.{SELECTIONS, Message, is_management, Flow, Configuration, LinkEntry, FrameValue, EmptyFrame, MessageFrame, StatusFrame, read_management, MgmtFault, Management, Procedure, is_outstanding, Node, Parts, lost_any, late_any, Alignment, Down, NotAligned, Aligned, Proving, AlignedReady, InService, down, in_service, link_at, WholeQueues, queue_at, changeover_of, link_of, Saying, UserMessage, Order, Answer, Declaration, Confirmation, LinkEnd, Line, Side, Pair, Frame}
-use Rattle.std.specs.Prelude.{position, map}
+use Rattle.pair_rules.proofs.Basics.{ℕ, Bool, true, false, not, nat_eq, List, Option, Some, None, Ok, Err, Result, if◌then◌else◌}
+use Rattle.pair_rules.proofs.Definitions.{Message, is_management, LinkEntry, FrameValue, EmptyFrame, MessageFrame, StatusFrame, read_management, MgmtFault, Management, Node, Parts, Alignment, Down, NotAligned, Aligned, Proving, AlignedReady, InService, down, in_service, link_at, WholeQueues, queue_at, changeover_of, Saying, UserMessage, Order, Answer, Declaration, Confirmation, LinkEnd, Frame}
+use Rattle.std.specs.Prelude.{position}
 use Rattle.mtp3_codec.specs.declared.management.Management.TheVariants as says
-use Rattle.flow_hold.specs.Holds as hold
-use Rattle.flow_hold.specs.declared.procedure.Procedure.TheVariants as held_by
 use Rattle.pair_moves.specs.Ends as ends
 
 -- ---- two nodes, and what is between them
@@ -87,58 +85,8 @@ end_of n link = record {
   heard = heard n.parts link;
 }
 
-abbrev pub procedure_of : ends.Procedure → Procedure
-procedure_of (ends.Changeover link) = held_by.Changeover link
-procedure_of (ends.Code code) = held_by.Code 0 code
-procedure_of (ends.Time link) = held_by.Time link
-
--- the only destination of a node in a pair is the far point, number 0
-abbrev pub holds_of : (far : ℕ) → Parts → ends.Procedure → Flow → Bool
-holds_of far p procedure flow = nat_eq flow.point far && hold.holds p.holds (procedure_of procedure) 0 flow.sls
-
-abbrev pub route_of : Configuration → Parts → Flow → Option ℕ
-route_of c p flow = if nat_lt flow.sls SELECTIONS then link_of c p flow else None
-
-abbrev pub side_by : (far : ℕ) → (Flow → Option ℕ) → Mid → Side
-side_by far route m = record {
-  accepted = m.accepted;
-  received = m.received;
-  arrived = m.arrived;
-  held = m.node.queues.held;
-  loose = m.loose;
-  route = route;
-  holds = holds_of far m.node.parts;
-  outstanding = λ code. is_outstanding m.node.parts.codes 0 code;
-  lost = lost_any m.node.parts;
-  late = late_any m.node.parts;
-}
-
 -- (a link status isn't among User Data)
 abbrev pub frame_of : FrameValue → Frame
 frame_of (EmptyFrame bsn fsn) = ends.EmptyFrame fsn bsn
 frame_of (MessageFrame bsn fsn sio sif) = ends.MessageFrame fsn bsn (record { sio = sio; sif = sif })
 frame_of (StatusFrame bsn fsn status) = ends.EmptyFrame fsn bsn
-
-abbrev pub line_of : World → (link : ℕ) → Line
-line_of w link = record {
-  near = end_of w.near.node link;
-  far = end_of w.far.node link;
-  to_far = map frame_of (w.to_far.user_data link);
-  to_near = map frame_of (w.to_near.user_data link);
-  told_far = length (w.to_far.statuses link);
-  told_near = length (w.to_near.statuses link);
-  near_may_follow = w.near_may link;
-  far_may_follow = w.far_may link;
-}
-
--- a pair, where the near node's flows take these links
-abbrev pub shown_by : (c z : Configuration) → (Flow → Option ℕ) → World → Pair
-shown_by c z route w = record {
-  links = length c.links;
-  line = line_of w;
-  near = side_by z.own route w.near;
-  far = side_by c.own (route_of z w.far.node.parts) w.far;
-}
-
-abbrev pub shown : (c z : Configuration) → World → Pair
-shown c z w = shown_by c z (route_of c w.near.node.parts) w

@@ -2,7 +2,6 @@
 use Rattle.std.specs.Prelude.{◌≡◌, ℕ, false, All}
 use Rattle.signalling_types.specs.Message.{Message, dpc_of, is_management}
 use Rattle.pair_rules.specs.Pairs.{PairState}
-use Rattle.pair_rules.specs.Promises.{Always, BothWays}
 
 -- a user message for a point
 pub record IsUserMessageTo (point : ℕ) (m : Message) : Type 0 where
@@ -12,6 +11,3 @@ pub record IsUserMessageTo (point : ℕ) (m : Message) : Type 0 where
 -- all that the near end accepted is for the far point
 abbrev pub AreForFarPoint : PairState → Type 0
 AreForFarPoint p = All (IsUserMessageTo p.far.exchange.settings.own) p.near.accepted
-
-abbrev pub accepted_goes_to_far : Type 0
-accepted_goes_to_far = Always (λ p. BothWays AreForFarPoint p)

@@ -79,13 +79,6 @@ pub record BothWays (Statement : PairState → Type 0) (p : PairState) : Type 0 
   pub there : Statement p
   pub back : Statement (turned p)
 
--- "Exactly once"
-abbrev pub each_message_once : Type 0
-each_message_once = Always (λ p. LostNothing p → BothWays EachOnce p)
-
 -- "Order", where besides no timer of the accepting end ended a hold
 abbrev pub IsPunctual : PairState → Type 0
 IsPunctual p = late_any p.near.exchange.node.parts ≡ false
-
-abbrev pub each_flow_in_order : Type 0
-each_flow_in_order = Always (λ p. LostNothing p → BothWays (λ q. IsPunctual q → InOrder q) p)

@@ -11,11 +11,11 @@ use Rattle.exchange_rules.proofs.FacingNodes.{peer-sole}
 use Rattle.pair_rules.specs.Pairs as pairs
 use Rattle.pair_rules.specs.Pairs.{PairState, Turn, first_pair, turned}
 use Rattle.pair_rules.specs.Promises.{AreJoined}
-use Rattle.pair_rules.proofs.Promised.{all-stand, joined-turned}
-use Rattle.pair_rules.proofs.Standing.{Stands}
 use Rattle.neighbour_rules.specs.Neighbours.{Doing, Does, OpensElsewhere, HearsElsewhere, Step, AtNear, AtFar, after_steps, leads_elsewhere, leads_elsewhere_by, speaks_for_either, takes_elsewhere, turn}
 use Rattle.neighbour_rules.proofs.Asked.{AreEnds, all-ends}
-use Rattle.neighbour_rules.proofs.Special.{is-special}
+use Rattle.neighbour_rules.proofs.Special.{facing, is-special, joined-back, stands-alone}
+use Rattle.neighbour_rules.proofs.Sharing.{AreFacing}
+use Rattle.neighbour_rules.proofs.Standing.{Stands}
 use Rattle.pair_world.specs.Tells.{AreAlone}
 use Rattle.pair_world.specs.Stands.{IsReached}
 
@@ -46,8 +46,8 @@ module _ (near far : Configuration) (g : AreJoined near far) where
   pairs-more (one ∷ steps) step p = pairs-more steps step (pairs.turn one p).left
 
   -- no link leads elsewhere, seen from either end
-  none-there : (c z : Configuration) (p : PairState) → AreJoined c z → Stands c z p → (link : ℕ) → leads_elsewhere p link ≡ false
-  none-there c z p j s link =
+  none-there : (c z : Configuration) (f : AreFacing c z) (p : PairState) → AreJoined c z → Stands c z f p → (link : ℕ) → leads_elsewhere p link ≡ false
+  none-there c z f p j s link =
       ap (λ (x : Configuration). leads_elsewhere_by x p.far.exchange.settings (slice_get x.links link)) s.near_settings
       ∙ ap (λ (y : Configuration). leads_elsewhere_by c y (slice_get c.links link)) s.far_settings
       ∙ none-elsewhere c z j link
@@ -56,14 +56,14 @@ module _ (near far : Configuration) (g : AreJoined near far) where
   stood done = pairs.after_steps done first
 
   near-none : (done : List pairs.Step) (link : ℕ) → leads_elsewhere (stood done) link ≡ false
-  near-none done link = none-there near far (stood done) g (all-stand near far done g) link
+  near-none done link = none-there near far (facing near far g) (stood done) g (stands-alone near far g done) link
 
   far-none : (done : List pairs.Step) (link : ℕ) → leads_elsewhere (turned (stood done)) link ≡ false
   far-none done link =
-      let s : Stands near far (stood done) = all-stand near far done g in
+      let s : Stands near far (facing near far g) (stood done) = stands-alone near far g done in
       ap (λ (x : Configuration). leads_elsewhere_by x (stood done).near.exchange.settings (slice_get x.links link)) s.far_settings
       ∙ ap (λ (y : Configuration). leads_elsewhere_by far y (slice_get far.links link)) s.near_settings
-      ∙ none-elsewhere far near (joined-turned near far g) link
+      ∙ none-elsewhere far near (joined-back near far g) link
 
   record IsPaired (p : PairState) : Type 0 where
     steps : List pairs.Step

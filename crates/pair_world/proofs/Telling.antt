@@ -6,7 +6,7 @@ use Rattle.pair_rules.specs.Pairs as pairs
 use Rattle.pair_rules.specs.Pairs.{PairState, Turn, first_pair, turned}
 use Rattle.pair_rules.specs.Promises.{BothWays}
 use Rattle.pair_rules.specs.Deliveries.{TellsOf, TellsWhatCame}
-use Rattle.pair_rules.proofs.Outcomes as rules
+use Rattle.neighbour_rules.proofs.Outcomes as rules
 use Rattle.neighbour_rules.specs.Neighbours.{Doing, Does, OpensElsewhere, HearsElsewhere, Step, AtNear, AtFar, did, did_between, turn}
 use Rattle.neighbour_rules.proofs.Special.{is-special}
 use Rattle.pair_world.specs.Stands.{IsReached}

@@ -1,5 +1,0 @@
-use Rattle.pair_rules.proofs.FourLaws.{moves-lacked}
-use Rattle.pair_rules.proofs.laws.completions_move_what_the_peer_lacks.Goals as goal
-
-pub returns : goal.returns
-returns c = moves-lacked

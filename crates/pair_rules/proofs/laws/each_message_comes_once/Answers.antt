@@ -1,5 +1,0 @@
-use Rattle.pair_rules.proofs.Promised.{each-once}
-use Rattle.pair_rules.proofs.laws.each_message_comes_once.Goals as goal
-
-pub returns : goal.returns
-returns c = each-once

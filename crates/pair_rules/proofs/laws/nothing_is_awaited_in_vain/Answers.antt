@@ -1,5 +1,0 @@
-use Rattle.pair_rules.proofs.Awaited.{nothing-in-vain}
-use Rattle.pair_rules.proofs.laws.nothing_is_awaited_in_vain.Goals as goal
-
-pub returns : goal.returns
-returns c = nothing-in-vain

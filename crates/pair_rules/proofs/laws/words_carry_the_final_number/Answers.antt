@@ -1,5 +1,0 @@
-use Rattle.pair_rules.proofs.FourLaws.{words-final}
-use Rattle.pair_rules.proofs.laws.words_carry_the_final_number.Goals as goal
-
-pub returns : goal.returns
-returns c = words-final
