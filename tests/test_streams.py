@@ -132,7 +132,7 @@ class FailingStreams(NodeTest):
     def test_faults_that_cannot_be_told(self) -> None:
         """The one write of a run without a script fails."""
         (self.folder / "empty").write_text("")
-        for words in ([], ["check", "empty"], ["run", "empty"], ["lab", "empty", "empty"]):
+        for words in ([], ["help"], ["version"], ["check", "empty"], ["run", "empty"], ["lab", "empty", "empty"]):
             for way in self.ways:
                 self.assertEqual(run(*words, folder=self.folder, **way).returncode, 4, words)
 

@@ -46,10 +46,44 @@ LONG_LINES = (
     ("submit 852c410050", "a5", 269, "refused 13 TooLong\nhandled\n"),
 )
 
+# Words that are none of the program's.
+OTHER_WORDS = (
+    [],
+    ["serve"],
+    ["serve", "-x"],
+    ["serve", ""],
+    ["lab", "node.toml"],
+    ["nonsense"],
+    ["help", "me"],
+    ["--help", ""],
+    ["--version", "x"],
+    ["-h"],
+)
+
+# What `stp help` lists, in this order.
+COMMANDS = ("run", "run FILE", "check FILE", "lab NEAR FAR", "lab-udp NEAR FAR", "serve FILE", "help", "version")
+
 
 class Words(NodeTest):
+    def test_help(self) -> None:
+        for word in ("help", "--help"):
+            with self.subTest(word):
+                ended = run(word, folder=self.folder)
+                self.assertEqual((ended.returncode, ended.stderr), (0, ""))
+                lines = ended.stdout.splitlines()
+                shown = [line.split("  ")[0] for line in lines[:len(COMMANDS)]]
+                self.assertEqual(shown, [f"stp {command}" for command in COMMANDS])
+                self.assertIn("docs/MANUAL.md", ended.stdout)
+                self.assertIn("README.md", ended.stdout)
+
+    def test_version(self) -> None:
+        for word in ("version", "--version"):
+            with self.subTest(word):
+                ended = run(word, folder=self.folder)
+                self.assertEqual((ended.returncode, ended.stdout, ended.stderr), (0, "stp 0.1.0\n", ""))
+
     def test_other_words(self) -> None:
-        for words in ([], ["serve"], ["serve", "-x"], ["serve", ""], ["lab", "node.toml"], ["nonsense"], ["--help"]):
+        for words in OTHER_WORDS:
             with self.subTest(words):
                 ended = run(*words, folder=self.folder)
                 self.assertEqual((ended.returncode, ended.stdout), (1, "usage\n"))

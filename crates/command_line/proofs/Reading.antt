@@ -23,7 +23,7 @@ use Rattle.clap.proofs.OnLiterals.{clap_on_literals}
 use Rattle.clap.proofs.WalkLemmas.{both, walk_stopped}
 use Rattle.command_line.proofs.Asked.{unasked-more, unlike, others-asked, plain-texts}
 use Rattle.command_line.specs.Grammar.{stp, run, check, lab, lab_udp, near_rule, far_rule, serve}
-use Rattle.command_line.specs.Words.{asked, asked_by, asked_with, asked_by_command, takes_two, found, is_plain, are_plain, texts, OtherWords}
+use Rattle.command_line.specs.Words.{asked_by, asked_with, asked_by_command, takes_two, found, is_plain, are_plain, texts, OtherWords}
 
 pub simple : is_simple stp ≡ true
 unfolding clap_on_literals
@@ -264,14 +264,14 @@ refused words k e has not-memory = elim (judged words e) [
 
 pub parse-taken : (command : App) (words : List (String Global)) (r : Result ArgMatches Error) → command ≡ stp → are_plain words ≡ true
     → FailsBy (fault_of command (texts words)) r → IfOk r (HasMatchesOf command (texts words))
-    → IfOk r (λ m. found (subcommand_rows_of m) ≡ asked words)
+    → IfOk r (λ m. found (subcommand_rows_of m) ≡ asked_by (texts words))
 parse-taken command words (Ok m) is plain fails has =
     ap found ((has (ap is_simple is ∙ simple)).1 ∙ ap (λ (a : App). subcommand_of a (texts words)) is)
     ∙ taken (texts words) (sym (plain-texts words) ∙ plain) (ap (λ (a : App). fault_of a (texts words)) (sym is) ∙ fails)
 parse-taken command words (Err e) is plain fails has = tt
 
 pub parse-refused : (command : App) (words : List (String Global)) (r : Result ArgMatches Error) → command ≡ stp → are_plain words ≡ true
-    → FailsBy (fault_of command (texts words)) r → IfErr r (λ e. kind_of e ≢ kind.OutOfMemory → asked words ≡ OtherWords)
+    → FailsBy (fault_of command (texts words)) r → IfErr r (λ e. kind_of e ≢ kind.OutOfMemory → asked_by (texts words) ≡ OtherWords)
 parse-refused command words (Ok m) is plain fails = tt
 parse-refused command words (Err e) is plain fails = λ not-memory. refused (texts words) e (sym (plain-texts words) ∙ plain)
     (subst (λ (a : App). HasKind (fault_of a (texts words)) e) is fails) not-memory

@@ -9,7 +9,8 @@ use Rattle.command_line.specs.declared.Words.{Words}
 use Rattle.command_line.specs.declared.Words.TheVariants as words
 
 -- run a script, on the built-in settings or on those of a file; check a file; run a lab script on the settings of two
--- files, over streams or over datagrams; serve a node with the settings of a file; anything else
+-- files, over streams or over datagrams; serve a node with the settings of a file; tell the words of the program, or
+-- its version; anything else
 pub data Task : Type 0 where
   BuiltInRun : Task
   FileRun : List ℕ → Task
@@ -17,6 +18,8 @@ pub data Task : Type 0 where
   LabRun : (near far : List ℕ) → Task
   DatagramLabRun : (near far : List ℕ) → Task
   FileServe : List ℕ → Task
+  Help : Task
+  Version : Task
   OtherWords : Task
 
 -- a plain word isn't empty, and doesn't begin with `-` (45)
@@ -37,7 +40,7 @@ asked_with_two command near far =
     if bytes_eq command (codes "lab") then LabRun near far
     else (if bytes_eq command (codes "lab-udp") then DatagramLabRun near far else OtherWords)
 
--- `run`, `run FILE`, `check FILE`, `serve FILE`, `lab NEAR FAR` and `lab-udp NEAR FAR`, and nothing else
+-- the commands: `run`, `run FILE`, `check FILE`, `serve FILE`, `lab NEAR FAR` and `lab-udp NEAR FAR`, and nothing else
 abbrev pub asked_by : List (List ℕ) → Task
 asked_by (command ∷ []) = if bytes_eq command (codes "run") then BuiltInRun else OtherWords
 asked_by (command ∷ file ∷ []) = if is_plain file then asked_with command file else OtherWords
@@ -48,8 +51,21 @@ asked_by _ = OtherWords
 abbrev pub texts : List (String Global) → List (List ℕ)
 texts words = map (λ word. string_bytes word) words
 
+-- `help` or `--help`, and nothing else
+abbrev pub asks_help : List (List ℕ) → Bool
+asks_help (word ∷ []) = bytes_eq word (codes "help") || bytes_eq word (codes "--help")
+asks_help _ = false
+
+-- `version` or `--version`, and nothing else
+abbrev pub asks_version : List (List ℕ) → Bool
+asks_version (word ∷ []) = bytes_eq word (codes "version") || bytes_eq word (codes "--version")
+asks_version _ = false
+
+-- help, the version, or a command
 abbrev pub asked : List (String Global) → Task
-asked words = asked_by (texts words)
+asked words =
+    if asks_help (texts words) then Help
+    else (if asks_version (texts words) then Version else asked_by (texts words))
 
 -- what the command that was parsed asks for, by the file behind it
 abbrev pub asked_by_command : List ℕ → Option (List ℕ) → Task
@@ -77,6 +93,10 @@ found (Some p) = found_by p.0 (first_of (codes "file") p.1) (first_of (codes "ne
 abbrev pub are_plain : List (String Global) → Bool
 are_plain words = list_all (λ word. is_plain (string_bytes word)) words
 
+-- words that memory is taken for: plain ones that ask neither for help nor for the version
+abbrev pub take_memory : List (String Global) → Bool
+take_memory words = are_plain words && not (asks_help (texts words) || asks_version (texts words))
+
 -- what words were read as, where memory didn't run out
 abbrev pub said : Words → Option Task
 said (words.Run None) = Some BuiltInRun
@@ -85,10 +105,15 @@ said (words.Check file) = Some (FileCheck (string_bytes file))
 said (words.Lab near far) = Some (LabRun (string_bytes near) (string_bytes far))
 said (words.DatagramLab near far) = Some (DatagramLabRun (string_bytes near) (string_bytes far))
 said (words.Serve file) = Some (FileServe (string_bytes file))
+said words.Help = Some Help
+said words.Version = Some Version
 said words.Usage = Some OtherWords
 said words.NoMemory = None
 
--- words were read as the task that they ask for; or they are plain, and memory ran out
+-- words were read as this task; or memory is taken for them, and ran out
+abbrev pub IsReadAs : (task : Task) (takes_memory : Bool) → Words → Type 0
+IsReadAs task takes_memory read = (said read ≡ Some task) ⊎ ((read ≡ words.NoMemory) × (takes_memory ≡ true))
+
+-- words were read as the task that they ask for
 abbrev pub AreReadAs : List (String Global) → Words → Type 0
-AreReadAs given read =
-    (said read ≡ Some (asked given)) ⊎ ((read ≡ words.NoMemory) × (are_plain given ≡ true))
+AreReadAs given read = IsReadAs (asked given) (take_memory given) read

@@ -6,8 +6,8 @@ ghost use Rattle.std.specs.List.{list_all};
 ghost use Rattle.clap.specs.Words.{app_of, kind_of, subcommand_rows_of};
 ghost use Rattle.clap.specs.declared.builder.command.Command.TheViews.{out-Command as fields_of};
 ghost use Rattle.clap.specs.declared.error.kind.ErrorKind.TheVariants.{OutOfMemory};
-ghost use Rattle.command_line.specs.Words.{asked, asked_by_command, asked_by_two, are_plain, found, found_by, is_plain, said};
-ghost use Rattle.command_line.specs.Words.{OtherWords, AreReadAs};
+ghost use Rattle.command_line.specs.Words.{asked_by, asked_by_command, asked_by_two, are_plain, asks_help, asks_version};
+ghost use Rattle.command_line.specs.Words.{found, found_by, is_plain, said, texts, OtherWords, AreReadAs, IsReadAs};
 ghost use Rattle.command_line.specs.Grammar.{stp, bare, run, check, lab, lab_udp, serve};
 
 use clap::error::ErrorKind;
@@ -27,6 +27,10 @@ pub enum Words {
     DatagramLab(String, String),
     /// `serve FILE`: serve a node on the network with the settings of this file.
     Serve(String),
+    /// `help` or `--help`: tell the words of the program, and their meaning.
+    Help,
+    /// `version` or `--version`: tell the version of the program.
+    Version,
     /// Any other words.
     Usage,
     /// Memory ran out.
@@ -34,9 +38,44 @@ pub enum Words {
 }
 
 /// What the words behind the program's name ask for. Words of which one is empty or begins with `-` are other words,
-/// and no memory is taken for them; of all others memory may run out.
+/// unless they are `--help` or `--version`. No memory is taken for these, `help` and `version`; for all others it may
+/// run out.
 pub fn read_words(alloc: Global, words: &[String]) -> Words
     ensures { AreReadAs words.now result }
+{
+    if asks_help(words) {
+        Words::Help
+    } else if asks_version(words) {
+        Words::Version
+    } else {
+        read_command(alloc, words)
+    }
+}
+
+/// Whether the words ask for help.
+fn asks_help(words: &[String]) -> bool
+    ensures { result ≡ asks_help (texts words.now) }
+{
+    match words {
+        [word] => word.as_str() == "help" || word.as_str() == "--help",
+        _ => false,
+    }
+}
+
+/// Whether the words ask for the version.
+fn asks_version(words: &[String]) -> bool
+    ensures { result ≡ asks_version (texts words.now) }
+{
+    match words {
+        [word] => word.as_str() == "version" || word.as_str() == "--version",
+        _ => false,
+    }
+}
+
+/// Which command the words ask for. Words of which one is empty or begins with `-` ask for none, and no memory is taken
+/// for them; for all others it may run out.
+fn read_command(alloc: Global, words: &[String]) -> Words
+    ensures { IsReadAs (asked_by (texts words.now)) (are_plain words.now) result }
 {
     if !are_plain(words) {
         return Words::Usage;
@@ -71,8 +110,8 @@ fn is_plain(word: &str) -> bool
 /// Parses plain words. Where they are others than those of the program, or where memory runs out, the parse fails.
 fn parse<'a>(alloc: Global, words: &'a [String]) -> Result<ArgMatches<'a>, Error>
     requires { are_plain words.now ≡ true }
-    ensures taken { IfOk result (λ matches. found (subcommand_rows_of matches) ≡ asked words.now) }
-    ensures refused { IfErr result (λ error. kind_of error ≢ OutOfMemory → asked words.now ≡ OtherWords) }
+    ensures taken { IfOk result (λ matches. found (subcommand_rows_of matches) ≡ asked_by (texts words.now)) }
+    ensures refused { IfErr result (λ error. kind_of error ≢ OutOfMemory → asked_by (texts words.now) ≡ OtherWords) }
 {
     stp(alloc)?.try_get_matches_from(words)
 }

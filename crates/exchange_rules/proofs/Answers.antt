@@ -2,12 +2,11 @@
 use Rattle.std.specs.Prelude.{◌↔◌}
 use Rattle.signalling_types.specs.declared.cause.Cause.TheVariants as causes
 use Rattle.signalling_types.specs.declared.outcome.Outcome.TheVariants.{Handled}
-use Rattle.exchange_rules.specs.declared.wants.Wants.{Wants}
 use Rattle.exchange_rules.specs.declared.wants.Wants.TheVariants.{Nothing, Open, Close}
 use Rattle.exchange_rules.specs.LawsOfAnswers.{wanted_links_open, queued_stands_last}
-use Rattle.exchange_rules.specs.Opening.{association_up, open_link, wanted}
-use Rattle.exchange_rules.proofs.Basics.{◌≡◌, ◌<◌, ◌≤◌, ℕ, Bool, true, false, not, ◌&&◌, cond, List, [], ◌∷◌, ◌++◌, length, Option, Some, None, refl, ap, sym, get_or-set_same}
-use Rattle.exchange_rules.proofs.Definitions.{Message, dpc_of, flow_of, Configuration, Cause, Queued, Held, Refused, Link, is_down, Queue, first_queue, appended, Node, Done, answer, refuse, is_link, link_at, link_of, no_room, CameUp, WholeQueues, whole, queue_at, waits, apply, first_state, after_each, is_destination, offer, transfer, changeover_of, may_restart}
+use Rattle.exchange_rules.specs.Opening.{open_link}
+use Rattle.exchange_rules.proofs.Basics.{◌≡◌, ◌<◌, ℕ, Bool, true, false, not, ◌&&◌, cond, [], ◌∷◌, ◌++◌, length, Option, Some, None, refl, ap, get_or-set_same}
+use Rattle.exchange_rules.proofs.Definitions.{Message, dpc_of, flow_of, Configuration, Cause, Queued, is_down, Queue, first_queue, appended, Node, answer, refuse, is_link, link_at, link_of, no_room, WholeQueues, whole, queue_at, waits, apply, first_state, after_each, is_destination, offer, changeover_of, may_restart}
 use Rattle.exchange_rules.proofs.LastingLinks.{links-stay, links-first}
 use Rattle.exchange_rules.proofs.LastingPlaces.{places-first}
 

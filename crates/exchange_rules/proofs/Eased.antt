@@ -3,8 +3,6 @@ use Rattle.exchange_rules.proofs.Basics.{◌≡◌, ◌≢◌, ◌⊎◌, inl, i
 use Rattle.exchange_rules.proofs.Definitions.{Message, flow_of, Configuration, Cause, FailureReason, ChangeoverTimer, Alignment, Action, Expiry, LinkTimer, action_at, TimerName, Running, L6, L7, set_timer, clear_timer, left-set_other, left-clear, left-clear_other, without_timers, RouteStatus, status_of, Owed, owed, Parts, Node, Found, with_parts, is_link, link_at, in_service, facts, link_of, no_room, fail, fail_link, change_over, make_unavailable, send, send_anew, send_each, lose_each, judged, concluded, complete_if, changeover_of, with_expiry, told_parts, route_message, timed_telling, may_tell, tell, tell_if, tell_each, tell_owed, ask, ask_by, prohibited_test, restricted_test, with_next_test, go_on, go_by, go, go_each, release, waits, run_timer, WholeQueues, whole, Allowed, Restricted, Prohibited, is_in_service}
 use Rattle.exchange_rules.specs.ChangingOver.{with_losses}
 use Rattle.exchange_rules.specs.Frames.{act_by_timer}
-use Rattle.timers.specs.Timers.{is_same}
-use Rattle.timers.proofs.Same.{same_is, is_itself}
 use Rattle.timers.specs.declared.name.TimerName.TheVariants as name
 use Rattle.signalling_types.specs.declared.notice.ChangeoverTimer.TheVariants as which
 use Rattle.signalling_types.specs.declared.notice.FailureReason.TheVariants as reasons
@@ -13,6 +11,7 @@ use Rattle.link.specs.declared.action.LinkTimer.TheVariants as timer
 use Rattle.link.specs.declared.alignment.Alignment.TheVariants.{Down, NotAligned, Aligned, Proving, AlignedReady, InService}
 use Rattle.exchange_rules.proofs.Steps.{takes_links}
 use Rattle.exchange_rules.proofs.WillEnding.{no-way}
+use Rattle.exchange_rules.proofs.TimerSettings.{cases-name}
 
 -- the timers that may take a link into service or out of it, and those that complete changeovers and end holds
 abbrev pub is_waited_for : TimerName → Bool
@@ -56,13 +55,6 @@ eased-none n = eased-same n n refl
 
 -- ---- timers
 
-pub cases-name : (one other : TimerName) → (one ≡ other) ⊎ (one ≢ other)
-cases-name one other = by (is_same one other) refl
-  where
-    by : (b : Bool) → is_same one other ≡ b → (one ≡ other) ⊎ (one ≢ other)
-    by true e = inl (same_is one other e)
-    by false e = inr (λ it. no-way (is_same one other) e (ap (λ (x : TimerName). is_same x other) it ∙ is_itself other))
-
 pub less-clear : (its : TimerName) (r : Running) → Less r (clear_timer its r)
 less-clear its r timer w x h =
     ⊎_elim
@@ -86,11 +78,11 @@ less-without link r timer w x h =
     (less-clear (name.L3 link) two timer w x
     (less-clear (name.L4 link) three timer w x (less-clear (name.L6 link) four timer w x (less-clear (name.L7 link) six timer w x h)))))
 
-losses-timers : (ms : List Message) (p : Parts) → (lose_each ms p).timers ≡ p.timers
+pub losses-timers : (ms : List Message) (p : Parts) → (lose_each ms p).timers ≡ p.timers
 losses-timers [] p = refl
 losses-timers (m ∷ ms) p = losses-timers ms _
 
-judged-timers : (reasonable : Bool) (p : Parts) → (judged reasonable p).timers ≡ p.timers
+pub judged-timers : (reasonable : Bool) (p : Parts) → (judged reasonable p).timers ≡ p.timers
 judged-timers true p = refl
 judged-timers false p = refl
 

@@ -47,7 +47,7 @@ module _ (c : Configuration) where
     both = both-stay;
     routed = λ link m n e. same-parts n _ (places.sends.routed link m n e) refl refl refl;
     noted = λ notice n e. same-parts n _ (places.sends.noted notice n e) refl refl refl;
-    lost = λ n. same-parts n _ (places.sends.lost n) refl refl refl;
+    lost = λ notice n e. same-parts n _ (places.sends.lost notice n e) refl refl refl;
   }
 
   -- ---- a link fails

@@ -12,6 +12,7 @@ pub record AreTimedFor (link : ℕ) (r s : Running) : Type 0 where
   pub others : (other : ℕ) → other ≢ link → is_running (L7 other) s ≡ is_running (L7 other) r
   pub due : (name : TimerName) → is_due s name ≡ true → is_due r name ≡ true
   pub endings : (name : TimerName) → ends_holds name ≡ true → s.left name ≡ r.left name
+  pub rest : (name : TimerName) → ((t : LinkTimer) → name ≢ timer_name link t) → s.left name ≡ r.left name
 
 apart-name : (link other : ℕ) (t : LinkTimer) → other ≢ link → timer_name link t ≢ L7 other
 apart-name link other timer.L1 apart e = cc
@@ -31,7 +32,7 @@ ends-none link timer.L7 = refl
 
 module _ (link : ℕ) where
   pub same-for : (r : Running) → AreTimedFor link r r
-  same-for r = record { counts = refl; others = λ other apart. refl; due = λ name e. e; endings = λ name e. refl }
+  same-for r = record { counts = refl; others = λ other apart. refl; due = λ name e. e; endings = λ name e. refl; rest = λ name apart. refl }
 
   both-for : (r s t : Running) → AreTimedFor link r s → AreTimedFor link s t → AreTimedFor link r t
   both-for r s t e f = record {
@@ -39,6 +40,7 @@ module _ (link : ℕ) where
     others = λ other apart. f.others other apart ∙ e.others other apart;
     due = λ name h. e.due name (f.due name h);
     endings = λ name h. f.endings name h ∙ e.endings name h;
+    rest = λ name apart. f.rest name apart ∙ e.rest name apart;
   }
 
   either-for : (b : Bool) (r s t : Running) → AreTimedFor link r s → AreTimedFor link r t → AreTimedFor link r (if b then s else t)
@@ -51,6 +53,7 @@ module _ (link : ℕ) where
     others = λ other apart. ap is_some (left-set_other (timer_name link t) (L7 other) ticks r (apart-name link other t apart));
     due = λ name e. due-set (timer_name link t) name ticks r e;
     endings = λ name e. left-set_other (timer_name link t) name ticks r (apart-from (timer_name link t) name (ends-none link t) e);
+    rest = λ name apart. left-set_other (timer_name link t) name ticks r (λ e. apart t (sym e));
   }
 
   clear-for : (t : LinkTimer) (r : Running) → AreTimedFor link r (without_timer link t r)
@@ -59,6 +62,7 @@ module _ (link : ℕ) where
     others = λ other apart. ap is_some (left-clear_other (timer_name link t) (L7 other) r (apart-name link other t apart));
     due = λ name e. due-clear (timer_name link t) name r e;
     endings = λ name e. left-clear_other (timer_name link t) name r (apart-from (timer_name link t) name (ends-none link t) e);
+    rest = λ name apart. left-clear_other (timer_name link t) name r (λ e. apart t (sym e));
   }
 
   pub without_timers-for : (r : Running) → AreTimedFor link r (without_timers link r)

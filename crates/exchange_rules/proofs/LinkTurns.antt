@@ -8,13 +8,28 @@ use Rattle.link.specs.declared.action.Action.TheVariants as act
 use Rattle.link.specs.declared.action.LinkTimer.TheVariants as timer
 use Rattle.link.specs.declared.alignment.Alignment.TheVariants.{Down, NotAligned, Aligned, Proving, AlignedReady, InService}
 use Rattle.exchange_rules.specs.TickingAlone.{longest_turn}
-use Rattle.exchange_rules.proofs.Steps.{IsOfSends, IsOfRules, takes_links}
+use Rattle.exchange_rules.proofs.Steps.{IsOfSends, IsOfRules, takes_links, is_of_link}
 use Rattle.exchange_rules.proofs.Asked.{any, IsOfAll}
 use Rattle.exchange_rules.proofs.Eased.{less-clear, expired-eased, ran-eased, link-waited}
 use Rattle.exchange_rules.proofs.WithinTimes.{Within, within-set, handed_out-eased, lower}
 use Rattle.exchange_rules.proofs.LinkTimes.{Kept, kept-both, kept-same, kept-eased, other-set, fails-kept, orders-kept, acknowledges-kept, returns-kept, reroutes-kept, advanced-kept}
 use Rattle.m2pa_codec.specs.declared.status.LinkStatus.TheVariants.{Ready}
 use Rattle.link.specs.Table.{entering}
+
+taking-link : (its : TimerName) → takes_links its ≡ true → is_of_link its ≡ true
+taking-link (name.L4 link) e = refl
+taking-link (name.L6 link) e = refl
+taking-link (name.L7 link) e = refl
+taking-link (name.L1 link) e = refl
+taking-link (name.L2 link) e = refl
+taking-link (name.L3 link) e = refl
+taking-link (name.T1 link) e = absurd cc
+taking-link (name.T2 link) e = absurd cc
+taking-link (name.T3 link) e = absurd cc
+taking-link (name.T4 set code) e = absurd cc
+taking-link (name.T6 destination) e = absurd cc
+taking-link (name.T8 set destination) e = absurd cc
+taking-link (name.T10 set destination) e = absurd cc
 
 -- ---- by the table of the alignment: as L6 or L7 runs out, nothing happens or a link fails; as L4 does, one goes on, and no such timer starts
 
@@ -165,7 +180,7 @@ module _ (c : Configuration) where
     both = λ n m o e f. record { stay = λ w. f.stay (e.stay w) };
     routed = λ link m n e. bounds-as n _ refl;
     noted = λ notice n e. bounds-as n _ refl;
-    lost = λ n. bounds-as n _ refl;
+    lost = λ notice n e. bounds-as n _ refl;
   }
 
   bounds-rules : IsOfRules c any any Bounds
@@ -174,15 +189,15 @@ module _ (c : Configuration) where
     tested = λ link point test n e f. bounds-as n _ refl;
     held = λ m n e. bounds-as n _ refl;
     taken_out = λ n. bounds-as n _ refl;
-    late = λ n. bounds-as n _ refl;
-    timed = λ r n e. record { stay = λ w. record { each = λ its t x h. w.each its t x (sym (e.links its t) ∙ h) } };
-    rerouted = λ routes n e. bounds-as n _ refl;
+    late = λ notice n e. bounds-as n _ refl;
+    timed = λ r n e k. record { stay = λ w. record { each = λ its t x h. w.each its t x (sym (e.links its (taking-link its t)) ∙ h) } };
+    rerouted = λ routes n e k. bounds-as n _ refl;
     told = λ t n e. bounds-as n _ refl;
     titled = λ rows n. bounds-as n _ refl;
     linked = λ link x n e. bounds-as n _ refl;
     parted = λ link n e. bounds-as n _ refl;
     opened = λ link n own there e f. record { stay = timed-within link opening n.parts.timers };
-    stepped = λ link input step n own e. record { stay = timed-within link step n.parts.timers };
+    stepped = λ link input step n own e k. record { stay = timed-within link step n.parts.timers };
     busied = λ link n own e f. record { stay = λ w. set-within link timer.L6 (without_timer link timer.L7 n.parts.timers) (stopped-within link timer.L7 n.parts.timers w) };
     resumed = λ link n own e f. record { stay = resumed-within link (whole.outstanding n.queues link) n.parts.timers };
     accepted = λ link d confirmed n own e f. record {

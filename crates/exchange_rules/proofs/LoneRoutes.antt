@@ -30,7 +30,7 @@ last-exact : (links : List LinkEntry) (sets place l : ℕ) → Contains (slice_i
 last-exact links sets zero l h = subst (λ (k : ℕ). IsLinkOf links k l) (let same : sets ≡ sets + zero = omega arith in same) (below-of links sets 16 l h)
 last-exact links sets (suc place) l h = absurd (none l (subst (λ (xs : List ℕ). Contains xs l) (get_or_past (links_of links sets ∷ []) (suc place) [] (omega arith)) h))
 
-set-exact : (links : List LinkEntry) (sets set l : ℕ) → Contains (slice_index_or (first_sets sets links) set []) l → IsLinkOf links set l
+pub set-exact : (links : List LinkEntry) (sets set l : ℕ) → Contains (slice_index_or (first_sets sets links) set []) l → IsLinkOf links set l
 unfolding first_sets
 set-exact links zero set l h = absurd (none l (subst (λ (xs : List ℕ). Contains xs l) (get_or_past [] set [] (omega arith)) h))
 set-exact links (suc sets) set l h =

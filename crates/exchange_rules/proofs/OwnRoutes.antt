@@ -1,6 +1,7 @@
 -- The routes to adjacent points over their own sets stay allowed, whatever other statuses change.
-use Rattle.exchange_rules.proofs.Basics.{◌≡◌, ◌≢◌, ◌<◌, ◌≤◌, ℕ, Bool, true, false, List, [], ◌∷◌, length, map, nat_eq, Option, Some, refl, ap, sym, subst, ◌∙◌, arith, find, if◌then◌else◌, slice_index_or, slice_set, option_map, get_or-map, ⊎_elim, cases_eq, cases_lt, nat_tests, get_or_past, get_or-set_other, get_or-set_same, length-map, length-set}
-use Rattle.exchange_rules.proofs.Definitions.{Route, RouteStatus, Allowed, first_route, with_second_joined, with_status_over, leads_by, ToldTable, is_own_point}
+use Rattle.exchange_rules.proofs.Basics.{◌≡◌, ◌≢◌, ◌<◌, ◌≤◌, ◌⊎◌, inl, inr, None, ℕ, Bool, true, false, List, [], ◌∷◌, length, map, nat_eq, Option, Some, refl, ap, sym, subst, ◌∙◌, arith, find, if◌then◌else◌, slice_index_or, slice_set, option_map, get_or-map, ⊎_elim, cases_eq, cases_lt, nat_tests, get_or_past, get_or-set_other, get_or-set_same, length-map, length-set}
+use Rattle.exchange_rules.proofs.Definitions.{Route, RouteStatus, Allowed, Restricted, Prohibited, first_route, with_second_joined, with_status_over, leads_by, ToldTable, is_own_point}
+use Rattle.exchange_rules.specs.Testing.{is_unsure}
 use Rattle.exchange_rules.proofs.Lists.{map-set_alike}
 use Rattle.exchange_rules.proofs.Steps.{status_over, AreOwnAllowed, AreRerouted, any_status, ways_of}
 
@@ -139,3 +140,67 @@ rerouted-reset t routes set = record {
         (λ (its : other ≡ set). own-status (slice_index_or routes place []) set Allowed s (subst (λ (k : ℕ). over k (map (with_status_over set Allowed) (slice_index_or routes place [])) ≡ Some s) its e))
         (λ (d : other ≢ set). h.each other place s is (sym (other-status (slice_index_or routes place []) set other Allowed d) ∙ e))
         (cases_eq other set)
+
+-- ---- which routes are to be tested
+
+abbrev given_to : (set destination : ℕ) → RouteStatus → List (List Route) → List (List Route)
+given_to set destination given routes = slice_set routes destination (map (with_status_over set given) (slice_index_or routes destination []))
+
+-- one that is to be tested was so before, or is that which got the status
+pub one-unsure : (routes : List (List Route)) (set destination : ℕ) (given : RouteStatus) (other place : ℕ)
+    → is_unsure (status_over other place (given_to set destination given routes)) ≡ true → (is_unsure (status_over other place routes) ≡ true) ⊎ ((other ≡ set) × (place ≡ destination))
+one-unsure routes set destination given other place e =
+    ⊎_elim
+    (λ (its : place ≡ destination). ⊎_elim
+    (λ (one : other ≡ set). inr (one, its))
+    (λ (apart : other ≢ set). inl (subst (λ (k : ℕ). is_unsure (status_over other k (given_to set destination given routes)) ≡ true → is_unsure (status_over other k routes) ≡ true) (sym its)
+    (λ h. sym (ap is_unsure (same apart)) ∙ h) e))
+    (cases_eq other set))
+    (λ (apart : place ≢ destination). inl (sym (ap (λ (rs : List Route). is_unsure (over other rs)) (get_or-set_other routes destination place _ [] apart)) ∙ e))
+    (cases_eq place destination)
+  where
+    changed : List Route
+    changed = map (with_status_over set given) (slice_index_or routes destination [])
+
+    same : other ≢ set → status_over other destination (slice_set routes destination changed) ≡ status_over other destination routes
+    same apart =
+        ⊎_elim
+        (λ (there : destination < length routes). ap (over other) (get_or-set_same routes destination changed [] there) ∙ other-status (slice_index_or routes destination []) set other given apart)
+        (λ (past : length routes ≤ destination).
+        ap (over other) (get_or_past (slice_set routes destination changed) destination [] (omega (arith, past, length-set routes destination changed)))
+        ∙ sym (ap (over other) (get_or_past routes destination [] past)))
+        (cases_lt destination (length routes))
+
+pub not-unsure : (o : Option RouteStatus) → ((s : RouteStatus) → o ≡ Some s → s ≡ Allowed) → is_unsure o ≡ false
+not-unsure None h = refl
+not-unsure (Some Allowed) h = refl
+not-unsure (Some Restricted) h = (let bad : Restricted ≡ Allowed = h Restricted refl in absurd cc)
+not-unsure (Some Prohibited) h = (let bad : Prohibited ≡ Allowed = h Prohibited refl in absurd cc)
+
+over-allowed : (set : ℕ) (rs : List Route) → is_unsure (over set (map (with_status_over set Allowed) rs)) ≡ false
+over-allowed set rs = not-unsure (over set (map (with_status_over set Allowed) rs)) (λ s e. own-status rs set Allowed s e)
+
+-- one that is allowed isn't
+pub allowed-sure : (routes : List (List Route)) (set destination : ℕ) → is_unsure (status_over set destination (given_to set destination Allowed routes)) ≡ false
+allowed-sure routes set destination =
+    ⊎_elim
+    (λ (there : destination < length routes).
+    ap (λ (rs : List Route). is_unsure (over set rs)) (get_or-set_same routes destination _ [] there) ∙ over-allowed set (slice_index_or routes destination []))
+    (λ (past : length routes ≤ destination).
+    ap (λ (rs : List Route). is_unsure (over set rs)) (get_or_past (given_to set destination Allowed routes) destination [] (omega (arith, past, length-set routes destination (map (with_status_over set Allowed) (slice_index_or routes destination []))))))
+    (cases_lt destination (length routes))
+
+-- nor is one over a set that begins anew, and every other is as before
+pub reset-sure : (routes : List (List Route)) (set destination : ℕ) → is_unsure (status_over set destination (map (map (with_status_over set Allowed)) routes)) ≡ false
+reset-sure routes set destination =
+    ap (λ (rs : List Route). is_unsure (over set rs)) (get_or-map (map (with_status_over set Allowed)) routes destination []) ∙ over-allowed set (slice_index_or routes destination [])
+
+pub reset-unsure : (routes : List (List Route)) (set other destination : ℕ) → is_unsure (status_over other destination (map (map (with_status_over set Allowed)) routes)) ≡ true
+    → is_unsure (status_over other destination routes) ≡ true
+reset-unsure routes set other destination e =
+    ⊎_elim
+    (λ (its : other ≡ set). no (sym (ap (λ (k : ℕ). is_unsure (status_over k destination (map (map (with_status_over set Allowed)) routes))) its ∙ reset-sure routes set destination) ∙ e))
+    (λ (apart : other ≢ set).
+    sym (ap (λ (rs : List Route). is_unsure (over other rs)) (get_or-map (map (with_status_over set Allowed)) routes destination [])
+    ∙ ap is_unsure (other-status (slice_index_or routes destination []) set other Allowed apart)) ∙ e)
+    (cases_eq other set)

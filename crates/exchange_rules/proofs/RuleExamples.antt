@@ -1,6 +1,6 @@
 -- Laws of the exchange at nodes of one link, by computation.
 use Rattle.exchange_rules.proofs.Basics.{◌≡◌, Bool, true, false, refl, ap, sym, ◌∙◌, [], ◌∷◌, true≢false}
-use Rattle.exchange_rules.proofs.Definitions.{set_timer, Time, is_taken_back, choice_among, link_by, first_sets, Procedure, Changeover, with_flows, holds, is_held, flows_add, holds_its_flow, held_by, none_at_first, Node, WholeQueues, queue_at, whole, apply, tell_owed, go_by, facts, is_failed}
+use Rattle.exchange_rules.proofs.Definitions.{set_timer, clear_timer, Time, is_taken_back, choice_among, link_by, first_sets, Procedure, Changeover, with_flows, holds, is_held, flows_add, holds_its_flow, held_by, none_at_first, Node, WholeQueues, queue_at, whole, apply, tell_owed, go_by, facts, is_failed}
 use Rattle.routes.specs.Routes.{links_below}
 use Rattle.exchange_rules.specs.RuleExamples as examples
 use Rattle.exchange_rules.specs.RuleExamples.{settings, message, nothing_held, flow_held, node_with, the_routes}
@@ -16,6 +16,9 @@ completion_raises_the_flag = refl
 pub opening_leaves_the_flag : examples.opening_leaves_the_flag
 unfolding apply tell_owed first_sets links_below
 opening_leaves_the_flag = refl
+
+pub forced_rerouting_leaves_the_flag : examples.forced_rerouting_leaves_the_flag
+forced_rerouting_leaves_the_flag = refl
 
 -- ---- notices
 
@@ -59,3 +62,13 @@ return_holds_the_flow = flows_add nothing_held (Time 0) (is_taken_back (examples
 pub return_has_its_timer : examples.return_has_its_timer
 unfolding set_timer
 return_has_its_timer = refl
+
+-- ---- timers
+
+pub l6_ends_with_it : examples.l6_ends_with_it
+unfolding set_timer clear_timer
+l6_ends_with_it = refl
+
+pub t4_runs_by_its_setting : examples.t4_runs_by_its_setting
+unfolding set_timer
+t4_runs_by_its_setting = refl

@@ -1,10 +1,10 @@
 -- What holds of each step holds of each rule that changes holds, changeovers or the timers that end holds.
-use Rattle.exchange_rules.proofs.Basics.{ℕ, List, [], ◌∷◌}
+use Rattle.exchange_rules.proofs.Basics.{ℕ, List, [], ◌∷◌, refl}
 use Rattle.exchange_rules.proofs.Definitions.{Configuration, Node, with_parts, held_by_rerouting, WholeQueues}
 use Rattle.changeback.specs.Rerouting.{held_for}
 use Rattle.timers.specs.declared.name.TimerName.TheVariants as name
 use Rattle.exchange_rules.proofs.Places.{held_for-fits, lifted-fits}
-use Rattle.exchange_rules.proofs.Steps.{IsOfSteps, IsOfRules, sends-of}
+use Rattle.exchange_rules.proofs.Steps.{IsOfSteps, IsOfRules, sends-of, not-both}
 use Rattle.exchange_rules.proofs.SteppingTimers.{set-timed}
 use Rattle.exchange_rules.proofs.SteppingFailures.{fail-steps, on_changeover_order-steps, on_changeover_acknowledgement-steps, on_changeover_timer-steps}
 use Rattle.exchange_rules.proofs.SteppingReturns.{freed-steps, hold_flows-steps}
@@ -22,15 +22,15 @@ module _ {c : Configuration} {Own Counts : ℕ → Type 0} {R : Node WholeQueues
     tested = s.tested;
     held = s.held;
     taken_out = s.taken_out;
-    late = s.late;
-    timed = λ r n e. s.timed r n e.timed;
-    rerouted = s.rerouted;
+    late = λ notice n e. s.both _ _ _ (s.late n) (s.noted notice _ (record { lost = λ f. absurd (not-both notice f e); late = λ f. refl }));
+    timed = λ r n e k. s.timed r n e.timed;
+    rerouted = λ routes n e k. s.rerouted routes n e;
     told = s.told;
     titled = s.titled;
     linked = s.linked;
     parted = s.parted;
     opened = s.opened;
-    stepped = s.stepped;
+    stepped = λ link input step n own e k. s.stepped link input step n own e;
     busied = s.busied;
     resumed = s.resumed;
     accepted = s.accepted;

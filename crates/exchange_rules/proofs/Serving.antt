@@ -64,6 +64,28 @@ found-in P (c ∷ cells) a input e =
       | false ↦ λ other. found-in P cells a input (rest (all c) (list_all all cells) e)
     ] refl
 
+-- what holds of each cell, by the number of its state, holds of the one that is found
+found-cell : (P : ℕ → Effect → Bool) (cells : List Cell) (a : Alignment) (input : Input) (effect : Effect) → list_all (λ (c : Cell). P (state_number c.state) c.effect) cells ≡ true
+    → effect_in cells a input ≡ Some effect → P (state_number a) effect ≡ true
+found-cell P [] a input effect e h = absurd cc
+found-cell P (c ∷ cells) a input effect e h =
+    let all : Cell → Bool = λ (c : Cell). P (state_number c.state) c.effect in
+    elim ((state_number c.state == state_number a) && is_same_input c.input input) as
+    (λ b. ((state_number c.state == state_number a) && is_same_input c.input input) ≡ b → (if b then Some c.effect else effect_in cells a input) ≡ Some effect
+    → P (state_number a) effect ≡ true) [
+      | true ↦ λ same h.
+          let number : state_number c.state ≡ state_number a = same_number (front (state_number c.state == state_number a) (is_same_input c.input input) same) in
+          ap (λ (x : Effect). P (state_number a) x) (sym (ap (effect_or effect) h)) ∙ ap (λ (n : ℕ). P n c.effect) (sym number) ∙ front (all c) (list_all all cells) e
+      | false ↦ λ other h. found-cell P cells a input effect (rest (all c) (list_all all cells) e) h
+    ] refl h
+  where
+    same_number : {m n : ℕ} → (m == n) ≡ true → m ≡ n
+    same_number {m} {n} e = grind (arith, nat_tests, e)
+
+pub cell-found : (P : ℕ → Effect → Bool) (a : Alignment) (input : Input) (effect : Effect) → list_all (λ (c : Cell). P (state_number c.state) c.effect) table ≡ true
+    → effect_in table a input ≡ Some effect → P (state_number a) effect ≡ true
+cell-found P a input effect e h = found-cell P table a input effect e h
+
 -- ---- what each cell is
 
 -- the input is handled in service alone
@@ -103,7 +125,7 @@ cell-of P a input effect e h = (found-in P table a input e).holds effect h
 
 -- ---- steps
 
-abbrev step_in : Action → Transition
+abbrev pub step_in : Action → Transition
 step_in Ignored = staying Down
 step_in Fail = staying Down
 step_in (Go step) = step

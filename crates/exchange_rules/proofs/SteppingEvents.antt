@@ -92,13 +92,11 @@ module _ {c : Configuration} {Own Counts : ℕ → Type 0} {R : Node WholeQueues
 
   late_time-steps : (link : ℕ) (n : Node WholeQueues) → R n (with_parts n (late_time link n.parts))
   late_time-steps link n =
-      s.sends.both _ _ _ (s.late n)
-      (s.sends.both _ _ _ (s.sends.noted (notices.Late late_timer.T3 link) _ (record { lost = λ f. absurd cc; late = λ f. refl })) (s.lifts (Time link) _))
+      s.sends.both _ _ _ (s.late (notices.Late late_timer.T3 link) n refl) (s.lifts (Time link) _)
 
   late_code-steps : (set code : ℕ) (n : Node WholeQueues) → R n (with_parts n (late_code set code n.parts))
   late_code-steps set code n =
-      s.sends.both _ _ _ (s.late n)
-      (s.sends.both _ _ _ (s.sends.noted (notices.Late late_timer.T4 code) _ (record { lost = λ f. absurd cc; late = λ f. refl })) (s.lifts (Code set code) _))
+      s.sends.both _ _ _ (s.late (notices.Late late_timer.T4 code) n refl) (s.lifts (Code set code) _)
 
   rerouting_ended-steps : (destination : ℕ) (n : Node WholeQueues) → R n (with_parts n (rerouting_ended destination n.parts))
   rerouting_ended-steps destination n = s.lifts (Reroute destination) n
@@ -122,7 +120,7 @@ module _ {c : Configuration} {Own Counts : ℕ → Type 0} {R : Node WholeQueues
 
   go_on-steps : (link : Option ℕ) (m : Message) (n : Node WholeQueues) → link_of c n.parts (flow_of m) ≡ link → R n (go_on whole c link m n)
   go_on-steps (Some link) m n e = s.sends.routed link m n e
-  go_on-steps None m n e = s.sends.both _ _ _ (s.sends.lost n) (s.sends.noted (notices.Lost causes.NoRoute (flow_of m).point (flow_of m).sls) _ (record { lost = λ f. refl; late = λ f. absurd cc }))
+  go_on-steps None m n e = s.sends.lost (notices.Lost causes.NoRoute (flow_of m).point (flow_of m).sls) n refl
 
   pub go_by-steps : (waiting : Bool) (m : Message) (n : Node WholeQueues) → waits c n.parts.holds m ≡ waiting → R n (go_by whole c waiting m n)
   go_by-steps true m n e = s.held m n e

@@ -1,5 +1,5 @@
 -- Links that open, align, fail and go, and a tick: each rule is made of steps.
-use Rattle.exchange_rules.proofs.Basics.{◌≡◌, ◌≢◌, ◌<◌, ◌≤◌, ℕ, Bool, true, false, ◌&&◌, not, List, length, refl, ap, ◌∙◌, arith, if◌then◌else◌, ⊎_elim, cases_lt, get_or_past, get_or-set_same, get_or-set_other, length-set}
+use Rattle.exchange_rules.proofs.Basics.{◌≡◌, ◌≢◌, ◌<◌, ◌≤◌, ℕ, Bool, true, false, ◌&&◌, not, List, length, refl, ap, ◌∙◌, arith, if◌then◌else◌, ⊎_elim, cases_lt, get_or_past, get_or-set_same, get_or-set_other, length-set, inl, sym, subst}
 use Rattle.exchange_rules.proofs.Definitions.{Configuration, Handled, Ignored, FailureReason, LinkStatus, Action, Input, Status, Expiry, LinkTimer, Transition, action_at, Link, down_link, is_down, is_in_service, stepped, after_failure, clear_set, reset_shape, Standing, may_restart, Facts, may_open, open_link, association_up, fail_if_up, end_association, association_down, set_active, activate, deactivate, Parts, Node, Done, with_parts, answer, refuse, is_link, link_at, links_with, down, in_service, facts, set_of, with_set_reset, has_other, changeover_of, fail, step_on, enters, begun_anew_if, moved_on, return_if, advance, serve_status, act_by_status, on_link_status, act_by_timer, run_out, WholeQueues, whole}
 use Rattle.signalling_types.specs.declared.cause.Cause.TheVariants as causes
 use Rattle.signalling_types.specs.declared.notice.FailureReason.TheVariants as reasons
@@ -10,8 +10,10 @@ use Rattle.node_links.specs.NodeLinks.{link_in}
 use Rattle.exchange_rules.proofs.TakenPairs.{take_back_each-alike}
 use Rattle.exchange_rules.proofs.Serving.{serves-in}
 use Rattle.exchange_rules.proofs.Steps.{IsOfRules, with_busy, without_busy, either-steps, either_done-steps}
-use Rattle.exchange_rules.proofs.OwnRoutes.{rerouted-reset}
+use Rattle.exchange_rules.proofs.OwnRoutes.{rerouted-reset, reset-unsure, reset-sure}
 use Rattle.exchange_rules.proofs.SteppingTimers.{both-quiet, clear_set-quiet}
+use Rattle.exchange_rules.proofs.KeepingTests.{reset-tests}
+use Rattle.exchange_rules.proofs.ResetFirst.{reset-first}
 use Rattle.exchange_rules.proofs.SteppingFailures.{fail-links}
 use Rattle.exchange_rules.proofs.SteppingReturns.{change_back-steps}
 
@@ -89,9 +91,11 @@ module _ {c : Configuration} {Own Counts : ℕ → Type 0} {R : Node WholeQueues
   set_reset-steps : (set : ℕ) (n : Node WholeQueues) → R n (with_parts n (with_set_reset c set n.parts))
   set_reset-steps set n =
       let reset : Parts = with_set_reset c set n.parts in
-      s.sends.both _ _ _ (s.rerouted reset.routes n (rerouted-reset n.parts.told n.parts.routes set))
+      s.sends.both _ _ _
+      (s.rerouted reset.routes n (rerouted-reset n.parts.told n.parts.routes set) (record { each = λ other destination e. inl (reset-unsure n.parts.routes set other destination e) }))
       (s.sends.both _ _ _ (s.told reset.told _ (record { shape = reset_shape n.parts.told set; adjacents = refl }))
-      (s.timed reset.timers _ (both-quiet _ _ _ (clear_set-quiet of_set.T8 set n.parts.timers) (clear_set-quiet of_set.T10 set (clear_set of_set.T8 set n.parts.timers)))))
+      (s.timed reset.timers _ (both-quiet c _ _ _ (clear_set-quiet c of_set.T8 set n.parts.timers) (clear_set-quiet c of_set.T10 set (clear_set of_set.T8 set n.parts.timers)))
+      (reset-tests _ set (reset-sure n.parts.routes set))))
 
   pub anew-steps : (first : Bool) (link : ℕ) (n : Node WholeQueues) → R n (with_parts n (begun_anew_if first c link n.parts))
   anew-steps true link n = set_reset-steps (set_of c link) n
@@ -107,11 +111,22 @@ module _ {c : Configuration} {Own Counts : ℕ → Type 0} {R : Node WholeQueues
       (λ other apart serves. ap (λ (l : Link). is_in_service l.alignment) (moved-at c link other step n.parts ∙ stepped-other c link other step n.parts apart) ∙ serves)
   entered-steps false link step n there e = s.sends.none (with_parts n (moved_on c link step n.parts))
 
+  -- it takes the step, where it is the first of its set behind what begins anew by that
+  moved-steps : (first : Bool) (link : ℕ) (input : Input) (step : Transition) (n : Node WholeQueues) → Own link → action_at (link_at n.parts link).alignment input ≡ act.Go step
+      → (enters link step n.parts && not (has_other c link n.parts)) ≡ first → R n (with_parts n (begun_anew_if first c link (step_on c link step n.parts)))
+  moved-steps false link input step n own e f =
+      s.stepped link input step n own e (record { clean = λ is destination. (let no : true ≡ false = sym is ∙ f in absurd cc) })
+  moved-steps true link input step n own e f =
+      let set : ℕ = set_of c link in
+      let reset : Node WholeQueues = with_parts n (with_set_reset c set n.parts) in
+      subst (λ (p : Parts). R n (with_parts n p)) (sym (reset-first c set link step n.parts))
+      (s.sends.both _ _ _ (set_reset-steps set n)
+      (s.stepped link input step reset own e (record { clean = λ is destination. reset-sure n.parts.routes set destination })))
+
   pub advance-steps : (link : ℕ) (input : Input) (step : Transition) (n : Node WholeQueues) → Own link → action_at (link_at n.parts link).alignment input ≡ act.Go step
       → R n (advance whole c link step n)
   advance-steps link input step n own e =
-      let first : Bool = enters link step n.parts && not (has_other c link n.parts) in
-      s.sends.both _ _ _ (s.sends.both _ _ _ (s.stepped link input step n own e) (anew-steps first link (with_parts n (step_on c link step n.parts))))
+      s.sends.both _ _ _ (moved-steps (enters link step n.parts && not (has_other c link n.parts)) link input step n own e refl)
       (entered-steps (enters link step n.parts) link step n (stepping-there n.parts link input step e) refl)
 
   -- ---- statuses and timers of a link

@@ -20,7 +20,7 @@ module _ {c : Configuration} {Own Counts : ℕ → Type 0} {R : Node WholeQueues
 
   send_answer-steps : (room : Option Cause) (link point : ℕ) (test : LinkTestValue) (n : Node WholeQueues) → in_service n.parts link ≡ true → is_adjacent c point ≡ true
       → R n (send whole c room (Some link) (test_answer c point test) n)
-  send_answer-steps (Some cause) link point test n e f = s.sends.both _ _ _ (s.sends.lost n) (s.sends.noted (notices.Unsent cause (dpc_of (test_answer c point test))) _ (record { lost = λ f. refl; late = λ f. absurd cc }))
+  send_answer-steps (Some cause) link point test n e f = s.sends.lost (notices.Unsent cause (dpc_of (test_answer c point test))) n refl
   send_answer-steps None link point test n e f = s.tested link point test n e f
 
   do_kind-steps : (kind : TestKind) (link point : ℕ) (test : LinkTestValue) (n : Node WholeQueues) → in_service n.parts link ≡ true → is_adjacent c point ≡ true

@@ -1,6 +1,6 @@
 -- Messages that are made here or go to other points, and what adjacent points are told and say: each rule is made of steps.
-use Rattle.exchange_rules.proofs.Basics.{◌≡◌, ℕ, Bool, true, false, List, [], ◌∷◌, Option, Some, None, Result, Ok, Err, refl, if◌then◌else◌}
-use Rattle.exchange_rules.proofs.Definitions.{Message, dpc_of, flow_of, Configuration, Cause, Outcome, Handled, Ignored, destination_place, Running, RouteStatus, Allowed, Restricted, Prohibited, status_of, told_shape, Heard, RouteTest, Owed, owed, Parts, Node, with_parts, answer, refuse, waits, facts, link_of, set_of, no_room, is_destination, offer, transfer, timed_telling, route_message, told_parts, answered_parts, inhibited, is_inhibited, may_tell, tell, tell_if, tell_each, tell_owed, prohibit, answer_no_route, send_route_status, on_route_test, timed_status, forced, controlled, rerouted_by, with_next_test, prohibited_test, restricted_test, apply_route_status, on_route_status, ask, ask_by, ask_again, send, send_routed, send_anew, send_each, WholeQueues, whole}
+use Rattle.exchange_rules.proofs.Basics.{◌≡◌, ◌⊎◌, inl, inr, sym, subst, ◌∙◌, ℕ, Bool, true, false, List, [], ◌∷◌, Option, Some, None, Result, Ok, Err, refl, if◌then◌else◌}
+use Rattle.exchange_rules.proofs.Definitions.{with_status_heard, Message, dpc_of, flow_of, Configuration, Cause, Outcome, Handled, Ignored, destination_place, Running, RouteStatus, Allowed, Restricted, Prohibited, status_of, told_shape, Heard, RouteTest, Owed, owed, Parts, Node, with_parts, answer, refuse, waits, facts, link_of, set_of, no_room, is_destination, offer, transfer, timed_telling, route_message, told_parts, answered_parts, inhibited, is_inhibited, may_tell, tell, tell_if, tell_each, tell_owed, prohibit, answer_no_route, send_route_status, on_route_test, timed_status, forced, with_next_test, prohibited_test, restricted_test, apply_route_status, on_route_status, ask, ask_by, ask_again, send, send_routed, send_anew, send_each, WholeQueues, whole}
 use Rattle.std.specs.Prelude.{nat_lt, length, ◌&&◌, not}
 use Rattle.signalling_types.specs.declared.notice.Notice.TheVariants as notices
 use Rattle.signalling_types.specs.declared.cause.Cause.TheVariants as causes
@@ -8,21 +8,23 @@ use Rattle.timers.specs.declared.name.TimerName.TheVariants as name
 use Rattle.changeback.specs.Rerouting.{rerouted}
 use Rattle.route_management.specs.Told as told
 use Rattle.route_management.specs.declared.heard.Heard.TheVariants as hears
-use Rattle.exchange_rules.proofs.Steps.{AreQuiet, IsOfSends, IsOfRules, either-steps, either_done-steps}
-use Rattle.exchange_rules.proofs.OwnRoutes.{rerouted-one}
+use Rattle.exchange_rules.specs.Testing.{is_unsure}
+use Rattle.exchange_rules.proofs.Steps.{status_over, AreQuiet, KeepsTests, IsJustSet, AreTestedAs, IsOfSends, IsOfRules, either-steps, either_done-steps}
+use Rattle.exchange_rules.proofs.OwnRoutes.{rerouted-one, one-unsure, allowed-sure}
+use Rattle.exchange_rules.proofs.KeepingTests.{set-tests, telling-tests, clear-tests}
 use Rattle.exchange_rules.proofs.SteppingTimers.{same-quiet, set-quiet, clear-quiet}
 
 -- ---- timers
 
-timed_telling-quiet : (c : Configuration) (set destination : ℕ) (status : RouteStatus) (r : Running) → AreQuiet r (timed_telling c set destination status r)
-timed_telling-quiet c set destination Prohibited r = set-quiet (name.T8 set destination) c.timers.t8 r (λ link e. cc) refl refl
-timed_telling-quiet c set destination Restricted r = same-quiet r
-timed_telling-quiet c set destination Allowed r = same-quiet r
+timed_telling-quiet : (c : Configuration) (set destination : ℕ) (status : RouteStatus) (r : Running) → AreQuiet c r (timed_telling c set destination status r)
+timed_telling-quiet c set destination Prohibited r = set-quiet c (name.T8 set destination) c.timers.t8 r (λ link e. cc) refl refl refl
+timed_telling-quiet c set destination Restricted r = same-quiet c r
+timed_telling-quiet c set destination Allowed r = same-quiet c r
 
-timed_status-quiet : (c : Configuration) (set destination : ℕ) (status : RouteStatus) (r : Running) → AreQuiet r (timed_status c set destination status r)
-timed_status-quiet c set destination Prohibited r = set-quiet (name.T10 set destination) c.timers.t10 r (λ link e. cc) refl refl
-timed_status-quiet c set destination Restricted r = set-quiet (name.T10 set destination) c.timers.t10 r (λ link e. cc) refl refl
-timed_status-quiet c set destination Allowed r = clear-quiet (name.T10 set destination) r (λ link e. cc) refl refl
+timed_status-quiet : (c : Configuration) (set destination : ℕ) (status : RouteStatus) (r : Running) → AreQuiet c r (timed_status c set destination status r)
+timed_status-quiet c set destination Prohibited r = set-quiet c (name.T10 set destination) c.timers.t10 r (λ link e. cc) refl refl refl
+timed_status-quiet c set destination Restricted r = set-quiet c (name.T10 set destination) c.timers.t10 r (λ link e. cc) refl refl refl
+timed_status-quiet c set destination Allowed r = clear-quiet c (name.T10 set destination) r (λ link e. cc) refl refl
 
 -- of a point itself nothing is heard that changes anything
 heard-away : (is_own : Bool) (x : Heard) → (if is_own then hears.Ignored else x) ≡ hears.Changed → is_own ≡ false
@@ -34,7 +36,7 @@ module _ {c : Configuration} {R : Node WholeQueues → Node WholeQueues → Type
 
   -- a message that is dropped
   unsent-steps : (cause : Cause) (m : Message) (n : Node WholeQueues) → R n (send whole c (Some cause) None m n)
-  unsent-steps cause m n = s.both _ _ _ (s.lost n) (s.noted (notices.Unsent cause (dpc_of m)) _ (record { lost = λ f. refl; late = λ f. absurd cc }))
+  unsent-steps cause m n = s.lost (notices.Unsent cause (dpc_of m)) n refl
 
   pub by_link-steps : (room : Option Cause) (link : Option ℕ) (m : Message) (n : Node WholeQueues) → link_of c n.parts (flow_of m) ≡ link → R n (send whole c room link m n)
   by_link-steps (Some cause) link m n e = unsent-steps cause m n
@@ -54,7 +56,7 @@ module _ {c : Configuration} {Own Counts : ℕ → Type 0} {R : Node WholeQueues
   pub told_parts-steps : (o : Owed) (n : Node WholeQueues) → R n (with_parts n (told_parts c o n.parts))
   told_parts-steps o n =
       s.sends.both _ _ _ (s.told (told.with_told o.set o.destination o.status n.parts.told) n (record { shape = told_shape n.parts.told o.set o.destination o.status; adjacents = refl }))
-      (s.timed _ _ (timed_telling-quiet c o.set o.destination o.status n.parts.timers))
+      (s.timed _ _ (timed_telling-quiet c o.set o.destination o.status n.parts.timers) (telling-tests _ c o.set o.destination o.status))
 
   tell-steps : (o : Owed) (n : Node WholeQueues) → R n (tell whole c o n)
   tell-steps o n =
@@ -70,7 +72,7 @@ module _ {c : Configuration} {Own Counts : ℕ → Type 0} {R : Node WholeQueues
   tell_owed-steps n = tell_each-steps (owed (facts c n.parts) n.parts.told) n
 
   pub inhibited-steps : (set destination : ℕ) (n : Node WholeQueues) → R n (with_parts n (inhibited c set destination n.parts))
-  inhibited-steps set destination n = s.timed _ n (set-quiet (name.T8 set destination) c.timers.t8 n.parts.timers (λ link e. cc) refl refl)
+  inhibited-steps set destination n = s.timed _ n (set-quiet c (name.T8 set destination) c.timers.t8 n.parts.timers (λ link e. cc) refl refl refl) (set-tests n.parts (name.T8 set destination) c.timers.t8)
 
   prohibit-steps : (set destination : ℕ) (n : Node WholeQueues) → R n (prohibit whole c set destination n)
   prohibit-steps set destination n =
@@ -100,34 +102,76 @@ module _ {c : Configuration} {Own Counts : ℕ → Type 0} {R : Node WholeQueues
 
   -- ---- what they say
 
-  timed_status-steps : (set destination : ℕ) (status : RouteStatus) (n : Node WholeQueues)
-      → R n (with_parts n (record n.parts { timers = timed_status c set destination status n.parts.timers }))
-  timed_status-steps set destination status n = s.timed _ n (timed_status-quiet c set destination status n.parts.timers)
-
   -- what is heard isn't about the point that says it
   forced-steps : (set destination : ℕ) (status : RouteStatus) (n : Node WholeQueues) → told.is_own_point n.parts.told set destination ≡ false
-      → R n (with_parts n (forced c set destination status n.parts))
-  forced-steps set destination status n away = s.rerouted _ n (rerouted-one n.parts.told n.parts.routes set destination status away)
+      → AreTestedAs n.parts (forced c set destination status n.parts).routes → R n (with_parts n (forced c set destination status n.parts))
+  forced-steps set destination status n away tests = s.rerouted _ n (rerouted-one n.parts.told n.parts.routes set destination status away) tests
 
-  controlled-steps : (set destination : ℕ) (status : RouteStatus) (n : Node WholeQueues) → told.is_own_point n.parts.told set destination ≡ false → R n (with_parts n (controlled c set destination status n.parts))
-  controlled-steps set destination status n away =
-      let next : Parts = forced c set destination status n.parts in
-      s.sends.both _ _ _ (forced-steps set destination status n away)
-      (s.reroutes destination (rerouted (facts c n.parts) (facts c next) destination) (with_parts n next))
+  -- T10 starts first where the route isn't allowed any more
+  tested-as : (set destination : ℕ) (status : RouteStatus) (p : Parts) → IsJustSet set destination p.timers → AreTestedAs p (forced c set destination status p).routes
+  tested-as set destination status p just = record { each = λ other place e. by other place (one-unsure p.routes set destination status other place e) }
+    where
+      by : (other place : ℕ) → (is_unsure (status_over other place p.routes) ≡ true) ⊎ ((other ≡ set) × (place ≡ destination))
+          → (is_unsure (status_over other place p.routes) ≡ true) ⊎ IsJustSet other place p.timers
+      by other place (inl e) = inl e
+      by other place (inr (e, f)) =
+          inr (subst (λ (k : ℕ). IsJustSet k place p.timers) (sym e) (subst (λ (k : ℕ). IsJustSet set k p.timers) (sym f) just))
 
-  rerouted_by-steps : (status : RouteStatus) (set destination : ℕ) (n : Node WholeQueues) → told.is_own_point n.parts.told set destination ≡ false
-      → R n (with_parts n (rerouted_by status c set destination n.parts))
-  rerouted_by-steps Prohibited set destination n away = forced-steps set destination Prohibited n away
-  rerouted_by-steps Restricted set destination n away = controlled-steps set destination Restricted n away
-  rerouted_by-steps Allowed set destination n away = controlled-steps set destination Allowed n away
+  -- a route that is allowed isn't tested, and T10 stops then
+  allowed-as : (set destination : ℕ) (p : Parts) → AreTestedAs p (forced c set destination Allowed p).routes
+  allowed-as set destination p = record { each = λ other place e. by other place e (one-unsure p.routes set destination Allowed other place e) }
+    where
+      by : (other place : ℕ) → is_unsure (status_over other place (forced c set destination Allowed p).routes) ≡ true
+          → (is_unsure (status_over other place p.routes) ≡ true) ⊎ ((other ≡ set) × (place ≡ destination))
+          → (is_unsure (status_over other place p.routes) ≡ true) ⊎ IsJustSet other place p.timers
+      by other place e (inl f) = inl f
+      by other place e (inr (f, g)) =
+          let sure : is_unsure (status_over other place (forced c set destination Allowed p).routes) ≡ false =
+          subst (λ (k : ℕ). is_unsure (status_over k place (forced c set destination Allowed p).routes) ≡ false) (sym f)
+          (subst (λ (k : ℕ). is_unsure (status_over set k (forced c set destination Allowed p).routes) ≡ false) (sym g) (allowed-sure p.routes set destination)) in
+          let no : true ≡ false = sym e ∙ sure in
+          absurd cc
+
+  timed_status-steps : (set destination : ℕ) (status : RouteStatus) (n : Node WholeQueues) → KeepsTests n.parts (timed_status c set destination status n.parts.timers)
+      → R n (with_parts n (record n.parts { timers = timed_status c set destination status n.parts.timers }))
+  timed_status-steps set destination status n tests = s.timed _ n (timed_status-quiet c set destination status n.parts.timers) tests
+
+  prohibited-steps : (set destination : ℕ) (n : Node WholeQueues) → told.is_own_point n.parts.told set destination ≡ false
+      → R n (with_parts n (with_status_heard c set destination Prohibited n.parts))
+  prohibited-steps set destination n away =
+      let timing : Node WholeQueues = with_parts n (record n.parts { timers = timed_status c set destination Prohibited n.parts.timers }) in
+      s.sends.both _ _ _ (timed_status-steps set destination Prohibited n (set-tests n.parts (name.T10 set destination) c.timers.t10))
+      (forced-steps set destination Prohibited timing away
+      (tested-as set destination Prohibited timing.parts (record { before = n.parts.timers; ticks = c.timers.t10; is = refl })))
+
+  restricted-steps : (set destination : ℕ) (n : Node WholeQueues) → told.is_own_point n.parts.told set destination ≡ false
+      → R n (with_parts n (with_status_heard c set destination Restricted n.parts))
+  restricted-steps set destination n away =
+      let timing : Node WholeQueues = with_parts n (record n.parts { timers = timed_status c set destination Restricted n.parts.timers }) in
+      let next : Parts = forced c set destination Restricted timing.parts in
+      s.sends.both _ _ _ (timed_status-steps set destination Restricted n (set-tests n.parts (name.T10 set destination) c.timers.t10))
+      (s.sends.both _ _ _
+      (forced-steps set destination Restricted timing away
+      (tested-as set destination Restricted timing.parts (record { before = n.parts.timers; ticks = c.timers.t10; is = refl })))
+      (s.reroutes destination (rerouted (facts c timing.parts) (facts c next) destination) (with_parts timing next)))
+
+  allowed-steps : (set destination : ℕ) (n : Node WholeQueues) → told.is_own_point n.parts.told set destination ≡ false
+      → R n (with_parts n (with_status_heard c set destination Allowed n.parts))
+  allowed-steps set destination n away =
+      let next : Node WholeQueues = with_parts n (forced c set destination Allowed n.parts) in
+      let timing : Node WholeQueues = with_parts next (record next.parts { timers = timed_status c set destination Allowed n.parts.timers }) in
+      s.sends.both _ _ _ (forced-steps set destination Allowed n away (allowed-as set destination n.parts))
+      (s.sends.both _ _ _
+      (timed_status-steps set destination Allowed next (clear-tests next.parts set destination (allowed-sure n.parts.routes set destination)))
+      (s.reroutes destination (rerouted (facts c n.parts) (facts c next.parts) destination) timing))
 
   apply_route_status-steps : (x : Heard) (set destination : ℕ) (status : RouteStatus) (n : Node WholeQueues)
       → (x ≡ hears.Changed → told.is_own_point n.parts.told set destination ≡ false) → R n (apply_route_status whole c x set destination status n).left
   apply_route_status-steps hears.Ignored set destination status n away = s.sends.none n
   apply_route_status-steps hears.Unchanged set destination status n away = s.sends.none n
-  apply_route_status-steps hears.Changed set destination status n away =
-      s.sends.both _ _ _ (timed_status-steps set destination status n)
-      (rerouted_by-steps status set destination (with_parts n (record n.parts { timers = timed_status c set destination status n.parts.timers })) (away refl))
+  apply_route_status-steps hears.Changed set destination Prohibited n away = prohibited-steps set destination n (away refl)
+  apply_route_status-steps hears.Changed set destination Restricted n away = restricted-steps set destination n (away refl)
+  apply_route_status-steps hears.Changed set destination Allowed n away = allowed-steps set destination n (away refl)
 
   pub on_route_status-steps : (status : RouteStatus) (route : Result (ℕ × ℕ) Outcome) (n : Node WholeQueues) → R n (on_route_status whole c status route n).left
   on_route_status-steps status (Ok (set, destination)) n =
@@ -139,7 +183,7 @@ module _ {c : Configuration} {Own Counts : ℕ → Type 0} {R : Node WholeQueues
 
   ask-steps : (m : Message) (set destination : ℕ) (n : Node WholeQueues) → R n (ask whole c m set destination n)
   ask-steps m set destination n =
-      s.sends.both _ _ _ (s.timed _ n (set-quiet (name.T10 set destination) c.timers.t10 n.parts.timers (λ link e. cc) refl refl))
+      s.sends.both _ _ _ (s.timed _ n (set-quiet c (name.T10 set destination) c.timers.t10 n.parts.timers (λ link e. cc) refl refl refl) (set-tests n.parts (name.T10 set destination) c.timers.t10))
       (send_routed-steps s.sends m (with_parts n (with_next_test whole c set destination n.parts)))
 
   ask_by-steps : (status : Option RouteStatus) (set destination : ℕ) (n : Node WholeQueues) → R n (ask_by whole c status set destination n)

@@ -1,11 +1,13 @@
 -- Timers other than L7 that are set and stopped: no timer that watches a link changes, and none becomes due.
 use Rattle.exchange_rules.proofs.Basics.{◌≡◌, ◌≢◌, ℕ, Bool, true, false, cond, refl, sym, ap, ◌∙◌, arith, max, is_some, nat_tests, false_from_ne_true as not-so}
-use Rattle.exchange_rules.proofs.Definitions.{TimerName, L7, has_name, is_same, is_of_set, Running, set_timer, clear_timer, clear_set, is_due, no_tick_left, left-set_other, left-clear_other, left-clear_set_other, counts-set, counts-clear, counts-clear_set}
+use Rattle.exchange_rules.proofs.Definitions.{Configuration, TimerName, L7, has_name, is_same, is_of_set, Running, set_timer, clear_timer, clear_set, is_due, no_tick_left, left-set_other, left-clear_other, left-clear_set_other, counts-set, counts-clear, counts-clear_set}
 use Rattle.std.specs.Prelude.{Option, Some, None}
 use Rattle.timers.specs.declared.name.RouteTimer.{RouteTimer}
 use Rattle.timers.specs.declared.name.RouteTimer.TheVariants as route
 use Rattle.timers.specs.declared.name.TimerName.TheVariants as name
-use Rattle.exchange_rules.proofs.Steps.{AreTimed, AreQuiet, ends_holds, takes_links}
+use Rattle.exchange_rules.specs.TimerSettings.{setting_of}
+use Rattle.exchange_rules.proofs.TimerSettings.{runs-both, same-set, set-set, clear-set, clear_set-set}
+use Rattle.exchange_rules.proofs.Steps.{AreTimed, AreQuiet, ends_holds, is_of_link}
 
 -- where a timer that is due is due still, or has what is never due
 due-of : (b : Bool) (o p q : Option ℕ) → no_tick_left p ≡ false → no_tick_left (cond b (cond true p o) None) ≡ true → no_tick_left q ≡ true
@@ -84,16 +86,17 @@ clear_set-timed timer set r = record {
     of_route route.T8 link = refl
     of_route route.T10 link = refl
 
--- ---- and none that ends a hold, or takes a link into service or out of it
+-- ---- and none that ends a hold, or is a link's
 
-pub same-quiet : (r : Running) → AreQuiet r r
-same-quiet r = record { timed = same-timed r; endings = λ name e. refl; links = λ name e. refl }
+pub same-quiet : (c : Configuration) (r : Running) → AreQuiet c r r
+same-quiet c r = record { timed = same-timed r; endings = λ name e. refl; links = λ name e. refl; set = (same-set c r r refl).each }
 
-pub both-quiet : (r s t : Running) → AreQuiet r s → AreQuiet s t → AreQuiet r t
-both-quiet r s t e f = record {
+pub both-quiet : (c : Configuration) (r s t : Running) → AreQuiet c r s → AreQuiet c s t → AreQuiet c r t
+both-quiet c r s t e f = record {
   timed = both-timed r s t e.timed f.timed;
   endings = λ name h. f.endings name h ∙ e.endings name h;
   links = λ name h. f.links name h ∙ e.links name h;
+  set = λ name. runs-both _ _ _ _ (e.set name) (f.set name);
 }
 
 -- a name of another kind is another name
@@ -103,22 +106,25 @@ apart-by kind name other not-of of same = (let goal : true ≡ false = sym of �
 pub apart-from : (name ending : TimerName) → ends_holds name ≡ false → ends_holds ending ≡ true → name ≢ ending
 apart-from name ending quiet ends = apart-by ends_holds name ending quiet ends
 
-pub set-quiet : (name : TimerName) (ticks : ℕ) (r : Running) → ((link : ℕ) → name ≢ L7 link) → ends_holds name ≡ false → takes_links name ≡ false → AreQuiet r (set_timer name ticks r)
-set-quiet name ticks r other quiet none = record {
+pub set-quiet : (c : Configuration) (name : TimerName) (ticks : ℕ) (r : Running) → ((link : ℕ) → name ≢ L7 link) → ends_holds name ≡ false → is_of_link name ≡ false
+    → ticks ≡ setting_of c.timers name → AreQuiet c r (set_timer name ticks r)
+set-quiet c name ticks r other quiet none own = record {
   timed = set-timed name ticks r other;
   endings = λ ending e. left-set_other name ending ticks r (apart-from name ending quiet e);
-  links = λ its e. left-set_other name its ticks r (apart-by takes_links name its none e);
+  links = λ its e. left-set_other name its ticks r (apart-by is_of_link name its none e);
+  set = (set-set c name ticks r own).each;
 }
 
-pub clear-quiet : (name : TimerName) (r : Running) → ((link : ℕ) → name ≢ L7 link) → ends_holds name ≡ false → takes_links name ≡ false → AreQuiet r (clear_timer name r)
-clear-quiet name r other quiet none = record {
+pub clear-quiet : (c : Configuration) (name : TimerName) (r : Running) → ((link : ℕ) → name ≢ L7 link) → ends_holds name ≡ false → is_of_link name ≡ false → AreQuiet c r (clear_timer name r)
+clear-quiet c name r other quiet none = record {
   timed = clear-timed name r other;
   endings = λ ending e. left-clear_other name ending r (apart-from name ending quiet e);
-  links = λ its e. left-clear_other name its r (apart-by takes_links name its none e);
+  links = λ its e. left-clear_other name its r (apart-by is_of_link name its none e);
+  set = (clear-set c name r).each;
 }
 
 -- the timers of a set are of neither kind
-of_neither : (timer : RouteTimer) (set : ℕ) (name : TimerName) → is_of_set timer set name ≡ true → (ends_holds name ≡ false) × (takes_links name ≡ false)
+of_neither : (timer : RouteTimer) (set : ℕ) (name : TimerName) → is_of_set timer set name ≡ true → (ends_holds name ≡ false) × (is_of_link name ≡ false)
 of_neither timer set (name.T8 its destination) e = (refl, refl)
 of_neither timer set (name.T10 its destination) e = (refl, refl)
 of_neither route.T8 set (name.L1 link) e = absurd cc
@@ -144,9 +150,14 @@ of_neither route.T10 set (name.T4 its code) e = absurd cc
 of_neither route.T8 set (name.T6 destination) e = absurd cc
 of_neither route.T10 set (name.T6 destination) e = absurd cc
 
-pub clear_set-quiet : (timer : RouteTimer) (set : ℕ) (r : Running) → AreQuiet r (clear_set timer set r)
-clear_set-quiet timer set r = record {
+pub clear_set-endings : (timer : RouteTimer) (set : ℕ) (r : Running) (its : TimerName) → ends_holds its ≡ true → (clear_set timer set r).left its ≡ r.left its
+clear_set-endings timer set r its e =
+    left-clear_set_other timer set its r (not-so (is_of_set timer set its) (λ of. (let no : true ≡ false = sym e ∙ (of_neither timer set its of).0 in cc)))
+
+pub clear_set-quiet : (c : Configuration) (timer : RouteTimer) (set : ℕ) (r : Running) → AreQuiet c r (clear_set timer set r)
+clear_set-quiet c timer set r = record {
   timed = clear_set-timed timer set r;
-  endings = λ its e. left-clear_set_other timer set its r (not-so (is_of_set timer set its) (λ of. (let no : true ≡ false = sym e ∙ (of_neither timer set its of).0 in cc)));
+  endings = clear_set-endings timer set r;
+  set = (clear_set-set c timer set r).each;
   links = λ its e. left-clear_set_other timer set its r (not-so (is_of_set timer set its) (λ of. (let no : true ≡ false = sym e ∙ (of_neither timer set its of).1 in cc)));
 }

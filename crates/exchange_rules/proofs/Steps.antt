@@ -1,9 +1,12 @@
 -- The steps that rules are made of: each change of a node that a rule makes, with what stands when it makes it. A relation between two nodes that
 -- holds of each step, and of one behind another, holds of every rule, every event and every take (`Stepping..`, `Rules`).
-use Rattle.exchange_rules.proofs.Basics.{◌≡◌, ℕ, Bool, true, false, List, [], length, Option, Some, find, if◌then◌else◌, slice_index_or, option_map}
-use Rattle.exchange_rules.proofs.Definitions.{Message, flow_of, Notice, FailureReason, Configuration, TitleEntry, Input, Go, Transition, action_at, Sending, LinkTestValue, TimerName, L7, Running, is_running, is_due, Route, RouteStatus, Allowed, leads_by, ToldTable, is_own_point, shape_of, Link, Standing, with_code, HoldSet, Parts, Node, Done, with_parts, lost_any, late_any, is_link, link_at, links_with, with_link, down, in_service, note, flagged, flagged_late, link_of, queue_on, waits, hold, is_adjacent, test_answer, changeover_of, with_changeover, fail_link, declaration, with_titles, step_on, timed_busy, timed_busy_ended, may_open, without_association, open_link, Carrying, carries, numbers, timed_parts, SendsMessage, next_message, after_sending, WholeQueues, whole, HasHoldsFor, tells_of_loss, tells_of_lateness, ChangeoverTimer, Facts, Procedure, lifted, fail, on_changeover_order, on_changeover_acknowledgement, on_changeover_timer, hold_flows, freed, held_by_rerouting}
+use Rattle.exchange_rules.proofs.Basics.{◌≡◌, ◌⊎◌, ◌&&◌, not, ℕ, Bool, true, false, refl, List, [], length, Option, Some, find, if◌then◌else◌, slice_index_or, option_map}
+use Rattle.exchange_rules.proofs.Definitions.{set_timer, enters, has_other, set_of, Message, flow_of, Notice, FailureReason, Configuration, TitleEntry, Input, Go, Transition, action_at, Sending, LinkTestValue, TimerName, L7, Running, is_running, is_due, Route, RouteStatus, Allowed, leads_by, ToldTable, is_own_point, shape_of, Link, Standing, with_code, HoldSet, Parts, Node, Done, with_parts, lost_any, late_any, is_link, link_at, links_with, with_link, down, in_service, note, flagged, flagged_late, link_of, queue_on, waits, hold, is_adjacent, test_answer, changeover_of, with_changeover, fail_link, declaration, with_titles, step_on, timed_busy, timed_busy_ended, may_open, without_association, open_link, Carrying, carries, numbers, timed_parts, SendsMessage, next_message, after_sending, WholeQueues, whole, HasHoldsFor, tells_of_loss, tells_of_lateness, ChangeoverTimer, Facts, Procedure, lifted, fail, on_changeover_order, on_changeover_acknowledgement, on_changeover_timer, hold_flows, freed, held_by_rerouting}
 use Rattle.std.specs.Prelude.{map, Ok}
 use Rattle.timers.specs.declared.name.TimerName.TheVariants as name
+use Rattle.exchange_rules.specs.TimerSettings.{setting_of, RunsBy}
+use Rattle.exchange_rules.specs.Testing.{is_unsure}
+use Rattle.signalling_types.specs.declared.notice.Notice.TheVariants as notices
 
 -- timers change, but none that watches a link: the same names exist, each L7 runs that ran, and no timer becomes due
 pub record AreTimed (r s : Running) : Type 0 where
@@ -139,22 +142,69 @@ takes_links (name.L6 link) = true
 takes_links (name.L7 link) = true
 takes_links _ = false
 
--- timers change, but none of these
-pub record AreQuiet (r s : Running) : Type 0 where
+-- the timers of links
+abbrev pub is_of_link : TimerName → Bool
+is_of_link (name.L1 link) = true
+is_of_link (name.L2 link) = true
+is_of_link (name.L3 link) = true
+is_of_link (name.L4 link) = true
+is_of_link (name.L6 link) = true
+is_of_link (name.L7 link) = true
+is_of_link _ = false
+
+-- timers change, but none of a link and none that ends holds, and each that is set is set to its setting
+pub record AreQuiet (c : Configuration) (r s : Running) : Type 0 where
   pub timed : AreTimed r s
   pub endings : (name : TimerName) → ends_holds name ≡ true → s.left name ≡ r.left name
-  pub links : (name : TimerName) → takes_links name ≡ true → s.left name ≡ r.left name
+  pub links : (name : TimerName) → is_of_link name ≡ true → s.left name ≡ r.left name
+  pub set : (name : TimerName) → RunsBy (setting_of c.timers name) (r.left name) (s.left name)
 
--- R holds of the steps of which it is made that a message goes out or is dropped
+-- no notice tells of both
+pub not-both : (notice : Notice) → tells_of_loss notice ≡ true → tells_of_lateness notice ≡ true → ⊥
+not-both (notices.Lost cause point sls) e f = absurd cc
+not-both (notices.Unsent cause point) e f = absurd cc
+not-both (notices.Expired timer link) e f = absurd cc
+not-both (notices.Refused cause link) e f = absurd cc
+not-both (notices.Frame fault link) e f = absurd cc
+not-both (notices.Failed link why) e f = absurd cc
+not-both (notices.Late timer number) e f = absurd cc
+
+-- R holds of the steps of which it is made that a message goes out or is dropped: what may be lost is noted and counted at once
 pub record IsOfSends (c : Configuration) (R : Node WholeQueues → Node WholeQueues → Type 0) : Type 0 where
   pub none : (n : Node WholeQueues) → R n n
   pub both : (n m o : Node WholeQueues) → R n m → R m o → R n o
   pub routed : (link : ℕ) (m : Message) (n : Node WholeQueues) → link_of c n.parts (flow_of m) ≡ Some link → R n (queue_on whole c link m n)
   pub noted : (notice : Notice) (n : Node WholeQueues) → IsTold notice n.parts → R n (with_parts n (note notice n.parts))
-  pub lost : (n : Node WholeQueues) → R n (with_parts n (flagged n.parts))
+  pub lost : (notice : Notice) (n : Node WholeQueues) → tells_of_loss notice ≡ true → R n (with_parts n (flagged (note notice n.parts)))
 
 abbrev pub sends-of : {c : Configuration} {Own Counts : ℕ → Type 0} {R : Node WholeQueues → Node WholeQueues → Type 0} → IsOfSteps c Own Counts R → IsOfSends c R
-sends-of s = record { none = s.none; both = s.both; routed = s.routed; noted = s.noted; lost = s.lost }
+sends-of s = record {
+  none = s.none;
+  both = s.both;
+  routed = s.routed;
+  noted = s.noted;
+  lost = λ notice n e. s.both _ _ _ (s.lost n) (s.noted notice _ (record { lost = λ f. refl; late = λ f. absurd (not-both notice e f) }));
+}
+
+-- T10 stops only of a route that is allowed, or isn't there
+pub record KeepsTests (p : Parts) (r : Running) : Type 0 where
+  pub each : (set destination : ℕ) → is_running (name.T10 set destination) p.timers ≡ true → is_running (name.T10 set destination) r ≡ false
+      → is_unsure (status_over set destination p.routes) ≡ false
+
+-- T10 was set last
+pub record IsJustSet (set destination : ℕ) (r : Running) : Type 0 where
+  pub before : Running
+  pub ticks : ℕ
+  pub is : r ≡ set_timer (name.T10 set destination) ticks before
+
+-- a route that isn't allowed now wasn't so before, either, or is tested from now on
+pub record AreTestedAs (p : Parts) (routes : List (List Route)) : Type 0 where
+  pub each : (set destination : ℕ) → is_unsure (status_over set destination routes) ≡ true
+      → (is_unsure (status_over set destination p.routes) ≡ true) ⊎ IsJustSet set destination p.timers
+
+-- where a link is the first of its set to enter service, all routes over that are allowed
+pub record BeginsClean (c : Configuration) (link : ℕ) (step : Transition) (p : Parts) : Type 0 where
+  pub clean : (enters link step p && not (has_other c link p)) ≡ true → (destination : ℕ) → is_unsure (status_over (set_of c link) destination p.routes) ≡ false
 
 -- R holds of each step that changes none of these, and of each rule that does. So a law may see a hold and its timer as one, which the steps show one
 -- after the other. Where R holds of each step, it holds of each rule (`rules-of`)
@@ -164,9 +214,9 @@ pub record IsOfRules (c : Configuration) (Own Counts : ℕ → Type 0) (R : Node
       → R n (queue_on whole c link (test_answer c point test) n)
   pub held : (m : Message) (n : Node WholeQueues) → waits c n.parts.holds m ≡ true → R n (hold whole m n)
   pub taken_out : (n : Node WholeQueues) → R n (record n { queues = whole.without_held n.queues })
-  pub late : (n : Node WholeQueues) → R n (with_parts n (flagged_late n.parts))
-  pub timed : (r : Running) (n : Node WholeQueues) → AreQuiet n.parts.timers r → R n (with_parts n (record n.parts { timers = r }))
-  pub rerouted : (routes : List (List Route)) (n : Node WholeQueues) → AreRerouted n.parts.told n.parts.routes routes → R n (with_parts n (record n.parts { routes = routes }))
+  pub late : (notice : Notice) (n : Node WholeQueues) → tells_of_lateness notice ≡ true → R n (with_parts n (flagged_late (note notice n.parts)))
+  pub timed : (r : Running) (n : Node WholeQueues) → AreQuiet c n.parts.timers r → KeepsTests n.parts r → R n (with_parts n (record n.parts { timers = r }))
+  pub rerouted : (routes : List (List Route)) (n : Node WholeQueues) → AreRerouted n.parts.told n.parts.routes routes → AreTestedAs n.parts routes → R n (with_parts n (record n.parts { routes = routes }))
   pub told : (t : ToldTable) (n : Node WholeQueues) → AreToldMore n.parts.told t → R n (with_parts n (record n.parts { told = t }))
   pub titled : (rows : List TitleEntry) (n : Node WholeQueues) → R n (with_parts n (with_titles rows n.parts))
   pub linked : (link : ℕ) (x : Link) (n : Node WholeQueues) → IsSameLink (link_at n.parts link) x → R n (with_parts n (with_link n.parts link x))
@@ -174,7 +224,7 @@ pub record IsOfRules (c : Configuration) (Own Counts : ℕ → Type 0) (R : Node
   pub opened : (link : ℕ) (n : Node WholeQueues) → Counts link → is_link n.parts link ≡ true → may_open (link_at n.parts link) ≡ true
       → (changeover_of n.parts link).incomplete ≡ false → R n (open_link whole c link n)
   pub stepped : (link : ℕ) (input : Input) (step : Transition) (n : Node WholeQueues) → Own link → action_at (link_at n.parts link).alignment input ≡ Go step
-      → R n (with_parts n (step_on c link step n.parts))
+      → BeginsClean c link step n.parts → R n (with_parts n (step_on c link step n.parts))
   pub busied : (link : ℕ) (n : Node WholeQueues) → Own link → in_service n.parts link ≡ true → (link_at n.parts link).peer_busy ≡ false
       → R n (with_parts n (with_busy c link n.parts))
   pub resumed : (link : ℕ) (n : Node WholeQueues) → Own link → in_service n.parts link ≡ true → (link_at n.parts link).peer_busy ≡ true

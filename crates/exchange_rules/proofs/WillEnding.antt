@@ -9,7 +9,7 @@ use Rattle.timers.specs.declared.name.RouteTimer.TheVariants as of_set
 use Rattle.std.specs.FinSet.{contains}
 use Rattle.exchange_rules.specs.LastingHolds.{WillEnd, WillComplete, AllWillEnd}
 use Rattle.exchange_rules.proofs.Steps.{ends_holds}
-use Rattle.exchange_rules.proofs.SteppingTimers.{clear_set-quiet}
+use Rattle.exchange_rules.proofs.SteppingTimers.{clear_set-endings}
 
 pub no-way : {A : Type 0} (b : Bool) → b ≡ false → b ≡ true → A
 no-way b e f = (let no : false ≡ true = sym e ∙ f in absurd cc)
@@ -64,7 +64,7 @@ judged-alike false p = record { holds = refl; changeovers = refl; timers = λ ti
 
 pub untested-alike : (others : Bool) (set : ℕ) (p : Parts) → Alike p (if others then p else without_tests set p)
 untested-alike true set p = alike-same p
-untested-alike false set p = record { holds = refl; changeovers = refl; timers = (clear_set-quiet of_set.T10 set p.timers).endings }
+untested-alike false set p = record { holds = refl; changeovers = refl; timers = clear_set-endings of_set.T10 set p.timers }
 
 -- ---- all but the changeover of one link
 

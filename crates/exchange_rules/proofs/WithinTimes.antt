@@ -11,7 +11,8 @@ use Rattle.exchange_rules.proofs.Asked.{any, IsOfAll}
 use Rattle.exchange_rules.proofs.SteppingMessages.{send_routed-steps}
 use Rattle.exchange_rules.proofs.SteppingEvents.{run_next-steps}
 use Rattle.exchange_rules.proofs.WillEnding.{untested-alike}
-use Rattle.exchange_rules.proofs.Eased.{Eased, is_waited_for, eased-same, cases-name, less-clear, completed-eased, expired-eased}
+use Rattle.exchange_rules.proofs.Eased.{Eased, is_waited_for, eased-same, less-clear, completed-eased, expired-eased}
+use Rattle.exchange_rules.proofs.TimerSettings.{cases-name}
 
 -- a timer that ends holds is waited for
 waited : (timer : TimerName) → ends_holds timer ≡ true → is_waited_for timer ≡ true
@@ -91,7 +92,7 @@ module _ (c : Configuration) where
     both = bounds-both most;
     routed = λ link m n e. bounds-as most n _ refl;
     noted = λ notice n e. bounds-as most n _ refl;
-    lost = λ n. bounds-as most n _ refl;
+    lost = λ notice n e. bounds-as most n _ refl;
   }
 
   gone-bounds : (link : ℕ) (why : FailureReason) (n : Node WholeQueues) → Bounds most n (make_unavailable whole c true link why n)
@@ -154,15 +155,15 @@ module _ (c : Configuration) where
     tested = λ link point test n e f. bounds-as most n _ refl;
     held = λ m n e. bounds-as most n _ refl;
     taken_out = λ n. bounds-as most n _ refl;
-    late = λ n. bounds-as most n _ refl;
-    timed = λ r n e. bounds-same most n _ e.endings;
-    rerouted = λ routes n e. bounds-as most n _ refl;
+    late = λ notice n e. bounds-as most n _ refl;
+    timed = λ r n e k. bounds-same most n _ e.endings;
+    rerouted = λ routes n e k. bounds-as most n _ refl;
     told = λ t n e. bounds-as most n _ refl;
     titled = λ rows n. bounds-as most n _ refl;
     linked = λ link x n e. bounds-as most n _ refl;
     parted = λ link n e. bounds-as most n _ refl;
     opened = λ link n own there e f. bounds-same most n _ (timed-for link c opening n.parts.timers).endings;
-    stepped = λ link input step n own e. bounds-same most n _ (timed-for link c step n.parts.timers).endings;
+    stepped = λ link input step n own e k. bounds-same most n _ (timed-for link c step n.parts.timers).endings;
     busied = λ link n own e f. bounds-same most n _ (timed_busy-for link c n.parts.timers).endings;
     resumed = λ link n own e f. bounds-same most n _ (timed_busy_ended-for link c (whole.outstanding n.queues link) n.parts.timers).endings;
     accepted = λ link d confirmed n own e f.

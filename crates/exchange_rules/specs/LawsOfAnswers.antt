@@ -1,17 +1,21 @@
 -- What answers mean: laws.
-use Rattle.std.specs.Prelude.{◌≡◌, ◌≤◌, ◌<◌, ◌++◌, ◌↔◌, ℕ, length, List, [], ◌∷◌, Option, Some}
+use Rattle.std.specs.Prelude.{◌≡◌, ◌≤◌, ◌<◌, ◌⊎◌, ◌++◌, ◌↔◌, ℕ, true, max, length, List, [], ◌∷◌, Option, Some}
 use Rattle.settings_rows.specs.Configuration.{Configuration}
-use Rattle.signalling_types.specs.Message.{Message, flow_of}
+use Rattle.signalling_types.specs.Message.{Message, dpc_of, flow_of}
 use Rattle.signalling_types.specs.declared.limits.TheConstants.Limits.{LINKS, WINDOW}
-use Rattle.signalling_types.specs.declared.outcome.Outcome.TheVariants.{Queued, Handled}
+use Rattle.signalling_types.specs.declared.outcome.Outcome.TheVariants.{Queued, Handled, Refused}
+use Rattle.signalling_types.specs.declared.cause.Cause.TheVariants.{NoRoute}
+use Rattle.settings.specs.Readings.{destination_place}
+use Rattle.timers.specs.declared.name.TimerName.TheVariants.{T8}
+use Rattle.timers.specs.Timers.{is_running}
 use Rattle.exchange_rules.specs.declared.wants.Wants.TheVariants.{Open}
 use Rattle.exchange_rules.specs.State.{Asking, CameUp, Node}
-use Rattle.exchange_rules.specs.Routing.{link_of}
+use Rattle.exchange_rules.specs.Routing.{link_of, set_of}
 use Rattle.exchange_rules.specs.Messages.{transfer}
 use Rattle.exchange_rules.specs.Queues.{WholeQueues, queue_at, whole}
 use Rattle.exchange_rules.specs.Exchange.{outcome_of, wants_of}
 use Rattle.exchange_rules.specs.First.{first_state}
-use Rattle.exchange_rules.specs.Lasting.{after_each}
+use Rattle.exchange_rules.specs.Lasting.{HasAllPlaces, after_each}
 
 -- a link wants to open exactly where its association would be taken, in each state that comes of the first
 abbrev pub wanted_links_open : Type 0
@@ -27,3 +31,17 @@ queued_stands_last =
     link < length node.queues.links → (transfer whole c from m node).outcome ≡ Queued link →
     (link_of c node.parts (flow_of m) ≡ Some link)
     × ((queue_at (transfer whole c from m node).left.queues link).all ≡ (queue_at node.queues link).all ++ m ∷ [])
+
+-- A message that came by a link finds no route. While T8 of the link's set and the destination runs, the point at the
+-- other end is told nothing; and where it is told, T8 runs from then on, as long as it is set to.
+pub record IsToldOnce (c : Configuration) (set destination : ℕ) (before after : Node WholeQueues) : Type 0 where
+  pub inhibited : is_running (T8 set destination) before.parts.timers ≡ true → after ≡ before
+  pub told : (after ≡ before) ⊎ (after.parts.timers.left (T8 set destination) ≡ Some (max 1 c.timers.t8))
+
+abbrev pub one_answer_within_t8 : Type 0
+one_answer_within_t8 =
+    (c : Configuration) (link destination : ℕ) (m : Message) (node : Node WholeQueues) → HasAllPlaces c node →
+    set_of c link < length c.sets → destination < length c.destinations →
+    destination_place c (dpc_of m) ≡ Some destination →
+    (transfer whole c (Some link) m node).outcome ≡ Refused NoRoute →
+    IsToldOnce c (set_of c link) destination node (transfer whole c (Some link) m node).left

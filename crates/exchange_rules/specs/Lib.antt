@@ -22,6 +22,10 @@ pub mod LastingLinks
 pub mod LastingHolds
 pub mod TickingAlone
 pub mod Touching
+pub mod Flagging
+pub mod TimerSettings
+pub mod Aligning
+pub mod Testing
 pub mod LastingMessages
 pub mod LastingRoutes
 pub mod LoneRoutes

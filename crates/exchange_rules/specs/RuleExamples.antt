@@ -1,5 +1,5 @@
 -- Laws of the exchange at nodes of one link, where wrong definitions make them false.
-use Rattle.std.specs.Prelude.{◌≡◌, Bool, true, false, List, [], ◌∷◌, None}
+use Rattle.std.specs.Prelude.{◌≡◌, Bool, true, false, List, [], ◌∷◌, None, Some}
 use Rattle.signalling_types.specs.Message.{Message}
 use Rattle.signalling_types.specs.declared.notice.FailureReason.TheVariants as reasons
 use Rattle.signalling_types.specs.declared.notice.Notice.TheVariants.{Failed}
@@ -8,19 +8,21 @@ use Rattle.settings_rows.specs.declared.timer_ticks.TimerTicks.{TimerTicks}
 use Rattle.link.specs.declared.alignment.Alignment.TheVariants.{InService}
 use Rattle.link.specs.Queue.{first_queue}
 use Rattle.routes.specs.declared.route.Route.{Route}
-use Rattle.routes.specs.declared.route.RouteStatus.TheVariants.{Allowed}
+use Rattle.routes.specs.declared.route.RouteStatus.TheVariants.{Allowed, Prohibited}
 use Rattle.node_links.specs.NodeLinks.{down_link}
-use Rattle.timers.specs.declared.name.TimerName.TheVariants.{T3}
-use Rattle.timers.specs.Timers.{is_running}
+use Rattle.timers.specs.declared.name.TimerName.TheVariants.{L6, T3, T4}
+use Rattle.timers.specs.Timers.{Running, is_running}
 use Rattle.routes.specs.Routes.{Facts, first_route}
 use Rattle.flow_hold.specs.declared.procedure.Procedure.TheVariants.{Changeover, Time}
 use Rattle.flow_hold.specs.Holds.{HoldSet, no_holds, holds, with_hold}
-use Rattle.exchange_rules.specs.State.{lost_any, Node, Noted, with_node, with_parts, flagged, made_since, noted, Happens, CameUp}
+use Rattle.exchange_rules.specs.State.{lost_any, late_any, Node, Noted, with_node, with_parts, flagged, made_since, noted, Happens, CameUp}
 use Rattle.exchange_rules.specs.Queues.{WholeQueues, queue_at, whole}
 use Rattle.exchange_rules.specs.First.{Abstract, first_parts, first_state}
 use Rattle.exchange_rules.specs.Routing.{waits}
 use Rattle.exchange_rules.specs.ChangingOver.{complete_if, fail}
-use Rattle.exchange_rules.specs.ChangingBack.{hold_flows}
+use Rattle.exchange_rules.specs.ChangingBack.{code_in_use, hold_flows}
+use Rattle.exchange_rules.specs.Rerouting.{forced}
+use Rattle.exchange_rules.specs.Timing.{timed_busy, timed_busy_ended}
 use Rattle.exchange_rules.specs.Exchange.{release}
 use Rattle.exchange_rules.specs.Lasting.{after_each}
 
@@ -95,6 +97,10 @@ with_flag = with_node booted (with_parts booted.node (flagged booted.node.parts)
 abbrev pub opening_leaves_the_flag : Type 0
 opening_leaves_the_flag = lost_any (after_each (Happens (CameUp 0) ∷ []) with_flag).node.parts ≡ true
 
+-- after forced rerouting no messages of a flow may have gone out of order
+abbrev pub forced_rerouting_leaves_the_flag : Type 0
+forced_rerouting_leaves_the_flag = late_any (forced settings 0 0 Prohibited booted.node.parts) ≡ false
+
 -- ---- notices
 
 -- the first notice is counted
@@ -156,3 +162,19 @@ return_holds_the_flow = holds returned.parts.holds (Time 0) 0 0 ≡ true
 -- so T3 runs
 abbrev pub return_has_its_timer : Type 0
 return_has_its_timer = is_running (T3 0) returned.parts.timers ≡ true
+
+-- ---- timers
+
+-- the peer of a link with nothing unconfirmed is busy, and then isn't any more: L6 stops
+abbrev pub busy_ends : Running
+busy_ends = timed_busy_ended settings 0 0 (timed_busy settings 0 booted.node.parts.timers)
+
+abbrev pub l6_ends_with_it : Type 0
+l6_ends_with_it = is_running (L6 0) busy_ends ≡ false
+
+-- T4 has a setting of its own
+abbrev pub with_longer_t4 : Configuration
+with_longer_t4 = record settings { timers = record ticks { t4 = 2 } }
+
+abbrev pub t4_runs_by_its_setting : Type 0
+t4_runs_by_its_setting = (code_in_use with_longer_t4 0 0 booted.node.parts).timers.left (T4 0 0) ≡ Some 2

@@ -22,10 +22,17 @@ ghost use Rattle.exchange_rules.specs.Lasting.{no_flag_at_first, losses_stay, la
 ghost use Rattle.exchange_rules.specs.Lasting.{notices_raise_flags, unreasonable_numbers_raise_it};
 ghost use Rattle.exchange_rules.specs.Lasting.{notices_made_are_counted, new_notices_are_the_last};
 ghost use Rattle.exchange_rules.specs.Lasting.{notices_keep_their_limits};
+ghost use Rattle.exchange_rules.specs.Flagging.{events_flag_for_a_reason, completions_flag_for_a_reason};
+ghost use Rattle.exchange_rules.specs.Flagging.{takes_flag_nothing};
+ghost use Rattle.exchange_rules.specs.TimerSettings.{events_set_timers_to_their_settings, timers_keep_their_settings};
+ghost use Rattle.exchange_rules.specs.TimerSettings.{takes_set_timers_to_their_settings};
+ghost use Rattle.exchange_rules.specs.Aligning.{links_have_their_timers};
+ghost use Rattle.exchange_rules.specs.Testing.{unsure_routes_are_tested, tests_are_repeated};
 ghost use Rattle.exchange_rules.specs.LawsOfFailures.{failures_hold_their_flows, failures_by_peer_hold_their_flows};
 ghost use Rattle.exchange_rules.specs.LawsOfFailures.{idle_failures_hold_nothing, idle_failures_by_peer_hold_nothing};
 ghost use Rattle.exchange_rules.specs.LawsOfReturns.{entries_hold_changed_flows, changed_flows_are_held};
 ghost use Rattle.exchange_rules.specs.LawsOfAnswers.{wanted_links_open, queued_stands_last};
+ghost use Rattle.exchange_rules.specs.LawsOfAnswers.{one_answer_within_t8};
 ghost use Rattle.exchange_rules.specs.LawsOfReturns.{returns_keep_holds};
 ghost use Rattle.exchange_rules.specs.LawsOfReturns.{flows_return_by_their_procedures, entries_are_returns};
 
@@ -69,6 +76,12 @@ pub fn links_open_where_they_want_to()
 /// stands there; only what the end of the event releases and tells may follow.
 pub fn queued_messages_stand_last()
     ensures { queued_stands_last }
+{}
+
+/// While T8 of a set and a destination runs, no message from the set that finds no route to the destination is answered
+/// with TFP; and where one is, T8 runs from then on, as long as it is set to (Q.704 §13.2).
+pub fn no_message_is_answered_while_t8_runs()
+    ensures { one_answer_within_t8 }
 {}
 
 /// The move of a completed changeover touches the queue of no other link. In Held the messages that it moves stand
@@ -146,6 +159,17 @@ pub fn flags_never_fall()
     ensures number { unreasonable_numbers_raise_it }
 {}
 
+/// Flags rise only for a reason. Of each lateness that an event counts a notice tells that it makes, and so it is of
+/// each loss, unless a changeover is under way: of a link that the event is about, of one whose changeover wasn't
+/// complete, or of one that fails. What completes it counts one loss more where it has no reasonable number, and else
+/// none. A take counts neither. So where no notice tells of either and no changeover is under way, both flags stay as
+/// they were.
+pub fn flags_rise_for_a_reason()
+    ensures event { events_flag_for_a_reason }
+    ensures completion { completions_flag_for_a_reason }
+    ensures take { takes_flag_nothing }
+{}
+
 /// Each link is steady, at first, and whatever happens and whatever is taken: its counts are in order, it is down while
 /// it has no association or its changeover isn't complete, and out of service messages stand in its queue only until
 /// its changeover is complete. L7 of it runs exactly while it is in service, its peer isn't busy, and something that
@@ -156,6 +180,14 @@ pub fn links_stay_steady()
     ensures watched { l7_watches }
 {}
 
+/// Each link has the timer of its state, whatever happens and whatever is taken. L2 runs just while it isn't aligned,
+/// L3 while it is, L4 while it is proved, and L1 while it is ready and its peer isn't; and L6 while it is in service
+/// and its peer is busy. So no link waits without a timer on its way into service, and none fails by a timer of another
+/// state.
+pub fn links_have_the_timers_of_their_states()
+    ensures { links_have_their_timers }
+{}
+
 /// Every hold has its timer or its word, whatever happens and whatever is taken. The changeover that holds a flow isn't
 /// complete; T4 of a code that holds one runs, T3 of a link that holds one by time, and T6 of a destination whose flows
 /// are rerouted. While a changeover isn't complete T1 runs, or the answer to its order is awaited; and while that is
@@ -163,6 +195,15 @@ pub fn links_stay_steady()
 pub fn every_hold_has_its_timer_or_its_word()
     ensures stays { holds_stay_timed }
     ensures always { every_hold_has_its_timer_or_its_word }
+{}
+
+/// Each timer is set to the ticks that the settings give it, whatever happens and whatever is taken: after an event or
+/// a take it has as many left as before, or as many as it is set to, or it doesn't run. A tick takes one from each
+/// first. So none ever has more left than its own setting.
+pub fn timers_are_set_to_their_settings()
+    ensures event { events_set_timers_to_their_settings }
+    ensures take { takes_set_timers_to_their_settings }
+    ensures always { timers_keep_their_settings }
 {}
 
 /// So where nothing but ticks happens, all holds end, from each state that comes of the first: after as many ticks as the
@@ -197,6 +238,14 @@ pub fn messages_for_this_point_are_never_queued()
 /// whatever is taken: what such a point says of itself changes nothing.
 pub fn routes_to_adjacent_points_stay_allowed()
     ensures { own_routes_stay_allowed }
+{}
+
+/// Each route that isn't allowed, over a set with a link in service, is tested, whatever happens and whatever is taken:
+/// its T10 runs. When T10 of such a route runs out, the test for its status goes to the adjacent point, and T10 runs
+/// again (Q.704 §13.5).
+pub fn unsure_routes_are_tested_again_and_again()
+    ensures always { unsure_routes_are_tested }
+    ensures again { tests_are_repeated }
 {}
 
 /// Where the links of one set lead to a point, and no other set leads there, that stays so whatever happens and whatever

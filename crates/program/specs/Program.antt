@@ -24,7 +24,8 @@ use Rattle.script.specs.declared.fault.ScriptFault.{ScriptFault}
 use Rattle.script.specs.declared.fault.ScriptFault.TheVariants as fault
 use Rattle.program.specs.declared.program.Status.{Status}
 use Rattle.program.specs.declared.program.Status.TheVariants as status
-use Rattle.command_line.specs.Words.{Task, BuiltInRun, FileRun, FileCheck, LabRun, DatagramLabRun, FileServe, OtherWords, are_plain, asked}
+use Rattle.command_line.specs.Words.{Task, BuiltInRun, FileRun, FileCheck, LabRun, DatagramLabRun, FileServe}
+use Rattle.command_line.specs.Words.{Help, Version, OtherWords, asked, take_memory}
 
 -- the streams of a program: its input, its output, and its standard error
 pub record Streams : Type 0 where
@@ -60,11 +61,15 @@ told fault = fault_line fault ++ codes "\n"
 abbrev pub told_server : ServeFault → List ℕ
 told_server fault = server.fault_line fault ++ codes "\n"
 
--- a last line was written, and the program ends so; or its write failed
+-- the name and the version of the program, as they are printed
+abbrev pub version_line : List ℕ
+version_line = codes "stp 0.1.0\n"
+
+-- last lines were written, and the program ends so; or its write failed
 abbrev pub EndsWith : Status → List ℕ → Output → Output → Status → Type 0
-EndsWith wanted line output output_new ended =
-    ((ended ≡ wanted) × Appends output.written output_new.written line × (output_new.failures ≡ output.failures))
-    ⊎ ((ended ≡ status.Stream) × AppendsFirst output.written output_new.written line
+EndsWith wanted lines output output_new ended =
+    ((ended ≡ wanted) × Appends output.written output_new.written lines × (output_new.failures ≡ output.failures))
+    ⊎ ((ended ≡ status.Stream) × AppendsFirst output.written output_new.written lines
     × (output_new.failures ≡ counted output.failures))
 
 -- the script ran from the first state of a node with these settings, and the program ends by how it ended, which
@@ -77,11 +82,14 @@ RunsScript settings old new ended =
     × Counts script old.input new.input old.output new.output × (ended ≡ status_after script)
     × IsEndExplained script old.errors new.errors
 
--- memory ran out before the script: nothing of it is read, and standard error is told nothing
+-- these lines are all that the program prints: nothing of the script is read, and standard error is told nothing
+abbrev pub OnlyPrints : Status → List ℕ → Streams → Streams → Status → Type 0
+OnlyPrints wanted lines old new ended =
+    EndsWith wanted lines old.output new.output ended × (new.input ≡ old.input) × (new.errors ≡ old.errors)
+
+-- memory ran out before the script
 abbrev pub HasNoMemory : Streams → Streams → Status → Type 0
-HasNoMemory old new ended =
-    EndsWith status.Start (told no_memory) old.output new.output ended × (new.input ≡ old.input)
-    × (new.errors ≡ old.errors)
+HasNoMemory old new ended = OnlyPrints status.Start (told no_memory) old new ended
 
 -- no text explains a fault of the built-in settings
 abbrev pub NoText : SettingsFault → List ℕ → Type 0
@@ -212,11 +220,13 @@ DoesTask (DatagramLabRun near far) reads old new ended = RunsLab near far reads 
 DoesTask (FileServe file) reads old new ended =
     (read : FileRead) × reads file read
     × ServesFile file read old.output new.output old.errors new.errors ended × (new.input ≡ old.input)
+DoesTask Help reads old new ended = OnlyPrints status.Done usage_text old new ended
+DoesTask Version reads old new ended = OnlyPrints status.Done version_line old new ended
 DoesTask OtherWords reads old new ended =
     EndsWith status.Usage (codes "usage\n") old.output new.output ended × (new.input ≡ old.input)
     × IsTold usage_text old.errors new.errors
 
--- what the program does for its words: what they ask for, or memory runs out for them, where they are plain
+-- what the program does for its words: what they ask for, or memory runs out for them, where they take any
 abbrev pub Does : List (String Global) → (List ℕ → FileRead → Type 0) → Streams → Streams → Status → Type 0
 Does words reads old new ended =
-    DoesTask (asked words) reads old new ended ⊎ ((are_plain words ≡ true) × HasNoMemory old new ended)
+    DoesTask (asked words) reads old new ended ⊎ ((take_memory words ≡ true) × HasNoMemory old new ended)

@@ -5,9 +5,9 @@ ghost use Rattle.std.specs.IoError.{error_kind};
 ghost use Rattle.settings_file.specs.Faults.{no_memory};
 ghost use Rattle.serve_settings.specs.Sentences as server;
 ghost use Rattle.program.specs.Explaining.{IsTold, IsToldOf, IsFaultExplained, usage_text};
-ghost use Rattle.program.specs.Program.{told, told_server, EndsWith};
+ghost use Rattle.program.specs.Program.{told, told_server, version_line, EndsWith};
 
-use crate::explaining::{explain_fault, explain_no_document, explain_server, explain_words};
+use crate::explaining::{USAGE, explain_fault, explain_no_document, explain_server, explain_words};
 use crate::program::Status;
 use script::Sink;
 use serve_settings::ServeFault;
@@ -15,6 +15,9 @@ use settings_file::SettingsFault;
 use std::alloc::{AllocError, Global};
 use std::io::{Error, ErrorKind};
 use toml::Table;
+
+/// The program's name and version, as `stp --version` prints them.
+const VERSION_LINE: &[u8] = b"stp 0.1.0\n";
 
 /// Refuses words that couldn't be read: they aren't the program's, unless memory ran out.
 pub fn refuse_words<W: Sink, E: Sink>(error: &Error, writer: &mut W, errors: &mut E) -> Status
@@ -40,11 +43,25 @@ pub(crate) fn tell_usage<W: Sink, E: Sink>(writer: &mut W, errors: &mut E) -> St
     end_with(Status::Usage, b"usage\n", writer)
 }
 
-/// Prints a line, and ends with this status; or with that of a failed write.
-pub(crate) fn end_with<W: Sink>(status: Status, line: &[u8], writer: &mut W) -> Status
-    ensures { EndsWith status line.now (W.output writer.old) (W.output writer.new) result }
+/// Prints the words of the program, and their meaning.
+pub(crate) fn tell_help<W: Sink>(writer: &mut W) -> Status
+    ensures { EndsWith Status.Done usage_text (W.output writer.old) (W.output writer.new) result }
 {
-    match writer.write(line) {
+    end_with(Status::Done, USAGE, writer)
+}
+
+/// Prints the version of the program.
+pub(crate) fn tell_version<W: Sink>(writer: &mut W) -> Status
+    ensures { EndsWith Status.Done version_line (W.output writer.old) (W.output writer.new) result }
+{
+    end_with(Status::Done, VERSION_LINE, writer)
+}
+
+/// Prints these lines, and ends with this status; or with that of a failed write.
+pub(crate) fn end_with<W: Sink>(status: Status, lines: &[u8], writer: &mut W) -> Status
+    ensures { EndsWith status lines.now (W.output writer.old) (W.output writer.new) result }
+{
+    match writer.write(lines) {
         Ok(()) => status,
         Err(_) => Status::Stream,
     }

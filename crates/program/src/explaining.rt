@@ -16,14 +16,17 @@ use std::alloc::{AllocError, Global};
 use toml::Table;
 
 /// The words of the program, and their meaning.
-const USAGE: &[u8] = b"\
+pub(crate) const USAGE: &[u8] = b"\
 stp run               runs the script on standard input, with the built-in settings
 stp run FILE          runs it with the settings in FILE
 stp check FILE        prints ok, or the first fault of the settings in FILE
 stp lab NEAR FAR      runs the lab script on standard input, on two nodes that it joins
 stp lab-udp NEAR FAR  runs it on two nodes that it joins by SCTP in UDP
 stp serve FILE        serves a node on the network, with the settings in FILE
+stp help              prints these lines
+stp version           prints the version
 The lines of a script, the settings and the exit statuses are in docs/MANUAL.md.
+README.md is the introduction, and lists the other pages in docs/.
 ";
 
 /// Tells a text. Where that fails, nothing more can be told.

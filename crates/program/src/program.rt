@@ -11,7 +11,9 @@ ghost use Rattle.program.specs.Folders.{FileRead};
 ghost use Rattle.settings_file.specs.Faults.{no_memory};
 ghost use Rattle.program.specs.Program.{status_number, status_after, streams, NoText, RunsScript, HasNoMemory, RunsNode, RunsFile, ChecksServer, ChecksFile, Does};
 
-use crate::ending::{end_with, tell_no_memory, tell_server_fault, tell_usage};
+use crate::ending::{
+    end_with, tell_help, tell_no_memory, tell_server_fault, tell_usage, tell_version,
+};
 use crate::explaining::explain_end;
 use crate::folder::Folder;
 use crate::serving::serve_file;
@@ -84,6 +86,8 @@ pub fn run_program<F: Folder, J: Joiner, R: Source, W: Sink, E: Sink>(
             run_files(alloc, folder, files, medium, reader, writer, errors)
         }
         Words::Serve(file) => serve_file(rt, folder, file.as_str(), writer, errors),
+        Words::Help => tell_help(writer),
+        Words::Version => tell_version(writer),
         Words::Usage => tell_usage(writer, errors),
         Words::NoMemory => tell_no_memory(writer),
     }

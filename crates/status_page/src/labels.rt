@@ -10,7 +10,7 @@ use served_link::Counter;
 use signalling_types::Limits;
 
 /// The version of the program, as the pages show it.
-pub const VERSION: &str = "0.1";
+pub const VERSION: &str = "0.1.0";
 
 /// Octets of a sample's labels, at most.
 pub const LABELS_OCTETS: usize = 64;

@@ -1,0 +1,121 @@
+-- Timers are set to as many ticks as the settings give them.
+use Rattle.exchange_rules.proofs.Basics.{◌≡◌, ◌≢◌, ◌⊎◌, inl, inr, ℕ, Bool, true, false, Option, Some, None, refl, ap, sym, ◌∙◌, subst, max, ⊎_elim, nat_eq, if◌then◌else◌}
+use Rattle.exchange_rules.proofs.Definitions.{Configuration, LinkTimer, Transition, TimerName, L7, NodeCounts, Running, has_name, is_of_set, is_running, set_timer, start_unless_running, clear_timer, clear_set, left-set, left-set_other, left-clear, left-clear_other, left-clear_set_other, counts-set, timer_name, ticks_of, without_timer, without_timers, with_timer, without_timer_if, with_timer_if, timed, timed_sending, timed_confirming, timed_busy, timed_busy_ended}
+use Rattle.timers.proofs.Maps.{left-clear_set}
+use Rattle.timers.specs.Timers.{is_same}
+use Rattle.timers.proofs.Same.{same_is, is_itself}
+use Rattle.timers.specs.declared.name.RouteTimer.{RouteTimer}
+use Rattle.link.specs.declared.action.LinkTimer.TheVariants as timer
+use Rattle.exchange_rules.specs.TimerSettings.{setting_of, RunsBy}
+
+pub cases-name : (one other : TimerName) → (one ≡ other) ⊎ (one ≢ other)
+cases-name one other = by (is_same one other) refl
+  where
+    by : (b : Bool) → is_same one other ≡ b → (one ≡ other) ⊎ (one ≢ other)
+    by true e = inl (same_is one other e)
+    by false e = inr (λ it. (let no : false ≡ true = sym e ∙ ap (λ (x : TimerName). is_same x other) it ∙ is_itself other in cc))
+
+-- ---- one timer
+
+pub runs-both : (setting : ℕ) (x y z : Option ℕ) → RunsBy setting x y → RunsBy setting y z → RunsBy setting x z
+runs-both setting x y z e (inl f) = by e
+  where
+    by : RunsBy setting x y → RunsBy setting x z
+    by (inl g) = inl (f ∙ g)
+    by (inr (inl g)) = inr (inl (f ∙ g))
+    by (inr (inr g)) = inr (inr (f ∙ g))
+runs-both setting x y z e (inr f) = inr f
+
+-- ---- all of them
+
+pub record AreSet (c : Configuration) (r s : Running) : Type 0 where
+  pub each : (its : TimerName) → RunsBy (setting_of c.timers its) (r.left its) (s.left its)
+
+module _ (c : Configuration) where
+  pub same-set : (r s : Running) → s ≡ r → AreSet c r s
+  same-set r s e = record { each = λ its. inl (ap (λ (x : Running). x.left its) e) }
+
+  pub both-set : (r s t : Running) → AreSet c r s → AreSet c s t → AreSet c r t
+  both-set r s t e f = record { each = λ its. runs-both _ _ _ _ (e.each its) (f.each its) }
+
+  pub either-set : (b : Bool) (r s t : Running) → AreSet c r s → AreSet c r t → AreSet c r (if b then s else t)
+  either-set true r s t e f = e
+  either-set false r s t e f = f
+
+  -- one is set, if there is one of its name
+  pub set-set : (its : TimerName) (ticks : ℕ) (r : Running) → ticks ≡ setting_of c.timers its → AreSet c r (set_timer its ticks r)
+  set-set its ticks r e = record { each = λ other. ⊎_elim (same other) (λ (apart : its ≢ other). inl (left-set_other its other ticks r apart)) (cases-name its other) }
+    where
+      there : (has : Bool) → has_name r.counts its ≡ has → RunsBy (setting_of c.timers its) (r.left its) ((set_timer its ticks r).left its)
+      there true h = inr (inl (left-set its ticks r h ∙ ap (λ (n : ℕ). Some (max 1 n)) e))
+      there false h = inr (inr ((set_timer its ticks r).only its (ap (λ (n : NodeCounts). has_name n its) (counts-set its ticks r) ∙ h)))
+
+      same : (other : TimerName) → its ≡ other → RunsBy (setting_of c.timers other) (r.left other) ((set_timer its ticks r).left other)
+      same other f = subst (λ (x : TimerName). RunsBy (setting_of c.timers x) (r.left x) ((set_timer its ticks r).left x)) f (there (has_name r.counts its) refl)
+
+  pub clear-set : (its : TimerName) (r : Running) → AreSet c r (clear_timer its r)
+  clear-set its r = record {
+    each = λ other. ⊎_elim
+        (λ (f : its ≡ other). inr (inr (ap (λ (x : TimerName). (clear_timer its r).left x) (sym f) ∙ left-clear its r)))
+        (λ (apart : its ≢ other). inl (left-clear_other its other r apart))
+        (cases-name its other);
+  }
+
+  pub clear_set-set : (of : RouteTimer) (set : ℕ) (r : Running) → AreSet c r (clear_set of set r)
+  clear_set-set of set r = record { each = λ other. by other (is_of_set of set other) refl }
+    where
+      by : (other : TimerName) (b : Bool) → is_of_set of set other ≡ b → RunsBy (setting_of c.timers other) (r.left other) ((clear_set of set r).left other)
+      by other true e = inr (inr (left-clear_set of set other r e))
+      by other false e = inl (left-clear_set_other of set other r e)
+
+  -- ---- those of a link
+
+  ticks-own : (link : ℕ) (its : LinkTimer) → ticks_of c.timers its ≡ setting_of c.timers (timer_name link its)
+  ticks-own link timer.L1 = refl
+  ticks-own link timer.L2 = refl
+  ticks-own link timer.L3 = refl
+  ticks-own link timer.L4 = refl
+  ticks-own link timer.L6 = refl
+  ticks-own link timer.L7 = refl
+
+  with_timer-set : (link : ℕ) (its : LinkTimer) (r : Running) → AreSet c r (with_timer c link its r)
+  with_timer-set link its r = set-set (timer_name link its) (ticks_of c.timers its) r (ticks-own link its)
+
+  without_timer-set : (link : ℕ) (its : LinkTimer) (r : Running) → AreSet c r (without_timer link its r)
+  without_timer-set link its r = clear-set (timer_name link its) r
+
+  pub without_timers-set : (link : ℕ) (r : Running) → AreSet c r (without_timers link r)
+  without_timers-set link r =
+      both-set _ _ _ (both-set _ _ _ (both-set _ _ _ (both-set _ _ _ (both-set _ _ _ (without_timer-set link timer.L1 r) (without_timer-set link timer.L2 _)) (without_timer-set link timer.L3 _))
+      (without_timer-set link timer.L4 _)) (without_timer-set link timer.L6 _)) (without_timer-set link timer.L7 _)
+
+  stops-set : (link : ℕ) (its : Option LinkTimer) (r : Running) → AreSet c r (without_timer_if link its r)
+  stops-set link None r = same-set r r refl
+  stops-set link (Some its) r = without_timer-set link its r
+
+  starts-set : (link : ℕ) (its : Option LinkTimer) (r : Running) → AreSet c r (with_timer_if c link its r)
+  starts-set link None r = same-set r r refl
+  starts-set link (Some its) r = with_timer-set link its r
+
+  pub timed-set : (link : ℕ) (step : Transition) (r : Running) → AreSet c r (timed c link step r)
+  timed-set link step r = both-set _ _ _ (stops-set link step.stop r) (starts-set link step.start (without_timer_if link step.stop r))
+
+  pub timed_sending-set : (link : ℕ) (r : Running) → AreSet c r (timed_sending c link r)
+  unfolding start_unless_running
+  timed_sending-set link r = either-set (is_running (L7 link) r) r r (with_timer c link timer.L7 r) (same-set r r refl) (with_timer-set link timer.L7 r)
+
+  pub timed_confirming-set : (link : ℕ) (busy : Bool) (confirmed outstanding : ℕ) (r : Running) → AreSet c r (timed_confirming c link busy confirmed outstanding r)
+  timed_confirming-set link busy confirmed outstanding r =
+      let anew : Running = with_timer c link timer.L7 r in
+      either-set (nat_eq confirmed 0) r r (if nat_eq outstanding 0 then without_timer link timer.L7 r else if busy then r else anew) (same-set r r refl)
+      (either-set (nat_eq outstanding 0) r (without_timer link timer.L7 r) (if busy then r else anew) (without_timer-set link timer.L7 r)
+      (either-set busy r r anew (same-set r r refl) (with_timer-set link timer.L7 r)))
+
+  pub timed_busy-set : (link : ℕ) (r : Running) → AreSet c r (timed_busy c link r)
+  timed_busy-set link r = both-set _ _ _ (without_timer-set link timer.L7 r) (with_timer-set link timer.L6 (without_timer link timer.L7 r))
+
+  pub timed_busy_ended-set : (link outstanding : ℕ) (r : Running) → AreSet c r (timed_busy_ended c link outstanding r)
+  timed_busy_ended-set link outstanding r =
+      let stopped : Running = without_timer link timer.L6 r in
+      either-set (nat_eq outstanding 0) r stopped (with_timer c link timer.L7 stopped) (without_timer-set link timer.L6 r)
+      (both-set _ _ _ (without_timer-set link timer.L6 r) (with_timer-set link timer.L7 stopped))

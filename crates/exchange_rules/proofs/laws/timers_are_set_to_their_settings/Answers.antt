@@ -1,0 +1,11 @@
+use Rattle.exchange_rules.proofs.SettingTimers.{events-set, takes-set, timers-keep}
+use Rattle.exchange_rules.proofs.laws.timers_are_set_to_their_settings.Goals as goal
+
+pub returns-clause-event : goal.returns-clause-event
+returns-clause-event c = events-set
+
+pub returns-clause-take : goal.returns-clause-take
+returns-clause-take c = takes-set
+
+pub returns-clause-always : goal.returns-clause-always
+returns-clause-always c = timers-keep

@@ -1,0 +1,52 @@
+-- Each link has the timer of its state, over every event and every take: laws (Q.703 §7, §12.3).
+use Rattle.std.specs.Prelude.{◌≡◌, ◌≤◌, ◌&&◌, ◌==◌, ℕ, Bool, true, false, length, List, Option, Some, None}
+use Rattle.settings_rows.specs.Configuration.{Configuration}
+use Rattle.signalling_types.specs.declared.limits.TheConstants.Limits.{LINKS}
+use Rattle.link.specs.declared.alignment.Alignment.{Alignment}
+use Rattle.link.specs.declared.alignment.Alignment.TheVariants.{Down, NotAligned, Aligned, Proving, AlignedReady, InService}
+use Rattle.link.specs.declared.action.LinkTimer.{LinkTimer}
+use Rattle.link.specs.declared.action.LinkTimer.TheVariants.{L1, L2, L3, L4, L6, L7}
+use Rattle.link.specs.Table.{timer_number}
+use Rattle.timers.specs.Timers.{Running, is_running}
+use Rattle.node_links.specs.NodeLinks.{Link, is_in_service}
+use Rattle.exchange_rules.specs.State.{Asking, link_at}
+use Rattle.exchange_rules.specs.Timing.{timer_name}
+use Rattle.exchange_rules.specs.Lasting.{after_each}
+use Rattle.exchange_rules.specs.First.{first_state}
+
+-- the timer with which a link waits in a state: L2 for its peer to align, L3 to be proved, L4 while it is, and L1 for
+-- its peer to be ready
+abbrev pub waiting_in : Alignment → Option LinkTimer
+waiting_in Down = None
+waiting_in NotAligned = Some L2
+waiting_in Aligned = Some L3
+waiting_in (Proving ready) = Some L4
+waiting_in AlignedReady = Some L1
+waiting_in InService = None
+
+abbrev pub is_that : Option LinkTimer → LinkTimer → Bool
+is_that None timer = false
+is_that (Some other) timer = timer_number other == timer_number timer
+
+-- whether a link waits with a timer: L6 and L7 are those of a link in service
+abbrev pub is_of_waits : LinkTimer → Bool
+is_of_waits L1 = true
+is_of_waits L2 = true
+is_of_waits L3 = true
+is_of_waits L4 = true
+is_of_waits L6 = false
+is_of_waits L7 = false
+
+-- Of the timers with which links wait, just that of a link's state runs; and L6 runs just while the link is in service
+-- and its peer is busy.
+pub record HasItsTimer (link : ℕ) (l : Link) (r : Running) : Type 0 where
+  pub waits : (timer : LinkTimer) → is_of_waits timer ≡ true →
+      is_running (timer_name link timer) r ≡ is_that (waiting_in l.alignment) timer
+  pub busy : is_running (timer_name link L6) r ≡ (is_in_service l.alignment && l.peer_busy)
+
+-- so it is in each state that comes of the first
+abbrev pub links_have_their_timers : Type 0
+links_have_their_timers =
+    (c : Configuration) (asked : List Asking) (link : ℕ) → length c.links ≤ LINKS →
+    HasItsTimer link (link_at (after_each asked (first_state c)).node.parts link)
+    (after_each asked (first_state c)).node.parts.timers

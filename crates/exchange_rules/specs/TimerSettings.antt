@@ -1,0 +1,64 @@
+-- Timers are set to their settings: laws.
+use Rattle.std.specs.Prelude.{◌≡◌, ◌≤◌, ◌⊎◌, ℕ, max, List, Option, Some, None}
+use Rattle.settings_rows.specs.Configuration.{Configuration}
+use Rattle.settings_rows.specs.declared.timer_ticks.TimerTicks.{TimerTicks}
+use Rattle.timers.specs.declared.name.TimerName.{TimerName}
+use Rattle.timers.specs.declared.name.TimerName.TheVariants.{L1, L2, L3, L4, L6, L7, T1, T2, T3, T4, T6, T8, T10}
+use Rattle.timers.specs.Timers.{one_less}
+use Rattle.exchange_rules.specs.State.{Asking, Happening, CameUp, WentDown, FrameCame, Ticked, Submitted, Activated, Deactivated, TitleAdded, TitleRemoved}
+use Rattle.exchange_rules.specs.Queues.{whole}
+use Rattle.exchange_rules.specs.Exchange.{after, taken}
+use Rattle.exchange_rules.specs.First.{Abstract, first_state}
+use Rattle.exchange_rules.specs.Lasting.{after_each}
+
+-- how many ticks the settings give each timer
+abbrev pub setting_of : TimerTicks → TimerName → ℕ
+setting_of ticks (L1 link) = ticks.l1
+setting_of ticks (L2 link) = ticks.l2
+setting_of ticks (L3 link) = ticks.l3
+setting_of ticks (L4 link) = ticks.l4
+setting_of ticks (L6 link) = ticks.l6
+setting_of ticks (L7 link) = ticks.l7
+setting_of ticks (T1 link) = ticks.t1
+setting_of ticks (T2 link) = ticks.t2
+setting_of ticks (T3 link) = ticks.t3
+setting_of ticks (T4 set code) = ticks.t4
+setting_of ticks (T6 destination) = ticks.t6
+setting_of ticks (T8 set destination) = ticks.t8
+setting_of ticks (T10 set destination) = ticks.t10
+
+-- a timer has as many ticks left as before, or it was set to as many as the settings give it, or it doesn't run
+abbrev pub RunsBy : (setting : ℕ) → (before after : Option ℕ) → Type 0
+RunsBy setting before after = (after ≡ before) ⊎ ((after ≡ Some (max 1 setting)) ⊎ (after ≡ None))
+
+-- the ticks left to a timer as an event begins: a tick takes one from each
+abbrev pub left_by : Happening → Option ℕ → Option ℕ
+left_by Ticked left = one_less left
+left_by (CameUp link) left = left
+left_by (WentDown link) left = left
+left_by (FrameCame link text) left = left
+left_by (Submitted message) left = left
+left_by (Activated link) left = left
+left_by (Deactivated link) left = left
+left_by (TitleAdded row is_memory_refused) left = left
+left_by (TitleRemoved key digits) left = left
+
+-- so it is over each event and each take
+abbrev pub events_set_timers_to_their_settings : Type 0
+events_set_timers_to_their_settings =
+    (what : Happening) (a : Abstract) (timer : TimerName) →
+    RunsBy (setting_of a.settings.timers timer) (left_by what (a.node.parts.timers.left timer))
+    ((after whole what a).node.parts.timers.left timer)
+
+abbrev pub takes_set_timers_to_their_settings : Type 0
+takes_set_timers_to_their_settings =
+    (a : Abstract) (link : ℕ) (timer : TimerName) →
+    RunsBy (setting_of a.settings.timers timer) (a.node.parts.timers.left timer)
+    ((taken whole a link).node.parts.timers.left timer)
+
+-- so in each state that comes of the first no timer has more ticks left
+abbrev pub timers_keep_their_settings : Type 0
+timers_keep_their_settings =
+    (c : Configuration) (asked : List Asking) (timer : TimerName) (left : ℕ) →
+    (after_each asked (first_state c)).node.parts.timers.left timer ≡ Some left →
+    left ≤ max 1 (setting_of c.timers timer)
