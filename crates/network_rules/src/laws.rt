@@ -15,9 +15,9 @@ pub fn each_set_is_a_pair_of_neighbours()
 {}
 
 /// What the guard of neighbours asks holds by itself: the frame that comes next to one of the two by a link that leads
-/// elsewhere carries no management (SI 0) of one of them for the other. A node makes management in its own name alone,
-/// and sends it to an adjacent point on links of the set that leads there; and it passes on what it hears, which nobody
-/// else can have made.
+/// elsewhere carries no management (SI 0) of one of them for the other. A node passes on whatever is for another point,
+/// management too; but it makes management in its own name alone, and that of one of the two for the other goes out on
+/// links of their set.
 pub fn nobody_speaks_for_another()
     ensures { nobody_speaks_for_another }
 {}
