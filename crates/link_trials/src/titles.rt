@@ -15,7 +15,7 @@ const DIGIT: u8 = 7;
 
 /// The step in which the operator of an end removes the row where it is there, and else adds it, leading to this point.
 /// None if there is no such point.
-pub(crate) fn title_step(end: End, is_there: bool, point: u16) -> Option<Step> {
+pub fn title_step(end: End, is_there: bool, point: u16) -> Option<Step> {
     if is_there {
         Some(Step::RemoveTitle(end, KEY, digits()))
     } else {

@@ -12,12 +12,12 @@ const SCCP_SIO: u8 = 0x83;
 const NUMBER_OCTETS: usize = 2;
 
 /// How many flows there are to a point: one for each signalling link selection.
-pub(crate) const FLOWS: u8 = Limits::SELECTIONS as u8;
+pub const FLOWS: u8 = Limits::SELECTIONS as u8;
 
 /// What no two messages that a node accepted have in common: their flow, and their number in it. The accepted messages
 /// of a flow have the numbers 1, 2, 3 and so on.
 #[derive(Clone, Copy, PartialEq, Eq)]
-pub(crate) struct Mark {
+pub struct Mark {
     /// The flow: the signalling link selection (Q.704 §2.2.4).
     pub flow: u8,
     /// The number.
@@ -25,7 +25,7 @@ pub(crate) struct Mark {
 }
 
 /// The message of a mark, from a point to another: two octets behind the label have its number.
-pub(crate) fn message_of(mark: Mark, own: u16, adjacent: u16) -> Option<Msu> {
+pub fn message_of(mark: Mark, own: u16, adjacent: u16) -> Option<Msu> {
     // The point that a message says it comes from isn't checked: on every other flow it is the far one.
     let origin = if mark.flow % 2 == 0 { own } else { adjacent };
     let label = Label {
@@ -38,9 +38,10 @@ pub(crate) fn message_of(mark: Mark, own: u16, adjacent: u16) -> Option<Msu> {
     Msu::new(SIO, &[a, b, c, d, high, low]).ok()
 }
 
-/// The UDT of a mark, which a user part hands over for its own point: its called address is by a title whose first digit
-/// is 7, its calling one by subsystem number, it asks for a return on error, and its data is the number (Q.713 §4.10).
-pub(crate) fn unitdata_of(mark: Mark, own: u16) -> Option<Msu> {
+/// The UDT of a mark, which a user part hands over for its own point: its called address is by a title whose first
+/// digit is 7, its calling one by subsystem number, it asks for a return on error, and its data is the number (Q.713
+/// §4.10).
+pub fn unitdata_of(mark: Mark, own: u16) -> Option<Msu> {
     let label = Label {
         dpc: PointCode::new(own)?,
         opc: PointCode::new(own)?,
@@ -58,7 +59,7 @@ pub(crate) fn unitdata_of(mark: Mark, own: u16) -> Option<Msu> {
 }
 
 /// The mark of a message: its last two octets have the number.
-pub(crate) fn mark_of(message: &Msu) -> Option<Mark> {
+pub fn mark_of(message: &Msu) -> Option<Mark> {
     let label = Label::read(message.sif())?;
     let place = message.sif().len().checked_sub(NUMBER_OCTETS)?;
     let number = message.sif().get(place..)?;
@@ -69,12 +70,12 @@ pub(crate) fn mark_of(message: &Msu) -> Option<Mark> {
 }
 
 /// The place of a mark where all stand by their numbers, and by their flows.
-pub(crate) fn place_of(mark: Mark) -> usize {
+pub fn place_of(mark: Mark) -> usize {
     mark.number as usize * FLOWS as usize + mark.flow as usize
 }
 
 /// How many of these marks are of a flow.
-pub(crate) fn count_of_flow(flow: u8, marks: &[Mark]) -> u16 {
+pub fn count_of_flow(flow: u8, marks: &[Mark]) -> u16 {
     let mut count = 0u16;
     for mark in marks {
         if mark.flow == flow {
@@ -85,7 +86,7 @@ pub(crate) fn count_of_flow(flow: u8, marks: &[Mark]) -> u16 {
 }
 
 /// How many of these marks are this one.
-pub(crate) fn count_of(mark: Mark, marks: &[Mark]) -> usize {
+pub fn count_of(mark: Mark, marks: &[Mark]) -> usize {
     let mut count = 0usize;
     for other in marks {
         if *other == mark {
@@ -96,7 +97,7 @@ pub(crate) fn count_of(mark: Mark, marks: &[Mark]) -> usize {
 }
 
 /// How many of these messages have this mark.
-pub(crate) fn count_received(mark: Mark, messages: &[Msu]) -> usize {
+pub fn count_received(mark: Mark, messages: &[Msu]) -> usize {
     let mut count = 0usize;
     for message in messages {
         if mark_of(message) == Some(mark) {
@@ -107,7 +108,7 @@ pub(crate) fn count_received(mark: Mark, messages: &[Msu]) -> usize {
 }
 
 /// Whether the numbers of a flow are 1, 2, 3 and so on.
-pub(crate) fn counts_up(flow: u8, marks: &[Mark]) -> bool {
+pub fn counts_up(flow: u8, marks: &[Mark]) -> bool {
     let mut last = 0u16;
     for mark in marks {
         if mark.flow == flow {

@@ -6,10 +6,10 @@ use exchange::LinkId;
 use pair_world::End;
 
 /// So many rounds at most carry what is left.
-const MOST_ROUNDS: usize = 200;
+pub const MOST_ROUNDS: usize = 200;
 
 /// So many ticks pass while a link is proved.
-const PROVING_TICKS: u8 = 3;
+pub const PROVING_TICKS: u8 = 3;
 
 /// So often the ticks between two rounds pass until T1 has run out, during which a link alone may not open again.
 const T1_PASSES: usize = 4;
@@ -19,7 +19,7 @@ const STATUSES: usize = 4;
 
 /// How many ticks pass at each end between two rounds.
 #[derive(Clone, Copy)]
-pub(crate) struct Clock {
+pub struct Clock {
     /// At the first end.
     pub one: u8,
     /// At the second end.
@@ -28,10 +28,10 @@ pub(crate) struct Clock {
 
 impl Clock {
     /// No tick passes.
-    pub(crate) const STILL: Clock = Clock { one: 0, two: 0 };
+    pub const STILL: Clock = Clock { one: 0, two: 0 };
 
     /// The ticks between two rounds pass.
-    pub(crate) fn pass(self, world: &mut World) {
+    pub fn pass(self, world: &mut World) {
         world.tick(End::One, self.one);
         world.tick(End::Two, self.two);
     }
@@ -39,12 +39,12 @@ impl Clock {
 
 /// How many steps a round has over so many links, at most 63: for each end and each link, a frame is taken, and then
 /// delivered at the other end.
-pub(crate) fn steps_over(links: u8) -> u8 {
+pub fn steps_over(links: u8) -> u8 {
     links.saturating_mul(4)
 }
 
 /// A step of a round. Says whether something came of it.
-pub(crate) fn step_of_round(world: &mut World, step: u8) -> bool {
+pub fn step_of_round(world: &mut World, step: u8) -> bool {
     let links = world.links().max(1);
     let carried = step / 2;
     let link = LinkId::new(carried % links);
@@ -66,7 +66,7 @@ fn ends_from(first: bool) -> (End, End) {
 }
 
 /// A round, and whether it did something.
-pub(crate) fn pass_round(world: &mut World) -> bool {
+pub fn pass_round(world: &mut World) -> bool {
     let mut moved = false;
     for step in 0..steps_over(world.links()) {
         moved |= step_of_round(world, step);
@@ -75,7 +75,7 @@ pub(crate) fn pass_round(world: &mut World) -> bool {
 }
 
 /// Rounds pass until one does nothing. Says whether one did nothing.
-pub(crate) fn settle(world: &mut World, clock: Clock) -> bool {
+pub fn settle(world: &mut World, clock: Clock) -> bool {
     for _ in 0..MOST_ROUNDS {
         if !pass_round(world) {
             return true;
@@ -86,7 +86,7 @@ pub(crate) fn settle(world: &mut World, clock: Clock) -> bool {
 }
 
 /// All links come into service, and every declaration of a changeback is answered. Says whether all did.
-pub(crate) fn bring_up(world: &mut World) -> bool {
+pub fn bring_up(world: &mut World) -> bool {
     let opened = open_all(world);
     let told = settle(world, Clock::STILL);
     prove_links(world);
@@ -95,7 +95,7 @@ pub(crate) fn bring_up(world: &mut World) -> bool {
 }
 
 /// All links open. Says whether all did.
-pub(crate) fn open_all(world: &mut World) -> bool {
+pub fn open_all(world: &mut World) -> bool {
     let mut opened = true;
     for link in 0..world.links() {
         opened &= world.open(LinkId::new(link));
@@ -104,13 +104,13 @@ pub(crate) fn open_all(world: &mut World) -> bool {
 }
 
 /// The ticks pass in which links are proved.
-pub(crate) fn prove_links(world: &mut World) {
+pub fn prove_links(world: &mut World) {
     world.tick(End::One, PROVING_TICKS);
     world.tick(End::Two, PROVING_TICKS);
 }
 
 /// A link that is lost at both ends comes back. Says whether it opened.
-pub(crate) fn come_back(world: &mut World, link: LinkId, clock: Clock) -> bool {
+pub fn come_back(world: &mut World, link: LinkId, clock: Clock) -> bool {
     world.lose(End::One, link);
     world.lose(End::Two, link);
     if world.links() == 1 {
@@ -122,7 +122,7 @@ pub(crate) fn come_back(world: &mut World, link: LinkId, clock: Clock) -> bool {
 }
 
 /// A link that is open at both ends comes into service.
-pub(crate) fn serve(world: &mut World, link: LinkId) {
+pub fn serve(world: &mut World, link: LinkId) {
     carry_statuses(world, link);
     prove_links(world);
     carry_statuses(world, link);
@@ -136,7 +136,7 @@ fn outlast_t1(world: &mut World, clock: Clock) {
 }
 
 /// The statuses of a link are carried.
-pub(crate) fn carry_statuses(world: &mut World, link: LinkId) {
+pub fn carry_statuses(world: &mut World, link: LinkId) {
     for _ in 0..STATUSES {
         carry(world, End::One, End::Two, link);
         carry(world, End::Two, End::One, link);
@@ -144,13 +144,13 @@ pub(crate) fn carry_statuses(world: &mut World, link: LinkId) {
 }
 
 /// The next frame of a link is carried from an end to the other.
-pub(crate) fn carry(world: &mut World, from: End, to: End, link: LinkId) {
+pub fn carry(world: &mut World, from: End, to: End, link: LinkId) {
     world.take(from, link);
     world.deliver(to, link);
 }
 
 /// Each end submits a message on each flow.
-pub(crate) fn submit_all(world: &mut World) {
+pub fn submit_all(world: &mut World) {
     for flow in 0..FLOWS {
         world.submit(End::One, flow);
         world.submit(End::Two, flow);

@@ -15,7 +15,7 @@ use std::alloc::Global;
 
 /// What became of the messages of some runs.
 #[derive(Clone, Copy)]
-pub(crate) struct Verdict {
+pub struct Verdict {
     /// Messages that were accepted.
     pub messages: u64,
     /// Messages that came while each was promised to come once,
@@ -31,7 +31,7 @@ pub(crate) struct Verdict {
 }
 
 /// Compares what both ends accepted with what they received. None where memory ran out.
-pub(crate) fn judge(alloc: Global, world: &World) -> Option<Verdict> {
+pub fn judge(alloc: Global, world: &World) -> Option<Verdict> {
     let whole = !world.may_have_lost();
     let there = judge_way(alloc, world.book(End::One), world.received(End::Two), whole)?;
     let back = judge_way(alloc, world.book(End::Two), world.received(End::One), whole)?;
@@ -119,7 +119,7 @@ fn turned_flows(marks: &[Mark]) -> u64 {
 
 impl Verdict {
     /// This and another.
-    pub(crate) fn and(self, other: Verdict) -> Verdict {
+    pub fn and(self, other: Verdict) -> Verdict {
         Verdict {
             messages: self.messages.wrapping_add(other.messages),
             once: self.once.wrapping_add(other.once),
@@ -131,7 +131,7 @@ impl Verdict {
     }
 
     /// Nothing was done.
-    pub(crate) const NOTHING: Verdict = Verdict {
+    pub const NOTHING: Verdict = Verdict {
         messages: 0,
         once: 0,
         in_order: 0,

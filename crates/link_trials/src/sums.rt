@@ -4,16 +4,15 @@
 ghost use Rattle.std.specs.Prelude.{true};
 ghost use Rattle.std.specs.Str.{bytes_eq};
 
-use crate::book::Book;
+use crate::book::{Book, Books};
 use crate::marking::{Mark, count_of, count_received, message_of};
-use crate::points::{other, points};
 use exchange::{Msu, Pick};
+use linked_nodes::{LinkedNodes, other, points};
 use pair_world::End;
-use test_nodes::LinkedNodes;
 
 /// Sums that were compared.
 #[derive(Clone, Copy)]
-pub(crate) struct Sums {
+pub struct Sums {
     /// How many.
     pub compared: u64,
     /// How many of them had two sides that weren't the same.
@@ -46,21 +45,30 @@ impl Pick for SameMessage {
     }
 }
 
-/// Compares the sums of all messages from an end to the other, and that of one message, which the number of this
+/// Compares the sums of all messages of either end, and that of one message of each, which the number of this
 /// comparison chooses, where there is one.
-pub(crate) fn compare(nodes: &mut LinkedNodes, from: End, book: &Book, count: Option<u64>) -> Sums {
+pub fn compare_both(nodes: &LinkedNodes, books: &Books, count: Option<u64>) -> Sums {
+    let there = compare(nodes, End::One, books.of(End::One), count);
+    let back = compare(nodes, End::Two, books.of(End::Two), count);
+    there.and(back)
+}
+
+/// Compares those of the messages from an end to the other.
+fn compare(nodes: &LinkedNodes, from: End, book: &Book, count: Option<u64>) -> Sums {
     let all = compare_all(nodes, from, book);
-    let Some(count) = count else {
-        return all;
-    };
-    match book.mark_by(count) {
+    match chosen(book, count) {
         Some(mark) => all.and(compare_one(nodes, from, book, mark)),
         None => all,
     }
 }
 
+/// The mark that the number of a comparison chooses.
+fn chosen(book: &Book, count: Option<u64>) -> Option<Mark> {
+    book.mark_by(count?)
+}
+
 /// Compares the sums of all messages: of those in the book, and of those that the pair says were accepted.
-fn compare_all(nodes: &mut LinkedNodes, from: End, book: &Book) -> Sums {
+fn compare_all(nodes: &LinkedNodes, from: End, book: &Book) -> Sums {
     let received = nodes.received(other(from)).len() as u128;
     let waiting = nodes.waiting(from, &AllMessages);
     let booked = Sums::of(book.accepted.len() as u128, received, waiting);
@@ -68,7 +76,7 @@ fn compare_all(nodes: &mut LinkedNodes, from: End, book: &Book) -> Sums {
 }
 
 /// Compares the sum of the message of a mark.
-fn compare_one(nodes: &mut LinkedNodes, from: End, book: &Book, mark: Mark) -> Sums {
+fn compare_one(nodes: &LinkedNodes, from: End, book: &Book, mark: Mark) -> Sums {
     let (own, adjacent) = points(from);
     let Some(message) = message_of(mark, own, adjacent) else {
         return Sums::NONE;
@@ -81,7 +89,7 @@ fn compare_one(nodes: &mut LinkedNodes, from: End, book: &Book, mark: Mark) -> S
 
 impl Sums {
     /// None was compared.
-    pub(crate) const NONE: Sums = Sums {
+    pub const NONE: Sums = Sums {
         compared: 0,
         wrong: 0,
     };
@@ -96,7 +104,7 @@ impl Sums {
     }
 
     /// These and others.
-    pub(crate) fn and(self, others: Sums) -> Sums {
+    pub fn and(self, others: Sums) -> Sums {
         Sums {
             compared: self.compared.wrapping_add(others.compared),
             wrong: self.wrong.wrapping_add(others.wrong),
