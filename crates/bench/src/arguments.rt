@@ -5,6 +5,7 @@ ghost use Rattle.std.specs.Prelude.{◌≡◌, ◌≤◌, IfSome};
 use crate::draft::{Routes, Sets, Shape, WINDOW};
 use crate::failure::Stage;
 use crate::making::Making;
+use crate::over_sctp::Datagrams;
 use crate::titles::Table;
 use crate::unitdata::bare_octets;
 use settings::Limits;
@@ -38,6 +39,8 @@ pub(crate) enum Kind {
     Forward,
     /// The same, a window of messages at a time.
     Burst,
+    /// It comes in a frame, and the one that it goes out in goes over SCTP.
+    OverSctp(Datagrams),
     /// A user part hands it over, and it goes out in a frame.
     Submit,
     /// It comes in a frame for a user part here, and an acknowledgement goes out.
@@ -213,6 +216,8 @@ fn kind_of(name: &str) -> Option<Kind> {
     match name {
         "forward" => Some(Kind::Forward),
         "burst" => Some(Kind::Burst),
+        "sctp" => Some(Kind::OverSctp(Datagrams::Single)),
+        "sctp-full" => Some(Kind::OverSctp(Datagrams::Full)),
         "submit" => Some(Kind::Submit),
         "local" => Some(Kind::Local),
         "acknowledgement" => Some(Kind::Acknowledgement),

@@ -12,6 +12,12 @@ use mtp3_codec::{MANAGEMENT_OCTETS, Management};
 use settings::Limits;
 use signalling_types::Number24;
 
+/// Where the last octet of a frame's length stands (RFC 4165 §2.1).
+pub(crate) const LENGTH_AT: usize = 7;
+
+/// Octets of a frame without a message (RFC 4165 §2.3.1).
+pub(crate) const EMPTY_OCTETS: u8 = 16;
+
 /// Where the backward sequence number stands (RFC 4165 §2.2).
 const BSN_AT: usize = 9;
 
@@ -57,6 +63,13 @@ impl Incoming {
             bsn: zero,
             fsn: zero,
         })
+    }
+
+    /// How many octets it has.
+    pub(crate) fn count(&self) -> usize
+        ensures { result ≤ BUFFER_OCTETS }
+    {
+        self.count
     }
 
     /// Takes these numbers, and gives the octets of the frame.

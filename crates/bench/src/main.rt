@@ -15,15 +15,19 @@ mod failure;
 mod incoming;
 mod making;
 mod outage;
+mod over_sctp;
 mod peer;
 mod route_changes;
+mod side;
 mod titles;
+mod told;
 mod total;
 mod traffic;
 mod unitdata;
 
 use arguments::{Arguments, Kind};
 use making::make;
+use over_sctp::over_sctp;
 use peer::Peer;
 use settings::Limits;
 use std::alloc::Global;
@@ -55,15 +59,18 @@ fn total_of(alloc: Global, arguments: &Arguments) -> Option<Total>
     let shape = arguments.shape();
     match arguments.kind {
         Kind::Make(making) => make(alloc, making, &shape, arguments.count),
-        _ => carried(Peer::of_exchange_with(alloc, &shape)?, arguments),
+        _ => carried(alloc, Peer::of_exchange_with(alloc, &shape)?, arguments),
     }
 }
 
 /// Carries the messages.
-fn carried(mut peer: Peer, arguments: &Arguments) -> Option<Total>
+fn carried(alloc: Global, mut peer: Peer, arguments: &Arguments) -> Option<Total>
     requires octets { arguments.now.octets ≤ Limits.SIF_OCTETS }
     requires destinations { arguments.now.destinations ≤ Limits.DESTINATIONS }
 {
+    if let Kind::OverSctp(datagrams) = arguments.kind {
+        return over_sctp(alloc, &mut peer, arguments, datagrams);
+    }
     carry(&mut peer, arguments);
     Some(peer.total())
 }
@@ -85,9 +92,9 @@ fn report(rt: &HostRuntime, total: Option<Total>) -> io::Result<ExitCode> {
 /// Says which words are asked for.
 fn refuse(rt: &HostRuntime) -> io::Result<ExitCode> {
     println!(rt;
-        "usage: bench KIND OCTETS DESTINATIONS LINKS COUNT [wide|largest]; a KIND is forward, burst, submit, local, \
-acknowledgement, relay, relay-full, udts, udts-full, queue, failure, changeover, return, tick, status, entry, \
-expiry, draft, check or boot"
+        "usage: bench KIND OCTETS DESTINATIONS LINKS COUNT [wide|largest]; a KIND is forward, burst, sctp, sctp-full, \
+submit, local, acknowledgement, relay, relay-full, udts, udts-full, queue, failure, changeover, return, tick, status, \
+entry, expiry, draft, check or boot"
     )?;
     Ok(ExitCode::from(1))
 }

@@ -4,8 +4,9 @@ ghost use Rattle.std.specs.Prelude.{◌≤◌};
 
 use crate::draft::Shape;
 use crate::end::{End, place};
-use crate::incoming::Incoming;
+use crate::incoming::{EMPTY_OCTETS, Incoming, LENGTH_AT};
 use crate::making::booted;
+use crate::side::Side;
 use crate::total::Total;
 use exchange::{BUFFER_OCTETS, Event, Exchange};
 use m2pa_codec::{Frame, LinkStatus, encode};
@@ -18,12 +19,6 @@ use std::marker::Model;
 
 /// What a link tells on its way into service: Alignment, Proving Normal, Ready.
 const STATUSES: usize = 3;
-
-/// Where the last octet of a frame's length stands (RFC 4165 §2.1).
-const LENGTH_AT: usize = 7;
-
-/// Octets of a frame without a message (RFC 4165 §2.3.1).
-const EMPTY_OCTETS: u8 = 16;
 
 /// Where the heading of a management message stands in its frame, behind the label (Q.704 §15.1).
 const HEADING_AT: usize = 22;
@@ -222,6 +217,14 @@ impl Peer {
             self.count_message(link);
         }
         is_there
+    }
+
+    /// Takes the next message of the link that carries them, and gives its frame to an end of an SCTP association.
+    pub(crate) fn hand_over(&mut self, near: &mut Side) {
+        if let Some(count) = self.exchange.take(self.link, &mut self.buffer) {
+            near.give(&self.buffer[..count]);
+            self.count_message(self.link);
+        }
     }
 
     /// What was taken last of a link is its next message.

@@ -89,6 +89,20 @@ fn carry_isup(peer: &mut Peer, arguments: &Arguments)
     }
 }
 
+/// A message of the ISDN user part to the last destination, once what is to be in service is.
+pub(crate) fn forwarded(peer: &mut Peer, arguments: &Arguments) -> Incoming
+    requires octets { arguments.now.octets ≤ Limits.SIF_OCTETS }
+    requires destinations { arguments.now.destinations ≤ Limits.DESTINATIONS }
+{
+    bring_in(peer, arguments);
+    let field = longest_field(
+        ADJACENT,
+        last_point(arguments),
+        selection_of(peer, arguments),
+    );
+    Incoming::with_message(SIO, &field[..arguments.octets])
+}
+
 /// The point of the last destination.
 fn last_point(arguments: &Arguments) -> u16
     requires { arguments.now.destinations ≤ Limits.DESTINATIONS }

@@ -31,10 +31,55 @@ pub fn remainder(before: u32, octets: &[u8]) -> u32
         remainder = remainder_by_eights(remainder, block);
         rest = behind;
     }
-    remainder_by_eights(remainder, rest)
+    remainder_below_32(remainder, rest)
 }
 
-/// The same: eight octets take one step, four that are left another.
+/// The same, where there are fewer than 32: 16 octets take two steps.
+#[inline(always)]
+fn remainder_below_32(before: u32, octets: &[u8]) -> u32
+    ensures { result ≡ after_octets before octets.now }
+{
+    match octets.split_first_chunk::<16>() {
+        Some((block, behind)) => remainder_below_16(remainder_by_eights(before, block), behind),
+        None => remainder_below_16(before, octets),
+    }
+}
+
+/// The same, where there are fewer than 16: eight octets take one step.
+#[inline(always)]
+fn remainder_below_16(before: u32, octets: &[u8]) -> u32
+    ensures { result ≡ after_octets before octets.now }
+{
+    match octets.split_first_chunk::<8>() {
+        Some((eight, behind)) => remainder_below_8(after_eight(before, eight), behind),
+        None => remainder_below_8(before, octets),
+    }
+}
+
+/// The same, where there are fewer than eight: four octets take one step.
+#[inline(always)]
+fn remainder_below_8(before: u32, octets: &[u8]) -> u32
+    ensures { result ≡ after_octets before octets.now }
+{
+    match octets.split_first_chunk::<4>() {
+        Some((four, behind)) => remainder_by_octets(after_four(before, four), behind),
+        None => remainder_by_octets(before, octets),
+    }
+}
+
+/// The same: each octet takes one step.
+#[inline(always)]
+fn remainder_by_octets(before: u32, octets: &[u8]) -> u32
+    ensures { result ≡ after_octets before octets.now }
+{
+    let mut remainder = before;
+    'octets: for octet in octets {
+        remainder = after_octet(remainder, *octet);
+    }
+    remainder
+}
+
+/// The same: eight octets take one step, as often as there are eight.
 #[inline(always)]
 fn remainder_by_eights(before: u32, octets: &[u8]) -> u32
     ensures { result ≡ after_octets before octets.now }
@@ -45,14 +90,7 @@ fn remainder_by_eights(before: u32, octets: &[u8]) -> u32
         remainder = after_eight(remainder, eight);
         rest = behind;
     }
-    'fours: while let Some((four, behind)) = rest.split_first_chunk::<4>() {
-        remainder = after_four(remainder, four);
-        rest = behind;
-    }
-    'octets: for octet in rest {
-        remainder = after_octet(remainder, *octet);
-    }
-    remainder
+    remainder_below_8(remainder, rest)
 }
 
 /// The remainder after eight octets more: what each leaves, by its own table.

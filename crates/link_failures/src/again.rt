@@ -1,9 +1,11 @@
 //! A link that stops while another one that stopped before takes its flows back.
 
-use crate::rounds::{Clock, settle, steps_over};
-use crate::stops::{Stop, Stopped, round_with, stop_and_return};
-use crate::total::Total;
+use crate::sharing::run_over;
+use crate::stops::stop_and_return;
 use exchange::LinkId;
+use link_trials::rounds::{settle, steps_over};
+use link_trials::stopping::{Stop, Stopped, round_with};
+use link_trials::{Clock, Total, Trial, World};
 use std::alloc::Global;
 
 /// So many links there are.
@@ -38,18 +40,21 @@ fn stop_again_before(alloc: Global, round: u8, step: u8, total: &mut Total) {
             link: LinkId::new(link),
             ends: Stopped::AtOne,
         };
-        play(alloc, &stop, total);
+        run_over(total, alloc, LINKS, &StopAgain { stop });
     }
 }
 
-/// One run.
-fn play(alloc: Global, second_stop: &Stop, total: &mut Total) {
-    let Some(mut world) = total.begin(alloc, LINKS) else {
-        return;
-    };
-    let back = stop_and_return(&mut world, &first_stop(), Clock::STILL);
-    round_with(&mut world, second_stop, 0);
-    second_stop.strike_at(&mut world, 1, 0);
-    let settled = settle(&mut world, Clock::STILL);
-    total.end(alloc, world, back && settled);
+/// One run: the link that stops the second time.
+#[derive(Clone, Copy)]
+struct StopAgain {
+    stop: Stop,
+}
+
+impl Trial for StopAgain {
+    fn run(&self, _alloc: Global, world: &mut World) -> bool {
+        let back = stop_and_return(world, &first_stop(), Clock::STILL);
+        round_with(world, &self.stop, 0);
+        self.stop.strike_at(world, 1, 0);
+        settle(world, Clock::STILL) && back
+    }
 }

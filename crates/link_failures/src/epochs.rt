@@ -1,11 +1,11 @@
 //! An answer about a link, which comes only in the link's next epoch if the link may open before.
 
-use crate::rounds::{
-    Clock, bring_up, carry, carry_statuses, come_back, prove_links, settle, submit_all,
-};
-use crate::total::Total;
-use crate::world::World;
+use crate::sharing::run_over;
 use exchange::LinkId;
+use link_trials::rounds::{
+    bring_up, carry, carry_statuses, come_back, prove_links, settle, submit_all,
+};
+use link_trials::{Clock, Total, Trial, World};
 use pair_world::End;
 use std::alloc::Global;
 
@@ -49,18 +49,15 @@ fn late_from(alloc: Global, near: End, far: End, link: u8, total: &mut Total) {
             before: count % MOST,
             behind: count / MOST + 1,
         };
-        play(alloc, case, total);
+        run_over(total, alloc, LINKS, &case);
     }
 }
 
-/// One run.
-fn play(alloc: Global, case: Case, total: &mut Total) {
-    let Some(mut world) = total.begin(alloc, LINKS) else {
-        return;
-    };
-    let late = answer_late(&mut world, case);
-    let back = return_link(&mut world, LinkId::new(case.link));
-    total.end(alloc, world, late && back);
+impl Trial for Case {
+    fn run(&self, _alloc: Global, world: &mut World) -> bool {
+        let late = answer_late(world, *self);
+        return_link(world, LinkId::new(self.link)) && late
+    }
 }
 
 /// The answer comes late. Says whether all came to rest behind that.

@@ -1,10 +1,11 @@
 //! A link that stops at each place, and opens at one end before it opens at the other.
 
-use crate::rounds::{Clock, pass_round, serve, settle, steps_over, submit_all};
-use crate::stops::{ROUNDS, Stop, Stopped, stop_and_settle};
-use crate::total::Total;
-use crate::world::World;
+use crate::sharing::run_over;
+use crate::stops::stop_and_settle;
 use exchange::LinkId;
+use link_trials::rounds::{pass_round, serve, settle, steps_over, submit_all};
+use link_trials::stopping::{ROUNDS, Stop, Stopped};
+use link_trials::{Clock, Total, Trial, World};
 use pair_world::End;
 use std::alloc::Global;
 
@@ -44,19 +45,27 @@ fn open_in_round(alloc: Global, way: Way, round: u8, total: &mut Total) {
 /// Those of one place.
 fn open_links(alloc: Global, way: Way, place: (u8, u8), total: &mut Total) {
     for link in 0..LINKS {
-        play(
-            alloc,
-            way,
-            &stop_at(place, link, Stopped::AtOne),
-            End::One,
+        let one = stop_at(place, link, Stopped::AtOne);
+        let two = stop_at(place, link, Stopped::AtTwo);
+        run_over(
             total,
+            alloc,
+            LINKS,
+            &OpenFirst {
+                way,
+                stop: one,
+                first: End::One,
+            },
         );
-        play(
-            alloc,
-            way,
-            &stop_at(place, link, Stopped::AtTwo),
-            End::Two,
+        run_over(
             total,
+            alloc,
+            LINKS,
+            &OpenFirst {
+                way,
+                stop: two,
+                first: End::Two,
+            },
         );
     }
 }
@@ -72,17 +81,23 @@ fn stop_at(place: (u8, u8), link: u8, ends: Stopped) -> Stop {
     }
 }
 
-/// One run. Messages are submitted before the link comes back, and behind that.
-fn play(alloc: Global, way: Way, stop: &Stop, first: End, total: &mut Total) {
-    let Some(mut world) = total.begin(alloc, LINKS) else {
-        return;
-    };
-    let stopped = stop_and_settle(&mut world, stop, Clock::STILL);
-    submit_all(&mut world);
-    let back = come_back_by(&mut world, way, first, stop.link);
-    submit_all(&mut world);
-    let settled = settle(&mut world, Clock::STILL);
-    total.end(alloc, world, stopped && back && settled);
+/// One run.
+#[derive(Clone, Copy)]
+struct OpenFirst {
+    way: Way,
+    stop: Stop,
+    first: End,
+}
+
+impl Trial for OpenFirst {
+    // Messages are submitted before the link comes back, and behind that.
+    fn run(&self, _alloc: Global, world: &mut World) -> bool {
+        let stopped = stop_and_settle(world, &self.stop, Clock::STILL);
+        submit_all(world);
+        let back = come_back_by(world, self.way, self.first, self.stop.link);
+        submit_all(world);
+        settle(world, Clock::STILL) && stopped && back
+    }
 }
 
 /// The link is lost at both ends, and comes back. Says whether it opened each time.

@@ -35,8 +35,9 @@
 //!   rounds pass. Without a tick no timer of a changeover or a changeback runs out, so no flag is set. With ticks
 //!   after each round T1 to T4 run out, at either end or at both.
 //! - SCCP by title: as Stopped, without a tick, but only end 1 submits: a UDT for its own point on each of the 16
-//!   flows, whose title its one translation row leads to end 2. That has no row, and returns each by a UDTS, which end 1
-//!   refuses, since it has no subsystem. So each run accepts 48 UDTs at end 1 and as many UDTSs at end 2, and each comes.
+//!   flows, whose title its one translation row leads to end 2. That has no row, and returns each by a UDTS, which
+//!   end 1 refuses, since it has no subsystem. So each run accepts 48 UDTs at end 1 and as many UDTSs at end 2, and
+//!   each comes.
 //! - Stopped again: `e1` stops at both ends at the first place and comes back. After the third submissions end 1
 //!   loses one of the links at one of the 13 places of the next round, while flows are taken back.
 //! - One end first: as Stopped, without a tick, where the link stops at the end that is to open first. It opens at
@@ -65,30 +66,21 @@
 #![tactic(auto)]
 
 mod again;
-mod book;
 mod epochs;
 mod firsts;
-mod ledger;
-mod marking;
-mod outcomes;
-mod points;
 mod random;
-mod rounds;
+mod sharing;
 mod stops;
-mod sums;
-mod titles;
-mod total;
-mod world;
 
 use again::stop_again;
 use epochs::late_answers;
 use firsts::{Way, open_in_turn};
-use ledger::Verdict;
+use link_trials::Clock;
+use link_trials::reporting::{print_group, report};
+use link_trials::stopping::stop_everywhere;
 use random::schedules;
-use rounds::Clock;
 use std::io;
-use stops::{Group, stop_everywhere};
-use total::Total;
+use stops::Group;
 
 /// So many schedules there are over each number of links.
 const SCHEDULES: u64 = 1250;
@@ -168,7 +160,7 @@ fn stop_one(rt: &HostRuntime, name: &str, links: u8, clock: Clock) -> io::Result
         clock,
         relays: false,
     };
-    report(rt, name, &stop_everywhere(rt.alloc(), group))
+    report(rt, name, &stop_everywhere(rt.alloc(), group.links, &group))
 }
 
 /// One link of three stops at each place, while end 1 relays.
@@ -179,7 +171,7 @@ fn stop_relaying(rt: &HostRuntime) -> io::Result<()> {
         relays: true,
     };
     let name = "SCCP by title, stopped at 97 places, 3 links, 3 ends";
-    report(rt, name, &stop_everywhere(rt.alloc(), group))
+    report(rt, name, &stop_everywhere(rt.alloc(), group.links, &group))
 }
 
 /// A link stops again, and an answer is late.
@@ -202,75 +194,5 @@ fn try_chance(rt: &HostRuntime) -> io::Result<()> {
 fn throw(rt: &HostRuntime, name: &str, links: u8) -> io::Result<()> {
     let total = schedules(rt.alloc(), links, SCHEDULES);
     print_group(rt, name, &total)?;
-    println!(rt; ", sums compared {}", total.sums.compared)
-}
-
-/// Prints what became of a group.
-fn report(rt: &HostRuntime, name: &str, total: &Total) -> io::Result<()> {
-    print_group(rt, name, total)?;
-    println!(rt;)
-}
-
-/// Prints the same without the end of the line.
-fn print_group(rt: &HostRuntime, name: &str, total: &Total) -> io::Result<()> {
-    if total.starved {
-        return print!(rt; "{name}: memory ran out");
-    }
-    print_counts(rt, name, total)?;
-    print_once(rt, &total.verdict)?;
-    print_in_order(rt, &total.verdict)?;
-    print_flags(rt, total)?;
-    print_wrong(rt, total.sums.wrong)
-}
-
-/// Prints how many runs, frames and messages there were.
-fn print_counts(rt: &HostRuntime, name: &str, total: &Total) -> io::Result<()> {
-    let messages = total.verdict.messages;
-    print!(rt;
-        "{name}: {} runs, {} frames, {messages} messages; ",
-        total.runs, total.frames
-    )
-}
-
-/// Prints whether each message came once, and how many were judged by that.
-fn print_once(rt: &HostRuntime, verdict: &Verdict) -> io::Result<()> {
-    let Verdict {
-        once,
-        lost,
-        doubled,
-        ..
-    } = *verdict;
-    match (lost, doubled) {
-        (0, 0) => print!(rt; "all once ({once}), "),
-        _ => print!(rt; "{lost} lost, {doubled} doubled ({once}), "),
-    }
-}
-
-/// Prints whether each flow came in order, and how many messages were judged by that.
-fn print_in_order(rt: &HostRuntime, verdict: &Verdict) -> io::Result<()> {
-    let Verdict {
-        in_order,
-        turned,
-        ..
-    } = *verdict;
-    match turned {
-        0 => print!(rt; "in order ({in_order})"),
-        _ => print!(rt; "{turned} flows out of order ({in_order})"),
-    }
-}
-
-/// Prints in how many runs an end set a flag, and how many didn't end as they were to.
-fn print_flags(rt: &HostRuntime, total: &Total) -> io::Result<()> {
-    print!(rt;
-        "; lost_any {}, late_any {}, unended {}",
-        total.lost_any, total.late_any, total.unended
-    )
-}
-
-/// Prints how many sums were wrong, if any was.
-fn print_wrong(rt: &HostRuntime, wrong: u64) -> io::Result<()> {
-    match wrong {
-        0 => Ok(()),
-        _ => print!(rt; ", {wrong} sums wrong"),
-    }
+    println!(rt; ", sums compared {}", total.tally.sums.compared)
 }

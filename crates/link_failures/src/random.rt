@@ -1,10 +1,9 @@
 //! Random schedules.
 
-use crate::marking::FLOWS;
-use crate::rounds::{Clock, bring_up, open_all, prove_links, settle};
-use crate::total::Total;
-use crate::world::World;
+use crate::sharing::run_over;
 use exchange::LinkId;
+use link_trials::rounds::{bring_up, open_all, prove_links, settle};
+use link_trials::{Clock, FLOWS, Total, Trial, World};
 use pair_world::End;
 use std::alloc::Global;
 use test_nodes::Dice;
@@ -19,21 +18,25 @@ const RETURNS: usize = 3;
 pub(crate) fn schedules(alloc: Global, links: u8, count: u64) -> Total {
     let mut total = Total::NOTHING;
     for run in 0..count {
-        play(alloc, links, Dice::new(run), &mut total);
+        let dice = Dice::new(run);
+        run_over(&mut total, alloc, links, &Schedule { dice });
     }
     total
 }
 
 /// One run: a schedule, and what arrives behind it.
-fn play(alloc: Global, links: u8, dice: Dice, total: &mut Total) {
-    let Some(mut world) = total.begin(alloc, links) else {
-        return;
-    };
-    let up = bring_up(&mut world);
-    take_steps(&mut world, dice);
-    settle(&mut world, Clock::STILL);
-    let settled = bring_back(&mut world);
-    total.end(alloc, world, up && settled);
+#[derive(Clone, Copy)]
+struct Schedule {
+    dice: Dice,
+}
+
+impl Trial for Schedule {
+    fn run(&self, _alloc: Global, world: &mut World) -> bool {
+        let up = bring_up(world);
+        take_steps(world, self.dice);
+        settle(world, Clock::STILL);
+        bring_back(world) && up
+    }
 }
 
 /// The steps of a schedule.

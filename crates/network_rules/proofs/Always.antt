@@ -17,7 +17,8 @@ use Rattle.neighbour_rules.proofs.AllSteps.{steps-stand}
 use Rattle.network_rules.specs.Networks.{NetworkState, Step, after_step, after_steps, first_network}
 use Rattle.network_rules.specs.Pairs.{AreTheirPoints, AreWellOrAlone, ArePairsAlike, HearsNothingElsewhere, IsRunOfNeighbours, nobody_speaks_for_another, pair_of, runs_are_runs_of_neighbours}
 use Rattle.network_rules.proofs.Alike.{away}
-use Rattle.network_rules.proofs.Ends.{EndOk, first-ok, first-stands}
+use Rattle.neighbour_rules.proofs.Promised.{first-stands}
+use Rattle.network_rules.proofs.Ends.{EndOk, first-ok}
 use Rattle.network_rules.proofs.AllRuns.{HasPoints, are-apart, first-alike, step-next, steps-join, steps-keep}
 use Rattle.network_rules.proofs.Runs.{NextOf}
 use Rattle.network_rules.proofs.Quiet.{IsQuiet, SayElsewhere, Watched, are-kept, did-quiet, fine}

@@ -1,11 +1,10 @@
 -- What one of two nodes that share a set sends elsewhere is no management of one of the two for the other.
-use Rattle.exchange_rules.proofs.Basics.{arith, nat_tests, ◌≡◌, ◌≢◌, ◌&&◌, ◌||◌, ℕ, zero, suc, Bool, true, false, not, List, [], ◌∷◌, Option, Some, None, Result, Ok, Err, refl, ap, sym, subst, ◌∙◌, if◌then◌else◌, slice_get, nat_eq, nat_lt, ◌-◌, length, replicate, list_all, list_any, length-replicate}
+use Rattle.exchange_rules.proofs.Basics.{arith, nat_tests, ◌≡◌, ◌≢◌, ◌&&◌, ◌||◌, ℕ, zero, suc, Bool, true, false, not, List, [], ◌∷◌, Option, Some, None, Result, Ok, Err, refl, ap, sym, subst, ◌∙◌, if◌then◌else◌, slice_get, nat_eq, nat_lt, ◌-◌, list_all, list_any}
 use Rattle.exchange_rules.proofs.Definitions.{Message, is_management, opc_of, dpc_of, service_indicator, Configuration, Management, ChangebackDeclaration, MgmtFault, read_management, FrameValue, EmptyFrame, MessageFrame, StatusFrame, LinkStatus, Node, WholeQueues, queue_at, whole, Queue, Sending, frame_taken, next_message, may_send, message_first, status_first, link_at, set_of, apply, after_take, Happening, first_state}
 use Rattle.mtp3_codec.specs.declared.management.Management.TheVariants as kinds
 use Rattle.exchange_rules.specs.Sending.{frame_from}
 use Rattle.exchange_rules.specs.LastingMessages.{AreOnward, is_onward}
 use Rattle.exchange_rules.specs.State.{Happens, Takes}
-use Rattle.exchange_rules.proofs.Lists.{each-replicate}
 use Rattle.exchange_rules.proofs.Settling.{left-true, right-true}
 use Rattle.exchange_rules.proofs.Asked.{event-all}
 use Rattle.exchange_rules.proofs.SteppingEvents.{take-steps}
@@ -14,18 +13,10 @@ use Rattle.link.specs.Queue.{forward_number, numbered}
 use Rattle.m2pa_codec.specs.Frames as m2pa
 use Rattle.pair_moves.specs.Sayings.{Other, is_other}
 use Rattle.pair_rules.proofs.Good.{Each, each-get}
-use Rattle.pair_rules.proofs.Going.{goes-same}
-use Rattle.pair_rules.proofs.First.{nothing_flies}
-use Rattle.pair_rules.proofs.Standing.{AreTexts}
-use Rattle.pair_rules.proofs.Definitions.{first_pair}
 use Rattle.neighbour_rules.specs.Neighbours.{is_management_between, leads_elsewhere_by}
 use Rattle.neighbour_rules.proofs.World.{is_between, read_says, says_by, says_of}
 use Rattle.neighbour_rules.proofs.Good.{Joint, set}
 use Rattle.neighbour_rules.proofs.FarEnds.{leads-away}
-use Rattle.neighbour_rules.proofs.First.{first-good, first-shown}
-use Rattle.neighbour_rules.proofs.Adjacents.{asked-knows}
-use Rattle.neighbour_rules.proofs.Standing.{Stands}
-use Rattle.neighbour_rules.proofs.Sharing.{AreFacing, far_joint, near_joint}
 use Rattle.network_rules.proofs.Signals.{IsLone, is_declaration, is_signal, lone-all, lone-first}
 use Rattle.network_rules.proofs.Texts.{IsHarmless, message-harmless, status-harmless}
 
@@ -83,32 +74,6 @@ module _ (fine : Message → Bool) where
       (λ s g. sending-fine (may_send (link_at n.parts link)) (nat_lt (q.sent - q.confirmed) c.window) (slice_get q.all q.sent) (forward_number q q.sent) s (h q.sent) g) e
 
 -- ---- one of two nodes
-
-no-texts : (c : Configuration) → AreTexts c (replicate (length c.links) []) (λ link. [])
-no-texts c = record { many = length-replicate (length c.links) []; each = λ link. each-replicate (λ (ts : List (List ℕ)). ts ≡ []) (length c.links) link [] refl }
-
-pub first-stands : (near far : Configuration) (a : AreFacing near far) → Stands near far a (first_pair near far)
-first-stands near far a = record {
-  near_settings = refl;
-  far_settings = refl;
-  near_waits = refl;
-  far_waits = refl;
-  near_knows = asked-knows near [];
-  far_knows = asked-knows far [];
-  to_near = nothing_flies;
-  to_far = nothing_flies;
-  near_texts = record { statuses = no-texts near; user_data = no-texts near };
-  far_texts = record { statuses = no-texts far; user_data = no-texts far };
-  near_flags = length-replicate (length near.links) false;
-  far_flags = length-replicate (length far.links) false;
-  near_quiet = λ link away. record { user_data = refl; statuses = refl };
-  far_quiet = λ link away. record { user_data = refl; statuses = refl };
-  near_alone = λ link away. each-replicate (λ (b : Bool). b ≡ false) (length near.links) link false refl;
-  far_alone = λ link away. each-replicate (λ (b : Bool). b ≡ false) (length far.links) link false refl;
-  near_good = first-good near far (near_joint near far a);
-  far_good = first-good far near (far_joint near far a);
-  goes = goes-same (says_of near.own far.own) _ _ (sym (first-shown near far a.near_set a.far_set));
-}
 
 -- neither is management of one for the other
 abbrev pub is_fine : (one two : ℕ) → Message → Bool

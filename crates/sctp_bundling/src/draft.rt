@@ -17,7 +17,9 @@ use crate::gaps::{NO_BLOCK, window_of, write_gaps};
 use crate::packets::{blank, write_at};
 use crate::watch::Watch;
 use crate::way::Way;
-use sctp_codec::{Data, PacketBuffer, begin, finish, write_data, write_sack, write_shutdown};
+use sctp_codec::{
+    Data, Header, PacketBuffer, begin, finish_behind, write_data, write_sack, write_shutdown,
+};
 use sctp_receiving::Receiver;
 use sctp_receiving::limits::BLOCKS;
 use sctp_rules::limits::{HEADER_OCTETS, PACKET_OCTETS};
@@ -42,6 +44,8 @@ pub struct Draft {
     out: PacketBuffer,
     end: usize,
     way: Way,
+    /// That of the last packet.
+    header: Header,
 }
 
 impl Model for Draft {
@@ -66,6 +70,7 @@ impl Draft {
             out: blank(),
             end: HEADER_OCTETS,
             way,
+            header: Header::zeros(),
         }
     }
 
@@ -178,12 +183,13 @@ impl Draft {
     }
 
     /// The packet goes out.
+    #[inline(always)]
     fn put<W: Watch>(&mut self, watch: &mut W)
         ensures way { self.new.way ≡ self.old.way }
         ensures put { (waiting : List ChunkValue) → self.old.text ≡ draft_of self.old.way waiting
             → Puts W.has watch.old watch.new (packet_on self.old.way waiting ∷ []) }
     {
-        finish(&mut self.out, self.end);
+        finish_behind(&mut self.out, self.end, &mut self.header);
         watch.send(&self.out[..self.end], &self.way.to);
     }
 
@@ -209,6 +215,18 @@ impl Draft {
         if self.end + octets <= PACKET_OCTETS {
             return;
         }
+        self.put_full(watch);
+    }
+
+    /// The packet goes out, and another one begins, without chunks.
+    #[inline(never)]
+    fn put_full<W: Watch>(&mut self, watch: &mut W)
+        ensures way { self.new.way ≡ self.old.way }
+        ensures text { self.new.text ≡ draft_of self.old.way [] }
+        ensures end { self.new.end ≡ 12 }
+        ensures put { (waiting : List ChunkValue) → self.old.text ≡ draft_of self.old.way waiting
+            → Puts W.has watch.old watch.new (packet_on self.old.way waiting ∷ []) }
+    {
         self.put(watch);
         self.begin_anew();
     }

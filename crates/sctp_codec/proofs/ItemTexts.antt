@@ -6,6 +6,7 @@ use Rattle.std.proofs.lemmas.List.Elements.{All-head, All-tail}
 use Rattle.std.proofs.lemmas.Nat.{from_be_bytes-to_be_bytes_2}
 use Rattle.std.specs.Prelude.{if◌then◌else◌, All, IsSome, is_some, unwrap_or}
 use Rattle.sctp_codec.specs.Items.{ItemValue, IsItem, padding_behind, length_field, begins_whole, first_item, behind_first, with_first, read_up_to, read_items, item_octets, padded_item, padded_items, joined_items}
+use Rattle.sctp_codec.specs.Packets.{lone}
 use Rattle.sctp_codec.specs.Values.{items_in}
 
 -- ---- a step of reading
@@ -183,3 +184,22 @@ read_items-joined_items (item ∷ []) h = read_items-last item (All-head IsItem 
 read_items-joined_items (item ∷ next ∷ items) h =
     read_items-padded item (joined_items (next ∷ items)) (All-head IsItem item (next ∷ items) h)
     ∙ ap (with_first item) (read_items-joined_items (next ∷ items) (All-tail IsItem item (next ∷ items) h))
+
+-- ---- the item that items are by themselves
+
+pub none_alone : (octets : List ℕ) → IsSome (read_items octets) → begins_whole octets ≡ false → lone (items_in octets) ≡ None
+none_alone octets whole broken = ap lone (none_left octets whole broken)
+
+pub one_alone : (octets : List ℕ) → begins_whole octets ≡ true → length (behind_first octets) ≡ 0 → lone (items_in octets) ≡ Some (first_item octets)
+one_alone octets whole none = ap (λ (o : Option (List ItemValue)). lone (unwrap_or o [])) (read_items-one octets whole none)
+
+alone-behind : (item : ItemValue) (octets : List ℕ) (begin : Bool) → begins_whole octets ≡ begin → IsSome (read_items octets) → 0 < length octets → lone (item ∷ items_in octets) ≡ None
+alone-behind item octets true begin whole some = ap (λ (items : List ItemValue). lone (item ∷ items)) (one_more octets whole begin).here
+alone-behind item octets false begin whole some =
+    let bad : false ≡ true = sym (is_some-broken octets some begin) ∙ whole in
+    absurd cc
+
+pub several_alone : (octets : List ℕ) → IsSome (read_items octets) → begins_whole octets ≡ true → 0 < length (behind_first octets) → lone (items_in octets) ≡ None
+several_alone octets whole begins some =
+    let s = one_more octets whole begins in
+    ap lone s.here ∙ alone-behind (first_item octets) (behind_first octets) (begins_whole (behind_first octets)) refl s.rest some

@@ -5,5 +5,6 @@ pub mod ChunkTexts
 pub mod ReportTexts
 pub mod Joined
 pub mod Checksums
+pub mod Alone
 pub mod Grammar
 pub mod WrittenTexts

@@ -1,5 +1,7 @@
 pub mod Items
+pub mod Headers
 pub mod Packets
+pub mod Alone
 pub mod Reading
 pub mod Parameters
 pub mod Writing

@@ -102,3 +102,12 @@ kind_of (MalformedChunk kind) = kind
 abbrev pub lone : {A : Type 0} → List A → Option A
 lone (one ∷ []) = Some one
 lone others = None
+
+-- a chunk as DATA, and as SACK, where it is one
+abbrev pub data_alone : Option ChunkValue → Option DataValue
+data_alone (Some (DataChunk carried)) = Some carried
+data_alone other = None
+
+abbrev pub sack_alone : Option ChunkValue → Option SackValue
+sack_alone (Some (SackChunk sack)) = Some sack
+sack_alone other = None

@@ -102,7 +102,7 @@ packet_of p = record {
   source = p.source;
   destination = p.destination;
   tag = p.tag;
-  chunks = map chunk_in (items_of p.items);
+  chunks = map chunk_in (items_of p.body.items);
 }
 
 -- what the code answers, seen as a value, is what reading gives

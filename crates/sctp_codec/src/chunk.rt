@@ -253,7 +253,7 @@ impl<'a> Chunk<'a> {
 
 /// The DATA chunk of these flags and this value.
 #[inline(always)]
-fn read_data(flags: u8, value: &[u8]) -> Chunk<'_>
+pub(crate) fn read_data(flags: u8, value: &[u8]) -> Chunk<'_>
     ensures { chunk_value result ≡ data_in flags value.now }
 {
     if value.len() < DATA_OCTETS {
@@ -292,7 +292,7 @@ fn read_init(value: &[u8]) -> Option<Init<'_>>
 
 /// The SACK chunk of this value.
 #[inline(always)]
-fn read_sack(value: &[u8]) -> Chunk<'_>
+pub(crate) fn read_sack(value: &[u8]) -> Chunk<'_>
     ensures { chunk_value result ≡ sack_in value.now }
 {
     let malformed = Chunk::Malformed { kind: SACK };

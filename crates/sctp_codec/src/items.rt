@@ -13,7 +13,8 @@ pub struct Items<'a> {
 }
 
 impl<'a> Items<'a> {
-    ghost use Rattle.sctp_codec.specs.Values.{items_of, Gives};
+    ghost use Rattle.sctp_codec.specs.Packets.{lone};
+    ghost use Rattle.sctp_codec.specs.Values.{item_of, items_of, Gives};
 
     /// No items.
     pub(crate) fn none() -> Items<'a>
@@ -39,6 +40,20 @@ impl<'a> Items<'a> {
             rest = behind;
         }
         Some(Items { octets })
+    }
+
+    /// The item that they are by themselves. None where there are several, or none.
+    #[inline(always)]
+    pub(crate) fn alone(self) -> Option<Item<'a>>
+        ensures { Gives item_of result (lone (items_of self.entry)) }
+    {
+        let Some((item, behind)) = first(self.octets) else {
+            return None;
+        };
+        if behind.is_empty() {
+            return Some(item);
+        }
+        None
     }
 }
 

@@ -4,14 +4,16 @@ ghost use Rattle.std.specs.Prelude.{◌≡◌, ◌==◌, ◌||◌, ◌<◌, ◌�
 ghost use Rattle.sctp_codec.specs.Items.{read_items};
 ghost use Rattle.sctp_codec.specs.Reading.{read_packet, chunk_in, checksum_of, checksum_field};
 ghost use Rattle.sctp_codec.specs.Reading.{is_bundled_well, has_type, type_of};
-ghost use Rattle.sctp_codec.specs.Packets.{lone};
-ghost use Rattle.sctp_codec.specs.Values.{item_of, items_of, chunk_value, chunks_of, packet_of, Gives};
+ghost use Rattle.sctp_codec.specs.Packets.{lone, data_alone, sack_alone};
+ghost use Rattle.sctp_codec.specs.Values.{item_of, items_of, data_of, sack_of, chunk_value, chunks_of, packet_of, Gives};
 
-use crate::chunk::{Chunk, Tag, number16_at, number32_at};
+use crate::body::Body;
+use crate::chunk::{Chunk, Data, Sack, Tag, number16_at, number32_at, read_data, read_sack};
+use crate::header::Header;
 use crate::item::Item;
 use crate::items::Items;
-use crate::layout::{CHECKSUM_AT, HEADER_OCTETS, INIT, INIT_ACK, ITEM_HEADER_OCTETS};
-use crc32c::{INITIAL, remainder};
+use crate::layout::{DATA, HEADER_OCTETS, INIT, INIT_ACK, ITEM_HEADER_OCTETS, SACK};
+use crc32c::remainder;
 
 /// A packet (RFC 9260 §3.1). Its chunks are slices of its octets.
 #[derive(Clone, Copy)]
@@ -22,7 +24,7 @@ pub struct Packet<'a> {
     pub destination: u16,
     /// The verification tag.
     pub tag: Tag,
-    items: Items<'a>,
+    body: Body<'a>,
 }
 
 impl<'a> Packet<'a> {
@@ -32,40 +34,66 @@ impl<'a> Packet<'a> {
     pub fn read(octets: &'a [u8]) -> Option<Packet<'a>>
         ensures { Gives packet_of result (read_packet octets.now) }
     {
-        if octets.len() < HEADER_OCTETS + ITEM_HEADER_OCTETS || !has_right_checksum(octets) {
+        Packet::read_behind(octets, &mut Header::zeros())
+    }
+
+    /// The same, for which the last header is kept.
+    #[inline(always)]
+    pub fn read_behind(octets: &'a [u8], header: &mut Header) -> Option<Packet<'a>>
+        ensures { Gives packet_of result (read_packet octets.now) }
+    {
+        if octets.len() < HEADER_OCTETS + ITEM_HEADER_OCTETS
+            || !has_right_checksum(octets, header)
+        {
             return None;
         }
-        let items = Items::read(&octets[HEADER_OCTETS..])?;
+        let body = Body::of(Items::read(&octets[HEADER_OCTETS..])?);
         let tag = number32_at(octets, 4);
-        if !is_bundled_well(tag, items) {
+        if !is_bundled_well(tag, body) {
             return None;
         }
         Some(Packet {
             source: number16_at(octets, 0),
             destination: number16_at(octets, 2),
             tag,
-            items,
+            body,
         })
     }
 
-    /// The chunk that it is by itself. None where it has several.
+    /// The DATA that it is by itself. None where it is another chunk, or several.
     #[inline(always)]
-    pub fn lone_chunk(&self) -> Option<Chunk<'a>>
-        ensures { Gives chunk_value result (lone (packet_of self.now).chunks) }
+    #[tactic(auto, unfolding(crate::specs::Reading::chunk_of))]
+    pub fn lone_data(&self) -> Option<Data<'a>>
+        ensures { Gives data_of result (data_alone (lone (packet_of self.now).chunks)) }
     {
-        let mut rest = self.items;
-        let first = rest.next()?;
-        if rest.next().is_some() {
+        let item = self.body.alone?;
+        let [kind, flags] = item.kind.to_be_bytes();
+        if kind != DATA {
             return None;
         }
-        Some(Chunk::read(first))
+        as_data(read_data(flags, item.value))
+    }
+
+    /// The SACK that it is by itself. None where it is another chunk, or several.
+    #[inline(always)]
+    #[tactic(auto, unfolding(crate::specs::Reading::chunk_of))]
+    pub fn lone_sack(&self) -> Option<Sack<'a>>
+        ensures { Gives sack_of result (sack_alone (lone (packet_of self.now).chunks)) }
+    {
+        let item = self.body.alone?;
+        if type_of(item) != SACK {
+            return None;
+        }
+        as_sack(read_sack(item.value))
     }
 
     /// Its chunks, in their order: one at least.
     pub fn chunks(&self) -> Chunks<'a>
         ensures { chunks_of result ≡ (packet_of self.now).chunks }
     {
-        Chunks { items: self.items }
+        Chunks {
+            items: self.body.items,
+        }
     }
 }
 
@@ -91,37 +119,58 @@ impl<'a> Iterator for Chunks<'a> {
     }
 }
 
+/// What a chunk is as DATA. None where it is another one.
+#[inline(always)]
+fn as_data(chunk: Chunk<'_>) -> Option<Data<'_>>
+    ensures { Gives data_of result (data_alone (Some (chunk_value chunk.entry))) }
+{
+    match chunk {
+        Chunk::Data(carried) => Some(carried),
+        _ => None,
+    }
+}
+
+/// What a chunk is as SACK. None where it is another one.
+#[inline(always)]
+fn as_sack(chunk: Chunk<'_>) -> Option<Sack<'_>>
+    ensures { Gives sack_of result (sack_alone (Some (chunk_value chunk.entry))) }
+{
+    match chunk {
+        Chunk::Sack(sack) => Some(sack),
+        _ => None,
+    }
+}
+
 /// Whether the checksum in the header is that of the packet.
-fn has_right_checksum(octets: &[u8]) -> bool
+#[inline(always)]
+fn has_right_checksum(octets: &[u8], header: &mut Header) -> bool
     requires { 12 ≤ length octets.now }
     ensures { result ≡ (checksum_field octets.now == checksum_of octets.now) }
 {
     let field = u32::from_le_bytes([octets[8], octets[9], octets[10], octets[11]]);
-    field == checksum(octets)
+    field == checksum(octets, header)
 }
 
 /// The checksum of a packet, with zeros in the checksum's place (RFC 9260 §6.8).
-fn checksum(octets: &[u8]) -> u32
+#[inline(always)]
+pub(crate) fn checksum(octets: &[u8], header: &mut Header) -> u32
     requires { 12 ≤ length octets.now }
     ensures { result ≡ checksum_of octets.now }
 {
-    let front = remainder(INITIAL, &octets[..CHECKSUM_AT]);
-    let header = remainder(front, &[0; 4]);
-    !remainder(header, &octets[HEADER_OCTETS..])
+    let Some((front, _)) = octets.split_first_chunk::<8>() else {
+        unreachable!()
+    };
+    header.turn(front);
+    !remainder(header.remainder(), &octets[HEADER_OCTETS..])
 }
 
 /// Whether INIT and INIT ACK stand alone, and a packet with INIT has the tag 0. Most packets have one chunk.
-fn is_bundled_well(tag: Tag, items: Items<'_>) -> bool
-    ensures { result ≡ is_bundled_well tag (items_of items.entry) }
+fn is_bundled_well(tag: Tag, body: Body<'_>) -> bool
+    ensures { result ≡ is_bundled_well tag (items_of body.entry.items) }
 {
-    let mut rest = items;
-    let Some(first) = rest.next() else {
-        return true;
-    };
-    if rest.next().is_none() {
-        tag == 0 || type_of(first) != INIT
-    } else {
-        !has_beginning(items)
+    match body.alone {
+        Some(item) => tag == 0 || type_of(item) != INIT,
+        None => !has_beginning(body.items),
     }
 }
 

@@ -15,6 +15,7 @@ ghost use Rattle.sctp_codec.specs.Causes.{cause_of};
 
 use crate::cause::{Cause, CauseParts};
 use crate::chunk::{Block, Data, Offer, Tag, Tsn};
+use crate::header::Header;
 use crate::item::{numbered, padding_behind};
 use crate::layout::{
     ABORT, BEGINNING_BIT, BLOCK_OCTETS, CHECKSUM_AT, COOKIE_ACK, COOKIE_ECHO, DATA, DATA_OCTETS,
@@ -22,6 +23,7 @@ use crate::layout::{
     INIT_OCTETS, ITEM_HEADER_OCTETS, REFLECTED_BIT, SACK, SACK_OCTETS, SHUTDOWN, SHUTDOWN_ACK,
     SHUTDOWN_COMPLETE, UNORDERED_BIT, WORD_OCTETS,
 };
+use crate::packet::checksum;
 use crc32c::crc32c;
 
 /// Octets of the longest packet that is written.
@@ -50,6 +52,19 @@ pub fn finish(out: &mut PacketBuffer, end: usize)
         → take end out.new ≡ headed source destination tag chunks }
 {
     let checksum = crc32c(&out[..end]);
+    out[CHECKSUM_AT..HEADER_OCTETS].copy_from_slice(&checksum.to_le_bytes());
+}
+
+/// The same, for which the last header is kept.
+#[inline(always)]
+pub fn finish_behind(out: &mut PacketBuffer, end: usize, header: &mut Header)
+    requires front { 12 ≤ end }
+    requires room { end ≤ 1200 }
+    ensures { (source destination tag : ℕ) (chunks : List ℕ)
+        → take end out.old ≡ header_octets source destination tag 0 ++ chunks
+        → take end out.new ≡ headed source destination tag chunks }
+{
+    let checksum = checksum(&out[..end], header);
     out[CHECKSUM_AT..HEADER_OCTETS].copy_from_slice(&checksum.to_le_bytes());
 }
 

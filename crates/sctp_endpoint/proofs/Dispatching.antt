@@ -2,7 +2,7 @@
 use Rattle.std.proofs.Common.{◌≡◌, ℕ, Bool, true, false, List, [], ◌∷◌, Option, Some, None, refl, ap, ◌∙◌, subst}
 use Rattle.std.specs.Prelude.{not, ◌&&◌, nat_eq, if◌then◌else◌}
 use Rattle.sctp_codec.specs.Packets as packets
-use Rattle.sctp_codec.specs.Packets.{ChunkValue, DataValue, SackValue, lone}
+use Rattle.sctp_codec.specs.Packets.{ChunkValue, DataValue, SackValue, PacketValue, lone, data_alone, sack_alone}
 use Rattle.sctp_rules.specs.Settings.{Settings, Secrets, Address}
 use Rattle.sctp_rules.specs.State.{Told, State, Done, silent, followed_by, with_association}
 use Rattle.sctp_rules.specs.Opening.{Echo, is_closed, is_waiting, heard_cookie_echo}
@@ -11,8 +11,8 @@ use Rattle.sctp_rules.specs.declared.phase.Phase.TheVariants.{Closed, CookieWait
 use Rattle.sctp_rules.specs.Data.{heard_data, heard_sack_chunk}
 use Rattle.sctp_rules.specs.Sending.{is_established}
 use Rattle.sctp_rules.specs.Shutdown.{heard_shutdown_complete}
-use Rattle.sctp_rules.specs.Packets.{Handled, has_tag, has_peer_tag, while_there, heard_chunk, heard_chunks, from_source, heard_by_tag, looked_at, heard_all}
-use Rattle.sctp_endpoint.specs.Dispatching.{counts_behind, heard_echo, is_established_by}
+use Rattle.sctp_rules.specs.Packets.{Handled, has_tag, has_peer_tag, while_there, heard_chunk, heard_chunks, from_source, heard_by_tag, looked_at, heard_all, heard}
+use Rattle.sctp_endpoint.specs.Dispatching.{counts_behind, heard_datagram, heard_echo, is_established_by}
 use Rattle.sctp_endpoint.specs.Draining.{and_on}
 use Rattle.sctp_bundling.specs.Watching.{Sent}
 use Rattle.sctp_endpoint.specs.Endpoints.{Endpoint, Does, secrets_of}
@@ -117,6 +117,43 @@ only-does handled = either handled.goes_on handled.does
     either true d = nothing-behind d
     either false d = refl
 
+-- what is DATA, or SACK, is a chunk
+pub data-is : (o : Option ChunkValue) (d : DataValue) → data_alone o ≡ Some d → o ≡ Some (packets.DataChunk d)
+data-is None d e = absurd cc
+data-is (Some (packets.DataChunk x)) d e = let same : x ≡ d = cc in ap (λ (y : DataValue). Some (packets.DataChunk y)) same
+data-is (Some (packets.InitChunk init)) d e = absurd cc
+data-is (Some (packets.InitAckChunk init)) d e = absurd cc
+data-is (Some (packets.SackChunk sack)) d e = absurd cc
+data-is (Some (packets.HeartbeatChunk information)) d e = absurd cc
+data-is (Some (packets.HeartbeatAckChunk information)) d e = absurd cc
+data-is (Some (packets.AbortChunk is_reflected causes)) d e = absurd cc
+data-is (Some (packets.ShutdownChunk cumulative)) d e = absurd cc
+data-is (Some packets.ShutdownAckChunk) d e = absurd cc
+data-is (Some (packets.ErrorChunk causes)) d e = absurd cc
+data-is (Some (packets.CookieEchoChunk cookie)) d e = absurd cc
+data-is (Some packets.CookieAckChunk) d e = absurd cc
+data-is (Some (packets.ShutdownCompleteChunk is_reflected)) d e = absurd cc
+data-is (Some (packets.UnknownChunk kind flags value)) d e = absurd cc
+data-is (Some (packets.MalformedChunk kind)) d e = absurd cc
+
+pub sack-is : (o : Option ChunkValue) (sack : SackValue) → sack_alone o ≡ Some sack → o ≡ Some (packets.SackChunk sack)
+sack-is None sack e = absurd cc
+sack-is (Some (packets.DataChunk d)) sack e = absurd cc
+sack-is (Some (packets.InitChunk init)) sack e = absurd cc
+sack-is (Some (packets.InitAckChunk init)) sack e = absurd cc
+sack-is (Some (packets.SackChunk x)) sack e = let same : x ≡ sack = cc in ap (λ (y : SackValue). Some (packets.SackChunk y)) same
+sack-is (Some (packets.HeartbeatChunk information)) sack e = absurd cc
+sack-is (Some (packets.HeartbeatAckChunk information)) sack e = absurd cc
+sack-is (Some (packets.AbortChunk is_reflected causes)) sack e = absurd cc
+sack-is (Some (packets.ShutdownChunk cumulative)) sack e = absurd cc
+sack-is (Some packets.ShutdownAckChunk) sack e = absurd cc
+sack-is (Some (packets.ErrorChunk causes)) sack e = absurd cc
+sack-is (Some (packets.CookieEchoChunk cookie)) sack e = absurd cc
+sack-is (Some packets.CookieAckChunk) sack e = absurd cc
+sack-is (Some (packets.ShutdownCompleteChunk is_reflected)) sack e = absurd cc
+sack-is (Some (packets.UnknownChunk kind flags value)) sack e = absurd cc
+sack-is (Some (packets.MalformedChunk kind)) sack e = absurd cc
+
 data-alone : (c : Settings) (k : Secrets) (now : ℕ) (source : Address) (tag : ℕ) (d : DataValue) (s : State) → is_established_by tag s.association ≡ true
     → heard_all c k now source tag (packets.DataChunk d ∷ []) s ≡ heard_data c d (from_source source s)
 data-alone c k now source tag d s there =
@@ -152,3 +189,11 @@ pub sack-goes-alone : {W : Type 0} (has : W → List Sent → List Told → Type
 sack-goes-alone has w u e here g now source tag sack chunks there alone is h =
     alone-goes has w u e here g source (λ c s. heard_sack_chunk c now sack s) (heard_all e.settings (secrets_of e) now source tag chunks e.state) is
     (ap (λ (xs : List ChunkValue). heard_all e.settings (secrets_of e) now source tag xs e.state) (lone-is chunks (packets.SackChunk sack) alone) ∙ sack-alone e.settings (secrets_of e) now source tag sack e.state there) h
+
+-- ---- a datagram is read, and its packet heard
+
+pub packet-heard : {W : Type 0} (has : W → List Sent → List Told → Type 0) (w u : W) (e here g : Endpoint) (now : ℕ) (source : Address) (read : Option PacketValue) (p : PacketValue)
+    → here ≡ e → read ≡ Some p → Does has w u here g (heard here.settings (secrets_of here) now source p here.state)
+    → Does has w u e g (heard_datagram read e.settings (secrets_of e) now source e.state)
+packet-heard has w u e here g now source read p is said h =
+    rw said (subst (λ (x : Endpoint). Does has w u x g (heard x.settings (secrets_of x) now source p x.state)) is h)

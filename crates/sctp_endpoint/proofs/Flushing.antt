@@ -5,7 +5,6 @@ use Rattle.std.proofs.lemmas.List.{append_assoc}
 use Rattle.sctp_codec.specs.Packets.{ChunkValue}
 use Rattle.sctp_rules.specs.State.{Association, Told, with_association}
 use Rattle.sctp_rules.specs.Data.{sacked, takes_sack}
-use Rattle.sctp_rules.specs.Confirming.{all_gone}
 use Rattle.sctp_rules.specs.Sending.{closed, data_of, acknowledgement, is_acknowledging, with_acknowledged, with_data_sent, t2_in, due_chunks, packets_of, flush}
 use Rattle.sctp_bundling.specs.Replies.{size_of}
 use Rattle.sctp_endpoint.specs.Endpoints.{Endpoint, Does}

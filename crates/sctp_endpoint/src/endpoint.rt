@@ -35,6 +35,7 @@ mod unknown;
 use crate::beginnings::Beginnings;
 use crate::peer::{Attempt, Beat, Peer};
 use sctp_bundling::{Address, Chunks, Draft, Settings, Way};
+use sctp_codec::Header;
 use sctp_receiving::Receiver;
 use sctp_receiving::limits::MESSAGE_OCTETS;
 use sctp_rules::Phase;
@@ -97,6 +98,8 @@ pub struct Endpoint {
     beat_due: Option<u64>,
     beat: Option<Beat>,
     failures: u32,
+    /// That of the last packet that came.
+    header: Header,
 }
 
 impl Model for Endpoint {
@@ -157,6 +160,7 @@ impl Endpoint {
             beat_due: None,
             beat: None,
             failures: 0,
+            header: Header::zeros(),
         })
     }
 

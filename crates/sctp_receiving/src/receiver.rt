@@ -259,6 +259,7 @@ impl Receiver {
 
     /// Consumes the next chunk in the order of TSNs, where it is held; answers what it tells. A message that it ends
     /// stands in the buffer.
+    #[inline(always)]
     pub fn take_next(&mut self, buffer: &mut [u8; MESSAGE_OCTETS]) -> Option<Told>
         ensures told { (p : pieces.Piece) → option_map (told_by p buffer.new) result
             ≡ (if is_some (next_held self.old) then Some (take_next self.old).told else None) }
@@ -297,10 +298,13 @@ impl Receiver {
         tsn.wrapping_sub(self.cumulative) as usize <= CHUNKS && self.is_full(tsn)
     }
 
-    // Whether there is a chunk in the place of a TSN.
+    // Whether there is a chunk in the place of a TSN. Mostly there is none at all.
     fn is_full(&self, tsn: u32) -> bool
         ensures { result ≡ is_some (piece_at self.now tsn) }
     {
+        if self.count == 0 {
+            return false;
+        }
         self.held[place_of(tsn)].is_full()
     }
 

@@ -160,8 +160,8 @@ impl Outbox {
         requires { self.old.went < length self.old.out }
         ensures { self.new ≡ put_out_first self.old }
     {
+        self.tally = self.tally.with_new(self.ring.get(self.went));
         self.ring.go_out(self.went, false);
-        self.tally = self.tally.with(self.ring.get(self.went));
         self.went += 1;
     }
 

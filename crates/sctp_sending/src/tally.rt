@@ -1,7 +1,7 @@
 //! What is counted along of the messages that went out.
 
-ghost use Rattle.std.specs.Prelude.{◌≡◌, ◌≤◌, ◌^◌};
-ghost use Rattle.sctp_sending.specs.Outgoing.{under_way_of};
+ghost use Rattle.std.specs.Prelude.{◌≡◌, ◌≤◌, ◌^◌, false};
+ghost use Rattle.sctp_sending.specs.Outgoing.{under_way_of, gone_out};
 ghost use Rattle.sctp_sending.specs.Tallies.{lost_of, named_of, tally_with, tally_without};
 
 use crate::cell::Cell;
@@ -35,6 +35,20 @@ impl Tally {
         Tally {
             under_way: self.under_way + cell.under_way(),
             lost: self.lost + u32::from(cell.is_lost()),
+            named: self.named + u32::from(cell.is_named()),
+        }
+    }
+
+    /// With one message more, which goes out for the first time.
+    #[inline(always)]
+    pub fn with_new(self, cell: &Cell) -> Tally
+        requires under_way { self.under_way ≤ 2 ^ 24 }
+        requires named { self.named ≤ 2 ^ 24 }
+        ensures { result ≡ tally_with self (gone_out false cell.now) }
+    {
+        Tally {
+            under_way: self.under_way + cell.newly_confirmed(),
+            lost: self.lost,
             named: self.named + u32::from(cell.is_named()),
         }
     }

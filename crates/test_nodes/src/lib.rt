@@ -2,11 +2,9 @@
 #![tactic(auto)]
 
 pub mod dice;
-pub mod linked;
 pub mod node;
 pub mod settings_text;
 
 pub use dice::Dice;
-pub use linked::{LinkedNodes, settings_to};
-pub use node::{Node, NodeTrial, boot, holds_of_node};
+pub use node::{Node, NodeTrial, holds_of_node};
 pub use settings_text::settings_of;

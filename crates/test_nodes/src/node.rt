@@ -10,7 +10,7 @@ use std::alloc::Global;
 use std::marker::Model;
 
 /// An exchange with the settings of a text (`settings_of`), before its first event.
-pub fn boot(alloc: Global, text: &str) -> Result<Exchange, SettingsFault> {
+fn boot(alloc: Global, text: &str) -> Result<Exchange, SettingsFault> {
     let booted = Exchange::boot(alloc, settings_of(alloc, text)?);
     booted
         .ok()
@@ -23,8 +23,8 @@ pub trait NodeTrial {
     fn holds(&self, alloc: Global, node: &mut Node) -> bool;
 }
 
-/// Whether a trial holds of a node with the settings of a text, before its first event. What calls this owns no node, so
-/// that its proof has none to drop.
+/// Whether a trial holds of a node with the settings of a text, before its first event. What calls this owns no node,
+/// so that its proof has none to drop.
 pub fn holds_of_node<T: NodeTrial>(
     alloc: Global,
     text: &str,
@@ -35,7 +35,6 @@ pub fn holds_of_node<T: NodeTrial>(
 }
 
 /// An exchange whose state is hidden from proofs, so that those of its callers are short.
-#[derive(Drop)]
 pub struct Node {
     exchange: Exchange,
 }
@@ -44,6 +43,14 @@ impl Model for Node {
     ghost Value = { Unit {0} };
 
     ghost view = { λ _. tt };
+}
+
+// By hand, so that what drops one calls this, and no proof above has what an exchange owns.
+impl Drop for Node {
+    fn drop(self) {
+        let Node { exchange } = self;
+        drop(exchange);
+    }
 }
 
 impl Node {

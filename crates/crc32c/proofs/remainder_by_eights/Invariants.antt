@@ -1,4 +1,4 @@
-use Rattle.std.proofs.Common.{◌≡◌, length, drop}
+use Rattle.std.proofs.Common.{◌≡◌, length}
 use Rattle.crc32c.specs.Division.{after_octets}
 use Rattle.crc32c.proofs.remainder_by_eights.Given as goal
 
@@ -7,12 +7,3 @@ invariant-eights l = after_octets l.remainder l.rest ≡ after_octets l.fn.befor
 
 abbrev pub decreases-eights : goal.decreases-eights
 decreases-eights l = length l.rest
-
-abbrev pub invariant-fours : goal.invariant-fours
-invariant-fours l = after_octets l.remainder l.rest ≡ after_octets l.fn.before l.fn.octets
-
-abbrev pub decreases-fours : goal.decreases-fours
-decreases-fours l = length l.rest
-
-abbrev pub invariant-octets : goal.invariant-octets
-invariant-octets l = after_octets l.remainder (drop l.octet-index l.octet-items) ≡ after_octets l.fn.before l.fn.octets

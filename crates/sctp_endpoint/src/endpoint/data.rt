@@ -41,6 +41,7 @@ const NO_PIECE: Piece<'static> = Piece {
 impl Endpoint {
     /// DATA came: in the states in which it counts, it is acknowledged in this round, and what it ends is told. One
     /// without data is a violation of its own kind.
+    #[inline(always)]
     pub(super) fn hear_data<W: Watch>(&mut self, carried: &Data<'_>, watch: &mut W)
         requires { self.old.state.generation < 2 ^ 64 - 1 }
         ensures { Does W.has watch.old watch.new self.old self.new
@@ -61,6 +62,7 @@ impl Endpoint {
     }
 
     /// DATA is taken: what it tells goes to the user, and then what the chunks tell that were held behind it.
+    #[inline(always)]
     fn take_data<W: Watch>(&mut self, carried: &Data<'_>, watch: &mut W)
         requires { self.old.state.generation < 2 ^ 64 - 1 }
         ensures { Does W.has watch.old watch.new self.old self.new
@@ -75,6 +77,7 @@ impl Endpoint {
     }
 
     /// A chunk goes to the receiver, and what it tells to the user; answers whether the association goes on.
+    #[inline(always)]
     fn take_piece<W: Watch>(&mut self, carried: &Data<'_>, watch: &mut W) -> bool
         requires { self.old.state.generation < 2 ^ 64 - 1 }
         ensures does { Does W.has watch.old watch.new self.old self.new
@@ -98,6 +101,7 @@ impl Endpoint {
     }
 
     /// The chunks that were held behind one that was consumed are consumed, and what they tell goes to the user.
+    #[inline(always)]
     fn take_held<W: Watch>(&mut self, watch: &mut W)
         requires { self.old.state.generation < 2 ^ 64 - 1 }
         ensures { Does W.has watch.old watch.new self.old self.new
@@ -112,6 +116,7 @@ impl Endpoint {
 
     /// The next chunk is consumed, where it is held, and what it tells goes to the user; answers whether there may be
     /// another.
+    #[inline(always)]
     fn take_next<W: Watch>(&mut self, watch: &mut W) -> bool
         requires { self.old.state.generation < 2 ^ 64 - 1 }
         ensures does { Does W.has watch.old watch.new self.old self.new

@@ -2,7 +2,7 @@
 
 ghost use Rattle.std.specs.Prelude.{◌≡◌, ◌+◌, ◌<◌, ◌≤◌, ◌^◌, ◌-◌, IsTrue, length};
 ghost use Rattle.sctp_codec.specs.Reading.{read_packet};
-ghost use Rattle.sctp_codec.specs.Values.{chunk_value, chunks_of, packet_of};
+ghost use Rattle.sctp_codec.specs.Values.{chunk_value, chunks_of, packet_of, Gives};
 ghost use Rattle.sctp_rules.specs.Packets.{
   heard_chunks,
   from_source,
@@ -35,9 +35,18 @@ impl Endpoint {
             (heard_datagram (read_packet octets.now) self.old.settings (secrets_of self.old) now (address_of source.now)
             self.old.state) }
     {
-        if let Some(packet) = Packet::read(octets) {
+        if let Some(packet) = self.read(octets) {
             self.hear_packet(&packet, source, now, watch);
         }
+    }
+
+    /// The packet that a datagram is, where it is one.
+    #[inline(always)]
+    fn read<'a>(&mut self, octets: &'a [u8]) -> Option<Packet<'a>>
+        ensures kept { self.new ≡ self.old }
+        ensures packet { Gives packet_of result (read_packet octets.now) }
+    {
+        Packet::read_behind(octets, &mut self.header)
     }
 
     /// A packet came: it is for this endpoint if its ports are.
@@ -86,16 +95,14 @@ impl Endpoint {
             (heard_all self.old.settings (secrets_of self.old) now (address_of source.now) packet.now.tag
             (packet_of packet.now).chunks self.old.state) }
     {
-        match packet.lone_chunk() {
-            Some(Chunk::Data(carried)) => {
-                self.note_source(source);
-                self.hear_data(&carried, watch);
-            }
-            Some(Chunk::Sack(sack)) => {
-                self.note_source(source);
-                self.hear_sack(&sack, now, watch);
-            }
-            _ => self.hear_all(source, packet.tag, packet.chunks(), now, watch),
+        if let Some(carried) = packet.lone_data() {
+            self.note_source(source);
+            self.hear_data(&carried, watch);
+        } else if let Some(sack) = packet.lone_sack() {
+            self.note_source(source);
+            self.hear_sack(&sack, now, watch);
+        } else {
+            self.hear_all(source, packet.tag, packet.chunks(), now, watch);
         }
     }
 

@@ -16,6 +16,7 @@ use sctp_sending::Confirmation;
 
 impl Endpoint {
     /// SACK came: in the states in which DATA goes out it confirms messages.
+    #[inline(always)]
     pub(super) fn hear_sack<W: Watch>(&mut self, sack: &Sack<'_>, now: u64, watch: &mut W)
         requires generation { self.old.state.generation < 2 ^ 64 - 1 }
         requires now { now ≤ 2 ^ 63 }

@@ -49,6 +49,7 @@ impl Sender {
     }
 
     /// The first messages are confirmed: they leave. Answers how many octets that adds.
+    #[inline(always)]
     #[tactic(auto, unfolding(crate::specs::Sending::confirmed))]
     pub(super) fn take_off(&mut self, count: usize, now: u64) -> u32
         requires { count ≤ self.old.went }

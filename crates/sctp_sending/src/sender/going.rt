@@ -1,11 +1,11 @@
 //! Messages that go out.
 
-ghost use Rattle.std.specs.Prelude.{◌≡◌, ◌<◌, ◌≤◌, ◌^◌, length, IfSome};
+ghost use Rattle.std.specs.Prelude.{◌≡◌, ◌<◌, ◌≤◌, ◌^◌, length, IfSome, Some, None};
 ghost use Rattle.sctp_sending.specs.Sending.{
   may_repeat,
   may_begin,
+  next_of,
   next_place,
-  gone,
   gone_again,
   gone_first,
   gone_next,
@@ -23,19 +23,6 @@ use crate::timed::Timed;
 const DATA_HEADER_OCTETS: u32 = 16;
 
 impl Sender {
-    /// The place of the message that goes out next.
-    #[tactic(auto, unfolding(crate::specs::Sending::next_place))]
-    fn next_place(&self) -> Option<usize>
-        ensures place { result ≡ next_place self.now }
-        ensures within { IfSome result (λ place. place < length self.now.out) }
-        ensures next { IfSome result (λ place. place ≤ self.now.went) }
-    {
-        match self.outbox.first_lost() {
-            Some(place) => self.may_repeat(place).then_some(place),
-            None => self.may_begin().then_some(self.outbox.went()),
-        }
-    }
-
     /// Whether the lost message at a place may go out.
     fn may_repeat(&self, place: usize) -> bool
         requires { place < length self.now.out }
@@ -56,6 +43,7 @@ impl Sender {
 
     /// The next message goes out, where one may: answers its place, which `data` takes. Where none may, a burst of
     /// lost ones is over.
+    #[tactic(auto, unfolding(crate::specs::Sending::next_place))]
     pub fn put_out(&mut self, now: u64) -> Option<usize>
         requires { now ≤ 2 ^ 63 }
         ensures place { result ≡ next_place self.old }
@@ -63,30 +51,46 @@ impl Sender {
         ensures next { IfSome result (λ place. place ≤ self.old.went) }
         ensures sending { self.new ≡ gone_next self.old now result }
     {
-        match self.next_place() {
-            Some(place) => {
-                self.put_out_at(place, now);
-                Some(place)
-            }
-            None => {
-                self.burst = 0;
-                None
-            }
+        match self.outbox.first_lost() {
+            Some(place) => self.put_out_lost(place, now),
+            None => self.put_out_new(now),
         }
     }
 
-    /// The message at a place goes out: a lost one, or the first new one.
-    fn put_out_at(&mut self, place: usize, now: u64)
-        requires within { place < length self.old.out }
-        requires next { place ≤ self.old.went }
+    /// The same of the lost message at a place.
+    #[inline(never)]
+    fn put_out_lost(&mut self, place: usize, now: u64) -> Option<usize>
+        requires place { place < self.old.went }
         requires now { now ≤ 2 ^ 63 }
-        ensures { self.new ≡ gone self.old place now }
+        ensures place { result ≡ next_of self.old (Some place) }
+        ensures within { IfSome result (λ place. place < length self.old.out) }
+        ensures next { IfSome result (λ place. place ≤ self.old.went) }
+        ensures sending { self.new ≡ gone_next self.old now result }
     {
-        if place < self.outbox.went() {
+        if self.may_repeat(place) {
             self.put_out_again(place, now);
-        } else {
-            self.put_out_first(now);
+            return Some(place);
         }
+        self.burst = 0;
+        None
+    }
+
+    /// The same of the first new message, where none is lost.
+    #[inline(always)]
+    fn put_out_new(&mut self, now: u64) -> Option<usize>
+        requires { now ≤ 2 ^ 63 }
+        ensures place { result ≡ next_of self.old None }
+        ensures within { IfSome result (λ place. place < length self.old.out) }
+        ensures next { IfSome result (λ place. place ≤ self.old.went) }
+        ensures sending { self.new ≡ gone_next self.old now result }
+    {
+        if self.may_begin() {
+            let place = self.outbox.went();
+            self.put_out_first(now);
+            return Some(place);
+        }
+        self.burst = 0;
+        None
     }
 
     /// The lost message at a place goes out again.

@@ -1,4 +1,4 @@
-use Rattle.std.proofs.Common.{[], ◌∷◌, sym, ap, subst, ◌∙◌}
+use Rattle.std.proofs.Common.{[], ◌∷◌, sym, subst, ◌∙◌}
 use Rattle.sctp_rules.specs.Data.{sack_of}
 use Rattle.sctp_bundling.specs.Bundling.{Adds}
 use Rattle.sctp_endpoint.specs.Endpoints.{Endpoint}

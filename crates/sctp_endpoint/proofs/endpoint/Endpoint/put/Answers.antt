@@ -1,4 +1,4 @@
-use Rattle.std.proofs.Common.{[], ◌∷◌, sym, ap, subst, refl, ◌∙◌}
+use Rattle.std.proofs.Common.{[], ◌∷◌, sym, subst, refl}
 use Rattle.sctp_bundling.specs.Replies.{chunk_of}
 use Rattle.sctp_bundling.specs.Watching.{Puts}
 use Rattle.sctp_bundling.specs.Ways.{Way, packet_on}

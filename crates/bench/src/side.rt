@@ -1,0 +1,122 @@
+//! An end of an SCTP association, which hears what the other end puts out.
+
+use crate::told::Told;
+use sctp_endpoint::endpoint::KEY_OCTETS;
+use sctp_endpoint::{Address, Endpoint, Event, Settings, Watch};
+use sctp_sending::{Bounds, Message};
+use std::alloc::{AllocError, Global};
+use std::marker::Model;
+
+/// Where datagrams come from.
+const PLACE: Address = Address {
+    host: [0; 16],
+    port: 9_899,
+};
+
+/// The settings of both ends.
+const SETTINGS: Settings = Settings {
+    own_port: 3_565,
+    far_port: 3_565,
+    address: PLACE,
+    bounds: Bounds {
+        initial: 300,
+        least: 100,
+        most: 1_000,
+    },
+    init_retransmissions: 8,
+    retransmissions: 10,
+    heartbeat: 5_000,
+    cookie_life: 60_000,
+};
+
+/// The stream of User Data, and the protocol of M2PA (RFC 4165 §1.3.1, §2).
+const USER_DATA: u16 = 1;
+
+const M2PA: u32 = 5;
+
+/// An end of the association. It hears what the other end puts out as that is put out, without a copy. Its state is
+/// hidden from proofs: nothing is promised of it.
+#[derive(Drop)]
+pub(crate) struct Side {
+    endpoint: Endpoint,
+    /// What it tells, and the datagrams that it puts out while it hears one.
+    told: Told,
+    /// The time, in milliseconds.
+    now: u32,
+}
+
+impl Model for Side {
+    ghost Value = { Unit {0} };
+
+    ghost view = { λ _. tt };
+}
+
+impl Side {
+    /// An end under keys of its own. The error means that memory ran out.
+    pub(crate) fn new(alloc: Global, key: u8) -> Result<Side, AllocError> {
+        Ok(Side {
+            endpoint: Endpoint::new(alloc, SETTINGS, [key; KEY_OCTETS], [key; KEY_OCTETS])?,
+            told: Told::nothing(),
+            now: 0,
+        })
+    }
+
+    /// It wants an association.
+    pub(crate) fn open(&mut self, is_active: bool, other: &mut Side) {
+        if self.endpoint.lasts() {
+            self.endpoint.open(is_active, u64::from(self.now), other);
+        }
+    }
+
+    /// It is given a frame.
+    #[inline(always)]
+    pub(crate) fn give(&mut self, frame: &[u8]) {
+        let _ = self.endpoint.send(Message {
+            stream: USER_DATA,
+            protocol: M2PA,
+            octets: frame,
+        });
+    }
+
+    /// What is due goes out to the other end.
+    pub(crate) fn flush(&mut self, other: &mut Side) {
+        self.endpoint.flush(u64::from(self.now), other);
+    }
+
+    /// The other end hears what was put out while this one heard a datagram.
+    pub(crate) fn answer(&mut self, other: &mut Side) {
+        other.hear(self.told.datagram());
+        self.told.forget();
+    }
+
+    /// A millisecond passes.
+    pub(crate) fn tick(&mut self) {
+        self.now = self.now.wrapping_add(1);
+    }
+
+    /// What it told.
+    pub(crate) fn told(&self) -> &Told {
+        &self.told
+    }
+
+    /// A datagram comes.
+    #[inline(always)]
+    fn hear(&mut self, octets: &[u8]) {
+        if self.endpoint.lasts() {
+            self.endpoint
+                .hear(octets, &PLACE, u64::from(self.now), &mut self.told);
+        }
+    }
+}
+
+impl Watch for Side {
+    // nothing is proved of it
+    ghost has = { λ _ _ _. Unit {0} };
+
+    #[inline(always)]
+    fn send(&mut self, octets: &[u8], _to: &Address) {
+        self.hear(octets);
+    }
+
+    fn tell(&mut self, _event: &Event<'_>) {}
+}

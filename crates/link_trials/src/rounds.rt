@@ -1,0 +1,158 @@
+//! Frames that are carried in rounds, and links that come into service.
+
+use crate::marking::FLOWS;
+use crate::world::World;
+use exchange::LinkId;
+use pair_world::End;
+
+/// So many rounds at most carry what is left.
+pub const MOST_ROUNDS: usize = 200;
+
+/// So many ticks pass while a link is proved.
+pub const PROVING_TICKS: u8 = 3;
+
+/// So often the ticks between two rounds pass until T1 has run out, during which a link alone may not open again.
+const T1_PASSES: usize = 4;
+
+/// So many exchanges of frames carry the statuses of a link.
+const STATUSES: usize = 4;
+
+/// How many ticks pass at each end between two rounds.
+#[derive(Clone, Copy)]
+pub struct Clock {
+    /// At the first end.
+    pub one: u8,
+    /// At the second end.
+    pub two: u8,
+}
+
+impl Clock {
+    /// No tick passes.
+    pub const STILL: Clock = Clock { one: 0, two: 0 };
+
+    /// The ticks between two rounds pass.
+    pub fn pass(self, world: &mut World) {
+        world.tick(End::One, self.one);
+        world.tick(End::Two, self.two);
+    }
+}
+
+/// How many steps a round has over so many links, at most 63: for each end and each link, a frame is taken, and then
+/// delivered at the other end.
+pub fn steps_over(links: u8) -> u8 {
+    links.saturating_mul(4)
+}
+
+/// A step of a round. Says whether something came of it.
+pub fn step_of_round(world: &mut World, step: u8) -> bool {
+    let links = world.links().max(1);
+    let carried = step / 2;
+    let link = LinkId::new(carried % links);
+    let (from, to) = ends_from(carried < links);
+    if step % 2 == 0 {
+        world.take(from, link)
+    } else {
+        world.deliver(to, link)
+    }
+}
+
+/// The end that sends and the other, from the first to the second or back.
+fn ends_from(first: bool) -> (End, End) {
+    if first {
+        (End::One, End::Two)
+    } else {
+        (End::Two, End::One)
+    }
+}
+
+/// A round, and whether it did something.
+pub fn pass_round(world: &mut World) -> bool {
+    let mut moved = false;
+    for step in 0..steps_over(world.links()) {
+        moved |= step_of_round(world, step);
+    }
+    moved
+}
+
+/// Rounds pass until one does nothing. Says whether one did nothing.
+pub fn settle(world: &mut World, clock: Clock) -> bool {
+    for _ in 0..MOST_ROUNDS {
+        if !pass_round(world) {
+            return true;
+        }
+        clock.pass(world);
+    }
+    false
+}
+
+/// All links come into service, and every declaration of a changeback is answered. Says whether all did.
+pub fn bring_up(world: &mut World) -> bool {
+    let opened = open_all(world);
+    let told = settle(world, Clock::STILL);
+    prove_links(world);
+    let settled = settle(world, Clock::STILL);
+    opened && told && settled
+}
+
+/// All links open. Says whether all did.
+pub fn open_all(world: &mut World) -> bool {
+    let mut opened = true;
+    for link in 0..world.links() {
+        opened &= world.open(LinkId::new(link));
+    }
+    opened
+}
+
+/// The ticks pass in which links are proved.
+pub fn prove_links(world: &mut World) {
+    world.tick(End::One, PROVING_TICKS);
+    world.tick(End::Two, PROVING_TICKS);
+}
+
+/// A link that is lost at both ends comes back. Says whether it opened.
+pub fn come_back(world: &mut World, link: LinkId, clock: Clock) -> bool {
+    world.lose(End::One, link);
+    world.lose(End::Two, link);
+    if world.links() == 1 {
+        outlast_t1(world, clock);
+    }
+    let opened = world.open(link);
+    serve(world, link);
+    opened
+}
+
+/// A link that is open at both ends comes into service.
+pub fn serve(world: &mut World, link: LinkId) {
+    carry_statuses(world, link);
+    prove_links(world);
+    carry_statuses(world, link);
+}
+
+/// Time passes until T1 has run out.
+fn outlast_t1(world: &mut World, clock: Clock) {
+    for _ in 0..T1_PASSES {
+        clock.pass(world);
+    }
+}
+
+/// The statuses of a link are carried.
+pub fn carry_statuses(world: &mut World, link: LinkId) {
+    for _ in 0..STATUSES {
+        carry(world, End::One, End::Two, link);
+        carry(world, End::Two, End::One, link);
+    }
+}
+
+/// The next frame of a link is carried from an end to the other.
+pub fn carry(world: &mut World, from: End, to: End, link: LinkId) {
+    world.take(from, link);
+    world.deliver(to, link);
+}
+
+/// Each end submits a message on each flow.
+pub fn submit_all(world: &mut World) {
+    for flow in 0..FLOWS {
+        world.submit(End::One, flow);
+        world.submit(End::Two, flow);
+    }
+}

@@ -1,0 +1,110 @@
+//! What is done to the two nodes and the links between them.
+
+use crate::world::World;
+use exchange::LinkId;
+use linked_nodes::Became;
+use pair_world::{End, Step};
+
+impl World {
+    /// Takes a step.
+    pub(super) fn turn(&mut self, step: Step) -> Became {
+        self.compare_now_and_then();
+        let became = self.nodes.turn(step);
+        self.note(became == Became::Starved);
+        became
+    }
+
+    /// Takes a step, and says whether something came of it.
+    pub(super) fn act(&mut self, step: Step) -> bool {
+        self.turn(step).is_something()
+    }
+
+    /// Takes a step that hands in a frame.
+    pub(super) fn arrive(&mut self, step: Step) -> Became {
+        let became = self.turn(step);
+        self.tally.passing.arrive(became);
+        became
+    }
+
+    /// An end sends the next frame of a link.
+    pub fn take(&mut self, end: End, link: LinkId) -> bool {
+        let taken = self.act(Step::Take(end, self.shape.at(end, link)));
+        self.tally.take(taken);
+        taken
+    }
+
+    /// The next link status on a link to an end comes.
+    fn deliver_status(&mut self, end: End, link: LinkId) -> bool {
+        self.act(Step::DeliverStatus(end, self.shape.at(end, link)))
+    }
+
+    /// The next User Data on a link to an end comes.
+    fn deliver_data(&mut self, end: End, link: LinkId) -> bool {
+        self.arrive(Step::Deliver(end, self.shape.at(end, link)))
+            .is_something()
+    }
+
+    /// The next frame on a link to an end comes: a link status if there is one, else User Data.
+    pub fn deliver(&mut self, end: End, link: LinkId) -> bool {
+        self.deliver_status(end, link) || self.deliver_data(end, link)
+    }
+
+    /// The next User Data on a link to an end comes, or where there is none a link status.
+    pub fn deliver_data_first(&mut self, end: End, link: LinkId) -> bool {
+        self.deliver_data(end, link) || self.deliver_status(end, link)
+    }
+
+    /// The next link status on a link to an end is lost on its way.
+    pub fn lose_status(&mut self, end: End, link: LinkId) -> bool {
+        self.act(Step::LoseStatus(end, self.shape.at(end, link)))
+    }
+
+    /// The next link status on a link to an end comes twice.
+    pub fn double_status(&mut self, end: End, link: LinkId) -> bool {
+        self.act(Step::DoubleStatus(end, self.shape.at(end, link)))
+    }
+
+    /// An end loses the association of a link between the two.
+    pub fn lose(&mut self, end: End, link: LinkId) -> bool {
+        self.lose_any_link(end, self.shape.at(end, link))
+    }
+
+    /// An end loses the association of a link that has this number there.
+    pub fn lose_any_link(&mut self, end: End, link: LinkId) -> bool {
+        let lost = self.act(Step::Lose(end, link));
+        self.tally.passing.fail(lost);
+        lost
+    }
+
+    /// A link opens at end 1, where that wants it to and it may open at end 2, which then follows.
+    pub fn open(&mut self, link: LinkId) -> bool {
+        self.open_first(End::One, link) && self.follow(End::Two, link)
+    }
+
+    /// A link opens at an end, before it opens at the other.
+    pub fn open_first(&mut self, end: End, link: LinkId) -> bool {
+        self.act(Step::OpenFirst(end, self.shape.at(end, link)))
+    }
+
+    /// A link opens at an end that may follow the other.
+    pub fn follow(&mut self, end: End, link: LinkId) -> bool {
+        self.act(Step::OpenSecond(end, self.shape.at(end, link)))
+    }
+
+    /// So many ticks pass at an end.
+    pub fn tick(&mut self, end: End, count: u8) {
+        for _ in 0..count {
+            self.act(Step::Tick(end));
+        }
+    }
+
+    /// An operator keeps a link from opening.
+    pub fn deactivate(&mut self, end: End, link: LinkId) {
+        self.act(Step::Deactivate(end, self.shape.at(end, link)));
+    }
+
+    /// An operator lets a link open.
+    pub fn activate(&mut self, end: End, link: LinkId) {
+        self.act(Step::Activate(end, self.shape.at(end, link)));
+    }
+}

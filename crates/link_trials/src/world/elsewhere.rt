@@ -1,0 +1,42 @@
+//! Links of the two nodes that lead elsewhere.
+
+use crate::marking::Mark;
+use crate::world::World;
+use exchange::{FrameText, LinkId, NoMemory};
+use pair_world::{End, Step};
+
+impl World {
+    /// The association of a link comes up that leads an end elsewhere.
+    pub fn open_elsewhere(&mut self, end: End, link: LinkId) -> bool {
+        self.act(Step::OpenElsewhere(end, link))
+    }
+
+    /// A route of an end takes another set.
+    pub fn reroute(&mut self) {
+        self.tally.passing.reroute();
+    }
+
+    /// An end sends the next frame of a link that leads elsewhere. None where there is none.
+    pub fn send_elsewhere(&mut self, end: End, link: LinkId) -> Option<FrameText> {
+        self.compare_now_and_then();
+        match self.nodes.send_elsewhere(end, link) {
+            Ok(text) => {
+                self.note(false);
+                text
+            }
+            Err(NoMemory) => {
+                self.note(true);
+                None
+            }
+        }
+    }
+
+    /// A frame comes to an end by a link that leads elsewhere. It carries the user message of this mark for the other
+    /// end, if it carries one.
+    pub fn hear_elsewhere(&mut self, end: End, link: LinkId, text: FrameText, mark: Option<Mark>) {
+        let became = self.arrive(Step::HearElsewhere(end, link, text));
+        if let Some(mark) = mark {
+            self.note_accepted(end, mark, became.is_accepted());
+        }
+    }
+}
