@@ -67,13 +67,13 @@ fn stop_and_return(world: &mut World, beside: &mut Neighbours, stop: &Stop) -> b
     stopped && back
 }
 
-/// All links come up, and the link stops while routes fail. Says whether all went well.
+/// All links come up, and the link stops while routes fail. Says whether all went well, and all came meanwhile.
 fn stop_and_settle(world: &mut World, beside: &mut Neighbours, stop: &Stop) -> bool {
     let up = bring_up(world) && bring_up_elsewhere(world, beside);
     world.count_anew();
     let submitted = submit_all(world, beside, 1);
     rounds_with(world, beside, stop);
-    settle(world, beside) && up && submitted
+    settle(world, beside) && up && submitted && world.has_brought_all()
 }
 
 /// All is submitted again, the link comes back, and then the routes; and once more. Says whether all went well.
