@@ -160,10 +160,10 @@ pub fn flags_never_fall()
 {}
 
 /// Flags rise only for a reason. Of each lateness that an event counts a notice tells that it makes, and so it is of
-/// each loss, unless a changeover is under way: of a link that the event is about, of one whose changeover wasn't
-/// complete, or of one that fails. What completes it counts one loss more where it has no reasonable number, and else
-/// none. A take counts neither. So where no notice tells of either and no changeover is under way, both flags stay as
-/// they were.
+/// each loss, unless by the event an association comes up, a frame comes or a link timer runs out, a changeover was
+/// incomplete, or a link fails. How many losses no notice tells of then is said of a completion alone: one where it has
+/// no reasonable number, and else none. A take counts neither. So a submission, an order or a tick at which no link
+/// timer runs out raises a flag only with its notice, while all changeovers are complete.
 pub fn flags_rise_for_a_reason()
     ensures event { events_flag_for_a_reason }
     ensures completion { completions_flag_for_a_reason }

@@ -29,9 +29,9 @@ pub fn each_message_comes_once()
     ensures { each_message_once }
 {}
 
-/// "Order", in both directions. While neither exchange may have lost a message, and no timer of the accepting node ended
-/// a hold, the user messages of a flow to the other point that one node accepted are, in order, those that the other
-/// received from it, and then those that wait.
+/// "Order", in both directions. While neither exchange may have lost a message, and no timer of the accepting node
+/// ended a hold, the user messages of a flow to the other point that one node accepted are, in order, those that the
+/// other received from it, and then those that wait.
 pub fn each_flow_keeps_its_order()
     ensures { each_flow_in_order }
 {}
@@ -61,9 +61,9 @@ pub fn nothing_is_held_in_vain()
     ensures { nothing_is_held_in_vain }
 {}
 
-/// A message that comes to a node for another point, whatever happened before, is queued, held or refused. The node books
-/// it as accepted, once, exactly if it isn't refused. Where it is accepted for an adjacent point, what is promised of the
-/// set that leads there begins.
+/// A message that comes to a node for another point, whatever happened before, is queued, held or refused. The node
+/// books it as accepted, once, exactly if it isn't refused. Where it is accepted for an adjacent point to which one set
+/// alone leads, what is promised of that set begins.
 pub fn messages_pass_through()
     ensures { messages_pass_through }
 {}

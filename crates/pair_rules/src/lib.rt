@@ -1,4 +1,4 @@
-//! Two exchanges that face each other, with the frames in flight between them.
+//! Two exchanges, with the frames in flight between them.
 #![tactic(auto)]
 
 pub mod laws;
