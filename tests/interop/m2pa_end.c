@@ -87,7 +87,9 @@ static int put(const void *octets, size_t length, int stream) {
 	info.snd_ppid = htonl(PROTOCOL);
 	info.snd_assoc_id = association;
 	if (usrsctp_sendv(sock, octets, length, NULL, 0, &info, sizeof info, SCTP_SENDV_SNDINFO, 0) >= 0) return 1;
-	if (errno != EAGAIN && errno != EWOULDBLOCK) fail(strerror(errno));
+	/* an association may be over before its notification is read, which an end that stays waits for */
+	int is_over = stays && (errno == ECONNRESET || errno == ECONNABORTED || errno == ENOTCONN || errno == ENOENT);
+	if (errno != EAGAIN && errno != EWOULDBLOCK && !is_over) fail(strerror(errno));
 	return 0;
 }
 
