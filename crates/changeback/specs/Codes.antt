@@ -1,4 +1,4 @@
--- The changeback codes of the adjacent points (Q.704 §6.3, §15.5).
+-- TCBC, changeback control (Q.704 §6.3, §15.5): the changeback codes of the adjacent points.
 use Rattle.std.specs.Prelude.{◌≡◌, ◌≢◌, ℕ, Bool, true, false, not, List, [], Option, Some}
 use Rattle.std.specs.Prelude.{position, replicate, slice_index_or, slice_set}
 use Rattle.signalling_types.specs.declared.limits.TheConstants.Limits.{CHANGEBACK_CODES}

@@ -1,4 +1,5 @@
--- The flows to a destination that change their link as a route to it gets a status, and what holds them (Q.704 §8).
+-- TCRC, controlled rerouting control (Q.704 §8): the flows to a destination that change their link when a route to it
+-- gets another status, and what holds them.
 use Rattle.std.specs.Prelude.{ℕ, Bool, false, not, nat_eq, List, [], ◌∷◌, Option, Some, None, slice_index_or}
 use Rattle.std.specs.List.{filter, range_with_len}
 use Rattle.routes.specs.Routes.{Facts, chosen_link}

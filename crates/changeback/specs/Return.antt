@@ -1,4 +1,5 @@
--- The flows that a link takes over when it enters service (Q.704 §6.2), and what holds them (Q.704 §6.3, §6.4).
+-- TCBC, changeback control (Q.704 §6.2 to §6.4): the flows that a link takes over when it enters service, and what
+-- holds them.
 use Rattle.std.specs.Prelude.{ℕ, zero, suc, Bool, List, [], ◌∷◌, ◌++◌, false, length, nat_eq, slice_index_or, Option, Some, None}
 use Rattle.std.specs.List.{list_any}
 use Rattle.routes.specs.Routes.{Facts, chosen_link}

@@ -1,4 +1,4 @@
--- One link's changeover: what its completion finds, and how far it is (Q.704 §5).
+-- TCOC, changeover control (Q.704 §5): how far the changeover of a link is, and what its completion finds.
 use Rattle.std.specs.Prelude.{ℕ, ◌-◌, not, List, [], ◌++◌, take, drop, filter, Option, Some, None, Bool, true, false, ◌&&◌, if◌then◌else◌, slice_index_or, slice_set}
 use Rattle.std.specs.Option.{option_and_then}
 use Rattle.signalling_types.specs.Message.{Message, is_management}
@@ -6,8 +6,7 @@ use Rattle.link.specs.Queue.{Queue, named_count}
 use Rattle.signalling_types.specs.declared.notice.ChangeoverTimer.{ChangeoverTimer}
 use Rattle.signalling_types.specs.declared.notice.ChangeoverTimer.TheVariants.{T1, T2}
 
--- ---- Completing a changeover: what becomes of the messages of the link that failed (Q.704 §5.4, with the numbers of
--- Q.2210).
+-- ---- Completing a changeover (Q.704 §5.4, with the numbers of Q.2210): what becomes of the messages of a failed link.
 
 -- the user messages of a list, and its management messages
 abbrev pub users_of : List Message → List Message

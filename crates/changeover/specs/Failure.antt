@@ -1,4 +1,4 @@
--- A link fails in service: what its changeover begins with (Q.704 §5.2, §5.3).
+-- TCOC, changeover control (Q.704 §5.2, §5.3): a link fails in service, and its changeover begins.
 use Rattle.std.specs.Prelude.{ℕ, Bool, if◌then◌else◌}
 use Rattle.link.specs.Queue.{Queue, last_accepted}
 use Rattle.link.specs.Counts.{Counts, kept_last_accepted}

@@ -1,4 +1,4 @@
--- Changeback (Q.704 §6, block TCBC): a link returns to service, and takes its flows back from the links that carried
+-- TCBC, changeback control (Q.704 §6): a link returns to service, and takes its flows back from the links that carried
 -- them meanwhile.
 use Rattle.std.specs.Prelude.{ℕ, zero, suc, Bool, true, false, not, ◌&&◌, nat_eq, length, Option, Some, None, if◌then◌else◌}
 use Rattle.settings_rows.specs.Configuration.{Configuration}

@@ -1,4 +1,5 @@
--- Changeover (Q.704 §5.3, block TCOC): the flows that it holds.
+-- TCOC, changeover control (Q.704 §5, with the numbers of Q.2210): the flows that a changeover holds, and how it
+-- begins, goes on and ends.
 use Rattle.std.specs.Prelude.{ℕ, Bool, ◌&&◌, ◌||◌, not, nat_eq, List, Some, true, false, if◌then◌else◌, [], ◌∷◌, Option, None}
 use Rattle.std.specs.List.{list_any}
 use Rattle.std.specs.Option.{option_eq}
@@ -44,7 +45,7 @@ abbrev pub suspended : Configuration → ℕ → (unconfirmed : List Message) �
 suspended c link unconfirmed p =
     record p { holds = with_flows p.holds (Changeover link) (is_failed c (facts c p) link unconfirmed) }
 
--- ---- Changeover begins (Q.704 §5.2, §5.3, block TCOC): a link fails.
+-- ---- TCOC (Q.704 §5.2, §5.3): a link fails, and its changeover begins.
 
 -- whether a link of the same set is in service
 abbrev pub has_other : Configuration → ℕ → Parts → Bool
@@ -123,8 +124,8 @@ module _ {Q : Type 0} (q : QueueKind Q) (c : Configuration) where
       node ▷ make_unavailable (in_service node.parts link) link reasons.Changeover
       ▷ begin_by_peer (in_service node.parts link) link
 
--- ---- Changeover goes on and ends (Q.704 §5.4 to §5.7, block TCOC, with the numbers of Q.2210): by an order or an
--- acknowledgement of the peer, or by a timer.
+-- ---- TCOC (Q.704 §5.4 to §5.7): a changeover goes on and ends, by an order or an acknowledgement of the peer, or by a
+-- timer.
 
 -- a user message is lost: that is noted
 abbrev pub lose : Cause → Message → Parts → Parts

@@ -1,5 +1,5 @@
--- Release (Q.704 §5.4, §6.3, blocks TCOC and TCBC): at the end of each event the messages of Held whose flows have no
--- hold any more go on.
+-- Release, of TCOC and TCBC (Q.704 §5.4, §6.3): at the end of each event, those messages of Held go on whose flows are
+-- no longer held.
 use Rattle.std.specs.Prelude.{ℕ, Bool, true, false, List, [], ◌∷◌, Option, Some, None, zero, suc, ◌≡◌}
 use Rattle.signalling_types.specs.Message.{Message, flow_of}
 use Rattle.settings_rows.specs.Configuration.{Configuration}

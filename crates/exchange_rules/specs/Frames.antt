@@ -1,5 +1,5 @@
--- Link availability control (Q.704 §3.2, block TLAC): Link Status, and the timers of a link that run out, by the table
--- of the alignment.
+-- TLAC, link availability control (Q.704 §3.2), over link alignment (RFC 4165 §4.1.3): Link Status, User Data, and the
+-- timers of a link that run out.
 use Rattle.std.specs.Prelude.{ℕ, Bool, true, false, not, ◌&&◌, if◌then◌else◌, List, Option, Some, None, is_some, Result, Ok, Err}
 use Rattle.settings_rows.specs.Configuration.{Configuration}
 use Rattle.signalling_types.specs.declared.notice.FailureReason.TheVariants as reasons

@@ -1,5 +1,4 @@
--- Message routing (Q.704 §2.3, block HMRT): room, then Held where the flow has a hold, then a route, then the end of a
--- queue.
+-- HMRT, message routing (Q.704 §2.3): room, then Held if the flow has a hold, then a route, then the end of a queue.
 use Rattle.std.specs.Prelude.{ℕ, Bool, true, false, Option, Some, None, is_some, if◌then◌else◌, List, ◌&&◌, nat_eq, position, Result, Ok, Err, nat_lt, length}
 use Rattle.signalling_types.specs.Message.{Message, flow_of, dpc_of, service_indicator, opc_of, is_management}
 use Rattle.settings_rows.specs.Configuration.{Configuration, TitleEntry}
@@ -55,7 +54,7 @@ module _ {Q : Type 0} (q : QueueKind Q) (c : Configuration) where
       unless is_destination c (dpc_of m) then refuse UnknownDestination node
       else offer (no_room q c m node.queues) (waits c node.parts.holds m) (link_of c node.parts (flow_of m)) from m node
 
--- ---- Relaying (Q.714 §2.3, §4.2, block SCRC): SCCP messages for this point, and the translation rows that lead them on.
+-- ---- SCRC, SCCP routing control (Q.714 §2.3, §4.2): SCCP messages for this point, and the rows that lead them on.
 
 -- the point that this node is, and its subsystems
 abbrev pub own_of : Configuration → OwnValue
@@ -129,7 +128,7 @@ remove_title key digits node =
     else answer Handled
     (with_parts node (with_titles (without_row (place_of key digits) node.parts.titles) node.parts))
 
--- ---- Message distribution (Q.704 §2.4, block HMDT): a message for this point, by its service indicator (§14.2.1).
+-- ---- HMDT, message distribution (Q.704 §2.4): a message for this point, by its service indicator (§14.2.1).
 
 -- the service indicators of tests and of SCCP; that of management is 0
 abbrev pub testing : ℕ
@@ -230,7 +229,7 @@ module _ {Q : Type 0} (q : QueueKind Q) (c : Configuration) where
   abbrev pub distribute : ℕ → Message → Node Q → Done Q
   distribute link m node = (if is_management m then manage link m node else local m node)
 
--- ---- Message discrimination (Q.704 §2.4, block HMDC): where a message goes, and what becomes of it.
+-- ---- HMDC, message discrimination (Q.704 §2.4): where a message goes, and what becomes of it.
 
 -- where a message goes, or why it is refused before its destination is looked at: its length, then its label, then its
 -- network

@@ -1,5 +1,5 @@
--- Link availability control (Q.704 §3.2, block TLAC): associations that come and go, and the operator's word on a link
--- (RFC 4165 §4.1.3).
+-- TLAC, link availability control (Q.704 §3.2): associations that come up and go down, and the operator's orders about
+-- a link (RFC 4165 §4.1.3).
 use Rattle.std.specs.Prelude.{ℕ, Bool, true, false, ◌&&◌, not, if◌then◌else◌}
 use Rattle.settings_rows.specs.Configuration.{Configuration}
 use Rattle.signalling_types.specs.declared.cause.Cause.TheVariants.{NoSuchName, LinkNotReady, ChangeoverPending}

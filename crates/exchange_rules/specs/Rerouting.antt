@@ -1,5 +1,5 @@
--- Forced and controlled rerouting (Q.704 §7, §8, blocks TFRC and TCRC), and route set tests of this node (§13.5, block
--- RSRT): what adjacent points say of routes, and what that does to flows.
+-- TFRC and TCRC, forced and controlled rerouting control (Q.704 §7, §8), and RSRT, route set test control (§13.5): what
+-- adjacent points say of routes, what that does to flows, and the tests that this node sends.
 use Rattle.std.specs.Prelude.{ℕ, List, [], ◌∷◌, Option, Some, None, Result, Ok, Err, ◌&&◌, nat_lt, length, if◌then◌else◌}
 use Rattle.settings_rows.specs.Configuration.{Configuration}
 use Rattle.signalling_types.specs.Message.{Message}

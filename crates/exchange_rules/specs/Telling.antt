@@ -1,4 +1,4 @@
--- Message routing (Q.704 §2.3, block HMRT) of management that this node makes, or that a link left over when it failed.
+-- HMRT, message routing (Q.704 §2.3): management that this node makes, or that a link left over when it failed.
 use Rattle.std.specs.Prelude.{ℕ, ◌+◌, ◌*◌, Option, Some, None, Bool, ◌&&◌, ◌||◌, not, nat_lt, List, [], ◌∷◌, Result, Ok, Err, if◌then◌else◌}
 use Rattle.signalling_types.specs.Message.{Message, dpc_of, flow_of}
 use Rattle.settings_rows.specs.Configuration.{Configuration}
@@ -51,8 +51,8 @@ module _ {Q : Type 0} (q : QueueKind Q) (c : Configuration) where
   abbrev pub send_anew : Message → Node Q → Node Q
   send_anew m node = send None (link_of c node.parts (flow_of m)) m node
 
--- ---- Transfer prohibited, restricted and allowed (Q.704 §13.2 to §13.4, blocks RTPC, RTRC and RTAC), and the answers to
--- route set tests (§13.5, block RSRT): what adjacent points are told of routes.
+-- ---- RTPC, RTAC and RTRC, transfer prohibited, allowed and restricted control (Q.704 §13.2 to §13.4), and RSRT, route
+-- set test control (§13.5): what adjacent points are told of routes, and how their tests are answered.
 
 -- what is owed is told while fewer management messages than this stand in the node
 abbrev pub told_below : ℕ

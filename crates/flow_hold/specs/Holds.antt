@@ -1,4 +1,4 @@
--- Holds: a set of pairs of a procedure and a flow (Q.704 §5.4, §6.3, §8.2).
+-- The holds of TCOC, TCBC and TCRC (Q.704 §5.4, §6.3, §8.2): a set of pairs of a procedure and a flow.
 use Rattle.std.specs.Prelude.{ℕ, Bool, ◌&&◌, not, List, [], ◌∷◌, nat_eq, nat_lt, if◌then◌else◌, map}
 use Rattle.std.specs.List.{list_any, filter, flat_map, range_with_len}
 use Rattle.std.specs.declared.cmp.Ordering.{Ordering}

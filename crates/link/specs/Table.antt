@@ -1,4 +1,4 @@
--- The alignment of a link, as a table of states and inputs (own).
+-- Link alignment (RFC 4165 §4.1.3, Q.703 §7), in a table of states and inputs of this node's own.
 use Rattle.std.specs.Prelude.{ℕ, Bool, true, false, Option, Some, None, List, [], ◌∷◌, ◌==◌, ◌&&◌, if◌then◌else◌}
 use Rattle.m2pa_codec.specs.Frames.{status_number}
 use Rattle.m2pa_codec.specs.declared.status.LinkStatus.{LinkStatus}

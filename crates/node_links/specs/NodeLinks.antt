@@ -1,4 +1,4 @@
--- What a link is, beside its queue.
+-- TLAC, link availability control (Q.704 §3.2): the state of a link, apart from its queue.
 use Rattle.std.specs.Prelude.{Bool, List, true, false, [], ◌++◌, ℕ, map, length, replicate, slice_index_or, slice_set}
 use Rattle.m2pa_codec.specs.declared.status.LinkStatus.{LinkStatus}
 use Rattle.link.specs.declared.alignment.Alignment.{Alignment}

@@ -1,4 +1,5 @@
--- The links of a set, in the order of their signalling link codes (Q.704 §15.2).
+-- TSRC, signalling routing control (Q.704 §2.3, §4.2): the links of a set in the order of their signalling link codes
+-- (§15.2), what is known of routes, and which link a flow takes.
 use Rattle.std.specs.Prelude.{ℕ, zero, suc, Bool, ◌&&◌, List, [], ◌++◌, Option, position, nat_eq, false, ◌∷◌, length, map, replicate, slice_index_or, slice_set, if◌then◌else◌, ◌/◌, ◌%◌, find, slice_get, ◌==◌, Some, None, codes, unwrap_or}
 use Rattle.std.specs.List.{list_any, remove, filter, flat_map}
 use Rattle.std.specs.Option.{option_to_list, option_map}

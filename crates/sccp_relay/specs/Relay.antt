@@ -1,5 +1,5 @@
--- What an address is translated to: among all rows of its key whose digits begin its digits, the longest (Q.714 §2.4;
--- that the longest is taken is this node's choice).
+-- SCRC, SCCP routing control (Q.714 §2.3, §2.4): what an address is translated to, and what becomes of a message. Among
+-- all rows of its key whose digits begin those of the address, the longest wins; that choice is this node's.
 use Rattle.std.specs.Prelude.{ℕ, ◌≤◌, Bool, IsTrue, ◌&&◌, ◌==◌, if◌then◌else◌, nat_eq, nat_lt, List, [], ◌∷◌, length, filter, All, Contains, Option, Some, None, Result, Ok, Err, ◌+◌, ◌%◌, ◌^◌, true, false, nat_le, ◌++◌, take, drop, is_none, ◌/◌, unwrap_or}
 use Rattle.std.specs.List.{starts_with, list_any}
 use Rattle.settings_rows.specs.Configuration.{TitleEntry}

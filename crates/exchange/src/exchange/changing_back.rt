@@ -1,4 +1,4 @@
-//! A link returns to service and takes its flows back, and what ends that.
+//! TCBC, changeback control (Q.704 §6): a link returns to service and takes its flows back, and what ends that.
 
 ghost use Rattle.std.specs.Prelude.{◌≡◌, ◌<◌, ℕ, None, Some, false, length, replicate, slice_index_or, IfErr, OnOk, is_ok, if◌then◌else◌};
 ghost use Rattle.routes.specs.Routes.{with_link};

@@ -1,4 +1,5 @@
-//! How a changeover goes on and ends: by an order or an answer of the peer, or by a timer.
+//! TCOC, changeover control (Q.704 §5.4 to §5.7): a changeover goes on and ends, by an order or an acknowledgement of
+//! the peer, or by a timer.
 
 ghost use Rattle.std.specs.Prelude.{◌≡◌, ◌<◌, Some, true, length, slice_get};
 ghost use Rattle.std.specs.Option.{option_map};

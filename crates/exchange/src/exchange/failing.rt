@@ -1,4 +1,4 @@
-//! The failure of a link, and the changeover that it begins.
+//! TCOC, changeover control (Q.704 §5.2, §5.3): a link fails, and its changeover begins.
 
 ghost use Rattle.std.specs.Prelude.{◌≡◌, ◌<◌, length, true};
 ghost use Rattle.exchange_rules.specs.State.{with_node, with_parts, in_service};

@@ -1,4 +1,4 @@
-//! A message for this point.
+//! HMDT, message distribution (Q.704 §2.4): a message for this point.
 
 ghost use Rattle.std.specs.Prelude.{◌≡◌, ◌<◌, ◌≤◌, ◌&&◌, length, position, nat_eq, IfSome};
 ghost use Rattle.signalling_types.specs.Message.{lent};

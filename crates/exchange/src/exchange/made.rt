@@ -1,4 +1,4 @@
-//! Management that this node makes, or that a link left over when it failed.
+//! HMRT, message routing (Q.704 §2.3): management that this node makes, or that a link left over when it failed.
 
 ghost use Rattle.std.specs.Prelude.{◌≡◌, ◌<◌, ◌≤◌, Some, None, length, IfErr, OnOk, is_ok, if◌then◌else◌};
 ghost use Rattle.signalling_types.specs.Message.{lent, dpc_of};

@@ -1,4 +1,4 @@
-//! A message: where it goes, and what happens to it.
+//! HMDC, message discrimination (Q.704 §2.4): where a message goes, and what happens to it.
 
 ghost use Rattle.std.specs.Prelude.{◌≡◌, ◌<◌, ◌≤◌, length};
 ghost use Rattle.signalling_types.specs.Message.{lent};

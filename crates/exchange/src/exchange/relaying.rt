@@ -1,4 +1,5 @@
-//! SCCP messages for this point, and the translation rows that lead them on.
+//! SCRC, SCCP routing control (Q.714 §2.3, §4.2): SCCP messages for this point, and the translation rows that lead them
+//! on.
 
 ghost use Rattle.std.specs.Prelude.{◌≡◌, ◌≤◌, length};
 ghost use Rattle.signalling_types.specs.Message.{lent};

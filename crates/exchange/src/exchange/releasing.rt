@@ -1,4 +1,5 @@
-//! The end of each event: the messages of Held whose flows have no hold any more go on.
+//! Release, of TCOC and TCBC (Q.704 §5.4, §6.3): at the end of each event, those messages of Held go on whose flows are
+//! no longer held.
 
 ghost use Rattle.std.specs.Prelude.{◌≡◌, ◌&&◌, not, length};
 ghost use Rattle.exchange_rules.specs.State.{with_node, with_parts};

@@ -1,4 +1,5 @@
-//! What adjacent points say about routes, and what that does to flows.
+//! TFRC and TCRC, forced and controlled rerouting control (Q.704 §7, §8), and RSRT, route set test control (§13.5):
+//! what adjacent points say about routes, what that does to flows, and the tests that this node sends.
 
 ghost use Rattle.std.specs.Prelude.{◌≡◌, ◌<◌, length};
 ghost use Rattle.settings.specs.Readings.{destination_place, set_place};

@@ -1,4 +1,4 @@
-//! What goes out on a link.
+//! What goes out on a link (RFC 4165 §4.2.1).
 
 ghost use Rattle.std.specs.Prelude.{◌≡◌, ◌<◌, ◌≤◌, Some, false, length, is_some, IfSome};
 ghost use Rattle.cell_pool.specs.Lanes.{lane_at};

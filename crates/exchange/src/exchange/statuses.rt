@@ -1,4 +1,5 @@
-//! Link Status, and the timers of a link that run out, by the alignment table.
+//! TLAC, link availability control (Q.704 §3.2), over link alignment (RFC 4165 §4.1.3): Link Status, and the timers of
+//! a link that run out.
 
 ghost use Rattle.std.specs.Prelude.{◌≡◌, ◌<◌, length, true, false};
 ghost use Rattle.exchange_rules.specs.State.{with_node, with_parts, link_at, in_service};

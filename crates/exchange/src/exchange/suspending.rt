@@ -1,4 +1,4 @@
-//! The flows that a changeover holds.
+//! TCOC, changeover control (Q.704 §5.3): the flows that a changeover holds.
 
 ghost use Rattle.std.specs.Prelude.{◌≡◌, ◌<◌, length, slice_get};
 ghost use Rattle.std.specs.Option.{option_map};

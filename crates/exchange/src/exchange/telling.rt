@@ -1,4 +1,5 @@
-//! What adjacent points are told about routes.
+//! RTPC, RTAC and RTRC, transfer prohibited, allowed and restricted control (Q.704 §13.2 to §13.4), and RSRT, route set
+//! test control (§13.5): what adjacent points are told about routes.
 
 ghost use Rattle.std.specs.Prelude.{◌≡◌, ◌≤◌, ◌<◌, true, false, length, Some, IfSome, IfNone};
 ghost use Rattle.settings.specs.Readings.{destination_place, set_place};

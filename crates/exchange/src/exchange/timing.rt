@@ -1,4 +1,4 @@
-//! The timers of links.
+//! The timers of links (Q.703 §12.3).
 
 ghost use Rattle.std.specs.Prelude.{◌≡◌};
 ghost use Rattle.timers.specs.Timers.{start_unless_running};
