@@ -23,7 +23,7 @@ abbrev pub point_text : PointFormat → ℕ → List ℕ
 point_text Plain point = decimal point
 point_text ThreeEightThree point = in_three_parts point
 
--- a text that says a point: its number, or its three parts where points are written in these
+-- a text that says a point: its number, or its three parts if points are written in these
 abbrev pub IsPointText : PointFormat → List ℕ → ℕ → Type 0
 IsPointText Plain text point = text ≡ decimal point
 IsPointText ThreeEightThree text point = (text ≡ in_three_parts point) ⊎ (text ≡ decimal point)

@@ -1,4 +1,4 @@
--- The shapes of values in a server's settings, and the fault where a value has another.
+-- The shapes of values in a server's settings, and the fault if a value has another.
 use Rattle.std.specs.Prelude.{ℕ, ℤ, Bool, List, Result, Ok, Err}
 use Rattle.std.specs.Option.{ok_or, option_map}
 use Rattle.toml.specs.Data.{Data, Members, get_member, as_integer, as_bool, as_str, as_array, as_table}
@@ -7,7 +7,7 @@ use Rattle.serve_settings.specs.declared.key.ServeKey.{ServeKey}
 use Rattle.serve_settings.specs.declared.fault.ServeFault.{ServeFault}
 use Rattle.serve_settings.specs.declared.fault.ServeFault.TheVariants.{Kind}
 
--- what is read next, where nothing was wrong so far
+-- what is read next, if nothing was wrong so far
 abbrev pub and_then : {A B : Type 0} → Result A ServeFault → (A → Result B ServeFault) → Result B ServeFault
 and_then (Ok a) next = next a
 and_then (Err fault) next = Err fault

@@ -53,7 +53,7 @@ pub(crate) fn guarded(
     }
 }
 
-/// Whether this is the address, where there is one.
+/// Whether this is the address, if there is one.
 pub(crate) fn is_address_of(own: Option<SocketAddr>, address: SocketAddr) -> bool
     ensures { result ≡ is_address_of own address }
 {

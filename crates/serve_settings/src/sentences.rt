@@ -49,7 +49,7 @@ const SAME_PEER: &str = "whose host and SCTP ports another link has too";
 /// with a line feed: `node.toml: serve.tick_ms is 5, must be 10 to 10000`. Of a fault of the node's settings it is what
 /// `settings_file::sentence` says.
 ///
-/// `AllocError` where memory ran out.
+/// `AllocError` if memory ran out.
 pub fn sentence(
     alloc: Global,
     file: &str,

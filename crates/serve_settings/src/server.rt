@@ -97,14 +97,14 @@ impl ServeSettings {
         self.tick_ms
     }
 
-    /// The address of the console, where there is to be one.
+    /// The address of the console, if there is to be one.
     pub fn console(&self) -> Option<SocketAddr>
         ensures { result ≡ self.now.console }
     {
         self.console
     }
 
-    /// The file that frames are captured to, where there is to be one.
+    /// The file that frames are captured to, if there is to be one.
     pub fn capture(&self) -> Option<&str>
         ensures { option_map (λ file. file.now) result ≡ self.now.capture }
     {
@@ -143,7 +143,7 @@ impl ServeSettings {
         self.sctp
     }
 
-    /// The address of the status page, where there is to be one.
+    /// The address of the status page, if there is to be one.
     pub fn page(&self) -> Option<SocketAddr>
         ensures { result ≡ self.now.page }
     {

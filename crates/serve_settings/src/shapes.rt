@@ -11,7 +11,7 @@ use crate::fault::ServeFault;
 use crate::key::ServeKey;
 use toml::{Table, Value};
 
-/// The value of a key, where it is there.
+/// The value of a key, if it is there.
 pub(crate) fn found<'a>(table: &'a Table, name: &str) -> Option<&'a Value>
     ensures { option_map (λ value. view value.now) result
         ≡ get_member name.now (table_view table.now) }

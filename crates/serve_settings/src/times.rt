@@ -29,7 +29,7 @@ const SHORTEST_HEARTBEAT: u32 = 100;
 /// The longest time between heartbeats, in milliseconds.
 const LONGEST_HEARTBEAT: u32 = 600_000;
 
-/// The times and tries where a file says nothing of them.
+/// The times and tries if a file says nothing of them.
 const USUAL: SctpTimes = SctpTimes {
     rto_initial_ms: 300,
     rto_min_ms: 100,

@@ -34,7 +34,7 @@ impl Model for PointIndex {
 }
 
 impl PointIndex {
-    /// No points, with room for so many. The error means that memory ran out.
+    /// No points, with room for this many. The error means that memory ran out.
     pub(crate) fn with_capacity(alloc: Global, points: usize) -> Result<PointIndex, AllocError>
         ensures { IfOk result (λ index. index ≡ []) }
     {
@@ -52,7 +52,7 @@ impl PointIndex {
         Some(place as usize)
     }
 
-    /// Puts in a point behind the others, unless it is among them; answers whether it is new. The error means that
+    /// Puts in a point behind the others, unless it is among them; returns whether it is new. The error means that
     /// memory ran out.
     pub(crate) fn insert(&mut self, point: PointCode) -> Result<bool, AllocError>
         requires { length self.old < 2 ^ 16 }
@@ -70,7 +70,7 @@ impl PointIndex {
     }
 }
 
-/// So many point codes, none of which is that of a point.
+/// This many point codes, none of which is that of a point.
 fn no_places(alloc: Global, codes: usize) -> Result<Vec<Option<u16>>, AllocError>
     ensures { IfOk result (λ places. places.items ≡ replicate codes None) }
 {

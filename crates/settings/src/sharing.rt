@@ -25,7 +25,7 @@ impl Settings {
     }
 }
 
-/// The set whose links lead to this point, where no other set leads there.
+/// The set whose links lead to this point, if no other set leads there.
 fn set_alone_to(settings: &Settings, point: PointCode) -> Option<SetId>
     ensures found { IfSome result (LeadsAlone settings.now point) }
     ensures none { IfNone result ((set : ℕ) → ¬ (LeadsAlone settings.now point set)) }

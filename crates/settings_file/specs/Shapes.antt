@@ -1,4 +1,4 @@
--- The shapes of values in a settings file, and the fault where a value has another.
+-- The shapes of values in a settings file, and the fault if a value has another.
 use Rattle.std.specs.Prelude.{ℕ, ◌+◌, ℤ, Bool, List, [], ◌∷◌, Result, Ok, Err}
 use Rattle.std.specs.Option.{ok_or, option_map}
 use Rattle.toml.specs.Data.{Data, Items, no_items, item, Members, get_member, as_integer, as_bool, as_str, as_array}
@@ -7,7 +7,7 @@ use Rattle.settings_rows.specs.declared.key.Key.{Key}
 use Rattle.settings_file.specs.declared.fault.SettingsFault.{SettingsFault}
 use Rattle.settings_file.specs.declared.fault.SettingsFault.TheVariants.{Missing, Kind}
 
--- what is read next, where nothing was wrong so far
+-- what is read next, if nothing was wrong so far
 abbrev pub and_then : {A B : Type 0} → Result A SettingsFault → (A → Result B SettingsFault) → Result B SettingsFault
 and_then (Ok a) next = next a
 and_then (Err fault) next = Err fault

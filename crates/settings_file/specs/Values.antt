@@ -12,7 +12,7 @@ is_dot octet = octet == 46
 abbrev pub has_dot : List ℕ → Bool
 has_dot path = nat_lt (position_or_len is_dot path) (length path)
 
--- the value of a key in a table; behind a dot, that of a key in its table that is named before the dot
+-- the value of a key in a table; after a dot, that of a key in its table that is named before the dot
 abbrev pub value_below : List ℕ → Data → Option Data
 value_below path d =
     if has_dot path

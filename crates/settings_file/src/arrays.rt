@@ -39,7 +39,7 @@ fn link(alloc: Global, i: usize, value: &Value) -> Result<LinkDraft, SettingsFau
     Ok(LinkDraft { name, set, slc })
 }
 
-/// Whether the first two sets of a destination are joined. Where the file's version doesn't have the key it is ignored.
+/// Whether the first two sets of a destination are joined. If the file's version doesn't have the key it is ignored.
 #[tactic(auto, unfolding(crate::specs::Entries::joined_at))]
 fn joined(has_key: bool, table: &Table, i: usize) -> Result<bool, SettingsFault>
     ensures { result ≡ joined_at has_key i (table_view table.now) }

@@ -18,7 +18,7 @@ const FIRST_VERSION: i64 = 1;
 /// The sentence that says what is wrong with the document that a settings file of this name is, which
 /// has this fault, with a line feed: `node.toml: link[2] "e2": slc is 16, must be 0 to 15`.
 ///
-/// `AllocError` where memory ran out.
+/// `AllocError` if memory ran out.
 pub fn sentence(
     alloc: Global,
     file: &str,

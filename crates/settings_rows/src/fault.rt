@@ -13,7 +13,7 @@ use std::fmt;
 pub enum FaultKind {
     /// A number out of its range, a malformed text, or an empty list that has to have an entry.
     Range = 4,
-    /// What has to be distinct stands twice.
+    /// What has to be distinct occurs twice.
     Duplicate = 5,
     /// A name that nothing has.
     UnknownName = 6,
@@ -41,7 +41,7 @@ pub enum DraftFault {
 }
 
 impl DraftFault {
-    /// The fault's number: 4 to 7 for what is wrong at a key, 8 where memory ran out.
+    /// The fault's number: 4 to 7 for what is wrong at a key, 8 if memory ran out.
     pub fn number(self) -> u8
         ensures { result ≡ fault_number self }
     {

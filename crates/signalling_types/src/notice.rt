@@ -99,7 +99,7 @@ pub enum LateTimer {
 pub enum Notice {
     /// A message in a frame of this link was refused.
     Refused(Cause, LinkId),
-    /// A frame of this link was left aside.
+    /// A frame of this link was discarded.
     Frame(FrameFault, LinkId),
     /// The link failed.
     Failed(LinkId, FailureReason),

@@ -33,7 +33,7 @@ impl Number24 {
         Number24 { value: 0 }
     }
 
-    /// The number of this value, where it has at most 24 bits.
+    /// The number of this value, if it has at most 24 bits.
     pub fn new(value: u32) -> Option<Number24>
         ensures fits { IsSome result ↔ (value < 2 ^ 24) }
         ensures value { IfSome result (λ number. number ≡ value) }
