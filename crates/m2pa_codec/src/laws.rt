@@ -11,7 +11,7 @@ pub fn no_frame_begins_another()
         → rest ≡ [] }
 {}
 
-/// Octets are a frame that says a value exactly where reading gives that value.
+/// Octets are a frame that says a value exactly when reading gives that value.
 #[tactic(auto, using(crate::proofs::FrameTexts::is_frame_read_frame, crate::proofs::FrameTexts::read_frame_is_frame))]
 pub fn frames_are_what_is_read()
     ensures { (text : List ℕ) (v : FrameValue) → AreOctets text

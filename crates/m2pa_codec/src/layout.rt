@@ -28,8 +28,8 @@ pub(crate) const MESSAGE_HEADER_OCTETS: usize = HEADER_OCTETS + 2;
 /// Octets of a Link Status message without filler: both headers and the state (RFC 4165 §2.3.2).
 pub(crate) const STATUS_OCTETS: usize = HEADER_OCTETS + 4;
 
-/// Where the backward sequence number stands (RFC 4165 §2.2).
+/// Where the backward sequence number is (RFC 4165 §2.2).
 pub(crate) const BSN_AT: usize = 9;
 
-/// Where the forward sequence number stands (RFC 4165 §2.2).
+/// Where the forward sequence number is (RFC 4165 §2.2).
 pub(crate) const FSN_AT: usize = 13;

@@ -39,7 +39,7 @@ data_in flags value =
       octets = drop 12 value;
     })
 
--- what an INIT or an INIT ACK says; nothing where it is too short, or its parameters aren't whole (RFC 9260 §3.3.2)
+-- what an INIT or an INIT ACK says; nothing if it is too short, or its parameters aren't whole (RFC 9260 §3.3.2)
 abbrev pub init_with : List ℕ → Option (List ItemValue) → Option InitValue
 init_with value None = None
 init_with value (Some parameters) = Some (record {
@@ -54,7 +54,7 @@ init_with value (Some parameters) = Some (record {
 abbrev pub init_in : List ℕ → Option InitValue
 init_in value = if nat_lt (length value) 16 then None else init_with value (read_items (drop 16 value))
 
--- the chunk of what a value says, where it says something
+-- the chunk of what a value says, if it says something
 abbrev pub chunk_or_malformed : {V : Type 0} → ℕ → (V → ChunkValue) → Option V → ChunkValue
 chunk_or_malformed kind chunk None = MalformedChunk kind
 chunk_or_malformed kind chunk (Some value) = chunk value
@@ -76,7 +76,7 @@ block_count value = number16_at value 8
 abbrev pub duplicate_count : List ℕ → ℕ
 duplicate_count value = number16_at value 10
 
--- SACK: behind twelve octets the blocks, and behind them the duplicates (RFC 9260 §3.3.4)
+-- SACK: after twelve octets the blocks, and after them the duplicates (RFC 9260 §3.3.4)
 abbrev pub sack_in : List ℕ → ChunkValue
 sack_in value =
     if nat_lt (length value) 12 then MalformedChunk 3

@@ -42,7 +42,7 @@ pub enum Cause<'a> {
     ProtocolViolation(&'a [u8]),
 }
 
-/// A cause as it is written: its code, four octets of its value, if they aren't a slice, and those behind them.
+/// A cause as it is written: its code, four octets of its value, if they aren't a slice, and those after them.
 #[derive(Clone, Copy)]
 pub(crate) struct CauseParts<'a> {
     pub(crate) code: u16,

@@ -272,7 +272,7 @@ pub(crate) fn read_data(flags: u8, value: &[u8]) -> Chunk<'_>
     })
 }
 
-/// What an INIT or INIT ACK chunk of this value says. None where it is too short, or its parameters aren't whole.
+/// What an INIT or INIT ACK chunk of this value says. None if it is too short, or its parameters aren't whole.
 fn read_init(value: &[u8]) -> Option<Init<'_>>
     ensures { Gives init_of result (init_in value.now) }
 {

@@ -1,15 +1,15 @@
 //! The numbers of chunks, and how many octets the fields have (RFC 9260 §3).
 
-/// Octets of a number and a length, in front of each value (RFC 9260 §3.2).
+/// Octets of a number and a length, before each value (RFC 9260 §3.2).
 pub(crate) const ITEM_HEADER_OCTETS: usize = 4;
 
-/// Values are padded to a multiple of so many octets (RFC 9260 §3.2).
+/// Values are padded to a multiple of this many octets (RFC 9260 §3.2).
 pub(crate) const WORD_OCTETS: usize = 4;
 
 /// Octets of the common header (RFC 9260 §3.1).
 pub(crate) const HEADER_OCTETS: usize = 12;
 
-/// Where the checksum stands in it, behind the ports and the tag.
+/// Where the checksum is in it, after the ports and the tag.
 pub(crate) const CHECKSUM_AT: usize = 8;
 
 /// Octets of the fields of a DATA chunk, before the user data (RFC 9260 §3.3.1).

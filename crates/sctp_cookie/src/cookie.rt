@@ -15,7 +15,7 @@ pub const COOKIE_KEY_OCTETS: usize = 32;
 pub struct Cookie {
     /// When it was made, in milliseconds of the endpoint's clock.
     pub made: u64,
-    /// How often by then an association of the endpoint had opened or ended, and a try of one begun anew or ended.
+    /// How often by then an association of the endpoint had opened or ended, and a try of one restarted or ended.
     pub generation: u64,
     /// The endpoint's tag, if an association opens by it.
     pub own_tag: u32,

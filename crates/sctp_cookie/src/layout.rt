@@ -1,4 +1,4 @@
-//! Where the fields of a cookie stand in its octets.
+//! Where the fields of a cookie are in its octets.
 
 /// When it was made.
 pub(crate) const MADE_AT: usize = 32;

@@ -20,8 +20,8 @@ impl Cookie {
         signed(self, key)
     }
 
-    /// The cookie of which these are the octets under this key. None where there is no such cookie: there are more
-    /// or fewer octets than 88, or the code isn't that of the body, or the body doesn't end in two zeros.
+    /// The cookie of which these are the octets under this key. None if there is no such cookie: there are more or
+    /// fewer octets than 88, or the code isn't that of the body, or the body doesn't end in two zeros.
     pub fn open(octets: &[u8], key: &[u8; COOKIE_KEY_OCTETS]) -> Option<Cookie>
         // What opens was signed.
         ensures signed { IfSome result (λ cookie. IsSigned key.now octets.now cookie) }
@@ -82,7 +82,7 @@ fn body(cookie: Cookie) -> [u8; BODY_OCTETS]
     out
 }
 
-/// Writes the octets from a place on, and answers the place behind them.
+/// Writes the octets from a place on, and returns the place after them.
 fn write_at<const N: usize>(out: &mut [u8; N], at: usize, octets: &[u8]) -> usize
     requires { at + length octets.now ≤ N }
     ensures count { result ≡ at + length octets.now }

@@ -54,7 +54,7 @@ impl Tags {
         self.next_tag()
     }
 
-    /// The next tag, where one is left; it isn't drawn by that.
+    /// The next tag, if one is left; it isn't drawn by that.
     pub fn peek(&self) -> Option<u32>
         ensures { result ≡ next_tag self.now }
     {
@@ -77,7 +77,7 @@ impl Tags {
         }
     }
 
-    /// What the next number gives, where there is one; it counts as used from now on.
+    /// What the next number gives, if there is one; it counts as used from now on.
     fn use_number(&mut self) -> Option<u32>
         ensures given { result ≡ next_given self.old }
         ensures drawing { self.new ≡ after_one self.old }
