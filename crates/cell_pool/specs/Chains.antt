@@ -11,7 +11,7 @@ pub record Chained : Type 0 where
   pub place : ℕ
   pub noted : ℕ
 
--- so many cells from one on, each named by the one before it
+-- this many cells from one on, each named by the one before it
 abbrev pub walk : List ℕ → ℕ → ℕ → List ℕ
 walk next zero cell = []
 walk next (suc n) cell = cell ∷ walk next n (slice_index_or next cell 0)
@@ -34,14 +34,14 @@ one_cell cell = record { first = cell; last = cell; count = 1; place = 0; noted 
 abbrev pub chain_at : List Chained → ℕ → Chained
 chain_at chains i = slice_index_or chains i no_cells
 
--- one list behind another
+-- one list after another
 abbrev pub joined : Chained → Chained → Chained
 joined front back =
     if nat_eq front.count 0
     then back
     else record front { last = back.last; count = front.count + back.count }
 
--- the cell that names the first one of a list that comes behind: where there is none in front, the last of that list,
+-- the cell that names the first one of a list that comes after: if there is none before it, the last of that list,
 -- whose next one is never asked for
 abbrev pub end_of : Chained → Chained → ℕ
 end_of front back = if nat_eq front.count 0 then back.last else front.last
@@ -56,7 +56,7 @@ shortened chain second = record {
   noted = (if nat_eq chain.place 0 then second else chain.noted);
 }
 
--- a list that begins behind one of its cells, and ends with it
+-- a list that begins after one of its cells, and ends with it
 abbrev pub turned_round : Chained → (first last : ℕ) → Chained
 turned_round chain first last =
     record { first = first; last = last; count = chain.count; place = 0; noted = first }

@@ -67,7 +67,7 @@ impl CellLinks {
         self.chains[ring].count()
     }
 
-    /// A cell that was never used is the free one, where no other is.
+    /// A cell that was never used is the free one, if no other is.
     fn grow(&mut self)
         requires none { self.old.free ≡ [] }
         requires room { self.old.used < self.old.total }
@@ -114,7 +114,7 @@ impl CellLinks {
         self.spare += 1;
     }
 
-    /// Sees to a free cell: where no cell is free again, one that was never used.
+    /// Sees to a free cell: if no cell is free again, one that was never used.
     fn reserve(&mut self)
         requires room { sum_by length self.old.rings < self.old.total }
         ensures cells { self.new ≡ reserved self.old }
@@ -154,8 +154,8 @@ impl CellLinks {
         cell
     }
 
-    /// Moves the first cell of a list, where there is one, to the end of a list, also of its own: it is freed, and
-    /// taken at once.
+    /// Moves the first cell of a list, if there is one, to the end of a list, also of its own: it is freed, and taken
+    /// at once.
     pub(crate) fn move_first(&mut self, from: usize, to: usize)
         requires from { from < length self.old.rings }
         requires to { to < length self.old.rings }
@@ -183,7 +183,7 @@ impl CellLinks {
         }
     }
 
-    /// Puts what comes behind so many first cells of a list before these.
+    /// Puts what comes after this many first cells of a list before these.
     pub(crate) fn turn_round(&mut self, ring: usize, count: usize)
         requires { ring < length self.old.rings }
         ensures { self.new ≡ record self.old {
@@ -201,7 +201,7 @@ impl CellLinks {
     }
 }
 
-/// So many lists without cells.
+/// This many lists without cells.
 fn empty_chains(alloc: Global, count: usize) -> Result<Vec<Chain>, AllocError>
     ensures { IfOk result (λ chains. chains.items ≡ replicate count no_cells) }
 {

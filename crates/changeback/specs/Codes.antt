@@ -23,7 +23,7 @@ free_code t set = position not (codes_of t set)
 abbrev pub is_outstanding : Codes → (set code : ℕ) → Bool
 is_outstanding t set code = slice_index_or (codes_of t set) code false
 
--- one code awaits its acknowledgement from now on, or not; one that isn't there is left aside
+-- one code awaits its acknowledgement from now on, or not; one that isn't there is ignored
 abbrev pub with_code : Codes → (set code : ℕ) → Bool → Codes
 with_code t set code outstanding = slice_set t set (slice_set (codes_of t set) code outstanding)
 

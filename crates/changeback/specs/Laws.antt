@@ -85,7 +85,7 @@ unlinked_after_are_left =
     (before after : Facts) (destination sls : ℕ) →
     chosen_link after destination sls ≡ None → Contains (rerouted before after destination) sls → ⊥
 
--- each flow that is rerouted is held by the rerouting of its destination, where that is there
+-- each flow that is rerouted is held by the rerouting of its destination, if that is there
 abbrev pub each_rerouted_has_its_hold : Type 0
 each_rerouted_has_its_hold =
     (before after : Facts) (destination sls : ℕ) (h : HoldSet) →

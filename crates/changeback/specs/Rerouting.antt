@@ -22,7 +22,7 @@ module _ (before after : Facts) (destination : ℕ) where
   unfoldable pub rerouted : List ℕ
   rerouted = filter changes_link (range_with_len 0 SELECTIONS)
 
--- the same among the first so many selections, by the list of the links that their flows took before
+-- the same among the first n selections, by the list of the links that their flows took before
 unfoldable pub moved_from : (before : List (Option ℕ)) → (after : Facts) → (destination count : ℕ) → List ℕ
 moved_from before after destination count =
     filter (λ sls. is_other_link (slice_index_or before sls None) (chosen_link after destination sls))

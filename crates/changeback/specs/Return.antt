@@ -25,13 +25,13 @@ module _ (to : ℕ) (before after : Facts) where
   former_link_of destination sls =
       former_link to (chosen_link before destination sls) (chosen_link after destination sls)
 
-  -- the flows of the first so many selections to a destination that it takes over, in order
+  -- the flows of the first n selections to a destination that it takes over, in order
   unfoldable pub changes_of : (destination count : ℕ) → List FlowChange
   changes_of destination zero = []
   changes_of destination (suc count) =
       changes_of destination count ++ change_from destination count (former_link_of destination count)
 
-  -- and those to the first so many destinations
+  -- and those to the first n destinations
   unfoldable pub changes : (count : ℕ) → List FlowChange
   changes zero = []
   changes (suc count) = changes count ++ changes_of count SELECTIONS
@@ -49,7 +49,7 @@ comes_from None other = false
 abbrev pub gives_up : List FlowChange → (other : ℕ) → Bool
 gives_up cs other = list_any (λ c. nat_eq c.from other) cs
 
--- a flow is held where its former link has a holder
+-- a flow is held if its former link has a holder
 abbrev pub with_change : HoldSet → FlowChange → Option Procedure → HoldSet
 with_change h c (Some procedure) = with_hold h procedure c.destination c.sls
 with_change h c None = h

@@ -28,7 +28,7 @@ pub fn losing(links: &NodeLinks, link: LinkId) -> [bool; Limits::LINKS]
 }
 
 /// Holds each flow that a link takes over, compared with when it is out of service, by the procedure that is given for
-/// the link that it comes from (Q.704 §6.3, §6.4). A flow whose former link has none given is left aside.
+/// the link that it comes from (Q.704 §6.3, §6.4). A flow whose former link has none given is ignored.
 ///
 /// It walks each flow of the node once, by one call of `NodeLinks::former_link`.
 pub fn hold_changes(
@@ -190,7 +190,7 @@ fn hold_changes_to(
     }
 }
 
-/// Holds one flow, where the link in service takes it over.
+/// Holds one flow, if the link in service takes it over.
 fn hold_change(
     links: &NodeLinks,
     before: &RouteFacts<'_>,

@@ -57,7 +57,7 @@ impl SetCodes {
         }
     }
 
-    /// The acknowledgement of a code is awaited from now on, or not. A code that isn't there is left aside.
+    /// The acknowledgement of a code is awaited from now on, or not. A code that isn't there is ignored.
     pub(crate) fn put(&mut self, code: u8, outstanding: bool)
         ensures { self.new ≡ slice_set self.old code outstanding }
     {

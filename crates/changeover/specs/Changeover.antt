@@ -28,7 +28,7 @@ behind q None = drop q.sent q.all
 abbrev pub moved : Queue → Option ℕ → List Message
 moved q number = users_of (behind q (accepted_count q number))
 
--- the management messages that are queued anew
+-- the management messages that are queued again
 abbrev pub queued_anew : Queue → Option ℕ → List Message
 queued_anew q number = managements_of (behind q (accepted_count q number))
 
@@ -72,7 +72,7 @@ with_standing links link s = slice_set links link s
 abbrev pub may_restart : Standing → Bool
 may_restart s = not s.incomplete && not s.awaited
 
--- the link failed in service: an order goes out exactly where another link to the adjacent point is left
+-- the link failed in service: an order goes out exactly when another link to the adjacent point is left
 abbrev pub failed : (ordered : Bool) → Standing → Standing
 failed ordered s = record { incomplete = true; awaited = ordered }
 
@@ -88,7 +88,7 @@ completed s = record s { incomplete = false }
 abbrev pub acknowledged : Standing → Standing
 acknowledged s = record s { incomplete = false; awaited = false }
 
--- whether an answer completes a changeover; none where no answer is awaited
+-- whether an answer completes a changeover; none if no answer is awaited
 abbrev pub completed_by_acknowledgement : Standing → Option Bool
 completed_by_acknowledgement s = if s.awaited then Some s.incomplete else None
 

@@ -19,7 +19,7 @@ kept_done k None = k.outstanding
 abbrev pub kept_done_with : Counts → (number : Option ℕ) → ℕ
 kept_done_with k number = kept_done k (kept_accepted_count k number)
 
--- how many of them are in doubt, where the number isn't reasonable: those that were sent
+-- how many of them are in doubt, if the number isn't reasonable: those that were sent
 abbrev pub kept_doubted : Counts → (count : Option ℕ) → Option ℕ
 kept_doubted k (Some count) = None
 kept_doubted k None = Some k.outstanding

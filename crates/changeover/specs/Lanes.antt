@@ -9,7 +9,7 @@ use Rattle.changeover.specs.Changeover.{users_of, managements_of}
 abbrev pub spliced : List (List Message) → (lane count held : ℕ) → List (List Message)
 spliced lists lane count held = picked_before (λ m. not (is_management m)) (dropped lists lane count) lane held
 
--- the user messages stand before all that was held, in order, and the management messages are left, in order
+-- the user messages are before all that was held, in order, and the management messages are left, in order
 abbrev pub splicing_completes : Type 0
 splicing_completes =
     (lists : List (List Message)) (lane count held : ℕ) →

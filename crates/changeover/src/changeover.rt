@@ -33,7 +33,7 @@ impl Model for Changeover {
 }
 
 impl Changeover {
-    /// For so many links, of which none has failed. The error means that memory ran out.
+    /// For this many links, of which none has failed. The error means that memory ran out.
     pub fn new(alloc: Global, links: usize) -> Result<Changeover, AllocError>
         ensures { IfOk result (λ changeover. changeover ≡ replicate links no_changeover) }
     {
@@ -75,9 +75,9 @@ impl Changeover {
         standing.is_incomplete()
     }
 
-    /// Takes an answer about a link, with a number or without one. None, and nothing changes, where no answer is
-    /// awaited. Else it is no longer awaited, and the call says whether an incomplete changeover is to be completed
-    /// now; it counts as complete from then on.
+    /// Takes an answer about a link, with a number or without one. None, and nothing changes, if no answer is awaited.
+    /// Else it is no longer awaited, and the call says whether an incomplete changeover is to be completed now; it
+    /// counts as complete from then on.
     pub fn acknowledge(&mut self, link: LinkId) -> Option<bool>
         requires { link < length self.old }
         ensures completes { result ≡ completed_by_acknowledgement (standing_at self.old link) }

@@ -10,7 +10,7 @@ pub fn each_user_message_once()
     ensures { each_once }
 {}
 
-/// What is named as lost and what moves are, in order, the user messages behind those that are confirmed.
+/// What is named as lost and what moves are, in order, the user messages after those that are confirmed.
 pub fn lost_and_moved_are_all()
     ensures { lost_then_moved }
 {}

@@ -98,7 +98,7 @@ pub record NodeFlow : Type 0 where
 abbrev pub flows_to : (destination : ℕ) → List NodeFlow
 flows_to destination = map (λ sls. record { destination = destination; sls = sls }) (range_with_len 0 SELECTIONS)
 
--- the flows of a node with so many destinations
+-- the flows of a node with this many destinations
 unfoldable pub flows : (destinations : ℕ) → List NodeFlow
 flows destinations = flat_map flows_to (range_with_len 0 destinations)
 

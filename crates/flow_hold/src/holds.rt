@@ -35,7 +35,7 @@ impl Model for Holds {
 }
 
 impl Holds {
-    /// No holds, for a node with so many links, sets and destinations. The error means that memory ran out.
+    /// No holds, for a node with this many links, sets and destinations. The error means that memory ran out.
     ///
     /// It takes 16 octets for each destination and each procedure that may hold flows of all: two for each link and 16
     /// for each set. That is 42 MB at the limits of a node, and 1 KB for a node of one link, one set and two
@@ -56,8 +56,8 @@ impl Holds {
         })
     }
 
-    /// A procedure holds a flow. A link, set, code or destination that isn't there is left aside, and so is a rerouting
-    /// of another destination than the flow's.
+    /// A procedure holds a flow. A link, set, code or destination that isn't there is ignored, and so is a rerouting of
+    /// another destination than the flow's.
     pub fn hold(&mut self, procedure: Procedure, destination: usize, sls: Sls)
         ensures { self.new ≡ with_hold self.old procedure destination sls }
     {

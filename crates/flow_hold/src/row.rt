@@ -23,7 +23,7 @@ impl Model for HoldRow {
 }
 
 impl HoldRow {
-    /// Marks of so many flows; none is held.
+    /// Marks of this many flows; none is held.
     pub(crate) fn new(alloc: Global, first: usize, count: usize) -> Result<HoldRow, AllocError>
         ensures { IfOk result (λ row. row ≡ record { first = first; marks = replicate count false }) }
     {
@@ -47,7 +47,7 @@ impl HoldRow {
         self.marks.len()
     }
 
-    /// The place of a flow in the row, where it is there.
+    /// The place of a flow in the row, if it is there.
     pub(crate) fn place(&self, flow: usize) -> Option<usize>
         ensures { result ≡ place_of_flow self.now flow }
     {

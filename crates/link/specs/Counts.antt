@@ -28,11 +28,11 @@ counts_of q = record {
 abbrev pub kept_first : Counts
 kept_first = record { oldest = 0; outstanding = 0; expected = 0 }
 
--- the same, where the first message gets another number
+-- the same, if the first message gets another number
 abbrev pub kept_first_at : ℕ → Counts
 kept_first_at number = record { oldest = number; outstanding = 0; expected = 0 }
 
--- how many more messages a number confirms: its distance from the last confirmed one, where as many are outstanding
+-- how many more messages a number confirms: its distance from the last confirmed one, if as many are outstanding
 abbrev pub kept_newly_confirmed : Counts → ℕ → Option ℕ
 kept_newly_confirmed k bsn =
     if nat_le (steps_between k.oldest (next_number bsn)) k.outstanding

@@ -35,7 +35,7 @@ unconfirmed q = drop q.confirmed q.all
 abbrev pub first_queue : Queue
 first_queue = record { base = 0; all = []; confirmed = 0; sent = 0; received = 0 }
 
--- the same, where the first message gets another number
+-- the same, if the first message gets another number
 abbrev pub first_queue_at : ℕ → Queue
 first_queue_at number = record { base = number; all = []; confirmed = 0; sent = 0; received = 0 }
 
@@ -43,8 +43,8 @@ first_queue_at number = record { base = number; all = []; confirmed = 0; sent = 
 abbrev pub forward_number : Queue → ℕ → ℕ
 forward_number q k = (q.base + k) % modulus
 
--- a backward sequence number names a count from `confirmed` to `sent` where the number after it is that of the message
--- behind the count (RFC 4165 §2.2)
+-- a backward sequence number names a count from `confirmed` to `sent` if the number after it is that of the message
+-- after the count (RFC 4165 §2.2)
 pub record Names (q : Queue) (bsn n : ℕ) : Type 0 where
   pub from_confirmed : q.confirmed ≤ n
   pub to_sent : n ≤ q.sent

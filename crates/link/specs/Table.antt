@@ -19,7 +19,7 @@ pub data Effect : Type 0 where
   Fails : Effect
   -- Ready is remembered until Proving is left
   Remembers : Effect
-  -- the link enters a state; a status is sent and a timer starts, where one is named
+  -- the link enters a state; a status is sent and a timer starts, if one is named
   Enters : (state : Alignment) (sent : Option LinkStatus) (started : Option LinkTimer) → Effect
   -- the link enters service, and the input is then handled there
   EntersServing : Effect

@@ -40,7 +40,7 @@ down_link = record {
   acknowledgement_owed = false;
 }
 
--- a link after a step of its alignment: the status that the step sends waits behind the others
+-- a link after a step of its alignment: the status that the step sends waits after the others
 abbrev pub stepped : Transition → Link → Link
 stepped step l = record l { alignment = step.state; waiting = l.waiting ++ option_to_list step.send }
 
@@ -54,7 +54,7 @@ after_action (Go step) l = stepped step l
 abbrev pub after_failure : Link → Link
 after_failure l = record l { alignment = Down; waiting = []; peer_busy = false; acknowledgement_owed = false }
 
--- a link that got an association begins anew
+-- a link that got an association restarts
 abbrev pub opened : Link → Link
 opened l = stepped opening (record (after_failure l) { association = true })
 

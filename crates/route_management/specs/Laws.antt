@@ -7,7 +7,7 @@ use Rattle.routes.specs.declared.route.RouteStatus.TheVariants.{Allowed}
 use Rattle.routes.specs.Routes.{Facts, with_status, with_statuses_reset}
 use Rattle.route_management.specs.Told.{ToldTable, told_at, with_told, with_told_reset, is_reachable, owed_at, owed, all_told, status_to_advertise}
 
--- what is told is what was told, where both are there
+-- what is told is what was told, if both are there
 abbrev pub told_is_kept : Type 0
 told_is_kept =
     (t : ToldTable) (set destination : ℕ) (status : RouteStatus) →

@@ -30,7 +30,7 @@ is_own_point t set destination = is_number destination (slice_index_or t.adjacen
 abbrev pub row_of : ToldTable → ℕ → List RouteStatus
 row_of t set = slice_index_or t.rows set []
 
--- what it was told of a destination, where both are there
+-- what it was told of a destination, if both are there
 abbrev pub told_at : ToldTable → (set destination : ℕ) → Option RouteStatus
 told_at t set destination = slice_get (row_of t set) destination
 
@@ -69,7 +69,7 @@ abbrev pub is_same : RouteStatus → RouteStatus → Bool
 is_same a b = status_number a == status_number b
 
 -- what the adjacent point of a set is to be told of a destination, by the routes that messages take there: not to send
--- them where there is no route, or where they may come back; else the status of those routes, allowed or restricted
+-- them if there is no route, or if they may come back; else the status of those routes, allowed or restricted
 abbrev pub said_by : ℕ → List Route → RouteStatus
 said_by set [] = Prohibited
 said_by set (first ∷ rest) = if list_any (leads_by set) (first ∷ rest) then Prohibited else first.status
@@ -108,7 +108,7 @@ owed_about f t set destination =
     option_map (λ status. record { set = set; destination = destination; status = status })
     (owed_at f t set destination)
 
--- what is owed to the adjacent point of a set of so many destinations, from one on
+-- what is owed to the adjacent point of a set of this many destinations, from one on
 abbrev pub owed_from : Facts → ToldTable → (set from count : ℕ) → List Owed
 owed_from f t set from count = filter_map (owed_about f t set) (range_with_len from count)
 
@@ -116,7 +116,7 @@ owed_from f t set from count = filter_map (owed_about f t set) (range_with_len f
 abbrev pub owed_to : Facts → ToldTable → ℕ → List Owed
 owed_to f t set = owed_from f t set 0 (length (row_of t set))
 
--- what is owed to the adjacent points of so many sets, from one on
+-- what is owed to the adjacent points of this many sets, from one on
 abbrev pub owed_by_sets : Facts → ToldTable → (from count : ℕ) → List Owed
 owed_by_sets f t from count = flat_map (owed_to f t) (range_with_len from count)
 
@@ -151,8 +151,8 @@ abbrev pub tested : RouteTest → RouteStatus
 tested test.Prohibited = Prohibited
 tested test.Restricted = Restricted
 
--- what a test from the adjacent point of a set about a destination is answered with: what that point is to be told,
--- where this isn't what the test asks about; nothing about that point itself
+-- what a test from the adjacent point of a set about a destination is answered with: what that point is to be told, if
+-- this isn't what the test asks about; nothing about that point itself
 abbrev pub answer_to_test : Facts → ToldTable → (set destination : ℕ) → RouteTest → Option RouteStatus
 answer_to_test f t set destination test =
     if is_own_point t set destination || is_same (status_to_advertise f set destination) (tested test)

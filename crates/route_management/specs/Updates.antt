@@ -10,7 +10,7 @@ pub record Updates : Type 0 where
   pub extent : Extent
   pub marks : List Bool
 
--- whether an update stands at a place or behind it, by set and then by destination
+-- whether an update is at a place or after it, by set and then by destination
 abbrev pub is_from : (first about set destination : ℕ) → Bool
 is_from first about set destination = nat_lt first set || nat_eq first set && nat_le about destination
 
@@ -57,7 +57,7 @@ with_all u = record u { extent = From 0 0 }
 abbrev pub with_none : Updates → Updates
 with_none u = record u { extent = Nothing }
 
--- those about one more destination may be; where none was, no other is marked
+-- those about one more destination may be; if none was, no other is marked
 abbrev pub with_mark : ℕ → Extent → List Bool → Updates
 with_mark destination Nothing marks = record {
   extent = Marked;
@@ -78,7 +78,7 @@ has_all_from set destination Nothing = false
 has_all_from set destination Marked = false
 has_all_from set destination (From first about) = is_from first about set destination
 
--- none before this one is: where all from an earlier one on might be, all from this one on may; else nothing changes
+-- none before this one is: if all from an earlier one on might be, all from this one on may; else nothing changes
 abbrev pub without_before : (set destination : ℕ) → Updates → Updates
 without_before set destination u =
     if has_all_from set destination u.extent

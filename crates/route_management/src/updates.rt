@@ -24,8 +24,8 @@ pub enum Extent {
 
 /// Which updates may be pending: for the adjacent point of which set, about which destination.
 ///
-/// All room is made by `new`, an octet for each destination and one for each 64. `is_any`, `add_all`, `add_all_if`
-/// and `clear` take a fixed number of steps, and so does `add` where any was pending before.
+/// All room is made by `new`, an octet for each destination and one for each 64. `is_any`, `add_all`, `add_all_if` and
+/// `clear` take a fixed number of steps, and so does `add` if any was pending before.
 #[derive(Drop)]
 pub struct PendingUpdates {
     extent: Extent,
@@ -41,7 +41,7 @@ impl Model for PendingUpdates {
 }
 
 impl PendingUpdates {
-    /// All updates about so many destinations may be pending. The error means that memory ran out.
+    /// All updates about this many destinations may be pending. The error means that memory ran out.
     pub fn new(alloc: Global, destinations: usize) -> Result<PendingUpdates, AllocError>
         ensures { IfOk result (λ updates. updates ≡ first_updates destinations) }
     {
@@ -107,8 +107,8 @@ impl PendingUpdates {
         }
     }
 
-    /// The first destination from this one on of which an update for the point of a set may be pending; `None` where
-    /// there is none.
+    /// The first destination from this one on of which an update for the point of a set may be pending; `None` if there
+    /// is none.
     #[inline(always)]
     pub fn next(&self, set: SetId, from: usize) -> Option<usize>
         ensures some { IfSome result (λ destination. IsNext self.now set from destination) }
@@ -121,7 +121,7 @@ impl PendingUpdates {
         }
     }
 
-    /// The same, where all updates from a place on may be pending.
+    /// The same, if all updates from a place on may be pending.
     #[inline(always)]
     fn next_in(&self, first: SetId, about: usize, set: SetId, from: usize) -> Option<usize>
         requires { self.now.extent ≡ From first about }
@@ -150,7 +150,7 @@ fn has_all_from(extent: &Extent, set: SetId, destination: usize) -> bool
     }
 }
 
-/// Whether an update stands at a place or behind it, in the order of sets and, for a set, of destinations.
+/// Whether an update is at a place or after it, in the order of sets and, for a set, of destinations.
 #[inline(always)]
 fn is_from(first: SetId, about: usize, set: SetId, destination: usize) -> bool
     ensures { result ≡ is_from first about set destination }

@@ -1,4 +1,4 @@
--- A flow of two joined sets, as a link of the other set leaves service: where flows are shared over the links that are
+-- A flow of two joined sets, as a link of the other set leaves service: if flows are shared over the links that are
 -- left, the flow moves though its own link stays.
 use Rattle.std.specs.Prelude.{◌≡◌, true, false, [], ◌∷◌, Some}
 use Rattle.routes.specs.declared.route.RouteStatus.TheVariants.{Allowed}

@@ -158,7 +158,7 @@ is_open f status route =
 abbrev pub alone : List Route → List (List Route)
 alone routes = map (λ route. route ∷ []) routes
 
--- the routes to a destination in groups: the first two together where they are joined, and each other by itself
+-- the routes to a destination in groups: the first two together if they are joined, and each other by itself
 abbrev pub groups_of : List Route → List (List Route)
 groups_of [] = []
 groups_of (first ∷ []) = alone (first ∷ [])
@@ -171,7 +171,7 @@ first_size [] = 0
 first_size (first ∷ []) = 1
 first_size (first ∷ second ∷ rest) = if second.joined then 2 else 1
 
--- the first group with a route that has this status, and whose set has a link in service; none where there isn't one
+-- the first group with a route that has this status, and whose set has a link in service; none if there isn't one
 abbrev pub open_group : Facts → RouteStatus → List (List Route) → List Route
 open_group f status groups = unwrap_or (find (list_any (is_open f status)) groups) []
 
@@ -180,7 +180,7 @@ pub record Choice : Type 0 where
   pub group : List Route
   pub status : RouteStatus
 
--- a group by its allowed routes; where it has no route, another by its restricted ones
+-- a group by its allowed routes; if it has no route, another by its restricted ones
 abbrev pub allowed_or : (allowed restricted : List Route) → Choice
 allowed_or (first ∷ rest) restricted = record { group = first ∷ rest; status = Allowed }
 allowed_or [] restricted = record { group = restricted; status = Restricted }
@@ -229,7 +229,7 @@ alone_in [] = None
 alone_in (route ∷ []) = Some route.set
 alone_in (first ∷ second ∷ rest) = None
 
--- the set that all messages to a destination take, where the group that they take is that set alone
+-- the set that all messages to a destination take, if the group that they take is that set alone
 abbrev pub lone_set : Facts → ℕ → Option ℕ
 lone_set f destination = alone_in (choice_among f (routes_to f destination)).group
 

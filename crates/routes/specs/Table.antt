@@ -23,7 +23,7 @@ links_among f routes = links_by f (choice_among f routes)
 abbrev pub table_of : Facts → List (List (Option ℕ))
 table_of f = map (links_among f) f.routes
 
--- ---- how a table is mended: row by row, where a test of the routes says so
+-- ---- how a table is mended: row by row, if a test of the routes says so
 
 -- the row of a destination
 abbrev pub mended_at : Facts → (destination : ℕ) → List (List (Option ℕ)) → List (List (Option ℕ))

@@ -33,7 +33,7 @@ pub fn first_link_serves()
         → first_serving selection in_service sets links ≡ Some link → is_in_service in_service link ≡ true }
 {}
 
-/// A flow finds a link exactly where one of its group may be taken.
+/// A flow finds a link exactly when one of its group may be taken.
 #[tactic(auto, using(crate::proofs::MembersInService::some_serves))]
 pub fn some_link_serves()
     ensures { (selection : ℕ) (in_service : List Bool) (sets : List ℕ) (links : List Member)
@@ -47,7 +47,7 @@ pub fn chosen_link_serves()
         → chosen_link f destination selection ≡ Some link → is_in_service f.in_service link ≡ true }
 {}
 
-/// There is a link for a flow exactly where messages to its destination take some set.
+/// There is a link for a flow exactly when messages to its destination take some set.
 #[tactic(auto, using(crate::proofs::Choosing::linked_by_sets))]
 pub fn a_flow_has_a_link_where_it_has_a_set()
     ensures { (f : Facts) (destination selection : ℕ)

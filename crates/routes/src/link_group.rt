@@ -57,7 +57,7 @@ impl LinkGroup {
         }
     }
 
-    /// The links of a set join the group, behind those that are there. At most one set is there before.
+    /// The links of a set join the group, after those that are there. At most one set is there before.
     pub fn add(&mut self, set: SetId, links: &LinkSet)
         requires { length self.old ≤ Limits.LINKS_PER_SET }
         ensures members { self.new ≡ self.old ++ members_of set links.now }
@@ -114,7 +114,7 @@ impl LinkGroup {
         Some(members[usize::from(sls.number()) % members.len()])
     }
 
-    /// The same as `first_member`, link by link. Where the link that is tried first serves this isn't needed, and stays
+    /// The same as `first_member`, link by link. If the link that is tried first serves this isn't needed, and stays
     /// out of the path of such flows.
     #[inline(never)]
     fn search(&self, sls: Sls, in_service: &[bool], sets: &[SetId]) -> Option<Member>
@@ -134,7 +134,7 @@ impl LinkGroup {
     }
 }
 
-/// The links of a set, behind the members that are there.
+/// The links of a set, after the members that are there.
 fn add_links(members: &mut ArrayVec<Member, MEMBERS>, set: SetId, links: &[LinkId])
     requires members { array_vec_len members.old ≤ Limits.LINKS_PER_SET }
     requires links { length links.now ≤ Limits.LINKS_PER_SET }

@@ -59,9 +59,9 @@ pub record IsTranslation (rows : List TitleEntry) (key : TitleKey) (digits : Lis
   pub longest : All (λ other. IsTrue (leads key digits other) → length other.digits ≤ length row.digits) rows
 
 -- ---- What becomes of an SCCP message for this point: by its called address it is for a subsystem here, or goes on, written
--- anew (Q.714 §2.3, §2.4).
+-- again (Q.714 §2.3, §2.4).
 
--- the point that a node is, and the numbers of the subsystems that stand there
+-- the point that a node is, and the numbers of the subsystems that are there
 pub record OwnValue : Type 0 where
   pub point : ℕ
   pub subsystems : List ℕ
@@ -75,7 +75,7 @@ pub data RelayedValue : Type 0 where
 
 -- ---- for this point
 
--- whether a subsystem of this number stands here; none does without a number
+-- whether a subsystem of this number is here; none does without a number
 abbrev pub is_equipped : OwnValue → Option ℕ → Bool
 is_equipped own None = false
 is_equipped own (Some ssn) = list_any (λ subsystem. nat_eq subsystem ssn) own.subsystems
@@ -95,8 +95,8 @@ row_of_title rows (Ok title) =
 abbrev pub row_of : List TitleEntry → AddressValue → Result TitleEntry Cause
 row_of rows address = row_of_title rows (read_title address.title_indicator address.title)
 
--- by what the address is routed at the point that a row leads to, and the subsystem number there: that of the row,
--- where it has one, else that of the address, where it has one
+-- by what the address is routed at the point that a row leads to, and the subsystem number there: that of the row, if
+-- it has one, else that of the address, if it has one
 abbrev pub routing_by : TitleRoute → Routing
 routing_by (route.Title ssn) = routing.Title
 routing_by (route.Ssn ssn) = routing.Ssn
@@ -117,7 +117,7 @@ translated row address = record address {
   ssn = ssn_by row.route address.ssn;
 }
 
--- the calling address, as a point further on has to see it: where it is by subsystem number and names no point, that of
+-- the calling address, as a point further on has to see it: if it is by subsystem number and names no point, that of
 -- the sender is put in (Q.714 §2.7)
 abbrev pub from_point : ℕ → AddressValue → AddressValue
 from_point sender address =
@@ -135,7 +135,7 @@ is_writable parts =
 abbrev pub label_to : (point own : ℕ) → Label → Label
 label_to point own label = record { dpc = point; opc = own; sls = label.sls }
 
--- the field of a message for another point, where it can be written
+-- the field of a message for another point, if it can be written
 abbrev pub written : (point own : ℕ) → Label → UnitdataValue → Option (List ℕ)
 written point own label unitdata =
     if is_writable (parts_of unitdata) then Some (label_octets (label_to point own label) ++ spelled unitdata) else None
@@ -204,7 +204,7 @@ return_cause NoRoute = Some 5
 return_cause TooLong = Some 7
 return_cause _ = None
 
--- a UDTS goes to another point, where it can be written
+-- a UDTS goes to another point, if it can be written
 abbrev pub return_to : (own : ℕ) → Label → ℕ → UnitdataValue → Option (List ℕ)
 return_to own label point udts = if nat_eq point own then None else written point own label udts
 
@@ -228,7 +228,7 @@ return_by Ssn own rows label number parts =
     return_to own.point label (unwrap_or parts.calling.point label.opc) (UdtsValue number (sent_back parts))
 return_by Title own rows label number parts = return_by_row own label number parts (row_of rows parts.calling)
 
--- a UDT is returned where it asks for a return on error and there is a return cause; a UDTS never is
+-- a UDT is returned if it asks for a return on error and there is a return cause; a UDTS never is
 abbrev pub return_read : OwnValue → List TitleEntry → Label → Option ℕ → Result UnitdataValue SccpFault
     → Option (List ℕ)
 return_read own rows label (Some number) (Ok (UdtValue class_octet parts)) =

@@ -15,7 +15,7 @@ pub fn one_translation()
         → IsTranslation rows key digits row → translation rows key digits ≡ Ok row }
 {}
 
-/// A row that is added stands at its place, and every other row stays.
+/// A row that is added is at its place, and every other row stays.
 pub fn adding_a_row_leaves_the_others()
     ensures own { added_stands }
     ensures others { added_leaves }

@@ -13,7 +13,7 @@ use Rattle.timers.specs.Timers.{has_name}
 abbrev pub named_sets : NodeCounts → NodeCounts
 named_sets n = record n { sets = min n.sets 256 }
 
--- where the places of T4, T6, T8 and T10 begin; those of links stand in front
+-- where the places of T4, T6, T8 and T10 begin; those of links come first
 abbrev pub codes_from : NodeCounts → ℕ
 codes_from n = 9 * n.links
 

@@ -50,7 +50,7 @@ impl Model for Moments {
 }
 
 impl Moments {
-    /// So many places; no timer runs.
+    /// This many places; no timer runs.
     pub fn new(alloc: Global, places: usize) -> Result<Moments, AllocError>
         requires { places < 2 ^ 48 }
         ensures { IfOk result (λ moments. moments ≡ replicate places None) }
@@ -66,7 +66,7 @@ impl Moments {
         })
     }
 
-    /// The timer at a place has so many ticks left.
+    /// The timer at a place has this many ticks left.
     #[inline]
     pub fn put(&mut self, place: usize, left: u16)
         requires { place < length self.old }
@@ -93,7 +93,7 @@ impl Moments {
         take_leaf(&mut self.nodes, self.leaves, place);
     }
 
-    /// The timer at a place has so many ticks left, unless it runs.
+    /// The timer at a place has this many ticks left, unless it runs.
     #[inline]
     pub fn start(&mut self, place: usize, left: u16)
         requires { place < length self.old }
@@ -116,7 +116,7 @@ impl Moments {
 
     /// Takes one tick from each timer.
     ///
-    /// Where nothing has come this is one addition and one look at the top.
+    /// If nothing has come this is one addition and one look at the top.
     pub fn tick(&mut self)
         ensures { self.new ≡ map one_less self.old }
     {
@@ -138,7 +138,7 @@ impl Moments {
         }
     }
 
-    /// No node has come any more but where a timer below it is due.
+    /// No node has come any more unless a timer below it is due.
     fn mend(&mut self)
         ensures { self.new ≡ self.old }
     {
@@ -164,7 +164,7 @@ impl Moments {
     }
 }
 
-/// How many levels make room for so many leaves.
+/// How many levels make room for this many leaves.
 fn levels_for(leaves: usize) -> u32
     requires { leaves < 2 ^ 48 }
     ensures room { leaves ≤ 2 ^ result }
@@ -178,7 +178,7 @@ fn levels_for(leaves: usize) -> u32
     LEVELS
 }
 
-/// How many leaves there are below so many levels.
+/// How many leaves there are below this many levels.
 fn leaves_at(levels: u32) -> usize
     requires { levels ≤ 48 }
     ensures count { result ≡ 2 ^ levels }
@@ -187,7 +187,7 @@ fn leaves_at(levels: u32) -> usize
     1 << levels
 }
 
-/// The moment at which a timer runs out that has so many ticks left.
+/// The moment at which a timer runs out that has this many ticks left.
 fn moment_of(clock: u32, left: u16) -> u32
     requires { clock + 65536 ≤ never }
     ensures { left_at clock result ≡ Some left }

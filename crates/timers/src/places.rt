@@ -25,7 +25,7 @@ pub(crate) fn named_sets(counts: NodeCounts) -> NodeCounts
     }
 }
 
-/// The place of a timer; none where the node doesn't have it.
+/// The place of a timer; none if the node doesn't have it.
 #[inline(always)]
 pub(crate) fn place_of(counts: NodeCounts, name: TimerName) -> Option<usize>
     ensures place { result ≡ place_of (named_sets counts) name }

@@ -7,8 +7,8 @@ use super::CellLinks;
 use crate::cell_number::CellNumber;
 
 impl CellLinks {
-    /// Notes the cell at a place of a list, where there is one: the way to it, and to the one behind it, is short from
-    /// then on.
+    /// Notes the cell at a place of a list, if there is one: the way to it, and to the one after it, is short from then
+    /// on.
     pub(crate) fn note(&mut self, ring: usize, index: usize)
         requires { ring < length self.old.rings }
         ensures { self.new ≡ self.old }
@@ -20,7 +20,7 @@ impl CellLinks {
         }
     }
 
-    /// The cell at a place of a list, where there is one.
+    /// The cell at a place of a list, if there is one.
     pub(crate) fn get(&self, ring: usize, index: usize) -> Option<CellNumber>
         requires { ring < length self.now.rings }
         ensures number { result ≡ slice_get (ring_at self.now.rings ring) index }
@@ -33,7 +33,7 @@ impl CellLinks {
         }
     }
 
-    /// The cell behind one at a place of a list, where there is one.
+    /// The cell after one at a place of a list, if there is one.
     pub(crate) fn next(&self, ring: usize, place: usize, cell: CellNumber) -> Option<CellNumber>
         requires ring { ring < length self.now.rings }
         requires place { place < length (ring_at self.now.rings ring) }
@@ -48,7 +48,7 @@ impl CellLinks {
         }
     }
 
-    /// The first cell of a list, where there is one.
+    /// The first cell of a list, if there is one.
     pub(crate) fn first(&self, ring: usize) -> Option<CellNumber>
         requires { ring < length self.now.rings }
         ensures number { result ≡ slice_get (ring_at self.now.rings ring) 0 }
@@ -109,7 +109,7 @@ impl CellLinks {
         }
     }
 
-    /// The cell behind one at a place of a list.
+    /// The cell after one at a place of a list.
     fn behind(&self, ring: usize, place: usize, cell: CellNumber) -> CellNumber
         requires ring { ring < length self.now.rings }
         requires place { place + 1 < length (ring_at self.now.rings ring) }

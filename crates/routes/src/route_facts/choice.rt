@@ -40,7 +40,7 @@ impl<'f> RouteFacts<'f> {
         sets_of(&self.routes_of(destination))
     }
 
-    /// The set that all messages to a destination take, where the group that they take is that set alone.
+    /// The set that all messages to a destination take, if the group that they take is that set alone.
     pub fn lone_set(&self, destination: usize) -> Option<SetId>
         ensures { result ≡ lone_set self.now destination }
     {
@@ -96,8 +96,8 @@ impl<'f> RouteFacts<'f> {
         }
     }
 
-    /// The first group of these routes with one that has this status, and whose set has a link in service; no route
-    /// where there isn't one.
+    /// The first group of these routes with one that has this status, and whose set has a link in service; no route if
+    /// there isn't one.
     fn open_group<'a>(&self, routes: &'a [Route], status: RouteStatus) -> &'a [Route]
         ensures group { result.now ≡ open_group self.now status (groups_of routes.now) }
         ensures fits { length result.now ≤ 2 }
