@@ -13,7 +13,7 @@ use Rattle.exchange_rules.specs.ChangingBack.{change_back}
 abbrev pub is_first_in : Facts → (set : ℕ) → Bool
 is_first_in f set = not (has_link f.in_service (set_at f set))
 
--- where the link is the first of its set, all that is known over that set begins anew
+-- if the link is the first of its set, what is known over that set is reset
 abbrev pub begun_anew : Configuration → (link : ℕ) → Parts → Parts
 begun_anew c link p = begun_anew_if (is_first_in (with_link link false (facts c p)) (set_of c link)) c link p
 

@@ -17,7 +17,7 @@ pub record OwesNoneBefore (f : Facts) (t : ToldTable) (set destination : ℕ) : 
 abbrev pub OwesNoneBetween : Facts → ToldTable → (set from end : ℕ) → Type 0
 OwesNoneBetween f t set from end = (about : ℕ) → from ≤ about → about < end → owed_at f t set about ≡ None
 
--- nothing is owed but what may be pending, which is told of so many destinations
+-- nothing is owed but what may be pending, which is told of this many destinations
 pub record OwesNoneBut (destinations : ℕ) (u : Updates) (f : Facts) (t : ToldTable) : Type 0 where
   pub marks : length u.marks ≡ destinations
   pub none : (set destination : ℕ) → may_be_pending u set destination ≡ false → owed_at f t set destination ≡ None

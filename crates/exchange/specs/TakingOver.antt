@@ -21,12 +21,12 @@ module _ {Q : Type 0} (q : QueueKind Q) (c : Configuration) where
     abbrev pub declare : (other : ℕ) → Node Q → Node Q
     declare other node = if loses other then declare_by q c (code_for q c link other node) link other node else node
 
-    -- the first so many links, in order
+    -- the first n links, in order
     unfoldable pub declare_each : ℕ → Node Q → Node Q
     declare_each zero node = node
     declare_each (suc other) node = declare other (declare_each other node)
 
-    -- of each of the first so many links, what holds the flows that come from it
+    -- of each of the first n links, what holds the flows that come from it
     unfoldable pub holders : ℕ → Node Q → List (Option Procedure)
     holders zero node = replicate LINKS None
     holders (suc other) node = slice_set (holders other node) other (holder other (declare_each other node))

@@ -1,4 +1,4 @@
--- Every event counts a loss that no notice tells of only where a changeover is under way.
+-- Every event counts a loss that no notice tells of only if a changeover is under way.
 use Rattle.exchange_rules.proofs.Basics.{◌≡◌, ◌≢◌, ◌⊎◌, inl, inr, ℕ, ◌+◌, zero, suc, Bool, true, false, Option, nat_eq, refl, ap, sym, ◌∙◌, subst, arith, list_any, nat_tests, or_left, or_right}
 use Rattle.exchange_rules.proofs.Definitions.{Configuration, LinkTimer, timer_name, Running, no_tick_left, ticked, due_name, after_due, due_count, due-left, counts-after, Node, in_service, is_link, fail_by_order, complete_by_order, changeover_of, changeover_acknowledgement, on_changeover_order, with_timers, run_next, run_times, tick, Happening, CameUp, WentDown, FrameCame, Ticked, Submitted, Activated, Deactivated, TitleAdded, TitleRemoved, Outgoing, SendsStatus, SendsMessage, Acknowledges, SendsNothing, goes_out, after_sending, WholeQueues, whole}
 use Rattle.link.specs.declared.action.LinkTimer.TheVariants as timer

@@ -32,7 +32,7 @@ abbrev pub code_in_use : Configuration → (set code : ℕ) → Parts → Parts
 code_in_use c set code p =
     record p { codes = with_code p.codes set code true; timers = set_timer (T4 set code) c.timers.t4 p.timers }
 
--- T3 runs, anew where it runs already
+-- T3 starts, or starts again if it runs already
 abbrev pub time_in_use : Configuration → (link : ℕ) → Parts → Parts
 time_in_use c link p = record p { timers = set_timer (T3 link) c.timers.t3 p.timers }
 
@@ -61,7 +61,7 @@ abbrev pub if_room : Option Cause → (code : ℕ) → Option ℕ
 if_room None code = Some code
 if_room (Some cause) code = None
 
--- flows that a link takes back are held by a code where there is one, else by time
+-- flows that a link takes back are held by a code if there is one, else by time
 abbrev pub procedure_by : Configuration → (link : ℕ) → Option ℕ → Procedure
 procedure_by c link (Some code) = Code (set_of c link) code
 procedure_by c link None = Time link
@@ -87,8 +87,8 @@ module _ {Q : Type 0} (q : QueueKind Q) (c : Configuration) where
   usable link (Some code) node = if_room (no_room q c (declaration c link code) node.queues) code
   usable link None node = None
 
-  -- the code by which the flows are held that a link takes back from another: the least that is free, where both links
-  -- are of one set
+  -- the code by which the flows are held that a link takes back from another: the least that is free, if both links are
+  -- of one set
   abbrev pub code_for : (link other : ℕ) → Node Q → Option ℕ
   code_for link other node =
       if nat_eq (set_of c other) (set_of c link)
@@ -118,7 +118,7 @@ module _ {Q : Type 0} (q : QueueKind Q) (c : Configuration) where
       unless loses_flows c before after other link then node
       else hold_flows before after (code_for link other node) link other node
 
-  -- from the first so many links, in order
+  -- from the first n links, in order
   unfoldable pub take_back_each : (before after : Facts) → (link count : ℕ) → Node Q → Node Q
   take_back_each before after link zero node = node
   take_back_each before after link (suc other) node =

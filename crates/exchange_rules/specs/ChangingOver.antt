@@ -35,7 +35,7 @@ is_of_flow c destination sls m =
     not (is_management m)
     && (option_eq nat_eq (destination_place c (flow_of m).point) (Some destination) && nat_eq (flow_of m).sls sls)
 
--- whether a flow fails with a link: that was its link, or an unconfirmed message of it stands there
+-- whether a flow fails with a link: that was its link, or an unconfirmed message of it is there
 abbrev pub is_failed : Configuration → Facts → (link : ℕ) → (unconfirmed : List Message) → (destination sls : ℕ) → Bool
 is_failed c f link unconfirmed destination sls =
     goes_by (chosen_link f destination sls) link || list_any (is_of_flow c destination sls) unconfirmed
@@ -95,7 +95,7 @@ module _ {Q : Type 0} (q : QueueKind Q) (c : Configuration) where
       ▷ without_tests_if_last c link)
   make_unavailable false link why node = with_parts node (fail_link link why node.parts)
 
-  -- where a link of its set is left, an order goes out
+  -- if a link of its set is left, an order goes out
   abbrev pub begin : (ordered : Bool) → ℕ → Node Q → Node Q
   begin true link node =
       send_routed q c (changeover_order c link (q.last_accepted node.queues link))
@@ -135,7 +135,7 @@ abbrev pub lose_each : List Message → Parts → Parts
 lose_each [] p = p
 lose_each (m ∷ ms) p = p ▷ lose LostUnconfirmed m ▷ lose_each ms
 
--- without a reasonable number something may be lost, also where nothing was sent
+-- without a reasonable number something may be lost, even if nothing was sent
 abbrev pub judged : (is_reasonable : Bool) → Parts → Parts
 judged true p = p
 judged false p = flagged p
@@ -157,7 +157,7 @@ abbrev pub changeover_acknowledgement : Configuration → ℕ → ℕ → Messag
 changeover_acknowledgement c link number =
     management_to c (peer_of c link) (ExtendedChangeoverAcknowledgement (entry_of c link).slc number)
 
--- where T2 ran out, something may be lost
+-- if T2 ran out, something may be lost
 abbrev pub flagged_by : ChangeoverTimer → Parts → Parts
 flagged_by timer.T1 p = p
 flagged_by timer.T2 p = flagged p
@@ -177,7 +177,7 @@ with_changeover_acknowledged link p =
     }
 
 module _ {Q : Type 0} (q : QueueKind Q) (c : Configuration) where
-  -- management messages go out anew, each on the link of its flow
+  -- management messages go out again, each on the link of its flow
   abbrev pub send_each : List Message → Node Q → Node Q
   send_each [] node = node
   send_each (m ∷ ms) node = node ▷ send_anew q c m ▷ send_each ms

@@ -42,13 +42,13 @@ use Rattle.mtp3_codec.specs.declared.discrimination.Discrimination.TheVariants a
 abbrev pub users_that : (of : Message → Bool) → List Message → ℕ
 users_that of ms = count_by of (users_of ms)
 
--- how many of those that stand in Held, and of those in queues that aren't confirmed
+-- how many of those that are in Held, and of those in queues that aren't confirmed
 abbrev pub standing : (of : Message → Bool) → WholeQueues → ℕ
 standing of qs = users_that of qs.held + sum_by (λ q. users_that of (unconfirmed q)) qs.links
 
 -- ---- what comes in
 
--- the message itself, where the outcome is that it is queued or held
+-- the message itself, if the outcome is that it is queued or held
 abbrev pub taken_in : Outcome → Message → List Message
 taken_in (Queued link) m = m ∷ []
 taken_in Held m = m ∷ []
@@ -57,7 +57,7 @@ taken_in Handled m = []
 taken_in Ignored m = []
 taken_in (Refused cause) m = []
 
--- a message written here goes the way of any message for another point, and is taken in where it finds it
+-- a message written here goes the way of any message for another point, and is taken in if it finds its way
 abbrev pub entering : Configuration → Message → Node WholeQueues → List Message
 entering c m node = taken_in (transfer whole c None m node).outcome m
 
@@ -72,7 +72,7 @@ abbrev pub returned_in : Option (List ℕ) → Configuration → Message → Nod
 returned_in (Some sif) c m node = entering c (in_place_of m sif) node
 returned_in None c m node = []
 
--- it is returned where it is refused
+-- it is returned if it is refused
 abbrev pub answered_in : Outcome → Configuration → Message → Node WholeQueues → List Message
 answered_in (Refused cause) c m node = returned_in (returned (own_of c) node.parts.titles m.sif cause) c m node
 answered_in (Queued link) c m node = []
@@ -125,7 +125,7 @@ both_gone one other = record { accepted = one.accepted ++ other.accepted; lost =
 abbrev pub confirmed_by : Result ℕ SeqFault → Queue → List Message
 confirmed_by numbers q = take (count_confirmed numbers) (unconfirmed q)
 
--- none where the link ignores User Data, or fails by it
+-- none if the link ignores User Data, or fails by it
 abbrev pub confirmed_at : Action → ℕ → Carrying → Configuration → Node WholeQueues → List Message
 confirmed_at act.Ignored link d c node = []
 confirmed_at act.Fail link d c node = []
@@ -149,7 +149,7 @@ confirmed link text a =
     then confirmed_of (read_frame text) link a.settings a.node
     else []
 
--- by a completion, where the changeover isn't complete: what the peer accepted, by the number that it gave, and what is
+-- by a completion, if the changeover isn't complete: what the peer accepted, by the number that it gave, and what is
 -- named as lost
 abbrev pub gone_by_completion : (incomplete : Bool) → ℕ → Option ℕ → WholeQueues → Gone
 gone_by_completion true link number queues =
@@ -167,7 +167,7 @@ gone_by_order (Some link) number c node =
     gone_by_completion (changeover_of fallen.parts link).incomplete link number fallen.queues
 gone_by_order None number c node = nothing_gone
 
--- the peer answers an order: only where that is awaited
+-- the peer answers an order: only if that is awaited
 abbrev pub gone_by_answer : Option ℕ → Option ℕ → Node WholeQueues → Gone
 gone_by_answer (Some link) number node =
     if (changeover_of node.parts link).awaited

@@ -25,12 +25,12 @@ use Rattle.exchange_rules.specs.Telling.{tell_owed}
 use Rattle.exchange_rules.specs.Sending.{frame_taken, after_take}
 
 module _ {Q : Type 0} (q : QueueKind Q) (c : Configuration) where
-  -- a message goes to the end of its link's queue; where its flow has no link it is lost
+  -- a message goes to the end of its link's queue; if its flow has no link it is lost
   abbrev pub go_on : Option ℕ → Message → Node Q → Node Q
   go_on (Some link) m node = queue_on q c link m node
   go_on None m node = with_parts node (lose NoRoute m node.parts)
 
-  -- a message that still waits stands in Held again
+  -- a message that still waits is in Held again
   abbrev pub go_by : (is_waiting : Bool) → Message → Node Q → Node Q
   go_by true m node = hold q m node
   go_by false m node = go_on (link_of c node.parts (flow_of m)) m node

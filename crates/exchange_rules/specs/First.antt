@@ -54,7 +54,7 @@ first_parts c = record {
   times_late = 0;
 }
 
--- the state that boot gives: nothing stands in any queue
+-- the state that boot gives: nothing is in any queue
 abbrev pub first_state : Configuration → Abstract
 first_state c = record {
   settings = c;

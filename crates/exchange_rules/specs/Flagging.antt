@@ -33,7 +33,7 @@ pub record HasReasons (what : Happening) (n m : Node WholeQueues) : Type 0 where
 abbrev pub events_flag_for_a_reason : Type 0
 events_flag_for_a_reason = (what : Happening) (a : Abstract) → HasReasons what a.node (after whole what a).node
 
--- a completion counts one loss more than its notices tell of where it has no reasonable number, and else none
+-- a completion counts one loss more than its notices tell of if it has no reasonable number, and else none
 abbrev pub completions_flag_for_a_reason : Type 0
 completions_flag_for_a_reason =
     (c : Configuration) (link : ℕ) (number : Option ℕ) (node : Node WholeQueues) →

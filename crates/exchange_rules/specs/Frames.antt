@@ -43,7 +43,7 @@ become_busy c link p =
       timers = timed_busy c link p.timers;
     }
 
--- the peer takes messages again, of which so many are unconfirmed; where it wasn't busy nothing changes
+-- the peer takes messages again, of which this many are unconfirmed; if it wasn't busy nothing changes
 abbrev pub end_busy : Configuration → ℕ → (outstanding : ℕ) → Parts → Parts
 end_busy c link outstanding p =
     if (link_at p link).peer_busy
@@ -57,7 +57,7 @@ end_busy c link outstanding p =
 abbrev pub enters : ℕ → Transition → Parts → Bool
 enters link step p = is_in_service step.state && not (in_service p link)
 
--- where it is the first of its set, all that is known over that set begins anew
+-- if it is the first of its set, what is known over that set is reset
 abbrev pub begun_anew_if : (is_first : Bool) → Configuration → ℕ → Parts → Parts
 begun_anew_if true c link p = with_set_reset c (set_of c link) p
 begun_anew_if false c link p = p
@@ -79,7 +79,7 @@ module _ {Q : Type 0} (q : QueueKind Q) (c : Configuration) where
       return_if (enters link step node.parts) link (facts c node.parts)
       (with_parts node (moved_on c link step node.parts))
 
-  -- what a link's alignment does about an input; where the link is to fail, nothing changes here
+  -- what a link's alignment does about an input; if the link is to fail, nothing changes here
   abbrev pub act_by : Action → ℕ → Node Q → Node Q
   act_by act.Ignored link node = node
   act_by act.Fail link node = node
@@ -136,7 +136,7 @@ empty_data bsn fsn = record { fsn = fsn; bsn = bsn; message = None }
 abbrev pub message_data : (bsn fsn sio : ℕ) → List ℕ → Carrying
 message_data bsn fsn sio sif = record { fsn = fsn; bsn = bsn; message = Some (record { sio = sio; sif = sif }) }
 
--- the User Data that a frame is; nothing where it is a link status
+-- the User Data that a frame is; nothing if it is a link status
 abbrev pub data_of : FrameValue → Option Carrying
 data_of (EmptyFrame bsn fsn) = Some (empty_data bsn fsn)
 data_of (MessageFrame bsn fsn sio sif) = Some (message_data bsn fsn sio sif)
@@ -147,7 +147,7 @@ abbrev pub owing : ℕ → Option Message → Parts → Parts
 owing link None p = p
 owing link (Some m) p = with_link p link (record (link_at p link) { acknowledgement_owed = true })
 
--- so many of our own messages were confirmed, and so many are left
+-- this many of our own messages were confirmed, and this many are left
 abbrev pub timed_parts : Configuration → ℕ → (confirmed outstanding : ℕ) → Parts → Parts
 timed_parts c link confirmed outstanding p =
     record p { timers = timed_confirming c link (link_at p link).peer_busy confirmed outstanding p.timers }
@@ -157,7 +157,7 @@ module _ {Q : Type 0} (q : QueueKind Q) (c : Configuration) where
   abbrev pub numbers : ℕ → Carrying → Node Q → Result ℕ SeqFault
   numbers link d node = q.accept_answer node.queues link d.fsn d.bsn (carries d)
 
-  -- User Data is accepted, and confirms so many messages of our own
+  -- User Data is accepted, and confirms this many messages of our own
   abbrev pub accept : ℕ → Carrying → (confirmed : ℕ) → Node Q → Node Q
   accept link d confirmed node =
       let queues : Q = q.accepted node.queues link d.fsn d.bsn (carries d) in

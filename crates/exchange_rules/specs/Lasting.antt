@@ -129,7 +129,7 @@ pub record HasAllPlaces (c : Configuration) (node : Node WholeQueues) : Type 0 w
   pub queues : length node.queues.links ≡ length c.links
   pub timers : HasTimersFor c node.parts.timers
 
--- so it is at first, where there are no more links than there may be
+-- so it is at first, if there are no more links than there may be
 abbrev pub places_at_first : Type 0
 places_at_first =
     (c : Configuration) → length c.links ≤ LINKS → HasAllPlaces c (first_state c).node

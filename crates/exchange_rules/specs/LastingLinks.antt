@@ -22,7 +22,7 @@ pub record IsSteady (window : ℕ) (l : Link) (s : Standing) (q : Queue) (l7_run
   pub associated : l.association ≡ false → is_down l.alignment ≡ true
   -- and while its changeover isn't complete
   pub changing : s.incomplete ≡ true → is_down l.alignment ≡ true
-  -- out of service, messages stand in its queue only until its changeover is complete
+  -- out of service, messages are in its queue only until its changeover is complete
   pub moved : is_in_service l.alignment ≡ false → s.incomplete ≡ false → q.all ≡ []
   -- L7 runs exactly while it is in service, its peer isn't busy, and something that was sent isn't confirmed
   pub watched : l7_runs ≡ (may_send l && nat_lt 0 (q.sent - q.confirmed))

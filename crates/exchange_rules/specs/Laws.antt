@@ -55,8 +55,8 @@ abbrev pub carried_message : Result FrameValue FrameFault → Option Message
 carried_message (Ok frame) = option_and_then (λ d. d.message) (data_of frame)
 carried_message (Err fault) = None
 
--- what answers a message that was refused, by where it goes: one for SCCP here is returned, where it can be; the sender
--- of one for another point is told where it found no route, if it came by a link; nothing answers any other
+-- what answers a message that was refused, by where it goes: one for SCCP here is returned, if it can be; the sender of
+-- one for another point is told if it found no route, if it came by a link; nothing answers any other
 abbrev pub answered_by : Discrimination → Cause → (from : Option ℕ) → Message → Configuration → Node WholeQueues
     → Node WholeQueues
 answered_by (whither.Refused fault) cause from m c node = node
@@ -120,7 +120,7 @@ abbrev pub queued_in_service : Type 0
 queued_in_service = (what : Happening) (a : Abstract) (link : ℕ) → outcome_of whole what a ≡ Queued link →
     in_service (after whole what a).node.parts link ≡ true
 
--- so is every other: where a rule changes the queue of a link, that link is in service behind it
+-- so is every other: if a rule changes the queue of a link, that link is in service after it
 abbrev pub GivesInService : (link : ℕ) → (before after : Node WholeQueues) → Type 0
 GivesInService link before after =
     queue_at after.queues link ≢ queue_at before.queues link → in_service after.parts link ≡ true
@@ -137,7 +137,7 @@ declared_in_service =
     (c : Configuration) (its : ℕ) (step : Transition) (node : Node WholeQueues) (link : ℕ) →
     GivesInService link node (advance whole c its step node)
 
--- a completion queues management of its link anew on others
+-- a completion queues management of its link again on others
 abbrev pub queued_anew_in_service : Type 0
 queued_anew_in_service =
     (c : Configuration) (failed : ℕ) (number : Option ℕ) (node : Node WholeQueues) (link : ℕ) → link ≢ failed →
@@ -164,8 +164,8 @@ completion_leaves_others =
 abbrev pub goes_on_by : Configuration → Parts → ℕ → Message → Bool
 goes_on_by c p link m = not (waits c p.holds m) && goes_by (link_of c p (flow_of m)) link
 
--- a release leaves in Held what waits, and puts what goes to a link behind what stands there, each in the order of
--- Held; so each flow keeps its order
+-- a release leaves in Held what waits, and puts what goes to a link after what is there, each in the order of Held; so
+-- each flow keeps its order
 abbrev pub release_keeps_order : Type 0
 release_keeps_order =
     (c : Configuration) (node : Node WholeQueues) →
@@ -174,7 +174,7 @@ release_keeps_order =
     (queue_at (release whole c node).queues link).all
     ≡ (queue_at node.queues link).all ++ filter (goes_on_by c node.parts link) node.queues.held)
 
--- a changeover that meets a changeback: when messages of a flow go on by a link, those that a completion moves stand
+-- a changeover that meets a changeback: when messages of a flow go on by a link, those that a completion moves are
 -- before those that were held
 abbrev pub moved_before_held : Type 0
 moved_before_held =

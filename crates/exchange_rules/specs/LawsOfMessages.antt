@@ -19,8 +19,8 @@ use Rattle.exchange_rules.specs.Queues.{WholeQueues, whole}
 use Rattle.exchange_rules.specs.Receiving.{new_message}
 use Rattle.exchange_rules.specs.Conserving.{Gone, both_gone, brought_in, gone, gone_by_completion, gone_by_release, gone_that, nothing_gone, standing, users_that}
 
--- By any test, as many user messages as stood before an event, and as it brings, stand after it, were accepted by a
--- peer, or are named as lost: none is doubled, and none is gone in another way
+-- By any test: of the user messages that were there before an event or came by it, as many as are there after it, were
+-- accepted by a peer, or are named as lost; none is doubled, and none is gone in any other way
 abbrev pub user_messages_are_conserved : Type 0
 user_messages_are_conserved =
     (what : Happening) (a : Abstract) (of : Message → Bool) → HasAllPlaces a.settings a.node →
@@ -74,7 +74,8 @@ abbrev pub all_gone : List Asking → Abstract → Gone
 all_gone [] a = nothing_gone
 all_gone (asking ∷ others) a = both_gone (gone_by_asking asking a) (all_gone others (after_asking asking a))
 
--- so in each state that comes of the first, all that ever came in stands, was accepted by a peer, or is named as lost
+-- so in each state that comes of the first, all that ever came in is still there, was accepted by a peer, or is named
+-- as lost
 abbrev pub all_that_came_adds_up : Type 0
 all_that_came_adds_up =
     (c : Configuration) (asked : List Asking) (of : Message → Bool) → length c.links ≤ LINKS → c.window ≤ WINDOW →

@@ -62,9 +62,8 @@ pub record HasLost (before after : Facts) (other link : ℕ) : Type 0 where
 abbrev pub at_turn : Configuration → (link : ℕ) → (known : Facts) → Node WholeQueues → (other : ℕ) → Node WholeQueues
 at_turn c link known before other = take_back_each whole c known (facts c before.parts) link other before
 
--- a code holds what comes from another link of the set: a declaration with it stands at the end of the queue of that
--- link, the code was free, the least one that was so when the turn of that link came, and its acknowledgement is
--- awaited now
+-- a code holds what comes from another link of the set: a declaration with it is at the end of the queue of that link,
+-- the code was free, the least one that was so when the turn of that link came, and its acknowledgement is awaited now
 pub record IsByCode (c : Configuration) (link other code : ℕ) (turn before after : Node WholeQueues) : Type 0 where
   pub set : set_of c other ≡ set_of c link
   pub declared : (queue_at after.queues other).all ≡ (queue_at before.queues other).all ++ declaration c link code ∷ []
@@ -88,7 +87,7 @@ IsChosen c link other turn before after procedure =
 -- A return, of which it was known before which link each flow took, by the procedure of each other link:
 pub record IsReturn (c : Configuration) (link : ℕ) (known : Facts) (before after : Node WholeQueues)
     (by : ℕ → Procedure) : Type 0 where
-  -- it is a code exactly where a declaration with it stands at the end of the queue, else time
+  -- it is a code exactly when a declaration with it is at the end of the queue, else time
   pub chosen : (other : ℕ) → HasLost known (facts c before.parts) other link →
       IsChosen c link other (at_turn c link known before other) before after (by other)
   -- the codes of two links differ

@@ -17,7 +17,7 @@ abbrev pub is_user_to : (point : ℕ) → Message → Bool
 is_user_to point m = not (is_management m) && nat_eq (dpc_of m) point
 
 -- the route to the point is allowed; each flow there that has a link has one of the set; and the user messages for it
--- that stand on links stand on those of the set
+-- that are on links are on those of the set
 pub record GoesBySet (c : Configuration) (set point destination : ℕ) (node : Node WholeQueues) : Type 0 where
   pub route : slice_index_or node.parts.routes destination [] ≡ first_route set ∷ []
   pub links : (sls link : ℕ) → chosen_link (facts c node.parts) destination sls ≡ Some link → set_of c link ≡ set

@@ -38,8 +38,8 @@ abbrev pub is_destination : Configuration → ℕ → Bool
 is_destination c point = is_some (destination_place c point)
 
 module _ {Q : Type 0} (q : QueueKind Q) (c : Configuration) where
-  -- room first; then a message that waits stands at the end of Held; then the route, and the message stands at the end
-  -- of that link's queue. The sender of one that came by a link and finds no route is told so
+  -- room first; then a message that waits is at the end of Held; then the route, and the message is at the end of that
+  -- link's queue. The sender of one that came by a link and finds no route is told so
   abbrev pub offer : Option Cause → (is_waiting : Bool) → (link from : Option ℕ) → Message → Node Q → Done Q
   offer (Some cause) is_waiting link from m node = refuse cause node
   offer None true link from m node = record { outcome = Held; left = hold q m node }
@@ -67,8 +67,8 @@ in_place_of m sif = record m { sif = sif }
 module _ {Q : Type 0} (q : QueueKind Q) (c : Configuration) where
   -- ---- a refused message is returned
 
-  -- the UDTS that returns a message, if one does, goes the way of any message for another point; where it finds none,
-  -- it is dropped
+  -- the UDTS that returns a message, if one does, goes the way of any message for another point; if it finds none, it
+  -- is dropped
   abbrev pub send_udts : (udts : Option (List ℕ)) → Message → Node Q → Node Q
   send_udts (Some sif) m node = (transfer q c None (in_place_of m sif) node).left
   send_udts None m node = node
@@ -89,7 +89,7 @@ module _ {Q : Type 0} (q : QueueKind Q) (c : Configuration) where
 
   -- ---- a message
 
-  -- by what becomes of it: one that goes on goes the way of any message for another point, and nobody is told where it
+  -- by what becomes of it: one that goes on goes the way of any message for another point, and nobody is told if it
   -- finds no route
   abbrev pub relay_by : RelayedValue → Message → Node Q → Done Q
   relay_by relays.Delivered m node = answer Local node
@@ -137,7 +137,7 @@ testing = 1
 abbrev pub sccp : ℕ
 sccp = 3
 
--- whether a user part of this service indicator stands on this node
+-- whether a user part of this service indicator is on this node
 abbrev pub is_user : Configuration → ℕ → Bool
 is_user c service_indicator = list_any (λ user. nat_eq user service_indicator) c.users
 
@@ -244,7 +244,7 @@ module _ {Q : Type 0} (q : QueueKind Q) (c : Configuration) where
   deliver_to (whither.Here label) link m node = distribute q c link m node
   deliver_to (whither.Transfer label) link m node = transfer q c (Some link) m node
 
-  -- a message in a frame, with the link that it came by: where it is refused, that is noted
+  -- a message in a frame, with the link that it came by: if it is refused, that is noted
   abbrev pub deliver : ℕ → Message → Node Q → Done Q
   deliver link m node = note_refusal link (deliver_to (whither_goes c m) link m node)
 

@@ -15,7 +15,7 @@ use Rattle.exchange_rules.specs.Timing.{timed}
 use Rattle.changeover.specs.Changeover.{may_restart}
 use Rattle.exchange_rules.specs.ChangingOver.{changeover_of, fail}
 
--- a link opens where it has no association yet, and the operator lets it
+-- a link opens if it has no association yet, and the operator lets it
 abbrev pub may_open : Link → Bool
 may_open l = not l.association && l.active
 

@@ -15,7 +15,7 @@ pub record HasHoldsFor (c : Configuration) (h : HoldSet) : Type 0 where
   pub destinations : h.destinations ≡ length c.destinations
   pub pairs : IsOfNode h
 
--- each of so many sets has its codes
+-- each of this many sets has its codes
 pub record HasCodes (sets : ℕ) (t : Codes) : Type 0 where
   pub rows : length t ≡ sets
   pub each : (set : ℕ) → set < sets → length (codes_of t set) ≡ CHANGEBACK_CODES

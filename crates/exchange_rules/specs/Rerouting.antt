@@ -36,7 +36,7 @@ abbrev pub forced : Configuration → (set destination : ℕ) → RouteStatus �
 forced c set destination status p =
     record p { routes = (with_route_status destination set status (network_of c p)).routes }
 
--- flows to a destination are held, and T6 runs anew; where there are none, nothing changes
+-- flows to a destination are held, and T6 starts again; if there are none, nothing changes
 abbrev pub held_by_rerouting : Configuration → (destination : ℕ) → (selections : List ℕ) → Parts → Parts
 held_by_rerouting c destination [] p = p
 held_by_rerouting c destination (sls ∷ others) p = record p {
@@ -67,8 +67,8 @@ rerouting_ended destination p = record p { holds = lifted p.holds (Reroute desti
 
 -- ---- a set
 
--- when the first link of a set enters service, all that is known over it begins anew: its routes are allowed, and so
--- they were told to its adjacent point, and T8 and T10 of the set stop
+-- when the first link of a set enters service, what is known over it is reset: its routes are allowed, and so they were
+-- told to its adjacent point, and T8 and T10 of the set stop
 abbrev pub with_set_reset : Configuration → (set : ℕ) → Parts → Parts
 with_set_reset c set p = record p {
   routes = (with_statuses_reset set (network_of c p)).routes;

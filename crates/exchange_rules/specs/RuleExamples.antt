@@ -1,4 +1,4 @@
--- Laws of the exchange at nodes of one link, where wrong definitions make them false.
+-- Laws of the exchange at nodes of one link, at which wrong definitions make them false.
 use Rattle.std.specs.Prelude.{◌≡◌, Bool, true, false, List, [], ◌∷◌, None, Some}
 use Rattle.signalling_types.specs.Message.{Message}
 use Rattle.signalling_types.specs.declared.notice.FailureReason.TheVariants as reasons
@@ -83,7 +83,7 @@ the_routes = record { set = 0; status = Allowed; joined = false } ∷ []
 
 -- ---- flags
 
--- a completion without a number raises the flag, also where the link has no message
+-- a completion without a number raises the flag, even if the link has no message
 abbrev pub no_number_is_reasonable : Type 0
 no_number_is_reasonable = (whole.found booted.node.queues 0 None).is_reasonable ≡ false
 
@@ -134,7 +134,7 @@ message_goes_on =
 
 -- ---- a failure
 
--- a message stands on the link that was never sent, and its flow has no link any more: the changeover holds it
+-- a message is on the link that was never sent, and its flow has no link any more: the changeover holds it
 abbrev pub failure_holds_the_flow : Type 0
 failure_holds_the_flow =
     holds (fail whole settings 0 reasons.Association (node_with nothing_held [] [] (message ∷ []))).parts.holds

@@ -17,7 +17,7 @@ pub data Outgoing : Type 0 where
   Acknowledges : Outgoing
   SendsNothing : Outgoing
 
--- the acknowledgement, where one is owed
+-- the acknowledgement, if one is owed
 abbrev pub if_owed : Bool → Outgoing
 if_owed true = Acknowledges
 if_owed false = SendsNothing
@@ -61,7 +61,7 @@ carried c link p = record p {
 }
 
 module _ {Q : Type 0} (q : QueueKind Q) (c : Configuration) where
-  -- the next message, where the window allows and the peer isn't busy
+  -- the next message, if the window allows and the peer isn't busy
   abbrev pub next_message : ℕ → Node Q → Option Sending
   next_message link node =
       if may_send (link_at node.parts link) then q.to_send node.queues link c.window else None

@@ -33,7 +33,7 @@ abbrev pub unsent : Cause → Message → Parts → Parts
 unsent cause m p = p ▷ note (notices.Unsent cause (dpc_of m)) ▷ flagged
 
 module _ {Q : Type 0} (q : QueueKind Q) (c : Configuration) where
-  -- a management message goes out on a link; where it finds no room or no link it is dropped
+  -- a management message goes out on a link; if it finds no room or no link it is dropped
   abbrev pub send : Option Cause → Option ℕ → Message → Node Q → Node Q
   send (Some cause) link m node = with_parts node (unsent cause m node.parts)
   send None None m node = with_parts node (unsent NoRoute m node.parts)
@@ -54,7 +54,7 @@ module _ {Q : Type 0} (q : QueueKind Q) (c : Configuration) where
 -- ---- RTPC, RTAC and RTRC, transfer prohibited, allowed and restricted control (Q.704 §13.2 to §13.4), and RSRT, route
 -- set test control (§13.5): what adjacent points are told of routes, and how their tests are answered.
 
--- what is owed is told while fewer management messages than this stand in the node
+-- what is owed is told while fewer management messages than this are in the node
 abbrev pub told_below : ℕ
 told_below = 128
 
@@ -69,7 +69,7 @@ abbrev pub route_message : Configuration → (set destination : ℕ) → RouteSt
 route_message c set destination status =
     management_to c (adjacent_of c set) (telling status (point_of c destination))
 
--- after transfer-prohibited T8 runs, anew where it runs already
+-- after transfer-prohibited T8 starts, or starts again if it runs already
 abbrev pub timed_telling : Configuration → (set destination : ℕ) → RouteStatus → Running → Running
 timed_telling c set destination Prohibited r = set_timer (T8 set destination) c.timers.t8 r
 timed_telling c set destination Restricted r = r
@@ -94,7 +94,7 @@ abbrev pub is_inhibited : (set destination : ℕ) → Parts → Bool
 is_inhibited set destination p = is_running (T8 set destination) p.timers || is_own_point p.told set destination
 
 module _ {Q : Type 0} (q : QueueKind Q) (c : Configuration) where
-  -- whether few enough management messages stand in the node
+  -- whether few enough management messages are in the node
   abbrev pub may_tell : Node Q → Bool
   may_tell node = nat_lt (q.managements node.queues) told_below
 

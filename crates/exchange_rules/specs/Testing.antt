@@ -28,7 +28,7 @@ is_unsure (Some Allowed) = false
 is_unsure (Some Restricted) = true
 is_unsure (Some Prohibited) = true
 
--- behind each route over a set in service that isn't allowed T10 runs; when it runs out, the adjacent point is asked
+-- for each route over a set in service that isn't allowed T10 runs; when it runs out, the adjacent point is asked
 pub record AreTested (c : Configuration) (p : Parts) : Type 0 where
   pub each : (set destination : ℕ) → serves_set c p set ≡ true →
       is_unsure (status_of (facts c p) destination set) ≡ true → is_running (T10 set destination) p.timers ≡ true

@@ -11,7 +11,7 @@ use Rattle.exchange_rules.specs.State.{Asking, Happens, Ticked}
 use Rattle.exchange_rules.specs.Lasting.{after_each}
 use Rattle.exchange_rules.specs.First.{Abstract, first_state}
 
--- so many ticks, and nothing else
+-- this many ticks, and nothing else
 abbrev pub ticks_alone : ℕ → List Asking
 ticks_alone zero = []
 ticks_alone (suc more) = Happens Ticked ∷ ticks_alone more
@@ -44,8 +44,8 @@ ticks_end_holds_where_it_is_quiet =
     IsQuiet (after_each asked (first_state c)).node.parts.timers → longest_wait c.timers ≤ many →
     HoldsNothing (after_each (ticks_alone many) (after_each asked (first_state c)))
 
--- from any other, where it happens for as long as the two times together: what takes links into service or out of it
--- runs out first
+-- from any other, if it happens for as long as the two times together: what takes links into service or out of it runs
+-- out first
 abbrev pub ticks_end_all_holds : Type 0
 ticks_end_all_holds =
     (c : Configuration) (asked : List Asking) (many : ℕ) → length c.links ≤ LINKS →

@@ -41,7 +41,7 @@ is_about (TitleRemoved key digits) p link = false
 
 -- ---- what becomes of a queue
 
--- q with messages behind it
+-- q with messages after it
 pub record IsGrown (q p : Queue) : Type 0 where
   pub behind : List Message
   pub grown : p ≡ record q { all = q.all ++ behind }
@@ -63,20 +63,20 @@ HadChangeover link n m =
     ((changeover_of n.parts link).incomplete ≡ true)
     ⊎ ((in_service n.parts link ≡ true) × (in_service m.parts link ≡ false))
 
--- its queue was emptied by a completion, and messages may have gone behind what that left
+-- its queue was emptied by a completion, and messages may have gone after what that left
 pub record IsEmptied (link : ℕ) (n m : Node WholeQueues) : Type 0 where
   pub queue : IsGrown (emptied (queue_at n.queues link)) (queue_at m.queues link)
   pub changeover : HadChangeover link n m
 
 -- what becomes of a link by an event that isn't about it
 pub record IsLeft (link : ℕ) (n m : Node WholeQueues) : Type 0 where
-  -- messages go behind its queue; only where a changeover was under way may it be emptied
+  -- messages go after its queue; only if a changeover was under way may it be emptied
   pub queue : IsGrown (queue_at n.queues link) (queue_at m.queues link) ⊎ IsEmptied link n m
   -- a changeover begins only as the link fails
   pub begins : (changeover_of m.parts link).incomplete ≡ true → HadChangeover link n m
   -- out of service it stays so,
   pub service : in_service n.parts link ≡ false → in_service m.parts link ≡ false
-  -- and no message goes there: it is untouched, but where its changeover is completed
+  -- and no message goes there: it is untouched unless its changeover is completed
   pub waits : in_service n.parts link ≡ false → IsUntouched link n m ⊎ IsCompleted link n m
 
 abbrev pub other_links_are_left : Type 0

@@ -89,8 +89,8 @@ impl Exchange {
     }
 
     /// Does with the messages of a failed link what the peer's number says: those that it accepted are dropped, user
-    /// messages after them go in front of Held, and management is requeued. Without a reasonable number those that were
-    /// sent are lost.
+    /// messages after them go before Held, and management is requeued. Without a reasonable number those that were sent
+    /// are lost.
     fn conclude(&mut self, link: LinkId, number: Option<Number24>)
         requires { link < length self.old.settings.links }
         ensures { self.new ≡ with_node self.old (failing.conclude kept self.old.settings
@@ -123,7 +123,7 @@ impl Exchange {
         count_in_doubt(&self.sequences[link.index()], *number)
     }
 
-    /// The user messages among the first so many of a link's list are lost.
+    /// The user messages among the first n of a link's list are lost.
     fn lose_first(&mut self, link: LinkId, count: usize)
         requires { link < length self.old.settings.links }
         ensures { self.new ≡ with_node self.old (with_parts self.old.node
@@ -134,7 +134,7 @@ impl Exchange {
         }
     }
 
-    /// The message at a place of a link's list is lost, where it is a user message.
+    /// The message at a place of a link's list is lost, if it is a user message.
     fn lose_at(&mut self, link: LinkId, place: usize)
         requires { link < length self.old.settings.links }
         ensures { self.new ≡ with_node self.old (with_parts self.old.node
@@ -167,7 +167,7 @@ impl Exchange {
         self.timers.clear(TimerName::T1(link));
     }
 
-    /// Puts the user messages that move in front of Held; leaves the management messages in the link's list.
+    /// Puts the user messages that move before Held; leaves the management messages in the link's list.
     fn splice(&mut self, link: LinkId, number: Option<Number24>)
         requires { link < length self.old.settings.links }
         ensures state { self.new ≡ with_node self.old (record self.old.node {
@@ -193,7 +193,7 @@ impl Exchange {
         }
     }
 
-    /// The first message in the list of a link goes out anew.
+    /// The first message in the list of a link goes out again.
     fn send_first(&mut self, link: LinkId)
         requires { link < length self.old.settings.links }
         ensures { self.new ≡ with_node self.old (draining.first_gone (draining.anew self.old.settings)

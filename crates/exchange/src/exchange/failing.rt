@@ -77,7 +77,7 @@ impl Exchange {
         self.note(Notice::Failed(link, why));
     }
 
-    /// The changeover of a link begins: an order goes out where a link of its set is left.
+    /// The changeover of a link begins: an order goes out if a link of its set is left.
     fn change_over(&mut self, link: LinkId)
         requires { link < length self.old.settings.links }
         ensures { self.new ≡ with_node self.old (rule.change_over kept self.old.settings true link self.old.node) }

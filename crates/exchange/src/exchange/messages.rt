@@ -14,7 +14,7 @@ use mtp3_codec::{Discrimination, discriminate};
 use settings::{Cause, Limits, LinkId, MsuRef, Notice, Outcome};
 
 impl Exchange {
-    /// A message in a frame, with the link that it came by. Where it is refused, that is noted.
+    /// A message in a frame, with the link that it came by. If it is refused, that is noted.
     #[inline(always)]
     pub(super) fn deliver(&mut self, link: LinkId, message: MsuRef<'_>) -> Outcome
         requires { link < length self.old.settings.links }

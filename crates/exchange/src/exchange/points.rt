@@ -73,7 +73,7 @@ impl Exchange {
     }
 
     /// The route that an adjacent point's message is about: the set that leads to that point, and the destination.
-    /// Refused UnknownDestination where it speaks of no destination; ignored where no set leads to it.
+    /// Refused UnknownDestination if it speaks of no destination; ignored if no set leads to it.
     pub(super) fn route_about(
         &self,
         point: PointCode,

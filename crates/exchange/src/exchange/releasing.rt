@@ -35,7 +35,7 @@ impl Exchange {
         self.release_due = false;
     }
 
-    /// The same, where a release stays due.
+    /// The same, if a release stays due.
     fn release_each(&mut self)
         ensures { self.new ≡ with_node self.old (rule.release kept self.old.settings self.old.node) }
     {

@@ -22,8 +22,8 @@ use settings::{Outcome, PointCode, SetId};
 use timers::{RouteTimer, TimerName};
 
 impl Exchange {
-    /// A status that an adjacent point reports for another (Q.704 §13.2 to §13.4). It is ignored where the other is
-    /// that very point, or isn't reached by its set.
+    /// A status that an adjacent point reports for another (Q.704 §13.2 to §13.4). It is ignored if the other is that
+    /// very point, or isn't reached by its set.
     pub(super) fn on_route_status(
         &mut self,
         status: RouteStatus,

@@ -75,7 +75,7 @@ impl Exchange {
         }
     }
 
-    /// The next message goes out, where the window allows and the peer isn't busy.
+    /// The next message goes out, if the window allows and the peer isn't busy.
     fn write_next_message(
         &mut self,
         link: LinkId,
@@ -101,7 +101,7 @@ impl Exchange {
         Some(count)
     }
 
-    /// An empty User Data goes out, where an acknowledgement is owed.
+    /// An empty User Data goes out, if an acknowledgement is owed.
     fn write_acknowledgement(
         &mut self,
         link: LinkId,

@@ -89,7 +89,7 @@ impl Exchange {
         None
     }
 
-    /// Tells the adjacent point of a set what it is owed, where those of earlier sets are owed nothing. Returns the
+    /// Tells the adjacent point of a set what it is owed, if those of earlier sets are owed nothing. Returns the
     /// destination at which there was no more room.
     fn tell_set(&mut self, set: SetId) -> Option<usize>
         requires set { set < length self.old.settings.sets }
@@ -105,7 +105,7 @@ impl Exchange {
         }
     }
 
-    /// Tells the adjacent point of a set with a link in service what it is owed, where those of earlier sets are owed
+    /// Tells the adjacent point of a set with a link in service what it is owed, if those of earlier sets are owed
     /// nothing. Returns the destination at which there was no more room.
     fn tell_row(&mut self, set: SetId) -> Option<usize>
         requires set { set < length self.old.settings.sets }
@@ -127,7 +127,7 @@ impl Exchange {
     }
 
     /// The first destination from this one on of which the adjacent point of a set may be owed word; the number of all
-    /// destinations, or this one, where there is none.
+    /// destinations, or this one, if there is none.
     #[inline(always)]
     fn next_pending(&self, set: SetId, from: usize) -> usize
         ensures from { from ≤ result }
@@ -197,8 +197,8 @@ impl Exchange {
     }
 
     /// A message to the destination of this number has no route. If it arrived on a link, transfer-prohibited about the
-    /// destination goes to the point at the other end of that link, and T8 starts. None goes while T8 runs, where that
-    /// point is the destination itself, or where there is no room (Q.704 §13.2).
+    /// destination goes to the point at the other end of that link, and T8 starts. None goes while T8 runs, if that
+    /// point is the destination itself, or if there is no room (Q.704 §13.2).
     #[inline(never)]
     pub(super) fn answer_no_route(&mut self, from: Option<LinkId>, destination: usize)
         requires from { IfSome from (λ link. link < length self.old.settings.links) }
@@ -226,7 +226,7 @@ impl Exchange {
         self.timers.is_running(timer) || self.told.is_own_point(set, destination)
     }
 
-    /// A test of an adjacent point about another (Q.704 §13.5). It is ignored where the other is that very point. It is
+    /// A test of an adjacent point about another (Q.704 §13.5). It is ignored if the other is that very point. It is
     /// answered if the point should be told something other than what it asks about.
     pub(super) fn on_route_test(
         &mut self,
@@ -258,7 +258,7 @@ impl Exchange {
         Outcome::Handled
     }
 
-    /// Answers a test, where it is to be answered. What it is answered with counts as told.
+    /// Answers a test, if it is to be answered. What it is answered with counts as told.
     fn send_route_status(&mut self, test: RouteTest, set: SetId, destination: usize)
         requires set { set < length self.old.settings.sets }
         requires destination { destination < length self.old.settings.destinations }
