@@ -122,7 +122,7 @@ pub record IsInFlight (p : PairState) (word : Word) : Type 0 where
   pub carried : Contains (messages_in (in_flight p.far.incoming.user_data link)) message
   pub says : word_there p message ≡ Some word
 
--- where the near end wants a link to open, and it may open at the far end of it too, or the near end may follow that, no
+-- if the near end wants a link to open, and it may open at the far end of it too, or the near end may follow that, no
 -- word about it is under way or in flight, from either end
 pub record NoneIsLeftOf (p : PairState) (link other : ℕ) : Type 0 where
   pub there : (word : Word) → IsUnderWay p word ⊎ IsInFlight p word → word.link ≢ other

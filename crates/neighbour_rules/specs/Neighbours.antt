@@ -96,8 +96,8 @@ take_frame (Some frame) link None p = record {
   left = record p { near = record p.near { exchange = taken whole p.near.exchange link } };
 }
 
--- a frame comes that was in flight on a link, and with it the message that it newly carries, which is received where it
--- is a user message for this point
+-- a frame comes that was in flight on a link, and with it the message that it newly carries, which is received if it is
+-- a user message for this point
 abbrev pub deliver_frame : Option (List ℕ) → (link : ℕ) → (left : Streams) → PairState → Turn
 deliver_frame None link left p = ignored p
 deliver_frame (Some text) link left p = record {
@@ -116,8 +116,8 @@ deliver_frame (Some text) link left p = record {
   };
 }
 
--- a link opens at the near end, where that wants it to, and where it may open at the far one too: then nothing is in
--- flight, and the far end may follow
+-- a link opens at the near end, if that wants it to, and if it may open at the far one too: then nothing is in flight,
+-- and the far end may follow
 abbrev pub opens_first : Wants → (other : Option ℕ) → (far_may : Bool) → (link : ℕ) → PairState → Turn
 opens_first Open (Some other) true link p = record {
   outcome = Handled;

@@ -16,7 +16,7 @@ use Rattle.pair_rules.specs.Accepting.{IsUserMessageTo}
 use Rattle.pair_rules.specs.Sharing.{AreSharing}
 use Rattle.neighbour_rules.specs.Neighbours.{Step, after_steps, far_end, leads_elsewhere, users_to}
 
--- how many of the near end's messages on a link the far end of it accepted, as its number names them; where that names
+-- how many of the near end's messages on a link the far end of it accepted, as its number names them; if that names
 -- none, those that it confirmed
 abbrev pub accepted_there : PairState → (link other : ℕ) → ℕ
 accepted_there p link other =
@@ -24,7 +24,7 @@ accepted_there p link other =
     (named_count (queue_of p.near link) (last_accepted (queue_of p.far other)))
     (queue_of p.near link).confirmed
 
--- the user messages for the far point that wait on a link: those behind that count. None stands on a link that leads
+-- the user messages for the far point that wait on a link: those after that count. None is on a link that leads
 -- elsewhere
 abbrev pub waiting_by : PairState → (link : ℕ) → (other : Option ℕ) → List Message
 waiting_by p link (Some other) =
@@ -63,7 +63,7 @@ Always Statement =
 abbrev pub each_message_once : Type 0
 each_message_once = Always (λ p. LostNothing p → BothWays EachOnce p)
 
--- "Order", where besides no timer of the accepting end ended a hold
+-- "Order", if besides no timer of the accepting end ended a hold
 abbrev pub each_flow_in_order : Type 0
 each_flow_in_order = Always (λ p. LostNothing p → BothWays (λ q. IsPunctual q → InOrder q) p)
 
@@ -78,8 +78,8 @@ pub record AreBooked (p : PairState) : Type 0 where
 abbrev pub books_are_of_the_two : Type 0
 books_are_of_the_two = Always (λ p. BothWays AreBooked p)
 
--- one set alone leads to the far point, and the route over it is allowed (`first_route`); each flow there that has a link has one that leads
--- there; and no user message for the far point stands on a link that leads elsewhere
+-- one set alone leads to the far point, and the route over it is allowed (`first_route`); each flow there that has a
+-- link has one that leads there; and no user message for the far point is on a link that leads elsewhere
 pub record StaysBetween (p : PairState) : Type 0 where
   pub destination : ℕ
   pub known : destination_place p.near.exchange.settings p.far.exchange.settings.own ≡ Some destination

@@ -37,10 +37,10 @@ pub fn frames_carry_what_was_not_received()
     ensures { frames_carry }
 {}
 
-/// Law (ii). Where an end wants a link between the two to open, and it may open at the other too or the
-/// end may follow the other, no order to change over of one of the two for the other, and no answer,
-/// that is about it stands in Held or unreceived in a queue of either end, on whatever link, and no User
-/// Data with one is in flight to an end on a link that isn't down there (Q.704 §5.4).
+/// Law (ii). If an end wants a link between the two to open, and it may open at the other too or the end may follow the
+/// other, no order to change over of one of the two for the other, and no answer, that is about it is in Held or
+/// unreceived in a queue of either end, on whatever link, and no User Data with one is in flight to an end on a link
+/// that isn't down there (Q.704 §5.4).
 pub fn links_open_with_no_word_left()
     ensures { none_is_left }
 {}
@@ -55,9 +55,9 @@ pub fn nothing_is_awaited_in_vain()
     ensures { nothing_is_awaited_in_vain }
 {}
 
-/// Law (iii). While an order of one of the two to change over or an answer stands in Held or unreceived
-/// in a queue, for the other, the link that it is about is down at the end that sends it, and it carries
-/// the number of the last message that was accepted there (Q.704 §5.4, with the numbers of Q.2210).
+/// Law (iii). While an order of one of the two to change over or an answer is in Held or unreceived in a queue, for the
+/// other, the link that it is about is down at the end that sends it, and it carries the number of the last message
+/// that was accepted there (Q.704 §5.4, with the numbers of Q.2210).
 pub fn words_carry_the_final_number()
     ensures { words_are_final }
 {}
@@ -92,9 +92,9 @@ pub fn books_are_of_the_two_points()
     ensures { books_are_of_the_two }
 {}
 
-/// The route to the other point stays allowed: each flow there that has a link has one that leads there,
-/// and no user message for it stands on a link that leads elsewhere (Q.704 §4.2). This holds whatever
-/// happens on the other links, and whatever has been lost.
+/// The route to the other point stays allowed: each flow there that has a link has one that leads there, and no user
+/// message for it is on a link that leads elsewhere (Q.704 §4.2). This holds whatever happens on the other links, and
+/// whatever has been lost.
 pub fn flows_stay_between_the_two()
     ensures { flows_stay_between }
 {}

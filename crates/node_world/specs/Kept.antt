@@ -8,7 +8,7 @@ use Rattle.exchange.specs.Calls.{Kept}
 use Rattle.pair_world.specs.declared.step.End.{End}
 use Rattle.pair_world.specs.declared.step.End.TheVariants.{One, Two}
 
--- the datagrams that a gate put out, in order. Where memory ran out for one, it isn't among them
+-- the datagrams that a gate put out, in order. If memory ran out for one, it isn't among them
 pub record KeptLog : Type 0 where
   pub sent : List Sent
   pub is_whole : Bool

@@ -8,8 +8,7 @@ use Rattle.pair_moves.specs.Sayings.{Saying, Order, Answer, is_user_message}
 use Rattle.pair_moves.specs.Ends.{Line, Procedure, Changeover, Pair}
 use Rattle.pair_moves.specs.Passing.{BecomeAt, Hears}
 
--- a line after its near end failed, and whether an answer is awaited from then on: a changeover
--- begins where it served
+-- a line after its near end failed, and whether an answer is awaited from then on: a changeover begins if it served
 abbrev pub with_failure : Line → (awaited : Bool) → Line
 with_failure z awaited = record z {
   near = record z.near {

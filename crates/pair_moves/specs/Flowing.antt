@@ -61,9 +61,8 @@ pub record OpenedAlone (z : Line) : Type 0 where
 abbrev pub OpensAlone : Line → Type 0
 OpensAlone z = z.far_may_follow ≡ true → OpenedAlone z
 
--- how an end of a link is: its queue is one, numbered from 0; in service it is up, and while a
--- changeover goes on it is down; and a message stands there only in service or until its changeover
--- is complete
+-- how an end of a link is: its queue is one, numbered from 0; in service it is up, and while a changeover goes on it is
+-- down; and a message is there only in service or until its changeover is complete
 pub record IsEnd (x : LinkEnd) : Type 0 where
   pub queue : IsQueue WINDOW x.queue
   pub base : x.queue.base ≡ 0
@@ -78,8 +77,8 @@ abbrev pub NamesReceived : Line → Type 0
 NamesReceived z =
     is_in_use z ≡ true → named_count z.near.queue (last_accepted z.far.queue) ≡ Some z.far.queue.received
 
--- the messages that wait at the near end, as the two ends count: those behind the count that the far
--- end's number names, and where it names none, all that aren't confirmed
+-- the messages that wait at the near end, as the two ends count: those after the count that the far end's number names,
+-- and if it names none, all that aren't confirmed
 abbrev pub waiting_on : Line → List Message
 waiting_on z =
     drop (unwrap_or (named_count z.near.queue (last_accepted z.far.queue)) z.near.queue.confirmed) z.near.queue.all

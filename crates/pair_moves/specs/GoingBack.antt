@@ -1,5 +1,5 @@
--- The run goes on: the link that failed returns, and the flow goes back to it behind a declaration.
--- A message that is accepted meanwhile waits in Held, and comes behind the first.
+-- The run goes on: the link that failed returns, and the flow goes back to it after a declaration. A message that is
+-- accepted meanwhile waits in Held, and comes after the first.
 use Rattle.std.specs.Prelude.{◌≡◌, ℕ, ◌+◌, Bool, true, false, List, [], ◌∷◌, ◌++◌, nat_eq, Some, None}
 use Rattle.signalling_types.specs.Message.{Message}
 use Rattle.pair_moves.specs.Sayings.{is_declaration, is_confirmation}
@@ -69,7 +69,7 @@ accepted_second =
 abbrev pub kept_second : Pair
 kept_second = with_near accepted_second (record accepted_second.near { loose = []; held = second_message ∷ [] })
 
--- the declaration goes out behind the first message, and is confirmed
+-- the declaration goes out after the first message, and is confirmed
 
 abbrev pub declaration_sent : Pair
 declaration_sent = after_sending_one kept_second 1 2 the_declaration

@@ -17,8 +17,7 @@ pub record BecomeAt (p : Pair) (link : ℕ) (z : Line) (lines : ℕ → Line) : 
 abbrev pub with_message : Line → Message → Line
 with_message z m = record z { near = record z.near { queue = appended z.near.queue m } }
 
--- a message of a flow may go on by a link: the flow takes it, nothing holds the flow, and none of
--- it stands in Held
+-- a message of a flow may go on by a link: the flow takes it, nothing holds the flow, and none of it is in Held
 pub record MayGo (read : Message → Saying) (s : Side) (flow : Flow) (link : ℕ) : Type 0 where
   pub routed : s.route flow ≡ Some link
   pub unheld : (procedure : Procedure) → s.holds procedure flow ≡ false
@@ -55,8 +54,7 @@ module _ (read : Message → Saying) (p q : Pair) where
     pub first : p.near.loose ≡ message ∷ rest
     pub after : q ≡ record p { near = record p.near { loose = rest; held = p.near.held ++ message ∷ [] } }
 
-  -- the first loose message goes behind those of a link in service; a user message only where it
-  -- may go on by that link
+  -- the first loose message goes after those of a link in service; a user message only if it may go on by that link
   pub record Places : Type 0 where
     pub link : ℕ
     pub message : Message

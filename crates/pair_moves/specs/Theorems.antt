@@ -43,8 +43,8 @@ messages_come_in_order =
     (q : Pair) (m : TakesMessage read p q) →
     slice_get (p.line m.link).far.queue.all (p.line m.link).near.queue.received ≡ Some m.message)
 
--- law (ii); and so nothing about a link is under way from either node when it may open at both ends, or
--- where one may follow the other
+-- law (ii); and so nothing about a link is under way from either node when it may open at both ends, or if one may
+-- follow the other
 abbrev pub orders_are_awaited : Type 0
 orders_are_awaited = Always OrdersAreAwaited
 
@@ -94,6 +94,6 @@ codes_are_outstanding = Always CodesAreOutstanding
 abbrev pub each_message_once : Type 0
 each_message_once = Always EachOnce
 
--- "Order", where besides no timer of the sending node ended a hold
+-- "Order", if besides no timer of the sending node ended a hold
 abbrev pub each_flow_in_order : Type 0
 each_flow_in_order = Always (λ read p. p.near.late ≡ false → (flow : Flow) → IsInOrder read flow p)

@@ -25,7 +25,7 @@ pub record IsRefused (c : Configuration) (rows : List TitleEntry) (cause : Cause
   pub other : cause ≢ NoUserPart
   pub returned : IsReturnedAtMost (returned (own_of c) rows m.sif cause) m accepted
 
--- one that goes on, written anew, is queued or held, and nothing else is accepted; or it is refused
+-- one that goes on, rewritten, is queued or held, and nothing else is accepted; or it is refused
 abbrev pub GoesOn : (sif : List ℕ) → Configuration → List TitleEntry → Message → Outcome → (accepted : List Message)
     → Type 0
 GoesOn sif c rows m (Queued link) accepted = accepted ≡ in_place_of m sif ∷ []

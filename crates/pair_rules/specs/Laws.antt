@@ -1,5 +1,5 @@
--- What the laws of a link between two exchanges speak of: how it stands at an end, the messages that frames carry, and
--- what an order to change over says to the node that it comes to.
+-- What the laws of a link between two exchanges speak of: how it is at an end, the messages that frames carry, and what
+-- an order to change over says to the node that it comes to.
 use Rattle.std.specs.Prelude.{◌≡◌, ◌<◌, ◌^◌, ℕ, Bool, List, filter_map, length, Option, Some, None, Result, Ok, Err, if◌then◌else◌}
 use Rattle.std.specs.Option.{option_map}
 use Rattle.signalling_types.specs.Message.{Message, is_management, opc_of}

@@ -1,4 +1,4 @@
--- A run of two exchanges: their only message stands on a link that fails with it. The link opens again at one end, and
+-- A run of two exchanges: their only message is on a link that fails with it. The link opens again at one end, and
 -- falls there before the other follows. The message comes by the other link, once.
 use Rattle.std.specs.Prelude.{◌≡◌, ℕ, true, false, List, [], ◌∷◌, ◌++◌}
 use Rattle.signalling_types.specs.Message.{Message}
@@ -85,7 +85,7 @@ opening =
 abbrev pub ordering : List Step
 ordering = AtNear (Loses 0) ∷ AtFar (Loses 0) ∷ sends_far 1 ++ AtFar (Takes 1) ∷ []
 
--- both answers come, each behind a declaration that stood on the link
+-- both answers come, each after a declaration that was on the link
 abbrev pub answering : List Step
 answering = sends_near 1 ++ sends_near 1 ++ sends_far 1 ++ sends_far 1
 

@@ -61,7 +61,7 @@ pub data Doing : Type 0 where
   -- the operator lets a link open, or keeps it from it
   Activates : (link : ℕ) → Doing
   Deactivates : (link : ℕ) → Doing
-  -- the operator adds a translation row, where memory for it isn't refused, or removes one
+  -- the operator adds a translation row, if memory for it isn't refused, or removes one
   AddsTitle : (row : TitleEntry) (is_memory_refused : Bool) → Doing
   RemovesTitle : (key : TitleKey) (digits : List ℕ) → Doing
   -- a link opens at this end, which is the first of the two; or this end follows the other
@@ -114,7 +114,7 @@ submit m p = record {
   };
 }
 
--- a frame is in flight behind the others of its stream
+-- a frame is in flight after the others of its stream
 abbrev pub behind_statuses : List ℕ → (link : ℕ) → Streams → Streams
 behind_statuses text link s =
     record s { statuses = slice_set s.statuses link (in_flight s.statuses link ++ text ∷ []) }
@@ -162,7 +162,7 @@ deliver_frame (Some text) link left p = record {
   };
 }
 
--- what is in flight to the near end changes, where a link status is in flight there
+-- what is in flight to the near end changes, if a link status is in flight there
 abbrev pub change_statuses : Option (List ℕ) → (left : Streams) → PairState → Turn
 change_statuses None left p = ignored p
 change_statuses (Some text) left p =
@@ -179,8 +179,8 @@ with_status_twice link s =
 abbrev pub emptied : (link : ℕ) → Streams → Streams
 emptied link s = record { statuses = slice_set s.statuses link []; user_data = slice_set s.user_data link [] }
 
--- a link opens at the near end, where that wants it to, and where it may open at the far one too: then nothing is in
--- flight, and the far end may follow
+-- a link opens at the near end, if that wants it to, and if it may open at the far one too: then nothing is in flight,
+-- and the far end may follow
 abbrev pub opens_first : Wants → (far_may : Bool) → (link : ℕ) → PairState → Turn
 opens_first Open true link p = record {
   outcome = Handled;
@@ -198,7 +198,7 @@ opens_first Open true link p = record {
 }
 opens_first wants far_may link p = ignored p
 
--- the near end follows the far one, where it may and wants to
+-- the near end follows the far one, if it may and wants to
 abbrev pub opens_second : Wants → (follows : Bool) → (link : ℕ) → PairState → Turn
 opens_second Open true link p = record {
   outcome = Handled;
@@ -242,7 +242,7 @@ turn (AtFar what) p = record {
 
 -- ---- from the first on
 
--- nothing is in flight on so many links
+-- nothing is in flight on this many links
 abbrev pub nothing_in_flight : (links : ℕ) → Streams
 nothing_in_flight links = record { statuses = replicate links []; user_data = replicate links [] }
 

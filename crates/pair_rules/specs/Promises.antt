@@ -16,7 +16,7 @@ use Rattle.pair_rules.specs.Pairs.{End, PairState, Step, turned, first_pair, aft
 abbrev pub queue_of : End → (link : ℕ) → Queue
 queue_of e link = queue_at e.exchange.node.queues link
 
--- how many of the near end's messages on a link the far end accepted, as its number names them; where that names none,
+-- how many of the near end's messages on a link the far end accepted, as its number names them; if that names none,
 -- those that it confirmed
 abbrev pub accepted_there : PairState → (link : ℕ) → ℕ
 accepted_there p link =
@@ -24,7 +24,7 @@ accepted_there p link =
     (named_count (queue_of p.near link) (last_accepted (queue_of p.far link)))
     (queue_of p.near link).confirmed
 
--- the user messages of a link that wait at the near end: those behind that count
+-- the user messages of a link that wait at the near end: those after that count
 abbrev pub waiting_on : PairState → (link : ℕ) → List Message
 waiting_on p link = users_of (drop (accepted_there p link) (queue_of p.near link).all)
 
@@ -79,6 +79,6 @@ pub record BothWays (Statement : PairState → Type 0) (p : PairState) : Type 0 
   pub there : Statement p
   pub back : Statement (turned p)
 
--- "Order", where besides no timer of the accepting end ended a hold
+-- "Order", if besides no timer of the accepting end ended a hold
 abbrev pub IsPunctual : PairState → Type 0
 IsPunctual p = late_any p.near.exchange.node.parts ≡ false
