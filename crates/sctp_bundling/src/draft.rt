@@ -37,8 +37,8 @@ const NUMBER_OCTETS: usize = 4;
 /// Octets of a SHUTDOWN chunk.
 const SHUTDOWN_OCTETS: usize = 8;
 
-/// A packet that is written. Chunks are bundled into it (RFC 9260 §6.10): where the next one doesn't fit behind those
-/// that wait in it, it goes out, and another one begins.
+/// A packet that is written. Chunks are bundled into it (RFC 9260 §6.10): if the next one doesn't fit after those that
+/// wait in it, it goes out, and another one begins.
 #[derive(Drop)]
 pub struct Draft {
     out: PacketBuffer,
@@ -96,7 +96,7 @@ impl Draft {
         self.end = end;
     }
 
-    /// A message goes out behind what waits, as DATA.
+    /// A message goes out after what waits, as DATA.
     pub fn add_message<W: Watch>(&mut self, carried: &sctp_sending::Data<'_>, watch: &mut W)
         requires { length carried.now.message.octets.now ≤ 290 }
         ensures { Adds W.has watch.old watch.new self.old self.new
@@ -117,7 +117,7 @@ impl Draft {
         self.end = write_data(&mut self.out, self.end, &chunk);
     }
 
-    /// SACK goes out behind what waits: what a receiver has.
+    /// SACK goes out after what waits: what a receiver has.
     pub fn add_sack<W: Watch>(&mut self, receiver: &Receiver, watch: &mut W)
         ensures { Adds W.has watch.old watch.new self.old self.new (sack_of receiver.now ∷ []) }
     {
@@ -128,7 +128,7 @@ impl Draft {
         }
     }
 
-    /// The same where no chunk is held.
+    /// The same if no chunk is held.
     fn add_sack_without_gaps<W: Watch>(&mut self, receiver: &Receiver, watch: &mut W)
         requires { blocks receiver.now ≡ [] }
         ensures { Adds W.has watch.old watch.new self.old self.new (sack_of receiver.now ∷ []) }
@@ -164,7 +164,7 @@ impl Draft {
         );
     }
 
-    /// SHUTDOWN goes out behind what waits.
+    /// SHUTDOWN goes out after what waits.
     pub fn add_shutdown<W: Watch>(&mut self, cumulative: u32, watch: &mut W)
         ensures { Adds W.has watch.old watch.new self.old self.new (ShutdownChunk cumulative ∷ []) }
     {
@@ -205,7 +205,7 @@ impl Draft {
         );
     }
 
-    /// Where so many octets more don't fit, the packet goes out, and another one begins.
+    /// If this many octets more don't fit, the packet goes out, and another one begins.
     fn make_room<W: Watch>(&mut self, octets: usize, watch: &mut W)
         requires { octets ≤ 1188 }
         ensures way { self.new.way ≡ self.old.way }

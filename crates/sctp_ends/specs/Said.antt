@@ -112,7 +112,7 @@ pub record IsAck (age : Age) (e : End) (tag cumulative : ℕ) : Type 0 where
   pub there : Contains e.acks (ack_in tag cumulative count)
   pub aged : age.ack (ack_in tag cumulative count)
 
--- a chunk that stands in a packet with others, with this tag. Those of no kind of `End` say nothing
+-- a chunk that is in a packet with others, with this tag. Those of no kind of `End` say nothing
 abbrev pub Bundles : Age → End → (tag : ℕ) → ChunkValue → Type 0
 Bundles age e tag (InitChunk init) = ⊥
 Bundles age e tag (InitAckChunk init) = ⊥

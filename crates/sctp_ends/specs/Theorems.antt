@@ -34,7 +34,7 @@ begins (Opens now is_active) = true
 begins what = false
 
 -- what a rule does are moves: they lead to an end that shows the state that it leaves, and that put out what it puts
--- out. Its epochs are what the user was told and gave: Up begins one, and the messages behind it are those it received.
+-- out. Its epochs are what the user was told and gave: Up begins one, and the messages after it are those it received.
 -- Unless the user asks for it, an end that tries nothing begins no try
 pub record AreMovesOf (own far : Secrets) (mark : ℕ) (other e : End) (what : Happening) (s : State) (d : Done) :
     Type 0 where

@@ -18,7 +18,7 @@ pub fn runs_of_two_endpoints_are_moves()
     ensures { worlds_are_shown }
 {}
 
-/// And a step of a run goes on from where it was: the moves behind it are those of the one end.
+/// And a step of a run goes on from where it was: the moves after it are those of the one end.
 pub fn steps_of_two_endpoints_go_on()
     ensures { steps_go_on }
 {}
@@ -30,8 +30,8 @@ pub fn told_messages_come_in_order()
     ensures { told_messages_were_given }
 {}
 
-/// The associations of two endpoints have the laws of `sctp_moves`: "prefix" and "confirmed", "one", "order". And where
-/// a step opens an association at one of them, which is there after it, the other one has the same or none; and if that
+/// The associations of two endpoints have the laws of `sctp_moves`: "prefix" and "confirmed", "one", "order". And if a
+/// step opens an association at one of them, which is there after it, the other one has the same or none; and if that
 /// tries by its tag of this one, it waits for COOKIE ACK of it, and its user wants it.
 pub fn associations_of_two_endpoints_have_the_laws()
     ensures { associations_have_the_laws }

@@ -121,7 +121,7 @@ impl Gate {
     }
 
     /// The endpoint is set to what the link wants. Close ends the association. Open wants one: this end waits for its
-    /// peer, and tries to open one if it is an end that tries and the wait behind the last try that failed is over.
+    /// peer, and tries to open one if it is an end that tries and the wait after the last try that failed is over.
     /// Nothing ends the try of one, and the wish for one. To be called after each event of the exchange.
     pub fn settle<W: Watch>(&mut self, exchange: &mut Exchange, now: u64, watch: &mut W)
         ensures kept { Makes W.has watch.old watch.new self.new exchange.new (settled kept now self.old exchange.old) }
@@ -131,8 +131,8 @@ impl Gate {
         self.do_as_link_wants(exchange, now, watch);
     }
 
-    /// This end ends the association by ABORT, or the try of one, or the wish for one. What is called behind it begins
-    /// anew, if the link wants that.
+    /// This end ends the association by ABORT, or the try of one, or the wish for one. A later call begins again, if
+    /// the link wants that.
     pub fn close<W: Watch>(&mut self, exchange: &mut Exchange, now: u64, watch: &mut W)
         ensures kept { Makes W.has watch.old watch.new self.new exchange.new (aborted kept now self.old exchange.old) }
         ensures whole { (a : Abstract) → StandsFor exchange.old a → MakesWhole W.has watch.old watch.new self.new
@@ -182,8 +182,8 @@ impl Gate {
         self.act_as(self.standing.idle(), Doing::Abort, exchange, now, watch);
     }
 
-    /// When to call `tick` or `settle` next, in milliseconds: when the endpoint's next timer runs out; or, while it waits
-    /// for its peer, when a try may begin. None where there is nothing to wait for.
+    /// When to call `tick` or `settle` next, in milliseconds: when the endpoint's next timer runs out; or, while it
+    /// waits for its peer, when a try may begin. None if there is nothing to wait for.
     pub fn deadline(&self) -> Option<u64>
         ensures { result ≡ due self.now }
     {

@@ -78,7 +78,7 @@ pub data Phase : Type 0 where
   Established : Phase
 
 pub record End : Type 0 where
-  -- how often an association opened or ended, and a try of one began anew or ended; it may grow as a try begins, too
+  -- how often an association opened or ended, and a try of one restarted or ended; it may grow as a try begins, too
   pub generation : ℕ
   -- an association is wanted, or there is one
   pub wanted : Bool

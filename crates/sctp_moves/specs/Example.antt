@@ -93,7 +93,7 @@ nothing_received = record { to = 21; number = 2 ^ 32 - 2; count = 0 }
 abbrev pub other_cookie : Cookie
 other_cookie = record { generation = 1; own = far_name; far = next_near_name }
 
--- What an end doesn't do, for whatever reason: count what it heard behind a hole, or open by a cookie of another peer
+-- What an end doesn't do, for whatever reason: count what it heard after a hole, or open by a cookie of another peer
 -- than the one that its try has found.
 pub record Refuses : Type 0 where
   pub hole : ack_of with_a_hole ≡ nothing_received

@@ -13,9 +13,9 @@
 --     present generation; SendsCookieAck
 --                                                 OpensByAck
 --
--- Either end may give up between any two of them, and begin anew by another name. Both may begin at
--- once: then each answers with the name of its try. A datagram that says none of this changes nothing
--- here, and neither does one that is put out again.
+-- Either end may give up between any two of them, and restart by another name. Both may begin at once: then each
+-- answers with the name of its try. A datagram that says none of this changes nothing here, and neither does one that
+-- is put out again.
 use Rattle.std.specs.Prelude.{◌≡◌, ◌≢◌, ℕ, true, false, ◌+◌, ◌<◌, ◌≤◌, List, [], ◌∷◌, ◌++◌, length, slice_get, Some}
 use Rattle.std.specs.List.{Contains}
 use Rattle.sctp_moves.specs.Numbers.{modulus, window, number_of, cumulative, steps_between}
@@ -88,7 +88,7 @@ module _ (other p q : End) where
       inits = own ∷ p.inits;
     }
 
-  -- a try begins anew: INIT with another fresh tag
+  -- a try restarts: INIT with another fresh tag
   pub record Renews : Type 0 where
     pub old : Name
     pub trying : IsTrying p.phase old

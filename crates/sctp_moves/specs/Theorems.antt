@@ -92,7 +92,7 @@ pub record Awaits (x : End) (e : Epoch) : Type 0 where
   pub waits : ((x.phase ≡ CookieEchoed e.far e.own) × (x.wanted ≡ true))
       ⊎ ((name : Name) → IsTrying x.phase name → name.tag ≢ e.far.tag)
 
--- the other end isn't established where an end opens an association first, and waits for it or gave up
+-- the other end isn't established if an end opens an association first, and waits for it or gave up
 abbrev pub first_finds_other_waiting : Type 0
 first_finds_other_waiting =
     Always (λ p.
@@ -138,7 +138,7 @@ far_moves_are_moves =
     (near far : End) (list : List End) → EndMoves near far list →
     AreMoves (both near far) (map (λ e. both near e) list) (both near (last_end far list))
 
--- and so are moves behind moves
+-- and so are moves after moves
 abbrev pub moves_join : Type 0
 moves_join =
     (p q r : Ends) (list more : List Ends) → AreMoves p list q → AreMoves q more r → AreMoves p (list ++ more) r

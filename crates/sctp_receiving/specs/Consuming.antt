@@ -68,7 +68,7 @@ begin streams p None =
     if nat_lt p.stream streams then carried_on None p.ends (begun p) else of_no_stream p
 begin streams p (Some m) = record { left = Some m; told = Violates Misplaced }
 
--- any other comes behind one that has begun
+-- any other comes after one that has begun
 abbrev pub go_on : Piece → Option Partial → Consumed
 go_on p None = record { left = None; told = Violates Misplaced }
 go_on p (Some m) =

@@ -37,7 +37,7 @@ use arrayvec::ArrayVec;
 use std::alloc::{AllocError, Global};
 use std::marker::Model;
 
-/// The receiving half of an association: the cumulative TSN, the chunks that are held behind it, and a message that is
+/// The receiving half of an association: the cumulative TSN, the chunks that are held after it, and a message that is
 /// put together.
 #[derive(Drop)]
 pub struct Receiver {
@@ -94,7 +94,7 @@ fn clear_all(places: &mut Vec<Place>)
 }
 
 impl Receiver {
-    /// A receiver of so many streams, whose peer begins with this TSN. It makes all its room here.
+    /// A receiver of this many streams, whose peer begins with this TSN. It makes all its room here.
     pub fn new(alloc: Global, streams: u16, first: u32) -> Result<Receiver, AllocError>
         ensures { IfOk result (λ r. r ≡ first_receiver streams first) }
     {
@@ -109,7 +109,7 @@ impl Receiver {
         })
     }
 
-    /// Begins anew: nothing came of a peer that begins with this TSN.
+    /// Begins again: nothing came of a peer that begins with this TSN.
     pub fn begin(&mut self, streams: u16, first: u32)
         ensures { self.new ≡ first_receiver streams first }
     {
@@ -178,7 +178,7 @@ impl Receiver {
         blocks
     }
 
-    // Adds the block that begins so far ahead, where one does, and there is a place.
+    // Adds the block that begins so far ahead, if one does, and there is a place.
     fn add_block(&self, blocks: &mut ArrayVec<Block, BLOCKS>, ahead: usize, is_before_held: bool)
         requires { ahead ≤ CHUNKS }
         ensures { blocks.new.items ≡ take BLOCKS (blocks.old.items
@@ -235,7 +235,7 @@ impl Receiver {
     }
 
     /// A chunk comes. The next one in the order of TSNs is consumed, and answers what it tells; a message that it ends
-    /// is the chunk's own octets, or stands in the buffer. Any other is held, noted as come again, or dropped.
+    /// is the chunk's own octets, or is in the buffer. Any other is held, noted as come again, or dropped.
     ///
     /// After one that was consumed `take_next` has to be called until it gives none.
     #[inline(always)]
@@ -257,8 +257,8 @@ impl Receiver {
         }
     }
 
-    /// Consumes the next chunk in the order of TSNs, where it is held; answers what it tells. A message that it ends
-    /// stands in the buffer.
+    /// Consumes the next chunk in the order of TSNs, if it is held; answers what it tells. A message that it ends is in
+    /// the buffer.
     #[inline(always)]
     pub fn take_next(&mut self, buffer: &mut [u8; MESSAGE_OCTETS]) -> Option<Told>
         ensures told { (p : pieces.Piece) → option_map (told_by p buffer.new) result
@@ -364,7 +364,7 @@ impl Receiver {
         written(told, piece, buffer)
     }
 
-    // Notes a TSN that came again, where there is a place.
+    // Notes a TSN that came again, if there is a place.
     fn repeat(&mut self, tsn: u32)
         ensures { self.new ≡ repeated self.old tsn }
     {
@@ -374,7 +374,7 @@ impl Receiver {
     }
 }
 
-/// The same, with the octets of a message in the buffer also where it is a chunk by itself.
+/// The same, with the octets of a message in the buffer even if it is a chunk by itself.
 fn written(told: Told, piece: Piece<'_>, buffer: &mut [u8; MESSAGE_OCTETS]) -> Told
     requires { length piece.octets.now ≤ MESSAGE_OCTETS }
     ensures { (q : pieces.Piece) → told_by q buffer.new result ≡ told_by (lent piece.entry) buffer.old told }

@@ -47,7 +47,7 @@ pub record Gone : Type 0 where
 abbrev pub behind_chunk : DataValue → Gone → Gone
 behind_chunk chunk g = record g { chunks = chunk ∷ g.chunks }
 
--- one message after another goes out, so many at most, until none may
+-- one message after another goes out, this many at most, until none may
 abbrev pub gone_from : (Sending → Gone) → (now : ℕ) → Option ℕ → Sending → Gone
 gone_from rest now None s = record { chunks = []; left = gone_next s now None }
 gone_from rest now (Some place) s = behind_chunk (data_at s place) (rest (gone_next s now (Some place)))

@@ -15,7 +15,7 @@ use Rattle.sctp_rules.specs.Confirming.{data_at}
 pub data Call : Type 0 where
   -- the user gives a message
   Gives : (message : Message) → Call
-  -- a message goes out, where one may
+  -- a message goes out, if one may
   PutsOut : (now : ℕ) → Call
   -- a SACK comes, or a SHUTDOWN
   Hears : (now window cumulative : ℕ) (names : ℕ → Bool) → Call

@@ -17,7 +17,7 @@ openings (Down why ∷ more) = openings more
 openings (Failed why ∷ more) = openings more
 
 -- from any moment on, the generation grows by as many as associations open at least: so it never falls, and it is
--- another one behind each that opened
+-- another one after each that opened
 abbrev pub generations_grow : Type 0
 generations_grow =
     (c : Settings) (k : Secrets) (before happenings : List Happening) →

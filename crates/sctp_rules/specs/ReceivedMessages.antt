@@ -90,7 +90,7 @@ pub record IsCourse (epoch : Epoch) (first : ℕ) (calls : List Call) : Type 0 w
   pub chunks : All (λ chunk. Contains epoch.came chunk) (after_calls calls (first_course STREAMS first)).came
   pub heard_is : epoch.heard ≡ messages_in (after_calls calls (first_course STREAMS first)).told
 
--- from which TSN on is left open where the association is over
+-- from which TSN on is left open if the association is over
 pub record IsReceived (epoch : Epoch) : Type 0 where
   pub first : ℕ
   pub calls : List Call

@@ -207,7 +207,7 @@ giving_up_in_cookie_echoed = Does (near Aborts echoes.left) Closed ((6 ∷ []) �
 
 -- ---- INIT and COOKIE ECHO that come again (§5.2)
 
--- of a peer that began anew: in COOKIE-ECHOED this end begins anew, too
+-- of a peer that restarted: in COOKIE-ECHOED this end restarts, too
 abbrev pub init_of_another_try : PacketValue
 init_of_another_try = of_chunk 0 (InitChunk (init_of (record { tag = 77; first = 5 }) []))
 
@@ -232,7 +232,7 @@ wants_again = far (Opens 6 false) (far Aborts acknowledges.left).left
 abbrev pub cookie_opens_once : Type 0
 cookie_opens_once = Does (far (comes 7 (packet echoes)) wants_again.left) Closed ((9 ∷ []) ∷ []) []
 
--- the peer has begun anew: the association is lost, and the cookie refused
+-- the peer has restarted: the association is lost, and the cookie refused
 abbrev pub other : Happening → State → Done
 other what s = after settings (secrets_from 30) what s
 
@@ -333,7 +333,7 @@ abbrev pub wrong_tag_is_dropped : Type 0
 wrong_tag_is_dropped =
     Does (near (comes 8 (of_chunk 11 too_much)) opens_second.left) Established [] []
 
--- behind a SHUTDOWN COMPLETE with the peer's tag, DATA isn't looked at
+-- after a SHUTDOWN COMPLETE with the peer's tag, DATA isn't looked at
 abbrev pub data_with_the_peers_tag : PacketValue
 data_with_the_peers_tag =
     record (packet sends) { tag = 10; chunks = ShutdownCompleteChunk true ∷ (packet sends).chunks }
@@ -352,7 +352,7 @@ abort_is_sent = Does aborts Closed ((6 ∷ []) ∷ []) (Down Local ∷ [])
 abbrev pub abort_is_a_loss : Type 0
 abort_is_a_loss = Does (far (comes 9 (packet aborts)) acknowledges.left) Closed [] (Down Aborted ∷ [])
 
--- and isn't answered, nor is what stands in front of it
+-- and isn't answered, nor is what comes before it
 abbrev pub behind_heartbeat : PacketValue → PacketValue
 behind_heartbeat p = record p { chunks = HeartbeatChunk (1 ∷ []) ∷ p.chunks }
 
@@ -471,7 +471,7 @@ abbrev pub init_with_cookie : List ℕ → InitValue
 init_with_cookie cookie =
     init_of (record { tag = 20; first = 5 }) (record { kind = state_cookie; value = cookie } ∷ [])
 
--- chunks behind that ERROR are of the try that is over
+-- chunks after that ERROR are of the try that is over
 abbrev pub opening_behind : PacketValue → PacketValue
 opening_behind p = record p { chunks = p.chunks ++ InitAckChunk (init_with_cookie (1 ∷ [])) ∷ CookieAckChunk ∷ [] }
 
@@ -532,7 +532,7 @@ abbrev pub silence_is_a_loss : Type 0
 silence_is_a_loss =
     Does (near (Ticked 8000) beats_thrice.left) Closed ((4 ∷ 4 ∷ 4 ∷ 6 ∷ []) ∷ []) (Down NoAnswer ∷ [])
 
--- an answer to the heartbeat begins the count anew
+-- an answer to the heartbeat begins the count again
 abbrev pub heartbeat_of_near : ChunkValue
 heartbeat_of_near = HeartbeatAckChunk (information_of 0)
 
@@ -555,7 +555,7 @@ unknown_chunk_is_passed_over =
     Does (near (Flushes 5) (near (comes 5 (of_chunk 10 (UnknownChunk 128 0 []))) opens_second.left).left) Established
     [] []
 
--- the chunks behind an unknown one count or don't, by the upper two bits of its type (§3.2)
+-- the chunks after an unknown one count or don't, by the upper two bits of its type (§3.2)
 abbrev pub before_heartbeat : ChunkValue → Done
 before_heartbeat chunk =
     let p = record (of_chunk 10 chunk) { chunks = chunk ∷ HeartbeatChunk (1 ∷ []) ∷ [] } in
@@ -623,7 +623,7 @@ abbrev pub unanswered_shutdown_is_a_loss : Type 0
 unanswered_shutdown_is_a_loss =
     Does (near (Ticked 1910) (near (Flushes 910) shutdown_again.left).left) Closed ((6 ∷ []) ∷ []) (Down NoAnswer ∷ [])
 
--- DATA that comes meanwhile is answered by SHUTDOWN and SACK, and T2 begins anew
+-- DATA that comes meanwhile is answered by SHUTDOWN and SACK, and T2 restarts
 abbrev pub far_sends : Done
 far_sends = far (Flushes 5) (far (Sends given) acknowledges.left).left
 

@@ -54,7 +54,7 @@ opened_by what a = record {
   acknowledged = acknowledged_by what;
 }
 
--- a message counts as given where it is taken
+-- a message counts as given if it is taken
 abbrev pub given_by : Happening → State → List Message → List Message
 given_by (Sends message) s given = if may_send message s then given ++ message ∷ [] else given
 given_by what s given = given
@@ -115,7 +115,7 @@ AreGiven latest a d = All (IsGiven latest a d.packet.tag) d.packet.chunks
 
 -- ---- what is kept
 
--- a cumulative TSN that came is that of the last one of so many messages
+-- a cumulative TSN that came is that of the last one of this many messages
 pub record IsSaid (acknowledged : List ℕ) (first confirmed : ℕ) : Type 0 where
   pub cumulative : ℕ
   pub came : Contains acknowledged cumulative

@@ -1,4 +1,4 @@
--- What the user is told, of any peer whatever: each Down behind an Up, and messages between the two alone.
+-- What the user is told, of any peer whatever: each Down after an Up, and messages between the two alone.
 use Rattle.std.specs.Prelude.{◌≡◌, Bool, true, false, List, [], ◌∷◌, Option, Some, None}
 use Rattle.sctp_rules.specs.Settings.{Settings, Secrets}
 use Rattle.sctp_rules.specs.State.{Told, Up, Heard, Down, Failed, first_state}

@@ -13,8 +13,8 @@ pub fn users_are_told_in_turn()
     ensures { told_in_turn }
 {}
 
-/// Whatever happens, Up is told only where the user wants an association: it called for one since the last Down, Failed
-/// or Up. And while it wants none and has none, the endpoint neither tries to open one nor waits for its peer to do so.
+/// Whatever happens, Up is told only if the user wants an association: it called for one since the last Down, Failed or
+/// Up. And while it wants none and has none, the endpoint neither tries to open one nor waits for its peer to do so.
 pub fn associations_come_up_where_wanted()
     ensures { told_as_wished }
 {}
@@ -43,7 +43,7 @@ pub fn a_cookie_opens_once()
     ensures cookies { cookies_open_in_their_generation }
 {}
 
-/// While there is an association, a packet with another tag changes nothing, where it is no INIT, no COOKIE ECHO and no
+/// While there is an association, a packet with another tag changes nothing, if it is no INIT, no COOKIE ECHO and no
 /// ABORT or SHUTDOWN COMPLETE with the peer's tag.
 pub fn packets_with_other_tags_are_dropped()
     ensures { other_tags_are_dropped }

@@ -9,7 +9,7 @@ pub const HEADER_OCTETS: usize = 12;
 /// Octets of answers that wait for the next packet, at most: an answer more is dropped, and asked for again.
 pub const CONTROL_OCTETS: usize = 1024;
 
-/// Octets of a peer's cookie, at most: COOKIE ECHO, and an ERROR behind it, are one packet.
+/// Octets of a peer's cookie, at most: COOKIE ECHO, and an ERROR after it, are one packet.
 pub const COOKIE_OCTETS: usize = 660;
 
 /// Octets of a host name that is sent back, at most (RFC 1035 §2.3.4).

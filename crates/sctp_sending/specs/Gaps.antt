@@ -3,7 +3,7 @@ use Rattle.std.specs.Prelude.{ℕ, Bool, false, ◌&&◌, List, nat_le, slice_in
 use Rattle.std.specs.List.{list_any}
 use Rattle.sctp_codec.specs.Packets.{BlockValue}
 
--- a block counts if it lies within what isn't confirmed, and the message behind the cumulative TSN isn't in it
+-- a block counts if it lies within what isn't confirmed, and the message after the cumulative TSN isn't in it
 abbrev pub is_block : (many : ℕ) → BlockValue → Bool
 is_block many b = nat_le 2 b.start && nat_le b.start b.end && nat_le b.end many
 

@@ -150,15 +150,15 @@ gone_first s now = record s {
 abbrev pub gone : Sending → (place now : ℕ) → Sending
 gone s place now = if nat_lt place s.went then gone_again s place now else gone_first s now
 
--- the next message goes out; where there is none, a burst is over
+-- the next message goes out; if there is none, a burst is over
 abbrev pub gone_next : Sending → (now : ℕ) → Option ℕ → Sending
 gone_next s now None = record s { burst = 0 }
 gone_next s now (Some place) = gone s place now
 
 -- ---- messages are confirmed
 
--- how many messages a cumulative TSN confirms: Old where it is behind what is confirmed, Beyond where it confirms one
--- that didn't go out
+-- how many messages a cumulative TSN confirms: Old if it is behind what is confirmed, Beyond where it confirms one that
+-- didn't go out
 unfoldable pub confirmation : Sending → (cumulative : ℕ) → Confirmation
 confirmation s cumulative =
     let count = ahead_of (tsn_at cumulative 1) s.first in
@@ -184,7 +184,7 @@ confirmed s count now = record s {
   timed = timed_behind s.timed count;
 }
 
--- T3 stops where nothing is out any more, and begins anew where something was confirmed (RFC 9260 §6.3.2, R2 and R3)
+-- T3 stops if nothing is out any more, and restarts if something was confirmed (RFC 9260 §6.3.2, R2 and R3)
 unfoldable pub settled : Sending → (count now : ℕ) → Sending
 settled s count now =
     if s.went == 0 then record s { t3 = None; congestion = after_all s.congestion }
@@ -251,7 +251,7 @@ abbrev pub is_timed_named : List Outgoing → Option Timed → Bool
 is_timed_named out None = false
 is_timed_named out (Some t) = (outgoing_at out t.place).named
 
--- where a SACK named it, its round trip is measured
+-- if a SACK named it, its round trip is measured
 abbrev pub with_named_measured : Sending → (now : ℕ) → Sending
 with_named_measured s now =
     let measured = is_timed_named s.out s.timed in
@@ -267,14 +267,14 @@ abbrev pub congestion_by : Congestion → (lost : Bool) (under_way count octets 
 congestion_by c lost went count octets full =
     if lost then after_loss c went else if nat_lt 0 count then grown c octets full else c
 
--- the messages that are left after it: named or not, and those before the last one named anew passed over
+-- the messages that are left after it: named or not, and those before the last one named again passed over
 abbrev pub naming_of : (ℕ → Bool) → Sending → Naming
 naming_of names s = named_below names s.out s.went
 
 abbrev pub passing_of : Naming → Passing
 passing_of n = passed_below n.out n.reach
 
--- a SACK that confirms so many messages, names some, and tells the peer's window
+-- a SACK that confirms this many messages, names some, and tells the peer's window
 unfoldable pub acknowledged : Sending → (now window count : ℕ) → (ℕ → Bool) → Sending
 acknowledged s now window count names =
     let full = nat_le s.congestion.window (under_way s) in

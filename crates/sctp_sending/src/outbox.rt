@@ -100,7 +100,7 @@ impl Outbox {
         self.ring.get(place)
     }
 
-    /// Copies a message behind the others, with this number on its stream. It didn't go out yet.
+    /// Copies a message after the others, with this number on its stream. It didn't go out yet.
     pub fn push(&mut self, message: Message<'_>, sequence: u16)
         requires room { length self.old.out < 256 }
         requires fits { length message.octets.now ≤ 290 }
@@ -175,7 +175,7 @@ impl Outbox {
         self.tally = self.tally.with(self.ring.get(place));
     }
 
-    /// A message behind the one at a place was named for the first time.
+    /// A message after the one at a place was named for the first time.
     pub fn pass_over(&mut self, place: usize)
         requires { place < self.old.went }
         ensures { self.new ≡ changed self.old place passed_over }
@@ -214,7 +214,7 @@ impl Outbox {
         self.ring.truncate(self.went);
     }
 
-    /// The first messages leave, all of which went out. Answers how many octets that adds to what is confirmed.
+    /// The first messages leave, all of which went out. Returns how many octets that adds to what is confirmed.
     pub fn confirm(&mut self, count: usize) -> u32
         requires { count ≤ self.old.went }
         ensures octets { result ≡ newly_confirmed_in self.old count }

@@ -19,7 +19,7 @@ use std::marker::Model;
 /// Messages that a ring holds at most.
 pub const CELLS: usize = 256;
 
-/// Messages on their way, in cells that lie one behind another, the first behind the last. A message stays in its cell.
+/// Messages on their way, in cells that lie one after another, the first after the last. A message stays in its cell.
 #[derive(Drop)]
 pub struct Ring {
     cells: Vec<Cell>,
@@ -69,7 +69,7 @@ impl Ring {
         &self.cells[index(self.start, place)]
     }
 
-    /// Copies a message behind the others, with this number on its stream.
+    /// Copies a message after the others, with this number on its stream.
     pub fn push(&mut self, message: Message<'_>, sequence: u16)
         requires room { length self.old < cells_of_ring }
         requires fits { length message.octets.now ≤ 290 }
@@ -115,7 +115,7 @@ impl Ring {
         self.cells[index].name(named);
     }
 
-    /// A message behind the one at a place was named for the first time.
+    /// A message after the one at a place was named for the first time.
     pub fn pass_over(&mut self, place: usize)
         requires { place < length self.old }
         ensures { self.new ≡ slice_set self.old place (passed_over (outgoing_at self.old place)) }

@@ -65,7 +65,7 @@ first_kept c tag_key cookie_key = record {
   given = [];
 }
 
--- what a rule does at an endpoint, where the user gave these
+-- what a rule does at an endpoint, if the user gave these
 abbrev pub with_done : Done → List (List Message) → KeptSite → KeptSite
 with_done d given s = record {
   endpoint = record s.endpoint { state = d.left };

@@ -73,7 +73,7 @@ impl Site {
         self.log.sent()
     }
 
-    /// The octets of the datagram in a place of these; none where there is no such datagram.
+    /// The octets of the datagram in a place of these; none if there is no such datagram.
     pub(crate) fn octets_at(&self, place: usize) -> &[u8]
         ensures { result.now ≡ octets_at self.now place }
     {
@@ -173,7 +173,7 @@ impl Site {
         self.begin_lists(from);
     }
 
-    /// The user sends a message; answers whether it was taken.
+    /// The user sends a message; returns whether it was taken.
     pub(crate) fn send(&mut self, message: Message<'_>) -> bool
         ensures taken { result ≡ may_send (given_as message.entry) self.old.endpoint.state }
         ensures left { Keeps self.old (kept_happened (Sends (given_as message.entry)) self.old) self.new }
@@ -198,7 +198,7 @@ impl Site {
         }
     }
 
-    /// The same, where there is memory for it.
+    /// The same, if there is memory for it.
     fn keep(&mut self, message: Message<'_>) -> Result<(), AllocError>
         ensures given { OnOk result (self.new ≡ record self.old {
           given = with_last (text_given (given_as message.entry)) self.old.given;

@@ -79,8 +79,8 @@ impl World {
         })
     }
 
-    /// Does something at an end, at a time in milliseconds. Answers whether it was done: not where the time is over
-    /// 2^63 ms, where the endpoint doesn't last (`Endpoint::lasts`), or where there is no such datagram.
+    /// Does something at an end, at a time in milliseconds. Returns whether it was done: not if the time is over 2^63
+    /// ms, if the endpoint doesn't last (`Endpoint::lasts`), or if there is no such datagram.
     pub fn act(&mut self, end: End, what: Doing<'_>, now: u64) -> bool
         ensures answer { result ≡ is_done what.entry now (other_kept end self.old) (kept_at end self.old) }
         // What it does is the rule's: at the endpoint in any case, and in all that is kept of it if that is whole.
@@ -134,7 +134,7 @@ impl World {
     }
 
     /// The associations of both ends have the laws of `sctp_ends`: no two of an end share a tag, no more is confirmed
-    /// than came, and where one opens the other end waits for it or has it. Does nothing.
+    /// than came, and if one opens the other end waits for it or has it. Does nothing.
     pub fn associations_have_the_laws(&self)
         ensures { (w : worlds.World) → StandsFor self.now w →
             AreAssociated (make_of self.now.near) (make_of self.now.far) w }

@@ -17,7 +17,7 @@ const MESSAGES: usize = 256;
 const MESSAGE_OCTETS: usize = 290;
 
 impl Endpoint {
-    /// Takes a message of the user, and answers whether it did: only in ESTABLISHED, where fewer than 256 messages wait
+    /// Takes a message of the user, and returns whether it did: only in ESTABLISHED, if fewer than 256 messages wait
     /// for their confirmation, on a stream that there is, and if it has 1 to 290 octets. It goes out with a later
     /// `flush`; while `has_room` says so, with the next one. A message that isn't taken changes nothing.
     pub fn send(&mut self, message: Message<'_>) -> bool

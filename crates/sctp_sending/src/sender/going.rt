@@ -41,8 +41,8 @@ impl Sender {
             && self.finds_window(self.outbox.get(place).octets())
     }
 
-    /// The next message goes out, where one may: answers its place, which `data` takes. Where none may, a burst of
-    /// lost ones is over.
+    /// The next message goes out, if one may: answers its place, which `data` takes. If none may, a burst of lost ones
+    /// is over.
     #[tactic(auto, unfolding(crate::specs::Sending::next_place))]
     pub fn put_out(&mut self, now: u64) -> Option<usize>
         requires { now ≤ 2 ^ 63 }
@@ -75,7 +75,7 @@ impl Sender {
         None
     }
 
-    /// The same of the first new message, where none is lost.
+    /// The same of the first new message, if none is lost.
     #[inline(always)]
     fn put_out_new(&mut self, now: u64) -> Option<usize>
         requires { now ≤ 2 ^ 63 }
@@ -166,7 +166,7 @@ fn running(timer: Option<u64>, moment: u64) -> Option<u64>
     }
 }
 
-/// The octets of the chunk of a message of so many octets.
+/// The octets of the chunk of a message of this many octets.
 fn chunk_octets(octets: u32) -> u32
     requires { octets ≤ 290 }
     ensures { result ≡ chunk_octets octets }
