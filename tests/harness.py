@@ -31,7 +31,7 @@ PATIENCE = 40.0
 HOST = "127.0.0.1"
 MALFORMED = "malformed: help lists the lines"
 
-# Ticks of each timer where none is to run out: at 50 ms a tick, longer than any test waits.
+# Ticks of each timer if none is to run out: at 50 ms a tick, longer than any test waits.
 LONG = 2000
 TIMERS = ("l1", "l2", "l3", "l4", "l6", "l7", "t1", "t2", "t3", "t4", "t6", "t8", "t10")
 

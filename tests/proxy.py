@@ -25,7 +25,7 @@ class Cut:
 
     # Whether octets to the near node are counted, or those to the far one.
     to_near: bool
-    # So many of them still pass.
+    # This many of them still pass.
     octets: int
     # Whether the connection to an end is reset, and not only closed.
     resets_near: bool

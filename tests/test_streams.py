@@ -21,7 +21,8 @@ PIPE_OCTETS, CALLERS = 4096, 200
 # Messages whose frames have more octets than a capture keeps for a slow reader, which are 1,048,576.
 CAPTURED = 6000
 
-# The headers of a pcap file and of its records, and the longest packet: a frame of 290 octets behind 28, and its padding.
+# The headers of a pcap file and of its records, and the longest packet: a frame of 290 octets after 28, and its
+# padding.
 FILE_HEADER_OCTETS, RECORD_HEADER_OCTETS, LONGEST_PACKET = 24, 16, 320
 
 

@@ -24,7 +24,7 @@ from two_ends import build  # noqa: E402
 
 NODE, END = 1, 2
 NODE_SCTP, END_SCTP = 3565, 3566
-# ticks of 20 ms; so many make a timer that runs out nowhere here
+# ticks of 20 ms; a timer of this many never runs out here
 TICK_MS, LONG = 20, 20_000
 # T1, after which messages of a link that is gone are let go; proving; and how long a link may take to align
 T1, L4, L1 = 20, 5, 500

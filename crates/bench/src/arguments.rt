@@ -1,4 +1,4 @@
-//! What the words behind the program's name ask for.
+//! What the program's arguments ask for.
 
 ghost use Rattle.std.specs.Prelude.{◌≡◌, ◌≤◌, IfSome};
 
@@ -23,7 +23,7 @@ const WORDS: usize = 5;
 #[derive(Clone, Copy)]
 pub(crate) enum Size {
     /// One set leads to each destination, the window is 128, and the kind says how many links make a set and how many
-    /// translation rows there are. Links are in service where the kind says so.
+    /// translation rows there are. Links are in service if the kind says so.
     Usual,
     /// Two links make a set, eight sets lead to each destination, and the window is the largest. All links are in
     /// service.
@@ -47,11 +47,11 @@ pub(crate) enum Kind {
     Local,
     /// There is none: an empty frame comes.
     Acknowledgement,
-    /// It is a UDT for this point, and goes on by its title, written anew.
+    /// It is a UDT for this point, and goes on by its title, rewritten.
     Relay(Table),
     /// It is a UDT for this point that no translation row leads on, and goes back as a UDTS.
     Udts(Table),
-    /// It stands on a link, which may fail then and be changed over.
+    /// It is on a link, which may fail then and be changed over.
     Standing(Stage),
     /// It is held, since the link that it takes comes back; that link fails and returns for each.
     Return,
@@ -68,7 +68,7 @@ pub(crate) enum Kind {
 }
 
 impl Kind {
-    /// How the links make sets. Where the settings aren't larger than usual each link is one, if it counts how many
+    /// How the links make sets. If the settings aren't larger than usual each link is one, if it counts how many
     /// adjacent points are told.
     pub(crate) fn sets(self, size: Size) -> Sets {
         match (size, self) {
@@ -121,23 +121,22 @@ impl Size {
     }
 }
 
-/// What the words behind the program's name ask for.
+/// What the program's arguments ask for.
 #[derive(Clone, Copy)]
 pub(crate) struct Arguments {
     pub kind: Kind,
     pub octets: usize,
     pub destinations: usize,
-    /// Links in the settings. One of them carries the messages. Where the settings aren't larger than usual the others
-    /// are down, but for those of its set before a changeover or a return, and where each is a set of its own.
+    /// Links in the settings. One of them carries the messages. If the settings aren't larger than usual the others are
+    /// down, but for those of its set before a changeover or a return, and if each is a set of its own.
     pub links: usize,
     pub count: u32,
     pub size: Size,
 }
 
 impl Arguments {
-    /// Reads the five words, and a sixth where the settings are larger than usual. None where one of them is missing,
-    /// unknown or out of range, where each destination is the adjacent point of a link set, or where there are too
-    /// many sets.
+    /// Reads the five words, and a sixth if the settings are larger than usual. None if one of them is missing, unknown
+    /// or out of range, if each destination is the adjacent point of a link set, or if there are too many sets.
     pub(crate) fn read(words: &[String]) -> Option<Arguments>
         ensures octets { IfSome result (λ arguments. arguments.octets ≤ Limits.SIF_OCTETS) }
         ensures label { IfSome result (λ arguments. LABEL_OCTETS ≤ arguments.octets) }
@@ -191,7 +190,7 @@ impl Arguments {
     }
 }
 
-/// The words that each run has, and the size that one behind them names.
+/// The words that each run has, and the size that one after them names.
 fn sized(words: &[String]) -> Option<(&[String], Size)> {
     if words.len() <= WORDS {
         return Some((words, Size::Usual));

@@ -24,7 +24,7 @@ impl End {
     }
 }
 
-/// Where the end of a link stands.
+/// Where the end of a link is.
 pub(crate) fn place(link: LinkId) -> usize
     ensures { result < Limits.LINKS }
 {

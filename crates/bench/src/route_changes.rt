@@ -17,7 +17,8 @@ pub(crate) fn tick(peer: &mut Peer, count: u32) {
     }
 }
 
-/// The adjacent point of the first set tells of a point: transfer-prohibited and then transfer-allowed, so many times.
+/// The adjacent point of the first set tells of a point: transfer-prohibited and then transfer-allowed, this many
+/// times.
 pub(crate) fn change_status(peer: &mut Peer, about: PointCode, count: u32) {
     let mut prohibited = Incoming::with_management(Management::TransferProhibited(about));
     let mut allowed = Incoming::with_management(Management::TransferAllowed(about));
@@ -27,7 +28,7 @@ pub(crate) fn change_status(peer: &mut Peer, about: PointCode, count: u32) {
     }
 }
 
-/// The only link in service of the first set fails and returns so many times. Usually most destinations lie behind it
+/// The only link in service of the first set fails and returns this many times. Usually most destinations lie behind it
 /// alone. Other points are told of both, and its own point, which takes all for allowed at first, is told of the
 /// return.
 pub(crate) fn enter(peer: &mut Peer, count: u32) {
@@ -52,7 +53,7 @@ pub(crate) fn prohibit_each(peer: &mut Peer, destinations: usize)
     }
 }
 
-/// T10 runs out so many times for all routes that are prohibited, in one of the ticks that pass, and each point takes
+/// T10 runs out this many times for all routes that are prohibited, in one of the ticks that pass, and each point takes
 /// what it is asked. Each time all of these timers begin again.
 pub(crate) fn test_routes(peer: &mut Peer, count: u32) {
     for _ in 0..count {

@@ -20,7 +20,7 @@ pub(crate) const NATURE: u8 = 4;
 /// The subsystem that they lead to: the home location register (Q.713 §3.4.2.2).
 pub(crate) const SUBSYSTEM: u8 = 6;
 
-/// What stands behind the number of a row that has as many digits as may be.
+/// What is after the number of a row that has as many digits as may be.
 const LONG_END: &str = "4917200000000000000000000000";
 
 /// Which translation rows there are.

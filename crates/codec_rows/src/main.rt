@@ -7,8 +7,8 @@
 //! times, and commas part pieces.
 //!
 //! - `frames.rows`: `frame WAY POINTS OCTETS` on link e0 (POINTS: how point 4237 is written); `pieces`, a stream that a
-//!   framer is fed; `point POINTS TEXT`; `capture WAY ROOM TIMES SECONDS LINK OCTETS`, the same frame so many times, at
-//!   6,789 ns behind so many seconds of 1970, into a capture file of so much room.
+//!   framer is fed; `point POINTS TEXT`; `capture WAY ROOM TIMES SECONDS LINK OCTETS`, the same frame this many times,
+//!   at 6,789 ns after this many seconds of 1970, into a capture file of this size.
 //! - `mtp3.rows`: `label`; `route NETWORK OCTETS`, what point 1 does about a SIO and SIF; `management` and `test`, SIFs
 //!   of these kinds; `number`, calls with the numbers of messages.
 //! - `sccp.rows`: `address` with its title, `unitdata`.

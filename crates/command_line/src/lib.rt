@@ -1,4 +1,4 @@
-//! The words behind the program's name.
+//! The program's arguments.
 #![tactic(auto)]
 
 ghost use Rattle.std.specs.Prelude.{◌≡◌, ◌≢◌, IfOk, IfErr, Some, option_map, true, false};
@@ -14,7 +14,7 @@ use clap::error::ErrorKind;
 use clap::{Arg, ArgMatches, Command, Error};
 use std::alloc::{AllocError, Global};
 
-/// What the words behind the program's name ask for.
+/// What the program's arguments ask for.
 #[derive(Drop)]
 pub enum Words {
     /// `run` or `run FILE`: run the script on standard input, on the settings of this file, or on those built in.
@@ -37,9 +37,8 @@ pub enum Words {
     NoMemory,
 }
 
-/// What the words behind the program's name ask for. Words of which one is empty or begins with `-` are other words,
-/// unless they are `--help` or `--version`. No memory is taken for these, `help` and `version`; for all others it may
-/// run out.
+/// What the program's arguments ask for. Words of which one is empty or begins with `-` are other words, unless they
+/// are `--help` or `--version`. No memory is taken for these, `help` and `version`; for all others it may run out.
 pub fn read_words(alloc: Global, words: &[String]) -> Words
     ensures { AreReadAs words.now result }
 {
@@ -107,7 +106,7 @@ fn is_plain(word: &str) -> bool
     }
 }
 
-/// Parses plain words. Where they are others than those of the program, or where memory runs out, the parse fails.
+/// Parses plain words. If they are others than those of the program, or if memory runs out, the parse fails.
 fn parse<'a>(alloc: Global, words: &'a [String]) -> Result<ArgMatches<'a>, Error>
     requires { are_plain words.now ≡ true }
     ensures taken { IfOk result (λ matches. found (subcommand_rows_of matches) ≡ asked_by (texts words.now)) }
@@ -131,7 +130,7 @@ fn found(alloc: Global, matches: &ArgMatches<'_>) -> Result<Words, AllocError>
     }
 }
 
-/// What a command asks for, by the files behind it.
+/// What a command asks for, by the files after it.
 fn with_files(
     alloc: Global,
     command: &str,
@@ -149,7 +148,7 @@ fn with_files(
     }
 }
 
-/// What a command asks for, by the file behind it.
+/// What a command asks for, by the file after it.
 fn with_file(alloc: Global, command: &str, file: Option<&str>) -> Result<Words, AllocError>
     ensures { IfOk result (λ read.
         said read ≡ Some (asked_by_command command.now (option_map (λ name. name.now) file.entry))) }
@@ -163,7 +162,7 @@ fn with_file(alloc: Global, command: &str, file: Option<&str>) -> Result<Words, 
     }
 }
 
-/// What a command with two files behind it asks for.
+/// What a command with two files after it asks for.
 fn with_two_files(
     alloc: Global,
     command: &str,

@@ -166,7 +166,7 @@ fn route_named(way: &[u8], ssn: Option<Ssn>) -> Option<TitleRoute>
     }
 }
 
-/// A subsystem number, or none where it is written `-`.
+/// A subsystem number, or none if it is written `-`.
 fn read_ssn(text: &[u8]) -> Option<Option<Ssn>>
     ensures { result ≡ ssn_written text.now }
 {

@@ -40,6 +40,6 @@ abbrev pub rows_text : Kept → List LinkCounters → List ℕ
 rows_text s rows =
     first_texts (λ k. row_text (name_in s.settings k) (slice_get rows k)) (length s.settings.links)
 
--- and behind them those of datagrams
+-- and after them those of datagrams
 abbrev pub counters_text : Kept → NodeCounters → List ℕ
 counters_text s counters = rows_text s counters.links ++ datagrams_text counters.datagrams

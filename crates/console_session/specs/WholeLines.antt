@@ -90,7 +90,7 @@ abbrev pub DoesLineAt : PointFormat → (is_first : Bool) → List ℕ → NodeC
 DoesLineAt points is_first line counters ending s after old new =
     DoesHeard (heard points line) is_first counters ending s after old new
 
--- what a line of a client does. Behind it no line is the client's first
+-- what a line of a client does. After it no line is the client's first
 abbrev pub DoesLine :
     PointFormat → List ℕ → NodeCounters → Ending → (s after : Kept) → (old new : ClientState) → Type 0
 DoesLine points line counters ending s after old new =

@@ -201,7 +201,7 @@ impl ConsoleClient {
         Ok(Ending::Stays)
     }
 
-    /// Does a line of a script, and answers what a script prints for it.
+    /// Does a line of a script, and returns what a script prints for it.
     fn do_script(
         &mut self,
         line: Line<'_>,
@@ -274,7 +274,7 @@ impl ConsoleClient {
         self.outbox.pending()
     }
 
-    /// So many of the octets that wait were written, from the first on; no more can have been than wait.
+    /// This many of the octets that wait were written, from the first on; no more can have been than wait.
     pub fn written(&mut self, count: usize)
         ensures { self.new ≡ record self.old {
           outbox = record self.old.outbox { octets = drop count self.old.outbox.octets };

@@ -64,7 +64,7 @@ impl<'a, R: Print> PlayedNetwork<'a, R> {
         self.links.get(place).copied().unwrap_or(LinkId::new(0))
     }
 
-    /// What is received where this is played.
+    /// What is received if this is played.
     fn received(&self, played: Played, buffer: &mut [u8]) -> Received {
         match played {
             Played::Status(place, state) => {
@@ -168,7 +168,7 @@ fn status(state: u8) -> [u8; 20] {
     ]
 }
 
-/// User Data of this number, with a message of ISUP and two octets behind its label.
+/// User Data of this number, with a message of ISUP and two octets after its label.
 fn message(number: u8, label: [u8; 4]) -> [u8; 24] {
     let [a, b, c, d] = label;
     [
@@ -177,7 +177,7 @@ fn message(number: u8, label: [u8; 4]) -> [u8; 24] {
     ]
 }
 
-/// Puts octets at the front of the buffer, as many as there is room for, and answers how many.
+/// Puts octets at the front of the buffer, as many as there is room for, and returns how many.
 fn put(octets: &[u8], buffer: &mut [u8]) -> usize {
     let count = octets.len().min(buffer.len());
     buffer[..count].copy_from_slice(&octets[..count]);

@@ -15,9 +15,9 @@
 //! A good frame has the numbers that its link awaits: User Data with a message of a user part, management (each
 //! heading, and two that don't exist), a link test, or a UDT or UDTS with global titles, subsystems or addresses that
 //! can't be read; User Data without a message; or a Link Status. A harmed one has up to eight bits flipped; another
-//! length; its end or a piece cut off, or octets or another frame joined to it, with the length mended or not; a
-//! field set to its least or greatest value, or next to it; other octets behind good headers; or other octets
-//! altogether. Five of eighteen are left as they are. All of it follows from four seeds.
+//! length; its end or a piece cut off, or octets or another frame joined to it, with the length mended or not; a field
+//! set to its least or greatest value, or next to it; other octets after good headers; or other octets altogether. Five
+//! of eighteen are left as they are. All of it follows from four seeds.
 //!
 //! It is looked at from outside; what a frame ought to do is said by the contracts of `exchange`, and not worked out
 //! a second time. Each frame returns, and all six kinds of outcome come. A frame that is refused or ignored changes
@@ -41,10 +41,10 @@ use std::io;
 use test_nodes::Dice;
 use world::World;
 
-/// So many frames are tried on links in service, and as many on links that align.
+/// This many frames are tried on links in service, and as many on links that align.
 const FRAMES: u64 = 12_000;
 
-/// So many streams are tried on links in service, and as many on links that align.
+/// This many streams are tried on links in service, and as many on links that align.
 const STREAMS: u64 = 2_000;
 
 /// What is handed in.

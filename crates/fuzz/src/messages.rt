@@ -18,7 +18,7 @@ pub(crate) fn add_message(dice: &mut Dice, far: &FarEnd, out: &mut Octets) {
     }
 }
 
-/// Appends the SIO of a service indicator in the international network, and a label of one of so many selections
+/// Appends the SIO of a service indicator in the international network, and a label of one of this many selections
 /// (Q.704 §2.2, §14.2). The message comes from the far end, or one time in sixteen from any point.
 fn add_front(dice: &mut Dice, far: &FarEnd, indicator: u8, to: u32, codes: u8, out: &mut Octets) {
     let any = dice.number_of(&POINTS);
@@ -34,7 +34,7 @@ fn add_user_message(dice: &mut Dice, far: &FarEnd, out: &mut Octets) {
     let indicator = if dice.one_in(8) { dice.octet() } else { 5 };
     let to = dice.number_of(&POINTS);
     add_front(dice, far, indicator, to, 16, out);
-    // A few octets behind the label, or about the most that there may be, 268.
+    // A few octets after the label, or about the most that there may be, 268.
     let many = if dice.one_in(16) { 262 } else { 0 };
     let octets = dice.below(12).saturating_add(many);
     out.add_random(dice, octets);

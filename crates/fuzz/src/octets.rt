@@ -4,10 +4,10 @@ use arrayvec::ArrayVec;
 use std::marker::Model;
 use test_nodes::Dice;
 
-/// So many octets there are at most.
+/// This many octets there are at most.
 const MOST_OCTETS: usize = 8192;
 
-/// Where the length field of a frame stands (RFC 4165 §2.1.5).
+/// Where the length field of a frame is (RFC 4165 §2.1.5).
 const LENGTH_AT: usize = 4;
 
 /// Octets that are made and then harmed. What doesn't fit is left out.
@@ -55,7 +55,7 @@ impl Octets {
         let _added = self.octets.try_extend_from_slice(octets);
     }
 
-    /// Appends so many random octets.
+    /// Appends this many random octets.
     pub(crate) fn add_random(&mut self, dice: &mut Dice, count: usize) {
         for _ in 0..count {
             self.add(&[dice.octet()]);
@@ -76,7 +76,7 @@ impl Octets {
         }
     }
 
-    /// Removes so many octets from a place on.
+    /// Removes this many octets from a place on.
     pub(crate) fn take_out(&mut self, place: usize, count: usize) {
         for _ in 0..count {
             self.octets.pop_at(place);

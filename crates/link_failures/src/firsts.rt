@@ -9,7 +9,7 @@ use link_trials::{Clock, Total, Trial, World};
 use pair_world::End;
 use std::alloc::Global;
 
-/// So many links there are.
+/// This many links there are.
 const LINKS: u8 = 3;
 
 /// How a link opens at both ends.
@@ -90,7 +90,7 @@ struct OpenFirst {
 }
 
 impl Trial for OpenFirst {
-    // Messages are submitted before the link comes back, and behind that.
+    // Messages are submitted before the link comes back, and after that.
     fn run(&self, _alloc: Global, world: &mut World) -> bool {
         let stopped = stop_and_settle(world, &self.stop, Clock::STILL);
         submit_all(world);

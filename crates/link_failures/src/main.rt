@@ -1,9 +1,9 @@
 //! Two nodes whose links stop and come back, at each place of a busy exchange and at random.
 //!
-//! Two nodes (`Pair` of `pair_world`) with the built-in timers have one to four links of one set between them, and
-//! each other as the one destination. All that is done is a `Pair::turn`. A round is, for each end and each link in
-//! order, a frame that is taken and then delivered at the other end. Each message carries its flow in its label, and
-//! behind that its number in the flow: the accepted messages of a flow are numbered 1, 2, 3 and so on.
+//! Two nodes (`Pair` of `pair_world`) with the built-in timers have one to four links of one set between them, and each
+//! other as the one destination. All that is done is a `Pair::turn`. A round is, for each end and each link in order, a
+//! frame that is taken and then delivered at the other end. Each message carries its flow in its label, and after that
+//! its number in the flow: the accepted messages of a flow are numbered 1, 2, 3 and so on.
 //!
 //! # What a line says
 //!
@@ -40,8 +40,8 @@
 //!   each comes.
 //! - Stopped again: `e1` stops at both ends at the first place and comes back. After the third submissions end 1
 //!   loses one of the links at one of the 13 places of the next round, while flows are taken back.
-//! - One end first: as Stopped, without a tick, where the link stops at the end that is to open first. It opens at
-//!   one end, and a round passes; then the other follows, or the first falls before that and opens again, or the other
+//! - One end first: as Stopped, without a tick, if the link stops at the end that is to open first. It opens at one
+//!   end, and a round passes; then the other follows, or the first falls before that and opens again, or the other
 //!   follows the fallen one and both open again, or never follows and opens first itself. In both orders of the ends.
 //! - An answer late: both ends lose a link. The answer to one end's order stays behind, the link opens if it may,
 //!   carries messages and is lost again, and only then the answer comes: for each end and each link, with 0 to 3
@@ -59,9 +59,9 @@
 //!
 //! # What it has caught
 //!
-//! Six wrong bodies were put in by hand. A changeover that drops unsent messages, one that moves messages behind the
-//! held ones, a changeback declaration on the link that came back, and a returning link that holds no flow show in
-//! many lines; a link that may open while the answer to its order is awaited shows in "an answer late" alone; and an
+//! Six wrong bodies were put in by hand. A changeover that drops unsent messages, one that moves messages after the
+//! held ones, a changeback declaration on the link that came back, and a returning link that holds no flow show in many
+//! lines; a link that may open while the answer to its order is awaited shows in "an answer late" alone; and an
 //! acknowledgement that also lifts the hold of a changeover shows at random over 3 and 4 links alone.
 #![tactic(auto)]
 
@@ -82,7 +82,7 @@ use random::schedules;
 use std::io;
 use stops::Group;
 
-/// So many schedules there are over each number of links.
+/// This many schedules there are over each number of links.
 const SCHEDULES: u64 = 1250;
 
 /// One tick at both ends between two rounds.
@@ -153,7 +153,7 @@ fn stop_fewer(rt: &HostRuntime) -> io::Result<()> {
     )
 }
 
-/// One link of so many stops at each place.
+/// One link of this many stops at each place.
 fn stop_one(rt: &HostRuntime, name: &str, links: u8, clock: Clock) -> io::Result<()> {
     let group = Group {
         links,
@@ -190,7 +190,7 @@ fn try_chance(rt: &HostRuntime) -> io::Result<()> {
     throw(rt, "400 steps by chance, 4 links", 4)
 }
 
-/// Random schedules over so many links.
+/// Random schedules over this many links.
 fn throw(rt: &HostRuntime, name: &str, links: u8) -> io::Result<()> {
     let total = schedules(rt.alloc(), links, SCHEDULES);
     print_group(rt, name, &total)?;

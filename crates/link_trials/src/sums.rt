@@ -46,7 +46,7 @@ impl Pick for SameMessage {
 }
 
 /// Compares the sums of all messages of either end, and that of one message of each, which the number of this
-/// comparison chooses, where there is one.
+/// comparison chooses, if there is one.
 pub fn compare_both(nodes: &LinkedNodes, books: &Books, count: Option<u64>) -> Sums {
     let there = compare(nodes, End::One, books.of(End::One), count);
     let back = compare(nodes, End::Two, books.of(End::Two), count);

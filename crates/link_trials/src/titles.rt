@@ -13,7 +13,7 @@ const KEY: TitleKey = TitleKey {
 /// Its one digit.
 const DIGIT: u8 = 7;
 
-/// The step in which the operator of an end removes the row where it is there, and else adds it, leading to this point.
+/// The step in which the operator of an end removes the row if it is there, and else adds it, leading to this point.
 /// None if there is no such point.
 pub fn title_step(end: End, is_there: bool, point: u16) -> Option<Step> {
     if is_there {

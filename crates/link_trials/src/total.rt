@@ -42,7 +42,7 @@ impl Total {
         unended: 0,
     };
 
-    /// One more run, of these nodes, where memory was left for them.
+    /// One more run, of these nodes, if memory was left for them.
     pub fn run<T: Trial>(
         &mut self,
         alloc: Global,
@@ -82,7 +82,7 @@ impl Total {
     }
 }
 
-/// One more, where it is so.
+/// One more, if it is so.
 fn plus(count: u64, one: bool) -> u64 {
     if one { count.wrapping_add(1) } else { count }
 }

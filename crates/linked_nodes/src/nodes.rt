@@ -39,7 +39,7 @@ impl LinkedNodes {
         turn(&mut self.pair, step)
     }
 
-    /// An end sends the next frame of a link that leads elsewhere. None where there is none.
+    /// An end sends the next frame of a link that leads elsewhere. None if there is none.
     pub fn send_elsewhere(
         &mut self,
         end: End,
@@ -73,7 +73,7 @@ impl LinkedNodes {
         late_any(&self.pair, end)
     }
 
-    /// How a link stands at an end; Down if there is none.
+    /// The state of a link at an end; Down if there is none.
     pub fn standing(&self, end: End, link: LinkId) -> LinkStanding {
         standing(self.pair.at(end), link)
     }

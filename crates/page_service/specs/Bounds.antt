@@ -15,7 +15,7 @@ head_bounds = record { max_head_len = 8192; max_extensions_len = 0; max_trailers
 abbrev pub connection_bounds : Config
 connection_bounds = record { limits = head_bounds; max_body_len = 0; max_pending = 0; read_size = 1024 }
 
--- so many milliseconds later, in 64 bits
+-- this many milliseconds later, in 64 bits
 abbrev pub later : (now milliseconds : ℕ) → ℕ
 later now milliseconds = min (now + milliseconds) (2 ^ 64 - 1)
 

@@ -36,7 +36,7 @@ guards =
     ∷ (codes "content-security-policy", codes "default-src 'none'; script-src 'unsafe-inline'; style-src 'unsafe-inline'; connect-src 'self'; base-uri 'none'; form-action 'none'; frame-ancestors 'none'")
     ∷ []
 
--- which methods there are, where another was used
+-- which methods there are, if another was used
 abbrev pub allowed : Answer → List Header
 allowed (Shown page) = []
 allowed BadRequest = []

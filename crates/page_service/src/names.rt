@@ -27,8 +27,8 @@ impl Model for PageNames {
 }
 
 impl PageNames {
-    /// Those of a page at this address. Where it is open it may be asked for by any name. The error means that memory
-    /// ran out.
+    /// Those of a page at this address. If it is open it may be asked for by any name. The error means that memory ran
+    /// out.
     pub fn new(alloc: Global, address: SocketAddr, is_open: bool) -> Result<PageNames, AllocError>
         ensures { IfOk result (λ names. names ≡ names_of address is_open) }
     {

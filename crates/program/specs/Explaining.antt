@@ -69,7 +69,7 @@ pub record IsFaultExplained (file : List ℕ) (why : SettingsFault) (sentence : 
 
 -- ---- scripts
 
--- why a script ended before its end; of a line its number, the line where it is shown, and what is wrong with it
+-- why a script ended before its end; of a line its number, the line if it is shown, and what is wrong with it
 abbrev pub IsScriptExplained : ScriptFault → Output → Output → Type 0
 IsScriptExplained (fault.Line number) errors errors_new =
     (line : List ℕ) × IsToldOf (IsAboutLine number line) errors errors_new

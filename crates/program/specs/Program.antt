@@ -103,7 +103,7 @@ RunsNode IsGiven IsWrong IsSentence old new ended =
     ⊎ ((why : SettingsFault) × IsWrong why × EndsWith status.Start (told why) old.output new.output ended
     × (new.input ≡ old.input) × IsToldOf (IsSentence why) old.errors new.errors)
 
--- the same with the settings of a file, after warnings of it; where the file can't be read, nothing is printed, and
+-- the same with the settings of a file, after warnings of it; if the file can't be read, nothing is printed, and
 -- standard error is told why
 abbrev pub RunsFile : (file : List ℕ) → FileRead → Streams → Streams → Status → Type 0
 RunsFile file (Ok octets) old new ended =
@@ -143,8 +143,8 @@ abbrev pub HasSettings : (file : List ℕ) → FileRead → Configuration → (e
 HasSettings file (Ok octets) settings errors errors_new = AreSettings octets settings × IsWarned file errors errors_new
 HasSettings file (Err fault) settings errors errors_new = ⊥
 
--- how the program ends where it has no settings of a file: its fault is printed and explained, after warnings; where
--- the file can't be read, nothing is printed, and standard error is told why
+-- how the program ends if it has no settings of a file: its fault is printed and explained, after warnings; if the file
+-- can't be read, nothing is printed, and standard error is told why
 abbrev pub EndsAtFile : (file : List ℕ) → FileRead → (output output_new errors errors_new : Output) → Status → Type 0
 EndsAtFile file (Ok octets) output output_new errors errors_new ended =
     (why : SettingsFault) × IsFault octets why × EndsWith status.Start (told why) output output_new ended
@@ -169,8 +169,8 @@ pub record AreJoined (near far : Configuration) : Type 0 where
   pub facing : IsFacing near far
   pub alike : link_names near ≡ link_names far
 
--- the lab script was begun, and the program ends by how it ended: Done only where it was read to its end, and Stream
--- only where a read or a write failed or no end was found in all of the reads
+-- the lab script was begun, and the program ends by how it ended: Done only if it was read to its end, and Stream only
+-- if a read or a write failed or no end was found in all of the reads
 pub record RunsLabScript (old new : Streams) (ended : Status) : Type 0 where
   pub script : Result Unit ScriptFault
   pub begun : script ≢ Err fault.NoMemory
@@ -179,8 +179,8 @@ pub record RunsLabScript (old new : Streams) (ended : Status) : Type 0 where
   pub status : ended ≡ status_after script
   pub explained : IsLabEndExplained script old.errors new.errors
 
--- two nodes of files with these names run the lab script, or memory runs out before it; where they can't be joined,
--- this is printed and explained, and nothing of the script is read
+-- two nodes of files with these names run the lab script, or memory runs out before it; if they can't be joined, this
+-- is printed and explained, and nothing of the script is read
 abbrev pub RunsNodes : (near far : List ℕ) → (near_settings far_settings : Configuration) → Streams → Streams → Status
     → Type 0
 RunsNodes near far near_settings far_settings old new ended =
@@ -189,7 +189,7 @@ RunsNodes near far near_settings far_settings old new ended =
     × EndsWith status.Start (codes "fault NotFacing\n") old.output new.output ended × (new.input ≡ old.input)
     × IsToldOf (λ text. text ≡ strangers_sentence near far) old.errors new.errors)
 
--- a file is read, and what comes next is done with its settings; where it has none, nothing of the script is read
+-- a file is read, and what comes next is done with its settings; if it has none, nothing of the script is read
 abbrev pub ReadsFile : (file : List ℕ) → (List ℕ → FileRead → Type 0) → (Configuration → Streams → Type 0)
     → Streams → Streams → Status → Type 0
 ReadsFile file reads Next old new ended =
@@ -206,7 +206,7 @@ RunsLab near far reads old new ended =
     (λ far_settings begun. RunsNodes near far near_settings far_settings begun new ended) between new ended)
     old new ended
 
--- what the program does for a task, where a file is read as `reads` says
+-- what the program does for a task, if a file is read as `reads` says
 abbrev pub DoesTask : Task → (List ℕ → FileRead → Type 0) → Streams → Streams → Status → Type 0
 DoesTask BuiltInRun reads old new ended =
     RunsNode (λ settings. settings ≡ built_in_settings) (λ why. why ≡ no_memory) NoText old new ended
@@ -226,7 +226,7 @@ DoesTask OtherWords reads old new ended =
     EndsWith status.Usage (codes "usage\n") old.output new.output ended × (new.input ≡ old.input)
     × IsTold usage_text old.errors new.errors
 
--- what the program does for its words: what they ask for, or memory runs out for them, where they take any
+-- what the program does for its words: what they ask for, or memory runs out for them, if they take any
 abbrev pub Does : List (String Global) → (List ℕ → FileRead → Type 0) → Streams → Streams → Status → Type 0
 Does words reads old new ended =
     DoesTask (asked words) reads old new ended ⊎ ((take_memory words ≡ true) × HasNoMemory old new ended)

@@ -29,7 +29,7 @@ The lines of a script, the settings and the exit statuses are in docs/MANUAL.md.
 README.md is the introduction, and lists the other pages in docs/.
 ";
 
-/// Tells a text. Where that fails, nothing more can be told.
+/// Tells a text. If that fails, nothing more can be told.
 fn tell<E: Sink>(text: &[u8], errors: &mut E)
     ensures { IsTold text.now (E.output errors.old) (E.output errors.new) }
 {

@@ -29,7 +29,7 @@ pub fn run_on_machine(rt: &HostRuntime) -> ExitCode {
     ExitCode::from(status.number())
 }
 
-/// The words behind the program's name.
+/// The program's arguments.
 fn words(rt: &HostRuntime) -> io::Result<Vec<String>> {
     let words = env::args(rt)?.skip(1).collect(rt.alloc())?;
     Ok(words)

@@ -228,7 +228,7 @@ fn run_in<R: Source, W: Sink, E: Sink>(
     status_after(script)
 }
 
-/// The settings that a node has where it is given none.
+/// The settings that a node has if it is given none.
 fn built_in_settings(alloc: Global) -> Result<Settings, SettingsFault>
     ensures settings { IfOk result (λ settings. settings ≡ built_in_settings) }
     ensures fault { IfErr result (λ why. why ≡ no_memory) }

@@ -12,8 +12,7 @@ use strsim::osa_distance;
 /// Octets of a line that a sentence shows, at most.
 const SHOWN_OCTETS: usize = 60;
 
-/// A command is near a word if one edit for each so many octets of the word leads to it; one edit
-/// always does.
+/// A command is near a word if one edit for each this many octets of the word leads to it; one edit always does.
 const OCTETS_PER_EDIT: usize = 3;
 
 /// What parts the words of a line.
@@ -22,7 +21,7 @@ const SPACE: u8 = b' ';
 /// The sentence that says what is wrong with the line of this number, of which this was read, with a line feed:
 /// `line 3 "tik 3": no command is named tik; the nearest is tick`.
 ///
-/// `AllocError` where memory ran out.
+/// `AllocError` if memory ran out.
 pub(crate) fn sentence(
     alloc: Global,
     number: u64,
@@ -82,7 +81,7 @@ fn malformed(alloc: Global, line: &[u8]) -> Result<String, AllocError> {
     }
 }
 
-/// Whether a space stands at an end of a line, or behind another.
+/// Whether a space is at an end of a line, or after another.
 fn has_empty_word(line: &[u8]) -> bool {
     line.split(|octet| *octet == SPACE)
         .any(|word| word.is_empty())

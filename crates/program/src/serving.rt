@@ -88,7 +88,7 @@ fn serve_with<W: Sink, E: Sink>(
     }
 }
 
-/// Tells why nothing is served, with this capture file where there was to be one.
+/// Tells why nothing is served, with this capture file if there was to be one.
 fn tell_failure<W: Sink, E: Sink>(
     alloc: Global,
     failure: ServeFailure,

@@ -123,7 +123,7 @@ fn run_between<J: Joiner, R: Source, W: Sink, E: Sink>(
     ended
 }
 
-/// The same, where the near node is booted.
+/// The same, if the near node is booted.
 fn run_beside<J: Joiner, R: Source, W: Sink, E: Sink>(
     alloc: Global,
     near: &mut Exchange,
@@ -150,7 +150,7 @@ fn run_beside<J: Joiner, R: Source, W: Sink, E: Sink>(
     ended
 }
 
-/// The same, where both nodes are booted.
+/// The same, if both nodes are booted.
 fn run_booted<J: Joiner, R: Source, W: Sink, E: Sink>(
     alloc: Global,
     near: &mut Exchange,

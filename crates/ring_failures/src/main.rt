@@ -9,7 +9,7 @@
 //!
 //! End 1 submits a message on each of 8 flows to end 2, and on each to point 4; point 3 submits one on each of 8 others
 //! to end 2, and one to a point that end 1 doesn't know; and so do end 2 and point 4. A link between the ends stops
-//! before, between or behind the steps of eight rounds, at either end or at both, without a tick. In these rounds the
+//! before, between or after the steps of eight rounds, at either end or at both, without a tick. In these rounds the
 //! link between points 3 and 4 fails, so that each end is told and takes the other way to the point behind, and then
 //! one link of each end to its neighbour. All is submitted again, the link comes back, then the others do, and all is
 //! submitted a third time.

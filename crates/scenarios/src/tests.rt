@@ -43,7 +43,7 @@ impl Folder for Files {
     }
 }
 
-/// Runs the program with these words, each behind a comma. The links of its lab are joined so.
+/// Runs the program with these words, each after a comma. The links of its lab are joined so.
 fn run<J: Joiner, R: Source, W: Sink, E: Sink>(
     rt: &HostRuntime,
     words: &str,

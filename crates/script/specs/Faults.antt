@@ -30,8 +30,8 @@ EndsAtLine (Err (Line line)) = Unit {0}
 EndsAtLine (Err Write) = Unit {0}
 EndsAtLine (Err other) = ⊥
 
--- no more than 4,194,304 reads (READS) were made, and all of them where the script's end wasn't found (a count of 64
--- bits stays at its greatest value)
+-- no more than 4,194,304 reads (READS) were made, and all of them if the script's end wasn't found (a count of 64 bits
+-- stays at its greatest value)
 abbrev pub MakesReads : {A : Type 0} → Result A ScriptFault → ℕ → ℕ → Type 0
 MakesReads (Err TooManyReads) old new = (new ≤ old + READS) × (min (old + READS) (2 ^ 64 - 1) ≤ new)
 MakesReads result old new = new ≤ old + READS

@@ -16,7 +16,7 @@ use counts::Counts;
 use schedule::play;
 use std::io;
 
-/// Plays so many schedules, and prints what came of them.
+/// Plays this many schedules, and prints what came of them.
 pub fn print_schedules<R: Print + AllocGlobal>(rt: &R, schedules: u32) -> io::Result<()> {
     let mut counts = Counts::new();
     for seed in 0..schedules {

@@ -52,12 +52,12 @@ text_to_take q s link = option_map spelled (frame_to_take q s link)
 abbrev pub is_pending : List ℕ → Bool
 is_pending pending = nat_lt 0 (length pending)
 
--- the longest frame finds room behind those that aren't written
+-- the longest frame finds room after those that aren't written
 abbrev pub has_room : (pending : List ℕ) → Bool
 has_room pending = nat_le (length pending) (OUTPUT_OCTETS - LONGEST_FRAME)
 
 -- These frames were taken of a link, one after another, each while the longest would have found room: each was the next
--- of the link, and its octets stand behind those before.
+-- of the link, and its octets are after those before.
 abbrev pub TakesEach : {Q : Type 0} → QueueKind Q → (link : ℕ) → (frames : List (List ℕ))
     → (pending pending_new : List ℕ) → (s s_new : State Q) → Type 0
 TakesEach q link [] pending pending_new s s_new = (pending_new ≡ pending) × (s_new ≡ s)

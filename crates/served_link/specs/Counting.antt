@@ -19,9 +19,9 @@ use Rattle.served_link.specs.declared.datagrams.DatagramCounters.{DatagramCounte
 
 -- what is counted of a link
 pub data Counted : Type 0 where
-  -- a frame of so many octets came in, with a user message or without one, and was handed in with this outcome
+  -- a frame of this many octets came in, with a user message or without one, and was handed in with this outcome
   FrameCame : (octets : ℕ) (has_user_message : Bool) (outcome : Outcome) → Counted
-  -- a frame of so many octets went out
+  -- a frame of this many octets went out
   FrameWent : (octets : ℕ) → Counted
   -- the link failed for this reason
   Failure : (reason : FailureReason) → Counted
@@ -54,7 +54,7 @@ reason_number Length = 4
 reason_number Changeover = 5
 reason_number Operator = 6
 
--- a count of 64 bits and so many more, which stays at its greatest value
+-- a count of 64 bits and this many more, which stays at its greatest value
 abbrev pub saturated : ℕ → ℕ
 saturated n = min n (2 ^ 64 - 1)
 
@@ -121,7 +121,7 @@ pub record NodeCounters : Type 0 where
 abbrev pub no_datagrams : DatagramCounters
 no_datagrams = record { incoming = 0; outgoing = 0; strangers = 0 }
 
--- nothing is counted yet of so many links
+-- nothing is counted yet of this many links
 abbrev pub first_counters : (links : ℕ) → NodeCounters
 first_counters links = record { links = replicate links no_counts; datagrams = no_datagrams }
 

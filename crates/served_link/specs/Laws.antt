@@ -72,7 +72,7 @@ adds_of link counter entry = if entry.0 == link then adds counter entry.1 else 0
 
 -- ---- the laws
 
--- each counter of a link is the sum of what was added to it, or 2^64 - 1 where the sum is above
+-- each counter of a link is the sum of what was added to it, or 2^64 - 1 if the sum is above
 abbrev pub counters_are_sums : Type 0
 counters_are_sums = (counter : Counter) (whats : List Counted)
     → value_of counter (counted_each whats no_counts) ≡ saturated (sum_by (adds counter) whats)

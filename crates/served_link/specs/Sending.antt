@@ -9,7 +9,7 @@ use Rattle.served_link.specs.Connections.{Takes}
 pub data Call : Type 0 where
   -- these frames are taken
   Fill : (frames : List (List ℕ)) → Call
-  -- so many octets are written
+  -- this many octets are written
   Write : (count : ℕ) → Call
 
 -- what came of some calls: the frames that were taken, the octets that were written, and those that aren't yet

@@ -18,7 +18,7 @@ use exchange::{Event, Exchange, Framer};
 use settings::{Limits, LinkId, Outcome};
 use std::marker::Model;
 
-/// The octets that came begin, where a frame is due, with a length field that no frame has: under 8, or above 4,096.
+/// The octets that came begin, if a frame is due, with a length field that no frame has: under 8, or above 4,096.
 #[derive(Clone, Copy, Debug, PartialEq, Eq)]
 pub struct Broken;
 
@@ -71,7 +71,7 @@ impl Association {
         }
     }
 
-    /// A connection that this end accepted: the association comes up at once, where the link wants that. If it isn't up
+    /// A connection that this end accepted: the association comes up at once, if the link wants that. If it isn't up
     /// then, close the connection.
     pub fn accepted(link: LinkId, exchange: &mut Exchange) -> Association
         ensures up { (a : Abstract) → StandsFor exchange.old a → result ≡ risen whole (silent link) a }
@@ -143,9 +143,9 @@ impl Association {
     /// Takes octets that came, and hands in each frame that is whole, once and in order; the beginning of the next one
     /// is held. Any number of octets may come at once, and a frame in any number of pieces.
     ///
-    /// Broken where a frame is due and a length field comes that no frame has: under 8, or above 4,096 (RFC 4165
-    /// §2.1.5). Frames before it are handed in. Octets behind it are dropped, and each later call is Broken too: close
-    /// the connection, and hand in AssociationDown.
+    /// Broken if a frame is due and a length field comes that no frame has: under 8, or above 4,096 (RFC 4165 §2.1.5).
+    /// Frames before it are handed in. Octets after it are dropped, and each later call is Broken too: close the
+    /// connection, and hand in AssociationDown.
     pub fn read<W: Watch>(
         &mut self,
         exchange: &mut Exchange,
@@ -173,7 +173,7 @@ impl Association {
         )
     }
 
-    /// Takes frames of the link, one after another, while the longest would find room behind those that aren't written
+    /// Takes frames of the link, one after another, while the longest would find room after those that aren't written
     /// yet; the others stay in the node, for a changeover. The watch is told of each. Returns whether octets are left
     /// to write.
     pub fn fill<W: Watch>(&mut self, exchange: &mut Exchange, watch: &mut W) -> bool
@@ -200,7 +200,7 @@ impl Association {
         self.outgoing.pending()
     }
 
-    /// So many of the pending octets were written, from the first on.
+    /// This many of the pending octets were written, from the first on.
     pub fn written(&mut self, count: usize)
         requires { count ≤ length self.old.pending }
         ensures { self.new ≡ record self.old { pending = drop count self.old.pending } }
@@ -209,7 +209,7 @@ impl Association {
     }
 }
 
-/// An association of a link comes up. True where the exchange handles that.
+/// An association of a link comes up. True if the exchange handles that.
 fn come_up(link: LinkId, exchange: &mut Exchange) -> bool
     ensures up { (a : Abstract) → StandsFor exchange.old a → result ≡ is_handled (outcome_of whole (CameUp link) a) }
     ensures state { (a : Abstract) → StandsFor exchange.old a → StandsFor exchange.new (after whole (CameUp link) a) }

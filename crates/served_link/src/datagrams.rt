@@ -45,7 +45,7 @@ impl DatagramCounters {
     }
 }
 
-/// Puts the line of a counter behind what is there.
+/// Appends the line of a counter.
 fn push_line(name: &str, value: u64, out: &mut ArrayString<DATAGRAMS_OCTETS>)
     requires { length out.old.bytes + length name.now + 30 ≤ DATAGRAMS_OCTETS }
     ensures line { out.new.bytes ≡ out.old.bytes ++ datagram_line name.now value }

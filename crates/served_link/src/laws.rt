@@ -18,7 +18,7 @@ pub fn frames_go_out_in_order()
     ensures { (calls : List Call) → GoesOutInOrder (sent_by calls) }
 {}
 
-/// Frames that are taken stand, in order, behind the octets that aren't written yet.
+/// Frames that are taken are, in order, after the octets that aren't written yet.
 pub fn taken_frames_go_behind<W: Watch>()
     ensures whole { taken_frames_go_behind W.sees whole }
     // The same on what is kept.
@@ -57,8 +57,8 @@ pub fn broken_stays_broken<W: Watch>()
     ensures kept { broken_stays_broken W.sees kept }
 {}
 
-/// Each counter is the sum of what the frames, failures and retries of its link add to it; 2^64 - 1 where the sum is
-/// above that.
+/// Each counter is the sum of what the frames, failures and retries of its link add to it; 2^64 - 1 if the sum is above
+/// that.
 pub fn counters_are_sums_of_what_was_counted()
     ensures row { counters_are_sums }
     ensures rows { counters_of_links_are_sums }

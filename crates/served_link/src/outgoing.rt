@@ -54,8 +54,8 @@ impl Outgoing {
         self.pending().len() <= OUTPUT_OCTETS - LONGEST_FRAME
     }
 
-    /// Puts a frame behind those before it. What is left moves to the front of the buffer first where the room behind
-    /// it is too little.
+    /// Puts a frame after those before it. What is left moves to the front of the buffer first if the room after it is
+    /// too little.
     pub(crate) fn push(&mut self, frame: &[u8])
         requires { length (pending_in self.old) + length frame.now ≤ OUTPUT_OCTETS }
         ensures { pending_in self.new ≡ pending_in self.old ++ frame.now }
@@ -66,7 +66,7 @@ impl Outgoing {
         self.write_behind(frame);
     }
 
-    /// So many more octets are written.
+    /// This many more octets are written.
     pub(crate) fn advance(&mut self, count: usize)
         requires { count ≤ length (pending_in self.old) }
         ensures { pending_in self.new ≡ drop count (pending_in self.old) }
@@ -85,7 +85,7 @@ impl Outgoing {
         self.end = end - start;
     }
 
-    /// Writes octets into the room behind those that are left.
+    /// Writes octets into the room after those that are left.
     fn write_behind(&mut self, more: &[u8])
         requires { length more.now ≤ room_behind self.old }
         ensures { pending_in self.new ≡ pending_in self.old ++ more.now }

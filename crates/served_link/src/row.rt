@@ -65,7 +65,7 @@ impl LinkCounters {
         }
     }
 
-    /// A frame of so many octets came in, with a user message or without one, and was handed in with this outcome.
+    /// A frame of this many octets came in, with a user message or without one, and was handed in with this outcome.
     pub fn count_in(&mut self, octets: usize, has_user_message: bool, outcome: &Outcome)
         ensures { self.new ≡ counted (FrameCame octets has_user_message outcome.now) self.old }
     {
@@ -81,7 +81,7 @@ impl LinkCounters {
         }
     }
 
-    /// A frame of so many octets went out.
+    /// A frame of this many octets went out.
     pub fn count_out(&mut self, octets: usize)
         ensures { self.new ≡ counted (FrameWent octets) self.old }
     {

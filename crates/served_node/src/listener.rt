@@ -38,9 +38,9 @@ impl Listener {
     }
 
     /// A listener at an address, of which the poll tells under this name, and the address that it has: with the port
-    /// that the system gave it, where none was asked for. A connection may have come at once.
+    /// that the system gave it, if none was asked for. A connection may have come at once.
     ///
-    /// Listen where the system refuses the address, Poll where the poll takes no further socket.
+    /// Listen if the system refuses the address, Poll if the poll takes no further socket.
     pub fn open<N: Net>(
         net: &N,
         registry: &Registry,

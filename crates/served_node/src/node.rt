@@ -17,8 +17,8 @@ use settings::{FailureReason, Outcome, Settings};
 use std::alloc::Global;
 use trace::PointFormat;
 
-/// A node, and who is told what happens in it. Behind a call of its exchange that isn't one of these, `look` tells
-/// what is new.
+/// A node, and who is told what happens in it. After a call of its exchange that isn't one of these, `look` tells what
+/// is new.
 pub struct Node {
     /// The node itself.
     pub exchange: Exchange,

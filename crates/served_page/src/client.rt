@@ -150,7 +150,7 @@ impl PageClient {
         }
     }
 
-    /// So many octets were written. Once that is all there is, the client may stay for a while.
+    /// This many octets were written. Once that is all there is, the client may stay for a while.
     fn note_written(&mut self, count: usize, now_ms: u64)
         requires { count ≤ length (history self.old.connection).pending }
         ensures { (self.new.patience ≡ self.old.patience)

@@ -35,8 +35,8 @@ pub struct ServedPage {
     allowance: Allowance,
     /// The place that is looked at next for a request to answer.
     next: usize,
-    /// Until when there is nothing to do, unless a socket gets ready; 0 where there may be something now. In
-    /// milliseconds since the start.
+    /// Until when there is nothing to do, unless a socket gets ready; 0 if there may be something now. In milliseconds
+    /// since the start.
     rests_until_ms: u64,
 }
 
@@ -50,11 +50,11 @@ impl Model for ServedPage {
 }
 
 impl ServedPage {
-    /// A page at this address, of which the poll tells from now on; the log has the address. Where the page is open it
-    /// may be asked for by any name. No client is there yet.
+    /// A page at this address, of which the poll tells from now on; the log has the address. If the page is open it may
+    /// be asked for by any name. No client is there yet.
     ///
-    /// Listen where the system refuses the address, Poll where the poll takes no further socket, or the system has no
-    /// random octets to give, NoMemory.
+    /// Listen if the system refuses the address, Poll if the poll takes no further socket, or the system has no random
+    /// octets to give, NoMemory.
     pub fn open<N: Net + RandomSource, W: Sink>(
         net: &N,
         alloc: Global,

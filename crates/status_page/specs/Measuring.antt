@@ -31,7 +31,7 @@ count_user_messages messages = count_by (is_user_picked (λ m. not (is_managemen
 abbrev pub held_users : {Q : Type 0} → QueueKind Q → State Q → ℕ
 held_users q s = count_user_messages (q.held s.node.queues)
 
--- ---- of a link; where there is no such link it is 0
+-- ---- of a link; if there is no such link it is 0
 
 abbrev pub is_service : LinkStanding → Bool
 is_service Down = false
@@ -98,7 +98,7 @@ users_on_links q s = users_on_first q s (length s.settings.links)
 abbrev pub kept_messages : {Q : Type 0} → QueueKind Q → State Q → ℕ
 kept_messages q s = saturated (held_users q s + users_on_links q s)
 
--- the value of a metric of the node, so many milliseconds after its start
+-- the value of a metric of the node, this many milliseconds after its start
 abbrev pub node_value : {Q : Type 0} → QueueKind Q → NodeMetric → State Q → NoticeLog → (uptime : ℕ) → ℕ
 node_value q of_node.Build s log uptime = 1
 node_value q of_node.Uptime s log uptime = uptime / 1000

@@ -40,7 +40,7 @@ abbrev pub families_text :
     {Q : Type 0} → QueueKind Q → State Q → List LinkCounters → NoticeLog → (uptime : ℕ) → List Family → List ℕ
 families_text q s rows log uptime fs = flat_map (family_text q s rows log uptime) fs
 
--- all metrics, so many milliseconds after the start
+-- all metrics, this many milliseconds after the start
 unfoldable pub metrics_text :
     {Q : Type 0} → QueueKind Q → State Q → List LinkCounters → NoticeLog → (uptime : ℕ) → List ℕ
 metrics_text q s rows log uptime = families_text q s rows log uptime families

@@ -62,7 +62,7 @@ all_counters row =
 
 -- ---- links and sets
 
--- the name of a link's set; nothing where there is no such link
+-- the name of a link's set; nothing if there is no such link
 abbrev pub set_name_of : Configuration → (link : ℕ) → List ℕ
 set_name_of c link = unwrap_or (option_map (λ row. set_name_in c row.set) (slice_get c.links link)) []
 
@@ -82,7 +82,7 @@ link_object q s rows k v =
     ++ bool_member (codes "changing_over") (is_changing_over q s k)
     ++ all_counters (counters_at rows k))
 
--- the same, where there is such a link
+-- the same, if there is such a link
 abbrev pub shown_link : {Q : Type 0} → QueueKind Q → State Q → List LinkCounters → ℕ → Option LinkView → List Token
 shown_link q s rows k None = []
 shown_link q s rows k (Some v) = link_object q s rows k v

@@ -66,7 +66,7 @@ pub(crate) fn link_labels(metric: LinkMetric, name: &str) -> ArrayString<LABELS_
     labels
 }
 
-/// Puts the further label of a metric of a link behind what is there.
+/// Appends the further label of a metric of a link.
 fn push_further(metric: LinkMetric, labels: &mut ArrayString<LABELS_OCTETS>)
     requires { length labels.old.bytes ≤ 24 }
     ensures label { labels.new.bytes ≡ labels.old.bytes ++ metric_labels metric }
@@ -78,7 +78,7 @@ fn push_further(metric: LinkMetric, labels: &mut ArrayString<LABELS_OCTETS>)
     }
 }
 
-/// Puts the label of a counter of refusals or of failures behind what is there, its cause or its reason.
+/// Appends the label of a counter of refusals or of failures, its cause or its reason.
 fn push_reason(counter: Counter, labels: &mut ArrayString<LABELS_OCTETS>)
     requires { length labels.old.bytes ≤ 24 }
     ensures label { labels.new.bytes ≡ labels.old.bytes ++ counter_labels counter }

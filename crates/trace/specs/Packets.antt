@@ -1,4 +1,4 @@
--- A capture file, as pcap lays it out: a header, and packets one after another, each behind a header of its own. Its
+-- A capture file, as pcap lays it out: a header, and packets one after another, each after a header of its own. Its
 -- packets are those of SCTP, without what carries them.
 use Rattle.std.specs.Prelude.{ℕ, ◌+◌, ◌-◌, ◌/◌, ◌%◌, ◌^◌, List, [], ◌∷◌, ◌++◌, length, replicate, Result, Ok, Err}
 use Rattle.std.specs.Int.{w16, w32, to_le_bytes, to_be_bytes}
@@ -14,7 +14,7 @@ file_header =
     to_le_bytes w32 0xa1b2c3d4 ++ to_le_bytes w16 2 ++ to_le_bytes w16 4 ++ replicate 8 0
     ++ to_le_bytes w32 65535 ++ to_le_bytes w32 248
 
--- the header of a packet so many nanoseconds after 1970: seconds and microseconds, and twice how many octets it has
+-- the header of a packet this many nanoseconds after 1970: seconds and microseconds, and twice how many octets it has
 abbrev pub record_header : (nanoseconds octets : ℕ) → List ℕ
 record_header nanoseconds octets =
     to_le_bytes w32 (nanoseconds / 1_000_000_000 % 2 ^ 32)
@@ -58,7 +58,7 @@ stream_of frame = stream_said (read_frame frame)
 abbrev pub chunk_front : (octets number : ℕ) → List ℕ
 chunk_front octets number = (0 ∷ 3 ∷ []) ++ to_be_bytes w16 octets ++ to_be_bytes w32 number
 
--- behind it: the stream, the number in the stream, and payload protocol 5, that of M2PA (RFC 9260 §3.3.1)
+-- after it: the stream, the number in the stream, and payload protocol 5, that of M2PA (RFC 9260 §3.3.1)
 abbrev pub chunk_stream : (stream number : ℕ) → List ℕ
 chunk_stream stream number = to_be_bytes w16 stream ++ to_be_bytes w16 number ++ to_be_bytes w32 5
 
@@ -67,15 +67,15 @@ abbrev pub chunk_header : (number : ℕ) (frame : List ℕ) → List ℕ
 chunk_header number frame =
     chunk_front (16 + length frame) number ++ chunk_stream (stream_of frame) (number % 2 ^ 16)
 
--- how many octets of padding make so many octets a multiple of four (RFC 9260 §3.2)
+-- how many octets of padding make this many octets a multiple of four (RFC 9260 §3.2)
 abbrev pub padding : ℕ → ℕ
 padding octets = (4 - octets % 4) % 4
 
--- how many octets the packet of a frame of so many has
+-- how many octets the packet of a frame of this many has
 abbrev pub packet_length : ℕ → ℕ
 packet_length octets = 12 + 16 + octets + padding octets
 
--- a frame as a packet of the file: both headers of SCTP, the frame and its padding behind the header of the packet
+-- a frame as a packet of the file: both headers of SCTP, the frame and its padding after the header of the packet
 abbrev pub packet_octets : (nanoseconds link : ℕ) → Direction → (number : ℕ) (frame : List ℕ) → List ℕ
 packet_octets nanoseconds link direction number frame =
     record_header nanoseconds (packet_length (length frame))

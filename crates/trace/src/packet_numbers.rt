@@ -27,7 +27,7 @@ impl PacketNumbers {
         }
     }
 
-    /// Counts a frame that passes on a link, and answers the number of its packet.
+    /// Counts a frame that passes on a link, and returns the number of its packet.
     pub(crate) fn take(&mut self, link: LinkId, direction: Direction) -> u32
         ensures number { (passed : List Passed) → IsBehind self.old passed
             → result ≡ next_number link direction passed }

@@ -16,7 +16,7 @@ pub struct Ended {
     pub told: Vec<u8>,
 }
 
-/// Plays a script. The error comes where memory runs out, and where a read of the script or a write failed.
+/// Plays a script. The error comes if memory runs out, and if a read of the script or a write failed.
 pub fn play_script<F: Folder>(
     rt: &HostRuntime,
     words: &[String],

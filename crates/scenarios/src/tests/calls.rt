@@ -45,7 +45,7 @@ fn call<'a>(row: &str, message: &'a Msu) -> Call<'a> {
     }
 }
 
-/// What a node answers to the calls. None where memory runs out.
+/// What a node answers to the calls. None if memory runs out.
 fn made(alloc: Global, node: &mut Node, message: &Msu) -> Option<Vec<Answer>> {
     let mut calls = Vec::new(alloc);
     for row in CALLS.split("; ") {

@@ -8,13 +8,13 @@ use std::marker::Model;
 /// Octets of a datagram, at most.
 const MOST_OCTETS: usize = 1_472;
 
-/// Octets in front of the chunks (RFC 9260 §3.1).
+/// Octets before the chunks (RFC 9260 §3.1).
 pub const HEADER_OCTETS: usize = 12;
 
-/// Where the verification tag stands.
+/// Where the verification tag is.
 pub const TAG_AT: usize = 4;
 
-/// Where the checksum stands, and how many octets are in front of it.
+/// Where the checksum is, and how many octets are before it.
 const CHECKSUM_AT: usize = 8;
 
 /// A datagram that is made and then harmed. What doesn't fit is left out.
@@ -52,7 +52,7 @@ impl Octets {
         let _added = self.octets.try_extend_from_slice(octets);
     }
 
-    /// Appends so many random octets.
+    /// Appends this many random octets.
     pub fn add_random(&mut self, dice: &mut Dice, count: usize) {
         for _ in 0..count {
             self.add(&[dice.octet()]);
@@ -89,7 +89,7 @@ fn checksum(octets: &[u8]) -> u32 {
     !remainder(header, octets.get(HEADER_OCTETS..).unwrap_or(&[]))
 }
 
-/// So many octets from a place on, or as many as there are.
+/// This many octets from a place on, or as many as there are.
 pub fn piece(octets: &[u8], from: usize, count: usize) -> &[u8] {
     let rest = octets.get(from..).unwrap_or(&[]);
     rest.get(..count).unwrap_or(rest)
@@ -104,7 +104,7 @@ pub fn number(octets: &[u8], at: usize) -> u32 {
     value
 }
 
-/// The octet at a place; 255 where there is none.
+/// The octet at a place; 255 if there is none.
 pub fn octet(octets: &[u8], at: usize) -> u8 {
     octets.get(at).copied().unwrap_or(u8::MAX)
 }

@@ -7,7 +7,7 @@ use sctp_world::{End, Entry, Messages, Text, World};
 /// Where a message of an association stands.
 #[derive(Clone, Copy)]
 struct Place {
-    /// The association of the other end, where one is known.
+    /// The association of the other end, if one is known.
     list: Option<usize>,
     /// The place of the next message in it.
     next: usize,
@@ -48,7 +48,7 @@ pub fn judge(world: &World, end: End, other: End, counts: &mut Counts) {
     }
 }
 
-/// The place behind an association, where there is one; else the place as it was.
+/// The place after an association, if there is one; else the place as it was.
 fn behind(list: Option<usize>, later: usize) -> usize {
     match list {
         Some(place) => place.saturating_add(1),

@@ -51,7 +51,7 @@ pub fn number(octets: &[u8], at: usize) -> u32 {
     value
 }
 
-/// The octet at a place; 255 where there is none.
+/// The octet at a place; 255 if there is none.
 fn octet(octets: &[u8], at: usize) -> u8 {
     octets.get(at).copied().unwrap_or(u8::MAX)
 }

@@ -3,16 +3,16 @@
 use crate::sessions::names::{Name, matched};
 use crc32c::crc32c;
 
-/// Octets in front of the chunks (RFC 9260 §3.1).
+/// Octets before the chunks (RFC 9260 §3.1).
 const HEADER_OCTETS: usize = 12;
 
-/// Octets in front of a chunk's value (RFC 9260 §3.2).
+/// Octets before a chunk's value (RFC 9260 §3.2).
 const CHUNK_HEADER_OCTETS: usize = 4;
 
-/// Where the verification tag stands.
+/// Where the verification tag is.
 const TAG_AT: usize = 4;
 
-/// Where the checksum stands.
+/// Where the checksum is.
 const CHECKSUM_AT: usize = 8;
 
 /// SACK, SHUTDOWN and COOKIE ECHO (RFC 9260 §3.2).
@@ -74,7 +74,7 @@ fn add(octets: &mut [u8], at: usize, shift: u32) {
     put(octets, at, &sum.to_be_bytes());
 }
 
-/// The number of four octets at a place; 0 where there are fewer.
+/// The number of four octets at a place; 0 if there are fewer.
 fn number(octets: &[u8], at: usize) -> u32 {
     let Some(rest) = octets.get(at..) else {
         return 0;

@@ -52,7 +52,7 @@ fn pass(timers: &mut Timers, ticks: usize) -> bool {
     true
 }
 
-/// Whether the timer that a call names can't be set or started, and stopping it does nothing. A name is used up where it
+/// Whether the timer that a call names can't be set or started, and stopping it does nothing. A name is used up if it
 /// is handed over, so it is read each time.
 fn is_absent(timers: &mut Timers, call: &str) -> bool {
     if let Some(name) = named(call) {
@@ -144,7 +144,7 @@ fn is_held(holds: &mut Holds, call: &str) -> bool {
     word(call, 5) == answer && !holds.is_held(destination, sls)
 }
 
-/// Declares so many codes, and answers whether these were from 0 on.
+/// Declares this many codes, and returns whether these were from 0 on.
 fn takes(codes: &mut Changeback, set: SetId, count: u8) -> bool {
     for code in 0..count {
         if codes.free_code(set) != Some(code) {
