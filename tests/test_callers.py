@@ -15,7 +15,7 @@ QUESTIONS = 6000
 HELP_LINES = 17
 ROUTE = f"route {FAR} to-{FAR} allowed"
 
-# What a web page may have a browser write to any port, but for the body.
+# What a web page may have a browser write to any port except the body.
 POST = "POST / HTTP/1.1\r\nHost: localhost\r\n\r\n"
 
 # Points and how they are written in three parts, of 3, 8 and 3 bits (Q.708): 4237 is 2 * 2048 + 17 * 8 + 5.

@@ -128,7 +128,7 @@ pub(crate) struct Arguments {
     pub octets: usize,
     pub destinations: usize,
     /// Links in the settings. One of them carries the messages. If the settings aren't larger than usual the others are
-    /// down, but for those of its set before a changeover or a return, and if each is a set of its own.
+    /// down except those of its set before a changeover or a return, and if each is a set of its own.
     pub links: usize,
     pub count: u32,
     pub size: Size,

@@ -71,7 +71,7 @@ impl Model for Peer {
 
 impl Peer {
     /// The peer of an exchange with settings of this shape. The last link of the first set is in service and carries
-    /// all messages, so that the others of its set are looked at in vain. All that is owed was told and confirmed,
+    /// all messages, so that the others of its set are looked at for nothing. All that is owed was told and confirmed,
     /// which doesn't count. None if memory ran out.
     pub(crate) fn of_exchange_with(alloc: Global, shape: &Shape) -> Option<Peer>
         requires destinations { shape.now.destinations ≤ Limits.DESTINATIONS }
@@ -152,8 +152,8 @@ impl Peer {
         }
     }
 
-    /// Brings the links from this number on into service, but for the one that carries the messages. The declarations
-    /// of each are answered, and each point takes and confirms what it is told, which doesn't count.
+    /// Brings the links from this number on into service except the one that carries the messages. The declarations of
+    /// each are answered, and each point takes and confirms what it is told, which doesn't count.
     pub(crate) fn open_from(&mut self, from: u8) {
         let total = self.total;
         for number in from..self.links {

@@ -3,7 +3,7 @@ use Rattle.std.specs.Prelude.{◌≡◌, ℕ, zero, suc, ◌+◌, ◌-◌, ◌<�
 use Rattle.std.specs.Prelude.{slice_index_or, if◌then◌else◌}
 use Rattle.cell_pool.specs.Numbering.{ring_at}
 
--- one list: its first and its last cell, how many it has, and one of them whose place is known
+-- one list: its first and its last cell, how many it has, and one of them whose index is known
 pub record Chained : Type 0 where
   pub first : ℕ
   pub last : ℕ
@@ -61,7 +61,7 @@ abbrev pub turned_round : Chained → (first last : ℕ) → Chained
 turned_round chain first last =
     record { first = first; last = last; count = chain.count; place = 0; noted = first }
 
--- the last cell is known, and so is one whose place is noted
+-- the last cell is known, and so is one whose index is noted
 pub record IsMarked (ring : List ℕ) (chain : Chained) : Type 0 where
   pub last : 1 ≤ chain.count → slice_index_or ring (chain.count - 1) 0 ≡ chain.last
   pub within : 1 ≤ chain.count → chain.place < chain.count

@@ -15,7 +15,7 @@ abbrev pub put_before : {A : Type 0} → List (List A) → (from : ℕ) (left go
 put_before lists from left gone to =
     slice_set (slice_set lists from left) to (gone ++ list_at (slice_set lists from left) to)
 
--- the first element of a list goes to the end of a list, also of its own
+-- the first element of a list goes to the end of a list, which may be its own
 abbrev pub first_behind : {A : Type 0} → List (List A) → (from to : ℕ) → List (List A)
 first_behind lists from to = put_behind lists from (drop 1 (list_at lists from)) (take 1 (list_at lists from)) to
 

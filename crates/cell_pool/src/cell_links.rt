@@ -154,8 +154,8 @@ impl CellLinks {
         cell
     }
 
-    /// Moves the first cell of a list, if there is one, to the end of a list, also of its own: it is freed, and taken
-    /// at once.
+    /// Moves the first cell of a list, if there is one, to the end of a list, which may be its own: it is freed, and
+    /// taken at once.
     pub(crate) fn move_first(&mut self, from: usize, to: usize)
         requires from { from < length self.old.rings }
         requires to { to < length self.old.rings }

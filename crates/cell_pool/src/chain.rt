@@ -6,7 +6,7 @@ ghost use Rattle.cell_pool.specs.Chains.{no_cells, one_cell, joined, end_of, sho
 use crate::cell_number::CellNumber;
 use std::marker::Model;
 
-/// The ends of a list of cells, how many it has, and one of them whose place is noted.
+/// The ends of a list of cells, how many it has, and one of them whose index is noted.
 #[derive(Clone, Copy)]
 pub(crate) struct Chain {
     first: CellNumber,
@@ -87,7 +87,7 @@ impl Chain {
         self.count
     }
 
-    /// The place of the noted cell, if it has cells.
+    /// The index of the noted cell, if it has cells.
     pub(crate) fn place(&self) -> usize
         ensures { result ≡ self.now.place }
     {

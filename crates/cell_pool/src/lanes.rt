@@ -64,7 +64,7 @@ pub trait Lanes {
         ensures lists { lists self.new ≡ dropped (lists self.old) lane count }
         ensures pool { pool self.new ≡ pool self.old };
 
-    /// Moves the first message of a list, if there is one, to the end of a list, also of its own.
+    /// Moves the first message of a list, if there is one, to the end of a list, which may be its own.
     fn move_first(&mut self, from: usize, to: usize)
         requires from { from < length (lists self.old) }
         requires to { to < length (lists self.old) }
@@ -104,20 +104,20 @@ pub trait Lanes {
         ensures lists { lists self.new ≡ picked_before (P.picks pick.now) (lists self.old) from to }
         ensures pool { pool self.new ≡ pool self.old };
 
-    /// Notes a place of a list, so that `get` at that place and at the next one takes a fixed number of steps, also
-    /// after messages were put after the list or dropped before that place. No message moves.
+    /// Notes an index of a list, so that `get` at that index and at the next one takes a fixed number of steps, even
+    /// after messages were put after the list or dropped before that index. No message moves.
     fn note(&mut self, lane: usize, index: usize)
         requires { lane < length (lists self.old) }
         ensures lists { lists self.new ≡ lists self.old }
         ensures pool { pool self.new ≡ pool self.old };
 
-    /// The message at a place of a list, from 0, if there is one.
+    /// The message at an index of a list, from 0, if there is one.
     fn get(&self, lane: usize, index: usize) -> Option<&Msu>
         requires { lane < length (lists self.now) }
         ensures { option_copied result ≡ slice_get (lane_at (lists self.now) lane) index };
 
-    /// How many user messages of a list a choice takes, from a place on. Each message is looked at once, with a step for
-    /// each before that place.
+    /// How many user messages of a list a choice takes, from an index on. Each message is looked at once, with a step
+    /// for each before that index.
     fn count_users<P: Pick>(&self, lane: usize, first: usize, pick: &P) -> usize
         requires { lane < length (lists self.now) }
         ensures { result ≡

@@ -15,7 +15,7 @@ use std::marker::Model;
 /// Which changeback codes of each adjacent point await their acknowledgement (Q.704 §6.3). An adjacent point goes by
 /// the number of its link set.
 ///
-/// All room is made by `new`, 16 octets for each set. Every other call takes at most 16 steps, but for lifting a hold,
+/// All room is made by `new`, 16 octets for each set. Every other call takes at most 16 steps except lifting a hold,
 /// which costs what `Holds::lift` says.
 #[derive(Drop)]
 pub struct Changeback {

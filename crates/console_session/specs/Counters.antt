@@ -17,7 +17,7 @@ first_texts text (suc k) = first_texts text k ++ text k
 abbrev pub shown_counter : (name : List ℕ) → LinkCounters → Counter → List ℕ
 shown_counter name row counter = counter_line counter name (value_of counter row) ++ codes "\n"
 
--- the same by the counter's place among all
+-- the same by the counter's index among all
 abbrev pub counter_at : (name : List ℕ) → LinkCounters → Option Counter → List ℕ
 counter_at name row (Some counter) = shown_counter name row counter
 counter_at name row None = []

@@ -111,7 +111,7 @@ impl ConsoleClient {
     }
 
     /// Takes octets that came, up to the end of the first line in them, and does that line. If no line ends in them, it
-    /// takes them all, but for those after the octet that makes the line too long. Returns how many it took, and what
+    /// takes them all except those after the octet that makes the line too long. Returns how many it took, and what
     /// becomes of the client.
     pub fn read(&mut self, octets: &[u8], context: &mut ConsoleContext<'_>) -> (usize, Ending)
         ensures within { result.0 ≤ length octets.now }

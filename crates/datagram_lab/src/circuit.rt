@@ -149,7 +149,7 @@ pub(crate) fn tick_all(
     }
 }
 
-/// The link in a place, if it has its ends.
+/// The link at an index, if it has its ends.
 pub(crate) fn circuit_at(circuits: &mut [Option<Circuit>], place: usize) -> Option<&mut Circuit> {
     match circuits.get_mut(place) {
         Some(Some(circuit)) => Some(circuit),

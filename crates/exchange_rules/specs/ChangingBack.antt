@@ -32,7 +32,7 @@ abbrev pub code_in_use : Configuration → (set code : ℕ) → Parts → Parts
 code_in_use c set code p =
     record p { codes = with_code p.codes set code true; timers = set_timer (T4 set code) c.timers.t4 p.timers }
 
--- T3 starts, or starts again if it runs already
+-- T3 starts, or restarts
 abbrev pub time_in_use : Configuration → (link : ℕ) → Parts → Parts
 time_in_use c link p = record p { timers = set_timer (T3 link) c.timers.t3 p.timers }
 

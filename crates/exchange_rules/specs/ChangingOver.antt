@@ -29,7 +29,7 @@ use Rattle.signalling_types.specs.declared.notice.ChangeoverTimer.{ChangeoverTim
 use Rattle.signalling_types.specs.declared.notice.ChangeoverTimer.TheVariants as timer
 use Rattle.changeover.specs.Changeover as standing
 
--- whether a message is a user message of a flow: to this destination, by its place in the settings, with this selection
+-- whether a message is a user message of a flow: to this destination, by its index in the settings, with this selection
 abbrev pub is_of_flow : Configuration → (destination sls : ℕ) → Message → Bool
 is_of_flow c destination sls m =
     not (is_management m)

@@ -84,7 +84,7 @@ module _ {Q : Type 0} (q : QueueKind Q) (c : Configuration) where
   run_times zero node = node
   run_times (suc more) node = node ▷ run_next ▷ run_times more
 
-  -- as many run as are due when the tick begins, but for those that an earlier one stopped or set
+  -- as many run as are due when the tick begins except those that an earlier one stopped or set
   abbrev pub run_all : Node Q → Node Q
   run_all node = run_times (due_count node.parts.timers) node
 

@@ -88,7 +88,7 @@ module _ {Q : Type 0} (q : QueueKind Q) (c : Configuration) where
 
 -- ---- TSRC (Q.704 §5.4): flows that are held, and the messages of Held.
 
--- whether a flow to a destination, by its place in the settings, has a hold
+-- whether a flow to a destination, by its index in the settings, has a hold
 abbrev pub is_held_at : HoldSet → Option ℕ → (sls : ℕ) → Bool
 is_held_at holds (Some place) sls = is_held holds place sls
 is_held_at holds None sls = false

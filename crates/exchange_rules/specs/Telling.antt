@@ -69,7 +69,7 @@ abbrev pub route_message : Configuration → (set destination : ℕ) → RouteSt
 route_message c set destination status =
     management_to c (adjacent_of c set) (telling status (point_of c destination))
 
--- after transfer-prohibited T8 starts, or starts again if it runs already
+-- after transfer-prohibited T8 starts, or restarts
 abbrev pub timed_telling : Configuration → (set destination : ℕ) → RouteStatus → Running → Running
 timed_telling c set destination Prohibited r = set_timer (T8 set destination) c.timers.t8 r
 timed_telling c set destination Restricted r = r

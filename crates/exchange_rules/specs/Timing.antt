@@ -37,7 +37,7 @@ without_timers link r =
     r ▷ without_timer link L1 ▷ without_timer link L2 ▷ without_timer link L3
     ▷ without_timer link L4 ▷ without_timer link L6 ▷ without_timer link L7
 
--- a timer of a link starts, or starts again if it runs already
+-- a timer of a link starts, or restarts
 abbrev pub with_timer : Configuration → ℕ → LinkTimer → Running → Running
 with_timer c link timer r = set_timer (timer_name link timer) (ticks_of c.timers timer) r
 

@@ -70,9 +70,9 @@ hold_keeps_flows_held =
     is_held h other_destination other_sls ≡ true →
     is_held (with_hold h procedure destination sls) other_destination other_sls ≡ true
 
--- ---- a hold of all flows of which a test is true
+-- ---- a hold of all flows for which a test holds
 
--- the test is true of some flow: one to a destination that is there, with a selection
+-- the test holds for some flow: one to a destination that is there, with a selection
 pub record IsAnyFlow (destinations : ℕ) (test : (destination sls : ℕ) → Bool) : Type 0 where
   pub flow : NodeFlow
   pub there : flow.destination < destinations
@@ -84,7 +84,7 @@ some_flow_passes =
     (destinations : ℕ) (test : (destination sls : ℕ) → Bool) →
     (any_flow destinations test ≡ true) ↔ IsAnyFlow destinations test
 
--- the procedure holds afterwards the flows that it held, and each that it may hold of which the test is true
+-- the procedure holds afterwards the flows that it held, and each that it may hold for which the test holds
 abbrev pub flows_add_their_pairs : Type 0
 flows_add_their_pairs =
     (h : HoldSet) (procedure : Procedure) (test : (destination sls : ℕ) → Bool) (destination sls : ℕ) →

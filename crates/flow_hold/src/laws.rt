@@ -38,13 +38,13 @@ pub fn hold_holds_flows()
     ensures others { hold_keeps_flows_held }
 {}
 
-/// A hold of all flows of which a test is true adds just the pairs of those that the procedure may hold.
+/// A hold of all flows for which a test holds adds just the pairs of those that the procedure may hold.
 pub fn hold_of_flows_adds_their_pairs()
     ensures own { flows_add_their_pairs }
     ensures others { flows_leave_others }
 {}
 
-/// A test is true of some flow exactly when it is true of one to a destination that is there, with a selection.
+/// A test holds for some flow exactly when it holds for one to a destination that is there, with a selection.
 pub fn some_flow_passes_a_test()
     ensures { some_flow_passes }
 {}

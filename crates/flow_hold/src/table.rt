@@ -146,7 +146,7 @@ impl Table {
         }
     }
 
-    /// Marks the flow at a place of a row, and counts it unless it was marked.
+    /// Marks the flow at an index of a row, and counts it unless it was marked.
     fn put(&mut self, row: usize, place: usize)
         requires row { row < length self.old.rows }
         requires place { place < length (marks_at self.old.rows row).marks }
@@ -202,7 +202,7 @@ fn no_counts(alloc: Global, flows: usize) -> Result<Vec<u16>, AllocError>
     Ok(vec![in alloc; 0; flows]?)
 }
 
-/// The row at a place: of all flows for the first ones, else of the flows of one destination.
+/// The row at an index: of all flows for the first ones, else of the flows of one destination.
 fn first_row(
     alloc: Global,
     shared: usize,

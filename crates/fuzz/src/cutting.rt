@@ -105,7 +105,7 @@ impl Cutter {
     }
 }
 
-/// This many octets from a place on, or as many as there are.
+/// This many octets from an index on, or as many as there are.
 pub(crate) fn piece_of(octets: &[u8], from: usize, count: usize) -> &[u8] {
     let rest = octets.get(from..).unwrap_or(&[]);
     rest.get(..count).unwrap_or(rest)

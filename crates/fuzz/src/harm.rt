@@ -6,7 +6,7 @@ use exchange::Limits;
 use signalling_types::number::next;
 use test_nodes::Dice;
 
-/// Harms the frame that begins at a place and goes to the end, or leaves it as it is.
+/// Harms the frame that begins at an offset and goes to the end, or leaves it as it is.
 pub(crate) fn harm(dice: &mut Dice, far: &FarEnd, start: usize, out: &mut Octets) {
     match dice.octet() % 18 {
         0..=4 => {}

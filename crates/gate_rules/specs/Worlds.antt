@@ -99,7 +99,7 @@ did (Leaves link) n = record n { books = left_by link (frame_to_take whole n.boo
 -- ---- when
 
 -- a packet that comes was put out at the other end of the link. Since it was made, no more messages passed there than
--- there are numbers, but for two windows
+-- there are numbers, less two windows
 pub record Arrives (other : Port) (packet : PacketValue) : Type 0 where
   pub one : Emitted
   pub there : Contains other.packets one

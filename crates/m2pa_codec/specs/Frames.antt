@@ -122,14 +122,14 @@ pub record IsSayable (value : FrameValue) : Type 0 where
 abbrev pub AreOctets : List ℕ → Type 0
 AreOctets text = (i : ℕ) → slice_index text i < 2 ^ 8
 
--- ---- Reading a frame, with the first fault that is met (RFC 4165 §2).
+-- ---- Reading a frame, with the first fault that is found (RFC 4165 §2).
 
 -- the length that the text says it has: octets 4 to 7
 abbrev pub length_field : List ℕ → ℕ
 length_field text =
     from_be_bytes w32 (slice_index text 4 ∷ slice_index text 5 ∷ slice_index text 6 ∷ slice_index text 7 ∷ [])
 
--- the number in the three octets from a place on
+-- the number in the three octets at an offset
 abbrev pub number_field : List ℕ → ℕ → ℕ
 number_field text at = number_of (slice_index text at ∷ slice_index text (at + 1) ∷ slice_index text (at + 2) ∷ [])
 

@@ -68,7 +68,7 @@ fn read(octets: &[u8]) -> Result<Frame<'_>, FrameFault>
     }
 }
 
-/// The number in the three octets from a place on.
+/// The number in the three octets at an offset.
 fn number_at(octets: &[u8], at: usize) -> Number24
     requires before { 1 ≤ at }
     requires fits { at + 3 ≤ length octets.now }

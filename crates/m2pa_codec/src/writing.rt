@@ -53,7 +53,7 @@ fn write(frame: &Frame<'_>, out: &mut [u8; BUFFER_OCTETS]) -> usize
     }
 }
 
-/// Writes both headers of a frame of this message type, of this many octets in all, and returns the place after them.
+/// Writes both headers of a frame of this message type, of this many octets in all, and returns the offset after them.
 #[inline(always)]
 fn write_header(
     out: &mut [u8; BUFFER_OCTETS],
@@ -73,7 +73,7 @@ fn write_header(
     write_at(out, at, &fsn.to_four_octets())
 }
 
-/// Writes the octets from a place on, and returns the place after them.
+/// Writes the octets at an offset, and returns the offset after them.
 #[inline(always)]
 fn write_at(out: &mut [u8; BUFFER_OCTETS], at: usize, octets: &[u8]) -> usize
     requires { at + length octets.now ≤ 300 }

@@ -1,4 +1,4 @@
--- What two nodes that share a link set promise each other, whatever neighbours each has besides: each message for the
+-- What two nodes that share a link set promise each other, whatever other neighbours each has: each message for the
 -- other once, each flow in order; and what holds whatever has been lost.
 use Rattle.std.specs.Prelude.{◌≡◌, ◌+◌, ℕ, Bool, true, List, [], ◌∷◌, ◌++◌, All, count_by, drop, length, unwrap_or, slice_index_or, Option, Some, None}
 use Rattle.signalling_types.specs.Message.{Message}
@@ -63,7 +63,7 @@ Always Statement =
 abbrev pub each_message_once : Type 0
 each_message_once = Always (λ p. LostNothing p → BothWays EachOnce p)
 
--- "Order", if besides no timer of the accepting end ended a hold
+-- "Order", if also no timer of the accepting end ended a hold
 abbrev pub each_flow_in_order : Type 0
 each_flow_in_order = Always (λ p. LostNothing p → BothWays (λ q. IsPunctual q → InOrder q) p)
 

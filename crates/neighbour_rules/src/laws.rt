@@ -1,6 +1,6 @@
-//! What holds of two nodes that share a link set, whatever neighbours each has besides, after every list
-//! of steps from two newly booted exchanges on. The steps are those of `specs/Neighbours.antt`. Each
-//! function says its law by its contract, and does nothing.
+//! What holds of two nodes that share a link set, whatever other neighbours each has, after every list of steps from
+//! two newly booted exchanges on. The steps are those of `specs/Neighbours.antt`. Each function says its law by its
+//! contract, and does nothing.
 
 ghost use Rattle.pair_rules.specs.Deliveries.{deliveries_tell};
 ghost use Rattle.neighbour_rules.specs.Alone.{alone_is_special};

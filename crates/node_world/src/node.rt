@@ -155,7 +155,7 @@ impl Node {
     }
 }
 
-/// The octets in a place of these datagrams; none if there is no such datagram.
+/// The octets at an index of these datagrams; none if there is no such datagram.
 fn octets_in(sent: &[Datagram], place: usize) -> &[u8]
     ensures { result.now ≡ octets_of (slice_get sent.now place) }
 {

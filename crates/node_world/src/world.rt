@@ -135,8 +135,8 @@ impl World {
         // "Exactly once": while it is false, of every kind of user message, as many were accepted at one node as the
         // other received and as wait between them, in both directions.
         ensures once { (w : worlds.World) → StandsFor self.now w → result ≡ false → BothWays EachOnce (whole_ends w) }
-        // "Order": and while besides no timer of the accepting node ended a hold (`Exchange::late_any`), the messages
-        // of each flow that were accepted are, in order, those that were received, and then those that wait.
+        // "Order": and while also no timer of the accepting node ended a hold (`Exchange::late_any`), the messages of
+        // each flow that were accepted are, in order, those that were received, and then those that wait.
         ensures order { (w : worlds.World) → StandsFor self.now w → result ≡ false →
             BothWays (λ p. IsPunctual p → InOrder p) (whole_ends w) }
     {

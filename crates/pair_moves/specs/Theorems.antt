@@ -94,6 +94,6 @@ codes_are_outstanding = Always CodesAreOutstanding
 abbrev pub each_message_once : Type 0
 each_message_once = Always EachOnce
 
--- "Order", if besides no timer of the sending node ended a hold
+-- "Order", if also no timer of the sending node ended a hold
 abbrev pub each_flow_in_order : Type 0
 each_flow_in_order = Always (λ read p. p.near.late ≡ false → (flow : Flow) → IsInOrder read flow p)

@@ -1,4 +1,4 @@
--- Two nodes that share a link set, whatever neighbours each has besides: what their orders and answers say.
+-- Two nodes that share a link set, whatever other neighbours each has: what their orders and answers say.
 use Rattle.std.specs.Prelude.{◌≡◌, ◌<◌, ◌^◌, ℕ, length, Some}
 use Rattle.settings_rows.specs.Configuration.{Configuration}
 use Rattle.settings.specs.Well.{IsWell}

@@ -13,7 +13,7 @@ pub fn orders_and_answers_say_their_word()
     ensures { words_are_read }
 {}
 
-/// Between two nodes that share a link set, whatever neighbours each has besides, a link has one code at both ends: by
+/// Between two nodes that share a link set, whatever other neighbours each has, a link has one code at both ends: by
 /// the other's point and that code each node finds its own end. An order to change over that a node makes about a link
 /// of the set, and its answer to one, say the far end of that link to the node there, and the number that they were
 /// made with (Q.704 §15.2, §15.4).

@@ -96,7 +96,7 @@ abbrev pub lab_line_sentence : (number : ℕ) → List ℕ
 lab_line_sentence number =
     codes "line " ++ (decimal number ++ codes ": not a line of a lab script; docs/MANUAL.md lists them\n")
 
--- why a lab script ended before its end, if it did: as of another script, but for a line
+-- why a lab script ended before its end, if it did: as of another script except a line
 abbrev pub IsLabEndExplained : Result Unit ScriptFault → Output → Output → Type 0
 IsLabEndExplained (Err (fault.Line number)) errors errors_new =
     IsToldOf (λ text. text ≡ lab_line_sentence number) errors errors_new

@@ -10,7 +10,7 @@ pub record Updates : Type 0 where
   pub extent : Extent
   pub marks : List Bool
 
--- whether an update is at a place or after it, by set and then by destination
+-- whether an update is at an index or after it, by set and then by destination
 abbrev pub is_from : (first about set destination : ℕ) → Bool
 is_from first about set destination = nat_lt first set || nat_eq first set && nat_le about destination
 

@@ -121,7 +121,7 @@ impl PendingUpdates {
         }
     }
 
-    /// The same, if all updates from a place on may be pending.
+    /// The same, if all updates from an index on may be pending.
     #[inline(always)]
     fn next_in(&self, first: SetId, about: usize, set: SetId, from: usize) -> Option<usize>
         requires { self.now.extent ≡ From first about }
@@ -150,7 +150,7 @@ fn has_all_from(extent: &Extent, set: SetId, destination: usize) -> bool
     }
 }
 
-/// Whether an update is at a place or after it, in the order of sets and, for a set, of destinations.
+/// Whether an update is at an index or after it, in the order of sets and, for a set, of destinations.
 #[inline(always)]
 fn is_from(first: SetId, about: usize, set: SetId, destination: usize) -> bool
     ensures { result ≡ is_from first about set destination }

@@ -168,7 +168,7 @@ pub record IsPartsValue (parts : PartsValue) : Type 0 where
 abbrev pub IsUnitdataValue : UnitdataValue → Type 0
 IsUnitdataValue v = IsPartsValue (parts_of v)
 
--- ---- Reading unitdata, with the first fault that is met (Q.713 §1.5, §2.3).
+-- ---- Reading unitdata, with the first fault that is found (Q.713 §1.5, §2.3).
 
 -- what reading gives: the fault, or without one the value
 abbrev pub unless : {V : Type 0} → Option SccpFault → V → Result V SccpFault

@@ -144,7 +144,7 @@ fn octets_of_address(address: &Address<'_>) -> Option<u8>
     one_octet(1 + point + ssn + address.title.len())
 }
 
-/// Writes the pointers and the parts from a place on, and returns the place after them.
+/// Writes the pointers and the parts at an offset, and returns the offset after them.
 fn write_parts(parts: &Parts<'_>, layout: &Layout, at: usize, field: &mut Field) -> usize
     requires lengths { LaysOut (parts_value parts.now) layout.now }
     requires room { at + length (pointed (parts_value parts.now)) ≤ Limits.SIF_OCTETS }
@@ -160,7 +160,7 @@ fn write_parts(parts: &Parts<'_>, layout: &Layout, at: usize, field: &mut Field)
     write_at(field, at, parts.data)
 }
 
-/// Writes an address after its length from a place on, and returns the place after it.
+/// Writes an address after its length at an offset, and returns the offset after it.
 fn write_address(field: &mut Field, at: usize, octets: u8, address: &Address<'_>) -> usize
     requires length { octets ≡ length (address_octets 0 (address_of address.now)) }
     requires room { at + 1 + octets ≤ Limits.SIF_OCTETS }
@@ -220,7 +220,7 @@ fn bit(set: bool, number: u32) -> u8
     if set { 1 << number } else { 0 }
 }
 
-/// Writes the octets from a place on, and returns the place after them.
+/// Writes the octets at an offset, and returns the offset after them.
 fn write_at(field: &mut Field, at: usize, octets: &[u8]) -> usize
     requires { at + length octets.now ≤ Limits.SIF_OCTETS }
     ensures count { result ≡ at + length octets.now }

@@ -59,7 +59,7 @@ impl Model for OpenLine {
     ghost invariant = { λ l. length l.octets.items ≤ LINE_OCTETS };
 }
 
-/// Does the lines of a script, in order, and prints what becomes of each: a line, but for `show`, which prints a text.
+/// Does the lines of a script, in order, and prints what becomes of each: a line except `show`, which prints a text.
 ///
 /// Empty lines, and lines that begin with `#`, are skipped and print nothing. A line that is malformed, longer than
 /// 8,300 octets, or without a line feed at the end of the script, prints `fault` and its number and ends the script

@@ -47,7 +47,7 @@ pub fn put_init_answer<W: Watch>(
     watch.send(&out[..end], &way.to);
 }
 
-/// Writes the last chunk, if there is one, and returns the place after it.
+/// Writes the last chunk, if there is one, and returns the offset after it.
 fn write_last(out: &mut PacketBuffer, at: usize, last: Option<&Reply<'_>>) -> usize
     requires { at + size_of_last last ≤ 1200 }
     ensures count { result ≡ at + size_of_last last.entry }
@@ -59,7 +59,7 @@ fn write_last(out: &mut PacketBuffer, at: usize, last: Option<&Reply<'_>>) -> us
     }
 }
 
-/// Writes octets from a place on, and returns the place after them. Mostly there are none.
+/// Writes octets at an offset, and returns the offset after them. Usually there are none.
 pub(crate) fn write_at(out: &mut PacketBuffer, at: usize, octets: &[u8]) -> usize
     requires { at + length octets.now ≤ 1200 }
     ensures count { result ≡ at + length octets.now }

@@ -5,7 +5,7 @@ use Rattle.std.specs.Prelude.{if◌then◌else◌, nat_le, List, []}
 use Rattle.std.specs.Prelude.{◌∷◌, ◌++◌, length, drop, replicate, slice_index, slice_range, Option, Some, None}
 use Rattle.std.specs.Int.{w16, w32, from_be_bytes, to_be_bytes}
 
--- the number of 16 bits at a place, and that of 32 bits, most significant octet first (RFC 9260 §3)
+-- the number of 16 bits at an offset, and that of 32 bits, most significant octet first (RFC 9260 §3)
 abbrev pub number16_at : List ℕ → ℕ → ℕ
 number16_at octets at = from_be_bytes w16 (slice_index octets at ∷ slice_index octets (at + 1) ∷ [])
 

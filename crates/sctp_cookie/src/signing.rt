@@ -82,7 +82,7 @@ fn body(cookie: Cookie) -> [u8; BODY_OCTETS]
     out
 }
 
-/// Writes the octets from a place on, and returns the place after them.
+/// Writes the octets at an offset, and returns the offset after them.
 fn write_at<const N: usize>(out: &mut [u8; N], at: usize, octets: &[u8]) -> usize
     requires { at + length octets.now ≤ N }
     ensures count { result ≡ at + length octets.now }
@@ -116,7 +116,7 @@ fn read(octets: &[u8; COOKIE_OCTETS]) -> Cookie
     }
 }
 
-/// The number in the eight octets from a place on.
+/// The number in the eight octets at an offset.
 fn number64(octets: &[u8; COOKIE_OCTETS], at: usize) -> u64
     requires { at + 8 ≤ 88 }
     ensures { result ≡ number64 octets.now at }
@@ -127,7 +127,7 @@ fn number64(octets: &[u8; COOKIE_OCTETS], at: usize) -> u64
     u64::from_be_bytes(*eight)
 }
 
-/// The number in the four octets from a place on.
+/// The number in the four octets at an offset.
 fn number32(octets: &[u8; COOKIE_OCTETS], at: usize) -> u32
     requires { at + 4 ≤ 88 }
     ensures { result ≡ number32 octets.now at }
@@ -138,7 +138,7 @@ fn number32(octets: &[u8; COOKIE_OCTETS], at: usize) -> u32
     u32::from_be_bytes(*four)
 }
 
-/// The number in the two octets from a place on.
+/// The number in the two octets at an offset.
 fn number16(octets: &[u8; COOKIE_OCTETS], at: usize) -> u16
     requires { at + 2 ≤ 88 }
     ensures { result ≡ number16 octets.now at }

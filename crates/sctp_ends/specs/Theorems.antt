@@ -108,7 +108,7 @@ worlds_are_shown = (near far : Make) → Always near far (IsShown near far)
 
 -- ---- what was told was given
 
--- what was told is the beginning of what was given in the association in this place
+-- what was told is the beginning of what was given in the association at this index
 pub record IsGiven (given : List (List Message)) (place : ℕ) (told : List Message) : Type 0 where
   pub whole : List Message
   pub is : slice_get given place ≡ Some whole

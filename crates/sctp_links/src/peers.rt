@@ -39,7 +39,7 @@ pub fn ports_in(octets: &[u8]) -> Option<Ports>
     }
 }
 
-/// The place of the link that a datagram is for: the first whose peer's host it comes from, and whose SCTP ports it
+/// The index of the link that a datagram is for: the first whose peer's host it comes from, and whose SCTP ports it
 /// has. The UDP port may be any (RFC 6951 §5.4). None if it is no link's, or too short to have ports.
 pub fn link_of(peers: &[Peer], source: &Address, octets: &[u8]) -> Option<usize>
     ensures place { result ≡ link_of peers.now source.now.host octets.now }

@@ -49,7 +49,7 @@ answer_to generation own far = record {
   cookie = record { generation = generation; own = own; far = far };
 }
 
--- DATA with the message in this place of an epoch
+-- DATA with the message at this index of an epoch
 abbrev pub chunk_of : Epoch → (place : ℕ) → Message → Chunk
 chunk_of epoch place message = record {
   to = epoch.far.tag;

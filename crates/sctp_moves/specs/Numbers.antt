@@ -10,7 +10,7 @@ modulus = 2 ^ 32
 abbrev pub window : ℕ
 window = 256
 
--- the TSN of the message in this place, counted from 0, if the message in place 0 has `first`
+-- the TSN of the message at this index, counted from 0, if the message in place 0 has `first`
 abbrev pub number_of : (first place : ℕ) → ℕ
 number_of first place = (first + place) % modulus
 

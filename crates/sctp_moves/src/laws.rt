@@ -43,11 +43,10 @@ pub fn both_ends_have_the_same_order()
     ensures { associations_come_in_order }
 {}
 
-/// Openings come in turn. An end opens an association first by a cookie that the other one echoed, and
-/// the other may follow into that one alone: not once either end opened another, and not once it was
-/// ahead itself. A cookie is spent once an end has an association: what that end echoed before opens
-/// nothing at the other end but this association, also when it has fallen. And nothing that the other
-/// end does makes a cookie good again.
+/// Openings come in turn. An end opens an association first by a cookie that the other one echoed, and the other may
+/// follow into that one alone: not once either end opened another, and not once it was ahead itself. A cookie is spent
+/// once an end has an association: what that end echoed before opens nothing at the other end but this association,
+/// even when it has fallen. And nothing that the other end does makes a cookie good again.
 pub fn openings_come_in_turn()
     ensures turns { openings_come_in_turn }
     ensures spent { established_ends_are_spent }

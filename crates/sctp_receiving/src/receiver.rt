@@ -298,7 +298,7 @@ impl Receiver {
         tsn.wrapping_sub(self.cumulative) as usize <= CHUNKS && self.is_full(tsn)
     }
 
-    // Whether there is a chunk in the place of a TSN. Mostly there is none at all.
+    // Whether there is a chunk in the place of a TSN. Usually there is none at all.
     fn is_full(&self, tsn: u32) -> bool
         ensures { result ≡ is_some (piece_at self.now tsn) }
     {

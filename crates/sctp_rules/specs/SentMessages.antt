@@ -80,7 +80,7 @@ latest_after c k (what ∷ more) s latest =
 abbrev pub count_on : (stream : ℕ) → List Message → ℕ
 count_on stream messages = sum_by (λ m. if nat_eq m.stream stream then 1 else 0) messages
 
--- the chunk of the message at a place: whole, under the TSN of its place, and on its stream under the number of those
+-- the chunk of the message at an index: whole, under the TSN of its place, and on its stream under the number of those
 -- before it (RFC 9260 §3.3.1)
 abbrev pub chunk_at : (first : ℕ) → (given : List Message) → (place : ℕ) → DataValue
 chunk_at first given place =

@@ -26,10 +26,11 @@ pub fn what_is_told_was_received()
     ensures { messages_are_received }
 {}
 
-/// Whatever happens: each DATA chunk in a packet that goes out carries a message that the user gave in that association,
-/// whole, under its first TSN and the place of the message, on the stream that it was given for and under its number
-/// there, and goes to the association's peer. What isn't confirmed is what was given without its beginning, and the peer
-/// said how much that is, in the packet that opened the association or in one with its tag since. A sending half alone does so under any list of calls.
+/// Whatever happens: each DATA chunk in a packet that goes out carries a message that the user gave in that
+/// association, whole, under its first TSN and the index of the message, on the stream that it was given for and under
+/// its number there, and goes to the association's peer. What isn't confirmed is what was given without its beginning,
+/// and the peer said how much that is, in the packet that opened the association or in one with its tag since. A
+/// sending half alone does so under any list of calls.
 pub fn what_goes_out_was_given()
     ensures sent { given_messages_are_sent }
     ensures kept { given_messages_are_kept }

@@ -30,7 +30,7 @@ new_outgoing message sequence =
 abbrev pub no_message : Message
 no_message = record { stream = 0; protocol = 0; octets = [] }
 
--- the message at a place
+-- the message at an index
 abbrev pub outgoing_at : List Outgoing → ℕ → Outgoing
 outgoing_at out place = slice_index_or out place (new_outgoing no_message 0)
 
@@ -98,7 +98,7 @@ tsn_at tsn distance = (tsn + distance) % 2 ^ 32
 abbrev pub ahead_of : ℕ → ℕ → ℕ
 ahead_of tsn other = (tsn + 2 ^ 32 - other) % 2 ^ 32
 
--- the first lost one of this many, from a place on
+-- the first lost one of this many, from an index on
 unfoldable pub lost_from : List Outgoing → (place left : ℕ) → Option ℕ
 lost_from out place zero = None
 lost_from out place (suc left) = if (outgoing_at out place).lost then Some place else lost_from out (place + 1) left

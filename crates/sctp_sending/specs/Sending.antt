@@ -101,7 +101,7 @@ abbrev pub may_begin : Sending → Bool
 may_begin s =
     nat_lt s.went (length s.out) && has_credit s && finds_window s (octets_of (outgoing_at s.out s.went))
 
--- the place of the message that goes out next: the first lost one, and else the first new one, if it may
+-- the index of the message that goes out next: the first lost one, and else the first new one, if it may
 abbrev pub next_of : Sending → Option ℕ → Option ℕ
 next_of s (Some place) = if may_repeat s place then Some place else None
 next_of s None = if may_begin s then Some s.went else None
@@ -203,13 +203,14 @@ stopped s = record s { out = take s.went s.out }
 
 -- ---- messages are named
 
--- the messages after some places were looked at; the octets that were named for the first time; the last place of these
+-- the messages after some indexes were looked at; the octets that were named for the first time; the last index of
+-- these
 pub record Naming : Type 0 where
   pub out : List Outgoing
   pub octets : ℕ
   pub reach : ℕ
 
--- whether the message at a place is named by what names offsets from the cumulative TSN. The first one never is
+-- whether the message at an index is named by what names offsets from the cumulative TSN. The first one never is
 abbrev pub is_named : (ℕ → Bool) → ℕ → Bool
 is_named names place = nat_lt 0 place && names (place + 1)
 
@@ -223,12 +224,12 @@ named_one names n place =
       reach = if first_time then place else n.reach;
     }
 
--- the places below one were looked at
+-- the indexes below one were looked at
 unfoldable pub named_below : (ℕ → Bool) → List Outgoing → ℕ → Naming
 named_below names out zero = record { out = out; octets = 0; reach = 0 }
 named_below names out (suc place) = named_one names (named_below names out place) place
 
--- the messages after some places were passed over, and whether one was lost by that
+-- the messages after some indexes were passed over, and whether one was lost by that
 pub record Passing : Type 0 where
   pub out : List Outgoing
   pub any : Bool
@@ -241,7 +242,7 @@ passed_one p place =
       any = p.any || ((passed_over o).lost && not o.lost);
     }
 
--- the places below one were passed over
+-- the indexes below one were passed over
 unfoldable pub passed_below : List Outgoing → ℕ → Passing
 passed_below out zero = record { out = out; any = false }
 passed_below out (suc place) = passed_one (passed_below out place) place

@@ -73,7 +73,7 @@ fn mark_between(marks: &mut Marks, start: usize, end: usize)
     }
 }
 
-/// Whether the message at a place is named.
+/// Whether the message at an index is named.
 pub fn is_named(marks: &Marks, place: usize) -> bool
     requires { place < 256 }
     ensures { result ≡ is_named (marked marks.now) place }

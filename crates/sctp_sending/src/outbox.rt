@@ -92,7 +92,7 @@ impl Outbox {
         self.tally.under_way
     }
 
-    /// The message at a place.
+    /// The message at an index.
     pub fn get(&self, place: usize) -> &Cell
         requires { place < length self.now.out }
         ensures { result.now ≡ outgoing_at self.now.out place }
@@ -112,7 +112,7 @@ impl Outbox {
         self.ring.push(message, sequence);
     }
 
-    /// The place of the first lost message.
+    /// The index of the first lost message.
     pub fn first_lost(&self) -> Option<usize>
         ensures place { result ≡ lost_from self.now.out 0 self.now.went }
         ensures within { IfSome result (λ place. place < self.now.went) }
@@ -145,7 +145,7 @@ impl Outbox {
         self.tally.named > 0
     }
 
-    /// The message at a place goes out again.
+    /// The message at an index goes out again.
     pub fn put_out_again(&mut self, place: usize)
         requires { place < self.old.went }
         ensures { self.new ≡ changed self.old place (gone_out true) }
@@ -165,7 +165,7 @@ impl Outbox {
         self.went += 1;
     }
 
-    /// A SACK names the message at a place or doesn't.
+    /// A SACK names the message at an index or doesn't.
     pub fn name(&mut self, place: usize, named: bool)
         requires { place < self.old.went }
         ensures { self.new ≡ changed self.old place (named_or_not named) }
@@ -175,7 +175,7 @@ impl Outbox {
         self.tally = self.tally.with(self.ring.get(place));
     }
 
-    /// A message after the one at a place was named for the first time.
+    /// A message after the one at an index was named for the first time.
     pub fn pass_over(&mut self, place: usize)
         requires { place < self.old.went }
         ensures { self.new ≡ changed self.old place passed_over }
@@ -185,7 +185,7 @@ impl Outbox {
         self.tally = self.tally.with(self.ring.get(place));
     }
 
-    /// T3 ran out for the message at a place.
+    /// T3 ran out for the message at an index.
     pub fn time_out(&mut self, place: usize)
         requires { place < self.old.went }
         ensures { self.new ≡ changed self.old place timed_out }

@@ -163,7 +163,7 @@ impl Sender {
         self.sequences[stream] = sequence.wrapping_add(1);
     }
 
-    /// The message at a place, as it goes out.
+    /// The message at an index, as it goes out.
     pub fn data(&self, place: usize) -> Data<'_>
         requires { place < length self.now.out }
         ensures tsn { result.tsn ≡ tsn_at self.now.first place }

@@ -12,7 +12,7 @@ abbrev pub and_then : {A B : Type 0} → Result A ServeFault → (A → Result B
 and_then (Ok a) next = next a
 and_then (Err fault) next = Err fault
 
--- the value of a key that has to be there
+-- the value of a required key
 unfoldable pub value_at : List ℕ → (missing : ServeFault) → Members → Result Data ServeFault
 value_at name missing t = ok_or (get_member name t) missing
 

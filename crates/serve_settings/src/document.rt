@@ -77,7 +77,7 @@ fn owned(alloc: Global, text: Option<&str>) -> Result<Option<String>, AllocError
 ///
 /// Returns the settings, or the first fault of the keys `tick_ms`, `console`, `capture`, `console_open`, `points` and
 /// `udp` of `[serve]`, of the keys of `[serve.sctp]`, of `page_open` and `page`, then of the keys of each link, from
-/// the first on. Want of memory may stand in place of any other. Keys of other names are ignored.
+/// the first on. If memory runs out, that may be returned instead. Keys of other names are ignored.
 pub fn read_server(alloc: Global, document: &Table) -> Result<ServeSettings, ServeFault>
     ensures { (s : Spelling) (text : List ℕ) → parse_document text ≡ Some (table_view document.now)
         → AnswersOrNoMemory (λ settings. settings) (reading s text) result }
@@ -88,7 +88,7 @@ pub fn read_server(alloc: Global, document: &Table) -> Result<ServeSettings, Ser
 /// Checks the settings of a server in the document that a settings file is. A file without `serve` has
 /// none, so it has no fault.
 ///
-/// Answers the first fault, as `read_server` does. Want of memory may stand in place of any other.
+/// Returns the first fault, as `read_server` does. If memory runs out, that may be returned instead.
 #[tactic(auto, unfolding(crate::specs::Reading::checked))]
 pub fn check_server(alloc: Global, document: &Table) -> Result<(), ServeFault>
     ensures { (s : Spelling) → AnswersOrNoMemory (λ nothing. nothing)
@@ -106,8 +106,8 @@ pub fn check_server(alloc: Global, document: &Table) -> Result<(), ServeFault>
 /// Reads the settings of a node and those of its server from the text of a settings file, and
 /// checks both.
 ///
-/// Answers both, or the first fault: what `settings_file::read` finds, then what `read_server` finds. Want
-/// of memory may stand in place of any other. Keys of other names are ignored.
+/// Returns both, or the first fault: what `settings_file::read` finds, then what `read_server` finds. If memory runs
+/// out, that may be returned instead. Keys of other names are ignored.
 pub fn read(alloc: Global, text: &str) -> Result<(Settings, ServeSettings), ServeFault>
     ensures settings { IfOk result (λ read. IsReadAs text.now read.0) }
     ensures server { (s : Spelling) → IfOk result (λ read. reading s text.now ≡ Ok read.1) }

@@ -14,10 +14,10 @@ use std::fmt;
 /// the faults of settings: `fault 2 serve.tick_ms`, `fault 5 link[2].listen`, `fault NoMemory`.
 #[derive(Clone, Copy)]
 pub enum ServeFault {
-    /// A fault of the settings of the node, other than want of memory.
+    /// A fault of the settings of the node, other than lack of memory.
     Settings(SettingsFault),
-    /// 2: a key that has to be there is missing; of a link that has none of `listen`, `connect` and
-    /// `remote`, its `listen`; `udp` of a server that has a link with `remote`.
+    /// 2: a required key is missing; of a link that has none of `listen`, `connect` and `remote`, its `listen`; `udp`
+    /// of a server that has a link with `remote`.
     Missing(ServeKey),
     /// 3: a value of another type than its key asks for.
     Kind(ServeKey),

@@ -19,7 +19,7 @@ pub(crate) fn found<'a>(table: &'a Table, name: &str) -> Option<&'a Value>
     table.get(name)
 }
 
-/// The value of a key that has to be there, or this fault.
+/// The value of a required key, or this fault.
 #[tactic(auto, unfolding(crate::specs::Shapes::value_at))]
 pub(crate) fn value<'a>(
     table: &'a Table,

@@ -17,7 +17,7 @@ pub record Connection : Type 0 where
   pub is_up : Bool
   -- the octets that came and aren't handed in yet
   pub held : List ℕ
-  -- the octets of the frames that were taken, one after another, but for those that are written
+  -- the octets of the frames that were taken, one after another except those that are written
   pub pending : List ℕ
 
 -- a new connection, over which the association isn't up yet

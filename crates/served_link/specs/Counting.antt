@@ -44,7 +44,7 @@ came frame outcome = FrameCame (length frame) (has_user_message frame) outcome
 abbrev pub went : (frame : List ℕ) → Counted
 went frame = FrameWent (length frame)
 
--- the place of a reason among all
+-- the index of a reason among all
 abbrev pub reason_number : FailureReason → ℕ
 reason_number Association = 0
 reason_number Timer = 1

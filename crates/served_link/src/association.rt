@@ -193,7 +193,7 @@ impl Association {
         self.outgoing.is_pending()
     }
 
-    /// The octets of the frames that were taken, one after another, but for those that are written.
+    /// The octets of the frames that were taken, one after another except those that are written.
     pub fn pending(&self) -> &[u8]
         ensures { result.now ≡ self.now.pending }
     {

@@ -8,8 +8,8 @@ use exchange::LONGEST_FRAME;
 /// Octets of frames that are taken and aren't written yet, at most.
 pub const OUTPUT_OCTETS: usize = 65_536;
 
-/// The octets of the frames that were taken, one after another, but for those that are written: they lie from `start`
-/// to `end` of the buffer.
+/// The octets of the frames that were taken, one after another except those that are written: they lie from `start` to
+/// `end` of the buffer.
 #[derive(Drop)]
 pub(crate) struct Outgoing {
     buffer: [u8; OUTPUT_OCTETS],

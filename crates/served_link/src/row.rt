@@ -104,7 +104,7 @@ impl LinkCounters {
     }
 }
 
-/// One more is counted at a place.
+/// One more is counted at an index.
 fn count_one(counts: &mut [u64], place: usize)
     requires { place < length counts.old }
     ensures { counts.new ≡ one_more_at place counts.old }

@@ -42,7 +42,7 @@ pub(crate) fn read_each(places: &mut [Option<PageClient>]) {
     }
 }
 
-/// Answers the first request that is found from a place on. True if there is one; the next search begins after it.
+/// Returns the first request that is found from a place on. True if there is one; the next search begins after it.
 pub(crate) fn answer_next<S: Service>(
     places: &mut [Option<PageClient>],
     next: &mut usize,

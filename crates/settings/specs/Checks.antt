@@ -41,7 +41,7 @@ abbrev pub has_repeat : {A : Type 0} → (A → A → Bool) → List A → Bool
 has_repeat eq [] = false
 has_repeat eq (x ∷ xs) = list_any (λ y. eq y x) xs || has_repeat eq xs
 
--- the fault of a point that has to be another than the own one
+-- the fault of a point that must differ from the node's own
 abbrev pub far_point_fault : ℕ → Key → ℤ → Option DraftFault
 far_point_fault own key n = fault_unless (is_within 0 16383 n && not (nat_eq (natural n) own)) Range key
 

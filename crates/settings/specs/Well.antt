@@ -21,7 +21,7 @@ pub record IsWithin (low : ℕ) (high : ℕ) (n : ℕ) : Type 0 where
 abbrev pub all_ticks : TimerTicks → List ℕ
 all_ticks t = t.l1 ∷ t.l2 ∷ t.l3 ∷ t.l4 ∷ t.l6 ∷ t.l7 ∷ t.t1 ∷ t.t2 ∷ t.t3 ∷ t.t4 ∷ t.t6 ∷ t.t8 ∷ t.t10 ∷ []
 
--- a point of 14 bits, other than the own one
+-- a point of 14 bits, other than the node's own
 pub record IsFarPoint (own : ℕ) (point : ℕ) : Type 0 where
   pub fits : point < 2 ^ 14
   pub far : point ≢ own

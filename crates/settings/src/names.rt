@@ -30,7 +30,7 @@ pub(crate) fn is_name(text: &str) -> bool
     0 < text.len() && text.len() <= Limits::NAME_OCTETS && are_name_octets(text.as_bytes())
 }
 
-/// Sees that a text is a name, and that it doesn't occur twice.
+/// Checks that a text is a name, and that it doesn't occur twice.
 pub(crate) fn ensure_name(text: &str, is_repeat: bool, key: Key) -> Result<(), DraftFault>
     ensures form { OnOk result (IsTrue (is_name text.now)) }
     ensures well { OnOk result (name_fault key text.now is_repeat ≡ None) }

@@ -49,7 +49,7 @@ pub(crate) fn point(value: i64, key: Key) -> Result<PointCode, DraftFault>
     PointCode::new(number).ok_or(DraftFault::At(FaultKind::Range, key))
 }
 
-/// The point of this number, if it is another than the own one.
+/// The point of this number, if it isn't the node's own.
 pub(crate) fn far_point(value: i64, own: PointCode, key: Key) -> Result<PointCode, DraftFault>
     ensures value { IfOk result (λ point. point ≡ natural value) }
     ensures well { OnOk result (far_point_fault own key value ≡ None) }

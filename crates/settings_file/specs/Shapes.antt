@@ -22,7 +22,7 @@ abbrev pub each : {A B : Type 0} → (ℕ → A → Result B SettingsFault) → 
 each read i [] = Ok []
 each read i (a ∷ rest) = and_then (read i a) (λ b. and_then (each read (i + 1) rest) (λ bs. Ok (b ∷ bs)))
 
--- the value of a key that has to be there
+-- the value of a required key
 unfoldable pub value_at : List ℕ → Key → Members → Result Data SettingsFault
 value_at name key t = ok_or (get_member name t) (Missing key)
 

@@ -21,7 +21,7 @@ pub(crate) fn found<'a>(table: &'a Table, name: &str) -> Option<&'a Value>
     table.get(name)
 }
 
-/// The value of a key that has to be there.
+/// The value of a required key.
 #[tactic(auto, unfolding(crate::specs::Shapes::value_at))]
 pub(crate) fn value<'a>(table: &'a Table, name: &str, key: Key) -> Result<&'a Value, SettingsFault>
     ensures { Answers (λ value. view value.now)

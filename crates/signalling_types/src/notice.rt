@@ -6,7 +6,7 @@ ghost use Rattle.signalling_types.specs.Notices.{frame_fault_number, frame_fault
 use crate::cause::Cause;
 use crate::point::{LinkId, PointCode, Sls};
 
-/// What is wrong with the octets of a frame: the first fault that reading meets (RFC 4165 §2).
+/// What is wrong with the octets of a frame: the first fault that reading finds (RFC 4165 §2).
 #[derive(Clone, Copy, Debug, PartialEq, Eq)]
 pub enum FrameFault {
     /// Too few octets for what the frame announces.

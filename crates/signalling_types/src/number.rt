@@ -123,7 +123,7 @@ pub fn distance(from: Number24, to: Number24) -> u32
     (to.value + Number24::MODULUS - from.value) % Number24::MODULUS
 }
 
-/// Whether `next` meets x on the way from low to high, both ends with it.
+/// Whether `next` meets x on the way from low to high, both ends included.
 pub fn within(low: Number24, high: Number24, x: Number24) -> bool
     ensures test { result ≡ is_within low high x }
     ensures steps { IsTrue result ↔ (steps_between low x ≤ steps_between low high) }

@@ -10,7 +10,7 @@ pub enum Outcome {
     Queued(LinkId),
     /// The message is held until its flow may go on.
     Held,
-    /// The message is for a user part or a subsystem of this node: the caller passes it on, also one that was
+    /// The message is for a user part or a subsystem of this node: the caller passes it on, even one that was
     /// submitted.
     Local,
     /// The event was taken. A link may have failed by it.

@@ -41,7 +41,7 @@ fn all_right(rt: &impl Abort, wrong: Result<&'static str, AllocError>) -> Result
     Ok(())
 }
 
-/// The word of a call at a place; nothing if it has fewer.
+/// The word of a call at an index; nothing if it has fewer.
 fn word(call: &str, place: usize) -> &str {
     call.split(' ').nth(place).unwrap_or("")
 }

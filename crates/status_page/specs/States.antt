@@ -117,7 +117,7 @@ route_tokens points s k = shown_route points s.settings (route_view s k)
 
 -- ---- notices
 
--- the number of a notice that is kept, by its place from the oldest: the last has as many as there were
+-- the number of a notice that is kept, by its index from the oldest: the last has as many as there were
 abbrev pub notice_number : {Q : Type 0} → State Q → ℕ → ℕ
 notice_number s k =
     (s.node.parts.notices.count + 2 ^ 64 - (length s.node.parts.notices.last - suc k)) % 2 ^ 64

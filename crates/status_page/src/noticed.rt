@@ -136,7 +136,7 @@ impl NoticeLog {
         self.kinds[place] = self.kinds[place].saturating_add(dropped);
     }
 
-    /// These notices, from this place on, came now.
+    /// These notices, from this index on, came now.
     fn see_from(&mut self, first: usize, notices: &HeapCircularBuffer<Notice>, now_ms: u64)
         ensures { self.new ≡ seen_all now_ms (drop first notices.now.items) self.old }
     {

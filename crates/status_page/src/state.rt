@@ -364,7 +364,7 @@ fn put_shown_notice(
     out.end_object()
 }
 
-/// The number of a notice that is kept, by its place from the oldest.
+/// The number of a notice that is kept, by its index from the oldest.
 fn notice_number(exchange: &Exchange, k: usize) -> u64
     requires { k < length exchange.now.node.parts.notices.last }
     ensures { result ≡ notice_number exchange.now k }

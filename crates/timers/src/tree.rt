@@ -19,7 +19,7 @@ pub(crate) fn new_nodes(alloc: Global, count: usize) -> Result<Vec<u32>, AllocEr
 
 /// The leaf of a place holds another moment, and no node above it a later one.
 ///
-/// It stops at the first node that holds no later one, which mostly is the first.
+/// It stops at the first node that holds no later one, which usually is the first.
 #[inline]
 pub(crate) fn set_leaf(nodes: &mut [u32], leaves: usize, place: usize, moment: u32)
     requires size { length nodes.old ≡ 2 * leaves }

@@ -129,7 +129,7 @@ pub(crate) fn record_header(time: Duration, octets: u32) -> [u8; RECORD_HEADER_O
     header
 }
 
-/// Writes the common header of SCTP, and returns the place after it.
+/// Writes the common header of SCTP, and returns the offset after it.
 fn write_common_header(
     out: &mut [u8; PACKET_OCTETS],
     at: usize,
@@ -151,7 +151,7 @@ fn write_common_header(
     write_at(out, at, &[0; 4])
 }
 
-/// Writes the header of the DATA chunk of a frame, and returns the place after it.
+/// Writes the header of the DATA chunk of a frame, and returns the offset after it.
 fn write_chunk_header(
     out: &mut [u8; PACKET_OCTETS],
     at: usize,
@@ -168,7 +168,7 @@ fn write_chunk_header(
     write_chunk_stream(out, at, frame.stream(), (number % (1 << 16)) as u16)
 }
 
-/// Writes the front of the header of a DATA chunk, and returns the place after it.
+/// Writes the front of the header of a DATA chunk, and returns the offset after it.
 fn write_chunk_front(out: &mut [u8; PACKET_OCTETS], at: usize, length: u16, number: u32) -> usize
     requires { at ≡ 28 }
     ensures count { result ≡ at + 8 }
@@ -179,7 +179,7 @@ fn write_chunk_front(out: &mut [u8; PACKET_OCTETS], at: usize, length: u16, numb
     write_at(out, at, &number.to_be_bytes())
 }
 
-/// Writes what the header of a DATA chunk says of its stream, and returns the place after it.
+/// Writes what the header of a DATA chunk says of its stream, and returns the offset after it.
 fn write_chunk_stream(out: &mut [u8; PACKET_OCTETS], at: usize, stream: u16, number: u16) -> usize
     requires { at ≡ 36 }
     ensures count { result ≡ at + 8 }
@@ -190,7 +190,7 @@ fn write_chunk_stream(out: &mut [u8; PACKET_OCTETS], at: usize, stream: u16, num
     write_at(out, at, &M2PA.to_be_bytes())
 }
 
-/// Writes this many octets of padding from a place on, and returns the place after them.
+/// Writes this many octets of padding at an offset, and returns the offset after them.
 fn write_padding(out: &mut [u8; PACKET_OCTETS], at: usize, count: usize) -> usize
     requires few { count < 4 }
     requires room { at + count ≤ PACKET_OCTETS }

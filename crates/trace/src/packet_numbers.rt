@@ -42,7 +42,7 @@ impl PacketNumbers {
     }
 }
 
-/// Counts a packet of the link at this place, and answers its number.
+/// Counts a packet of the link at this index, and returns its number.
 fn take_number(numbers: &mut [u32; LINK_NUMBERS], place: usize) -> u32
     requires { place < LINK_NUMBERS }
     ensures number { result ≡ slice_index numbers.old place }

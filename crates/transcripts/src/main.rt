@@ -56,7 +56,7 @@ fn main(rt: HostRuntime) -> Result<()> {
     Ok(())
 }
 
-/// Tells of each settings file whether its settings are those built in, and returns whether that is as it is to be.
+/// Tells of each settings file whether its settings are those built in, and returns whether it is right.
 fn tell_files(rt: &HostRuntime) -> Result<bool> {
     let mut are_as_said = true;
     for (name, is_said) in SETTINGS_FILES {
@@ -68,7 +68,7 @@ fn tell_files(rt: &HostRuntime) -> Result<bool> {
     Ok(are_as_said)
 }
 
-/// Plays a transcript, prints what became of it, and returns whether that is as it is to be.
+/// Plays a transcript, prints what became of it, and returns whether it is right.
 fn is_good(rt: &HostRuntime, name: &str) -> Result<bool> {
     let is_to_differ = name.ends_with(".differs");
     match play_file(rt, name) {

@@ -134,7 +134,7 @@ impl Exchange {
         }
     }
 
-    /// The message at a place of a link's list is lost, if it is a user message.
+    /// The message at an index of a link's list is lost, if it is a user message.
     fn lose_at(&mut self, link: LinkId, place: usize)
         requires { link < length self.old.settings.links }
         ensures { self.new ≡ with_node self.old (with_parts self.old.node

@@ -41,7 +41,7 @@ impl Exchange {
         head_in(&self.lanes, HELD, 0)
     }
 
-    /// What is read of the message at a place of a link's list, if there is one.
+    /// What is read of the message at an index of a link's list, if there is one.
     pub(super) fn head_at(&self, link: LinkId, place: usize) -> Option<Head>
         requires { link < length self.now.settings.links }
         ensures { result ≡ option_map head_of (slice_get (link_lane self.now.node.queues link) place) }
@@ -50,7 +50,7 @@ impl Exchange {
     }
 }
 
-/// What is read of the message at a place of a list, if there is one.
+/// What is read of the message at an index of a list, if there is one.
 #[inline(always)]
 fn head_in(lanes: &CellPool, lane: usize, place: usize) -> Option<Head>
     requires { lane < length lanes.now.lists }

@@ -78,7 +78,7 @@ impl Exchange {
         }
     }
 
-    /// Holds the flow of the message at a place of a link's list, if it is a user message.
+    /// Holds the flow of the message at an index of a link's list, if it is a user message.
     fn hold_message(&mut self, link: LinkId, place: usize)
         requires { link < length self.old.settings.links }
         ensures { self.new ≡ with_holds self.old (with_head self.old.settings link

@@ -46,7 +46,7 @@ impl Endpoint {
         }
     }
 
-    /// The message at a place is bundled after what waits.
+    /// The message at an index is bundled after what waits.
     fn bundle_message<W: Watch>(&self, draft: &mut Draft, place: usize, watch: &mut W)
         requires { place < length self.now.state.association.sender.out }
         ensures { Adds W.has watch.old watch.new draft.old draft.new

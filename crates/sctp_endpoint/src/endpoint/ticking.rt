@@ -12,7 +12,7 @@ use sctp_rules::Phase;
 impl Endpoint {
     /// Time went by: the timers that are due run out, T1, T5, T2, T3 and that of the heartbeat one after another; the
     /// end of an association stops the others. To be called when `deadline` says so. What is to go out does with the
-    /// next `flush`, but for ABORT, INIT and COOKIE ECHO, which go out at once.
+    /// next `flush` except ABORT, INIT and COOKIE ECHO, which go out at once.
     pub fn tick<W: Watch>(&mut self, now: u64, watch: &mut W)
         requires generation { self.old.state.generation < 2 ^ 63 }
         requires nonces { self.old.state.nonces < 2 ^ 63 }

@@ -42,7 +42,7 @@ impl Octets {
         self.octets.as_slice()
     }
 
-    /// Removes all from a place on.
+    /// Removes all at an offset.
     pub fn cut(&mut self, place: usize) {
         self.octets.truncate(place);
     }
@@ -59,7 +59,7 @@ impl Octets {
         }
     }
 
-    /// Writes octets from a place on, as far as there is room.
+    /// Writes octets at an offset, as far as there is room.
     pub fn put(&mut self, place: usize, octets: &[u8]) {
         let mut at = place;
         for octet in octets {
@@ -89,13 +89,13 @@ fn checksum(octets: &[u8]) -> u32 {
     !remainder(header, octets.get(HEADER_OCTETS..).unwrap_or(&[]))
 }
 
-/// This many octets from a place on, or as many as there are.
+/// This many octets at an offset, or as many as there are.
 pub fn piece(octets: &[u8], from: usize, count: usize) -> &[u8] {
     let rest = octets.get(from..).unwrap_or(&[]);
     rest.get(..count).unwrap_or(rest)
 }
 
-/// The number of 32 bits at a place.
+/// The number of 32 bits at an offset.
 pub fn number(octets: &[u8], at: usize) -> u32 {
     let mut value = 0u32;
     for i in 0..4usize {
@@ -104,7 +104,7 @@ pub fn number(octets: &[u8], at: usize) -> u32 {
     value
 }
 
-/// The octet at a place; 255 if there is none.
+/// The octet at an offset; 255 if there is none.
 pub fn octet(octets: &[u8], at: usize) -> u8 {
     octets.get(at).copied().unwrap_or(u8::MAX)
 }

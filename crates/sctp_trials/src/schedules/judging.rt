@@ -9,7 +9,7 @@ use sctp_world::{End, Entry, Messages, Text, World};
 struct Place {
     /// The association of the other end, if one is known.
     list: Option<usize>,
-    /// The place of the next message in it.
+    /// The index of the next message in it.
     next: usize,
 }
 
@@ -56,7 +56,7 @@ fn behind(list: Option<usize>, later: usize) -> usize {
     }
 }
 
-/// The association from a place on whose first message has the number of this one.
+/// The association from an index on whose first message has the number of this one.
 fn list_with(given: &[Messages], from: usize, text: &Text) -> Option<usize> {
     for i in from..given.len() {
         if let Some(first) = given[i].texts().first()
@@ -68,7 +68,7 @@ fn list_with(given: &[Messages], from: usize, text: &Text) -> Option<usize> {
     None
 }
 
-/// Whether the message in a place is this one: its number, stream, protocol and octets.
+/// Whether the message at an index is this one: its number, stream, protocol and octets.
 fn is_at(given: &[Messages], place: Place, text: &Text) -> bool {
     let Some(list) = place.list else {
         return false;

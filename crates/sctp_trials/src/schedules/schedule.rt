@@ -205,7 +205,7 @@ fn hear(
     first
 }
 
-/// Notes what was told from a place on.
+/// Notes what was told from an index on.
 fn note_told(
     world: &World,
     end: End,
@@ -236,7 +236,7 @@ fn note_told(
     }
 }
 
-/// Notes what was put out from a place on.
+/// Notes what was put out from an index on.
 fn note_sent(world: &World, end: End, from: usize, here: &mut Known, counts: &mut Counts) {
     let sent = world.sent(end);
     for i in from..sent.len() {

@@ -68,13 +68,13 @@ fn fit_sack(datagram: &mut [u8], at: usize, shift: u32) {
     }
 }
 
-/// Adds to the number at a place, modulo 2^32.
+/// Adds to the number at an offset, modulo 2^32.
 fn add(octets: &mut [u8], at: usize, shift: u32) {
     let sum = number(octets, at).wrapping_add(shift);
     put(octets, at, &sum.to_be_bytes());
 }
 
-/// The number of four octets at a place; 0 if there are fewer.
+/// The number of four octets at an offset; 0 if there are fewer.
 fn number(octets: &[u8], at: usize) -> u32 {
     let Some(rest) = octets.get(at..) else {
         return 0;
@@ -85,7 +85,7 @@ fn number(octets: &[u8], at: usize) -> u32 {
     }
 }
 
-/// Puts octets at a place, as far as there is room.
+/// Puts octets at an offset, as far as there is room.
 fn put(octets: &mut [u8], at: usize, what: &[u8]) {
     let Some(room) = octets.get_mut(at..) else {
         return;

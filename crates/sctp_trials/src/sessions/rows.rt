@@ -5,7 +5,7 @@ use std::str::FromStr;
 /// Octets of a row, at most.
 pub const OCTETS: usize = 1_500;
 
-/// The word of a row at a place; nothing if it has fewer.
+/// The word of a row at an index; nothing if it has fewer.
 pub fn word(row: &str, place: usize) -> &str {
     row.split(' ').nth(place).unwrap_or("")
 }

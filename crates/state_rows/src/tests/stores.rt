@@ -78,7 +78,7 @@ fn fill<L: Lanes>(lanes: &mut L, list: usize, digit: &str, times: usize) -> bool
     true
 }
 
-/// Whether the message of a digit is at a place of a list.
+/// Whether the message of a digit is at an index of a list.
 fn stands<L: Lanes>(lanes: &L, list: usize, place: usize, digit: u8) -> bool {
     if list >= lanes.lanes() {
         return false;
