@@ -41,8 +41,8 @@ joined front back =
     then back
     else record front { last = back.last; count = front.count + back.count }
 
--- the cell that names the first one of a list that comes after: if there is none before it, the last of that list,
--- whose next one is never asked for
+-- the cell that names the first one of a list that comes after. If there is none before it, it is the last of that
+-- list, whose next one is never asked for
 abbrev pub end_of : Chained → Chained → ℕ
 end_of front back = if nat_eq front.count 0 then back.last else front.last
 

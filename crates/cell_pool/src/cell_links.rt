@@ -1,4 +1,4 @@
-//! Which cells each list has, in order, where each cell names the next one of its list.
+//! Which cells each list has, in order: each cell names the next one of its list.
 
 ghost use Rattle.std.specs.Prelude.{◌≡◌, ◌≢◌, ◌+◌, ◌^◌, ◌<◌, ◌≤◌, [], ◌∷◌, ◌++◌, length, take, drop, replicate, sum_by};
 ghost use Rattle.std.specs.Prelude.{slice_set, IfOk};
@@ -14,8 +14,8 @@ use crate::chain::Chain;
 use std::alloc::{AllocError, Global};
 use std::marker::Model;
 
-/// Lists of cell numbers, each cell naming the next one, and the cells that are free again: the last one that was freed
-/// is the first one that is taken. A number that was never taken has no memory that was written.
+/// Lists of cell numbers, each cell naming the next one, and the free cells, of which the last one freed is taken
+/// first. No memory is written for a number that was never taken.
 #[derive(Drop)]
 pub(crate) struct CellLinks {
     next: Vec<CellNumber>,
@@ -67,7 +67,7 @@ impl CellLinks {
         self.chains[ring].count()
     }
 
-    /// A cell that was never used is the free one, if no other is.
+    /// Frees a cell that was never used, if no other is free.
     fn grow(&mut self)
         requires none { self.old.free ≡ [] }
         requires room { self.old.used < self.old.total }
@@ -114,7 +114,7 @@ impl CellLinks {
         self.spare += 1;
     }
 
-    /// Sees to a free cell: if no cell is free again, one that was never used.
+    /// Provides a free cell: one that was never used, if no cell is free again.
     fn reserve(&mut self)
         requires room { sum_by length self.old.rings < self.old.total }
         ensures cells { self.new ≡ reserved self.old }
@@ -154,7 +154,7 @@ impl CellLinks {
         cell
     }
 
-    /// Moves the first cell of a list, if there is one, to the end of a list, which may be its own: it is freed, and
+    /// Moves the first cell of a list, if there is one, to the end of a list, which may be its own. It is freed, and
     /// taken at once.
     pub(crate) fn move_first(&mut self, from: usize, to: usize)
         requires from { from < length self.old.rings }

@@ -101,7 +101,7 @@ impl Chain {
         self.noted
     }
 
-    /// The cell that has to name the first one of a list that comes after: without cells before it, the last one of
+    /// The cell that must name the first one of a list that comes after. Without cells before it, it is the last one of
     /// that list, whose next one is never asked for.
     pub(crate) fn end(&self, back: &Chain) -> CellNumber
         ensures { result ≡ end_of self.now back.now }
@@ -139,7 +139,7 @@ impl Chain {
         }
     }
 
-    /// The same cells, from the one after another on, which comes last then.
+    /// The same cells, beginning after another one, which then comes last.
     pub(crate) fn turned_round(&self, first: CellNumber, last: CellNumber) -> Chain
         ensures { result ≡ turned_round self.now first last }
     {

@@ -105,7 +105,7 @@ pub trait Lanes {
         ensures pool { pool self.new ≡ pool self.old };
 
     /// Notes an index of a list, so that `get` at that index and at the next one takes a fixed number of steps, even
-    /// after messages were put after the list or dropped before that index. No message moves.
+    /// after messages were added to the list or dropped before that index. No message moves.
     fn note(&mut self, lane: usize, index: usize)
         requires { lane < length (lists self.old) }
         ensures lists { lists self.new ≡ lists self.old }

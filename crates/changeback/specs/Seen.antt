@@ -1,5 +1,5 @@
--- Pairs of link sets that were looked at: the set alone by which messages to a destination went before, and the set
--- alone by which they go now.
+-- Pairs of link sets that were looked at: the one set that messages to a destination took before, and the one set that
+-- they take now.
 use Rattle.std.specs.Prelude.{◌≡◌, ℕ, ◌+◌, ◌*◌, ◌&&◌, Bool, true, false, List, Option, Some, None, length, replicate, nat_lt, if◌then◌else◌, slice_index_or, slice_set}
 use Rattle.signalling_types.specs.declared.limits.TheConstants.Limits.{SETS, SELECTIONS}
 use Rattle.routes.specs.Routes.{with_link, lone_set}

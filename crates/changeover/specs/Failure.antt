@@ -5,7 +5,7 @@ use Rattle.link.specs.Counts.{Counts, kept_last_accepted}
 use Rattle.changeover.specs.declared.beginning.Beginning.{Beginning}
 use Rattle.changeover.specs.declared.beginning.Beginning.TheVariants.{Orders, Waits}
 
--- if a link to the adjacent point is left, an order goes there, with the number of the last message that was accepted,
+-- if a link to the adjacent point is left, an order goes there with the number of the last message that was accepted,
 -- T2 runs, and the answer is awaited; else T1 runs
 abbrev pub begins_with : (link_left : Bool) → (number : ℕ) → Beginning
 begins_with link_left number = if link_left then Orders number else Waits

@@ -18,8 +18,8 @@ pub record HoldTable : Type 0 where
 abbrev pub flow_place : HoldTable → (destination sls : ℕ) → Option ℕ
 flow_place t destination sls = if nat_lt destination t.destinations then Some (SELECTIONS * destination + sls) else None
 
--- the row of a procedure, if it is there: first the changeovers of all links, then their times, then the codes of all
--- sets, then the reroutings of all destinations
+-- the row of a procedure, if it is there: first the changeovers of all links, then their time-controlled holds, then
+-- the codes of all sets, then the reroutings of all destinations
 abbrev pub place_of : HoldTable → Procedure → Option ℕ
 place_of t (Changeover link) = if nat_lt link t.links then Some link else None
 place_of t (Time link) = if nat_lt link t.links then Some (t.links + link) else None

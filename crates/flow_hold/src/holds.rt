@@ -12,8 +12,8 @@ use std::marker::Model;
 /// A set of pairs of a procedure and a flow. A flow goes by the number of its destination, in the order of the
 /// settings, and by its selection.
 ///
-/// All room is made by `new`. `hold` and `is_held` take a fixed number of steps, however much is held; `lift` takes one
-/// for each flow of the node, and for a rerouting one for each of 16.
+/// All room is made by `new`. `hold` and `is_held` take a fixed number of steps, however much is held. `lift` takes one
+/// for each flow of the node, and 16 for a rerouting.
 #[derive(Drop)]
 pub struct Holds {
     table: Table,

@@ -1,5 +1,5 @@
--- What is kept of a queue: the messages that aren't confirmed, the number of the first of them, how many of them
--- were sent, and the number that the peer's next message must have.
+-- What is kept of a queue: the messages that aren't confirmed, the number of the first of them, how many of them were
+-- sent, and the number that the peer's next message must have.
 use Rattle.std.specs.Prelude.{ℕ, Bool, ◌+◌, ◌-◌, ◌%◌, List, Option, Some, None, Result, Ok, Err, nat_eq, nat_lt}
 use Rattle.std.specs.Prelude.{nat_le, slice_get, if◌then◌else◌}
 use Rattle.signalling_types.specs.Message.{Message}

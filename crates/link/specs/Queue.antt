@@ -19,8 +19,8 @@ pub record Queue : Type 0 where
   -- how many messages of the peer were accepted
   pub received : ℕ
 
--- what is confirmed was sent, what was sent is there, and no more than a window of w is sent and unconfirmed;
--- settings allow no wider one than WINDOW
+-- what is confirmed was sent, what was sent is there, and no more than a window of w is sent and unconfirmed; settings
+-- allow no window above WINDOW
 pub record IsQueue (w : ℕ) (q : Queue) : Type 0 where
   pub confirmed : q.confirmed ≤ q.sent
   pub sent : q.sent ≤ length q.all
@@ -43,7 +43,7 @@ first_queue_at number = record { base = number; all = []; confirmed = 0; sent = 
 abbrev pub forward_number : Queue → ℕ → ℕ
 forward_number q k = (q.base + k) % modulus
 
--- a backward sequence number names a count from `confirmed` to `sent` if the number after it is that of the message
+-- a backward sequence number names a count from `confirmed` to `sent`, if the number after it is that of the message
 -- after the count (RFC 4165 §2.2)
 pub record Names (q : Queue) (bsn n : ℕ) : Type 0 where
   pub from_confirmed : q.confirmed ≤ n

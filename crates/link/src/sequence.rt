@@ -88,7 +88,7 @@ impl Sequence {
         }
     }
 
-    /// How many messages of the lane are before the count that a number names: a frame with this backward number
+    /// How many messages of the queue come before the count that a number names. A frame with this backward number
     /// confirms them, and a changeover with it moves those after them (Q.704 §5.4). None if the number names no count
     /// from what is confirmed to what was sent.
     pub fn retrieve(&self, confirmed: Number24) -> Option<usize>
@@ -109,10 +109,10 @@ impl Sequence {
         self.outstanding
     }
 
-    /// Takes the numbers of a frame of User Data, which carries a message or not: what it confirms leaves the front of
-    /// the lane, and a message that it carries counts as received. Returns how many messages it confirmed.
+    /// Takes the numbers of a frame of User Data, with or without a message. What it confirms leaves the front of the
+    /// queue, and a message that it carries counts as received. Returns how many messages it confirmed.
     ///
-    /// Refused BadFsn if the forward number isn't the next one, or without a message not that of the last accepted
+    /// Refused BadFsn if the forward number isn't the next one or, without a message, isn't that of the last accepted
     /// message; else BadBsn if the backward number names no count from what is confirmed to what was sent. Then nothing
     /// changes.
     #[inline(always)]

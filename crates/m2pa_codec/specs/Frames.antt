@@ -78,7 +78,7 @@ pub record IsHeaded (text : List ℕ) (kind bsn fsn : ℕ) (body : List ℕ) : T
   pub fsn_fits : fsn < 2 ^ 24
 
 -- the text is a frame that says this. User Data has no body, or any priority octet, the message's octet and its field
--- (RFC 4165 §2.3.1); Link Status has its state and any filler (RFC 4165 §2.3.2)
+-- (RFC 4165 §2.3.1). Link Status has its state and any filler (RFC 4165 §2.3.2)
 abbrev pub IsFrame : List ℕ → FrameValue → Type 0
 IsFrame text (EmptyFrame bsn fsn) = IsHeaded text user_data bsn fsn []
 IsFrame text (MessageFrame bsn fsn sio sif) = (priority : ℕ) × IsHeaded text user_data bsn fsn (priority ∷ sio ∷ sif)

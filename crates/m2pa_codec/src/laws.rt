@@ -1,5 +1,4 @@
-//! Laws of frames, for whoever reads a stream of them. Each function says its law by its
-//! contract, and does nothing.
+//! Laws of frames, for whoever reads a stream of them. Each function states its law in its contract, and does nothing.
 
 ghost use Rattle.std.specs.Prelude.{◌≡◌, ℕ, ◌++◌, ◌↔◌, List, [], Ok};
 ghost use Rattle.m2pa_codec.specs.Frames.{FrameValue, IsFrame, IsSayable, AreOctets, spelled, read_frame};

@@ -12,7 +12,7 @@ pub(crate) const USER_DATA: u8 = 1;
 /// The message type of Link Status (RFC 4165 §2.1.4).
 pub(crate) const LINK_STATUS: u8 = 2;
 
-/// What is written where readers pass over an octet.
+/// What is written into octets that readers skip.
 pub(crate) const SPARE: u8 = 0;
 
 /// Octets of the common header (RFC 4165 §2.1).

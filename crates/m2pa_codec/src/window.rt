@@ -36,8 +36,8 @@ impl Window {
         &self.octets[self.start..self.end]
     }
 
-    /// Puts octets after those that it holds. What is held moves to the front of the buffer first
-    /// if the room after it is too little.
+    /// Adds octets after those that it holds. If the room after those is too little, they move to the front of the
+    /// buffer first.
     pub(crate) fn append(&mut self, more: &[u8])
         requires { length (items self.old) + length more.now ≤ Limits.FRAME_OCTETS }
         ensures { items self.new ≡ items self.old ++ more.now }

@@ -11,9 +11,9 @@ use crate::layout::{
 };
 use signalling_types::{Limits, Number24};
 
-/// Writes the frame at the front of the buffer, and returns how many octets it has: 16, or 18 and those of the
-/// message's field, or 20 for a link status. Spare, unused and priority octets are 0, and no filler is written. The
-/// buffer after the frame may hold anything afterwards (RFC 4165 §2).
+/// Writes the frame at the front of the buffer, and returns how many octets it has: 16; 18 and those of the message's
+/// field; or 20 for a link status. Spare, unused and priority octets are 0, and no filler is written. The buffer after
+/// the frame may hold anything afterwards (RFC 4165 §2).
 #[inline(always)]
 pub fn encode(frame: &Frame<'_>, out: &mut [u8; BUFFER_OCTETS]) -> usize
     requires { length (sif_of (value_of frame.now)) ≤ Limits.SIF_OCTETS }

@@ -75,8 +75,8 @@ management_heading TrafficRestartAllowed = heading 7 1
 
 -- ---- The routing label: where a message goes, where it comes from, and how it chooses its link (Q.704 §2.2).
 
--- the label of a signalling information field: its first four octets as one number, low octet first;
--- the low 14 bits are the destination, the next 14 the origin, the top four the link selection
+-- the label of a signalling information field: its first four octets as one number, low octet first. The low 14 bits
+-- are the destination, the next 14 the origin, the top four the link selection
 abbrev pub label_at : List ℕ → Label
 label_at sif = record {
   dpc = label_number sif % 2 ^ 14;
@@ -107,8 +107,8 @@ pub record IsLabel (label : Label) : Type 0 where
 
 -- ---- Whether a message is for this point or another (Q.704 §2.4).
 
--- why a message is refused before its destination is looked at, if it is: it has no whole label,
--- or its network indicator is another one
+-- why a message is refused before its destination is looked at, if it is: it has no whole label, or another network
+-- indicator
 abbrev pub label_fault : Message → ℕ → Option Cause
 label_fault m network =
     if nat_lt (length m.sif) 4

@@ -55,8 +55,8 @@ link_code_of (RouteSetTestProhibited point) = 0
 link_code_of (RouteSetTestRestricted point) = 0
 link_code_of TrafficRestartAllowed = 0
 
--- the fields of a message: the number of the last message that its sender accepted, a changeback code, the code of the
--- point that it is about, or nothing
+-- the fields of a message: the number of the last message that its sender accepted, a changeback code, the point code
+-- that it is about, or nothing
 abbrev pub field_octets : Management → List ℕ
 field_octets (ExtendedChangeoverOrder slc number) = number_octets number
 field_octets (ExtendedChangeoverAcknowledgement slc number) = number_octets number
@@ -77,8 +77,8 @@ management_octets dpc opc message =
     label_octets (record { dpc = dpc; opc = opc; sls = link_code_of message })
     ++ management_heading message ∷ field_octets message
 
--- the ranges of what a message names: a link code of four bits, a number of 24, a changeback code of eight, and the
--- code of a point of 14
+-- the ranges of what a message names: a link code of four bits, a number of 24, a changeback code of eight, and a point
+-- code of 14
 abbrev pub IsManagement : Management → Type 0
 IsManagement (ExtendedChangeoverOrder slc number) = (slc < 2 ^ 4) × (number < 2 ^ 24)
 IsManagement (ExtendedChangeoverAcknowledgement slc number) = (slc < 2 ^ 4) × (number < 2 ^ 24)

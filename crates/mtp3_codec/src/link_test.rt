@@ -62,8 +62,8 @@ pub struct LinkTest<'a> {
 impl<'a> LinkTest<'a> {
     /// The link test or answer of a signalling information field. Its pattern is a slice of it.
     ///
-    /// Short if there is no heading after the label; else NotInProfile if the heading is none of the two; else Short if
-    /// there is no length octet, or fewer octets after it than that says. The length octet's low half and the octets
+    /// Short if there is no heading after the label; else NotInProfile if the heading is neither of the two; else Short
+    /// if there is no length octet, or fewer octets after it than it says. The length octet's low half and the octets
     /// after the pattern are ignored.
     pub fn read(sif: &'a [u8]) -> Result<LinkTest<'a>, MgmtFault>
         ensures exact { Gives result (read_link_test sif.now) }
@@ -82,7 +82,7 @@ impl<'a> LinkTest<'a> {
     }
 
     /// Writes the answer to this test at the front of a buffer, from the point `opc` to the point `dpc`, and returns
-    /// how many octets it has. It has the same code and the same pattern (Q.707 §2.2).
+    /// how many octets it has. It has the same code and pattern (Q.707 §2.2).
     pub fn answer(&self, dpc: PointCode, opc: PointCode, out: &mut [u8; ANSWER_OCTETS]) -> usize
         requires { length self.now.pattern.now ≤ 15 }
         ensures count { result ≡ 6 + length self.now.pattern.now }

@@ -19,8 +19,8 @@ use std::marker::Model;
 
 /// The state of each link, and the routes, which always know which links are in service.
 ///
-/// All room is made by `new`. The link of each flow is in a table (`Routes`): `link_of` is one look-up, and if a link
-/// enters or leaves service, or a status changes, the flows that it matters for are looked at again.
+/// All room is made by `new`. The link of each flow is in a table (`Routes`): `link_of` is one look-up, and when a link
+/// enters or leaves service, or a status changes, the flows that this may move are looked at again.
 #[derive(Drop)]
 pub struct NodeLinks {
     states: Vec<LinkState>,
@@ -95,8 +95,8 @@ impl NodeLinks {
         self.routes.in_service_without(link)
     }
 
-    /// The link of a flow, by the number of its destination and its selection: of the group that messages to that
-    /// destination take, the first in service in the order in which the selection tries them whose set they take (Q.704
+    /// The link of a flow, by the number of its destination and its selection, out of the group that messages to that
+    /// destination take: of the links in service whose set they take, the one that the selection tries first (Q.704
     /// §4.2).
     pub fn link_of(&self, destination: usize, sls: Sls) -> Option<LinkId>
         ensures link { result ≡ chosen_link (facts_of self.now) destination sls }

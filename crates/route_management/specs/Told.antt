@@ -140,7 +140,7 @@ abbrev pub heard_of : Option RouteStatus → RouteStatus → Heard
 heard_of None status = Ignored
 heard_of (Some old) status = if is_same old status then Unchanged else Changed
 
--- a transfer-prohibited, -restricted or -allowed message from the adjacent point of a set about a destination: it says
+-- a transfer-prohibited, -restricted or -allowed message from the adjacent point of a set about a destination says
 -- nothing of that point itself, nor of a destination that the set doesn't lead to
 abbrev pub heard : Facts → ToldTable → (set destination : ℕ) → RouteStatus → Heard
 heard f t set destination status =
@@ -151,8 +151,8 @@ abbrev pub tested : RouteTest → RouteStatus
 tested test.Prohibited = Prohibited
 tested test.Restricted = Restricted
 
--- what a test from the adjacent point of a set about a destination is answered with: what that point is to be told, if
--- this isn't what the test asks about; nothing about that point itself
+-- what a test from the adjacent point of a set about a destination is answered with: what that point is to be told,
+-- unless the test asks about just this; nothing about that point itself
 abbrev pub answer_to_test : Facts → ToldTable → (set destination : ℕ) → RouteTest → Option RouteStatus
 answer_to_test f t set destination test =
     if is_own_point t set destination || is_same (status_to_advertise f set destination) (tested test)

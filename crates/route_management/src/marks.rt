@@ -13,7 +13,7 @@ const BLOCK: usize = 64;
 /// Whether each number below a bound is marked.
 ///
 /// All room is made by `new`: an octet for each number, and one for each 64 of them. `mark` takes a fixed number of
-/// steps, `clear` writes each octet, and `next` takes a step for each block up to that of the number that it finds, and
+/// steps, and `clear` writes each octet. `next` takes a step for each block up to that of the number that it finds, and
 /// 64 for each block in which some number was marked since `clear`; if none was, it takes one step.
 #[derive(Drop)]
 pub(crate) struct Marks {

@@ -19,8 +19,8 @@ use std::marker::Model;
 /// What the adjacent point of each set was told of each destination. A destination goes by its number in the order of
 /// the settings.
 ///
-/// All room is made by `new`. `tell` and `is_own_point` take a fixed number of steps, `reset` takes one for each
-/// destination, and each other call what `NodeLinks` takes for the route to one destination, or for its status.
+/// All room is made by `new`. `tell` and `is_own_point` take a fixed number of steps, and `reset` one for each
+/// destination. Each other call takes what `NodeLinks` takes for the route to one destination, or for its status.
 #[derive(Drop)]
 pub struct Told {
     adjacents: Vec<Option<usize>>,
@@ -66,9 +66,9 @@ impl Told {
         }
     }
 
-    /// The status that the adjacent point of a set is owed of a destination: what it is to be told, where it was told
-    /// something else. `None` where it was told just that, if no link of the set is in service, if it is that
-    /// destination itself, and if one of the two isn't there (Q.704 §13.2 to §13.4).
+    /// The status of a destination that the adjacent point of a set is still to be told: what it should know, if it was
+    /// told something else. `None` if it was told just that, if no link of the set is in service, if it is that
+    /// destination itself, or if one of the two isn't there (Q.704 §13.2 to §13.4).
     pub fn owed(&self, links: &NodeLinks, set: SetId, destination: usize) -> Option<RouteStatus>
         ensures { result ≡ owed_at (facts_of links.now) self.now set destination }
     {

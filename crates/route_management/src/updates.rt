@@ -96,8 +96,8 @@ impl PendingUpdates {
         self.extent = Extent::Nothing;
     }
 
-    /// No update before this one is pending any more. What is left is kept by its place where that is no more than what
-    /// was to be looked for; else all stays as it is.
+    /// No update before this one is pending any more. What is left is recorded by its index if that is no more than
+    /// what was to be looked for; else all stays as it is.
     pub fn clear_before(&mut self, set: SetId, destination: usize)
         ensures { self.new ≡ without_before set destination self.old }
     {
@@ -107,8 +107,8 @@ impl PendingUpdates {
         }
     }
 
-    /// The first destination from this one on of which an update for the point of a set may be pending; `None` if there
-    /// is none.
+    /// The first destination from this one on with an update that may be pending for the point of a set; `None` if
+    /// there is none.
     #[inline(always)]
     pub fn next(&self, set: SetId, from: usize) -> Option<usize>
         ensures some { IfSome result (λ destination. IsNext self.now set from destination) }

@@ -32,7 +32,7 @@ has_member link links = list_any (λ l. nat_eq l link) links
 
 -- ---- What is known of routes (Q.704 §3).
 
--- routing facts: the links of each set, by their codes; of each link, whether it is in service; the routes of each
+-- routing facts: the links of each set, by their codes; whether each link is in service; and the routes of each
 -- destination, by the sets that lead there, the preferred one first
 pub record Facts : Type 0 where
   pub sets : List (List ℕ)
@@ -185,8 +185,8 @@ abbrev pub allowed_or : (allowed restricted : List Route) → Choice
 allowed_or (first ∷ rest) restricted = record { group = first ∷ rest; status = Allowed }
 allowed_or [] restricted = record { group = restricted; status = Restricted }
 
--- the group that messages take: the first with a set that is allowed and has a link in service, else the first with one
--- that is restricted and has one
+-- the group that messages take: the first that has an allowed set with a link in service, else the first that has a
+-- restricted one
 unfoldable pub choice_among : Facts → List Route → Choice
 choice_among f routes =
     allowed_or (open_group f Allowed (groups_of routes)) (open_group f Restricted (groups_of routes))

@@ -10,8 +10,8 @@ ghost use Rattle.routes.specs.declared.route.Route.{Route};
 ghost use Rattle.routes.specs.declared.route.RouteStatus.{RouteStatus};
 ghost use Rattle.routes.specs.declared.route.RouteStatus.TheVariants.{Allowed, Prohibited};
 
-/// No links are tried in no order; else a flow tries the link at its selection modulo their count, and then the
-/// others as a flow of the quotient does.
+/// Without links there is no order; else a flow tries the link at its selection modulo their count, and then the others
+/// as a flow of the quotient does.
 pub fn preference_by_selection()
     ensures none { (selection : ℕ) → preference {A = Member} selection [] ≡ [] }
     ensures some { (selection : ℕ) (links : List Member) (other : Member) → 0 < length links
@@ -84,8 +84,8 @@ pub fn another_destination_is_left()
         → chosen_link (with_status destination set status f) other selection ≡ chosen_link f other selection }
 {}
 
-/// While no link of a set is in service, its statuses don't matter: as they become allowed, messages to each
-/// destination take the same routes, and each flow its link.
+/// While no link of a set is in service, its statuses don't matter: if they become allowed, messages to each
+/// destination take the same routes, and each flow keeps its link.
 #[tactic(auto, using(crate::proofs::Resetting::reset_routes, crate::proofs::Resetting::reset_link))]
 pub fn reset_out_of_service_moves_nothing()
     ensures routes { (f : Facts) (set destination : ℕ) → has_link f.in_service (set_at f set) ≡ false

@@ -31,8 +31,7 @@ impl Default for Member {
     }
 }
 
-/// The links that flows try: those of one link set, or of two that are joined, the links of the first set before those
-/// of the second.
+/// The links that flows try: those of one link set, or of two that are joined, the first set's before the second's.
 #[derive(Drop)]
 pub struct LinkGroup {
     members: ArrayVec<Member, MEMBERS>,
@@ -66,8 +65,8 @@ impl LinkGroup {
         add_links(&mut self.members, set, links.links());
     }
 
-    /// The links, in the order in which a flow of this selection tries them: first the one at the selection modulo
-    /// their count, then the others in the same way by the quotient.
+    /// The links in the order in which a flow of this selection tries them: first the one at the selection modulo their
+    /// count, then the others in the same way by the quotient.
     pub fn preference(&self, sls: Sls) -> ArrayVec<Member, MEMBERS>
         ensures { result.items ≡ preference sls self.now }
     {
@@ -82,7 +81,7 @@ impl LinkGroup {
         order
     }
 
-    /// The link of a flow of this selection whose messages take these sets: of the links that it tries the first in
+    /// The link of a flow of this selection whose messages take these sets: of the links that it tries, the first in
     /// service whose set is one of them. `in_service` says of each link by its number whether it is in service.
     pub fn first_serving(&self, sls: Sls, in_service: &[bool], sets: &[SetId]) -> Option<LinkId>
         ensures { result ≡ first_serving sls in_service.now sets.now self.now }

@@ -92,8 +92,8 @@ impl Routes {
         mend_by_set(&mut self.links, &facts, set);
     }
 
-    /// The link of a flow: of the group that messages to its destination take, the first in service in the order in
-    /// which the selection tries them whose set they take (Q.704 §4.2). It is one look-up.
+    /// The link of a flow, out of the group that messages to its destination take: of the links in service whose set
+    /// they take, the one that the selection tries first (Q.704 §4.2). It is one look-up.
     pub fn link_of(&self, destination: usize, sls: Sls) -> Option<LinkId>
         ensures { result ≡ chosen_link self.now destination sls }
     {

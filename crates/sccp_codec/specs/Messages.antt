@@ -34,7 +34,7 @@ is_by_ssn Title = false
 is_by_ssn Ssn = true
 
 -- the indicator octet: whether there is a point code, whether there is a subsystem number, four bits of title
--- indicator, by what it is routed, national use (Q.713 §3.4.1)
+-- indicator, what routing is by, national use (Q.713 §3.4.1)
 abbrev pub indicator_octet : AddressValue → ℕ
 indicator_octet a =
     bit (is_some a.point) 0 + bit (is_some a.ssn) 1 + a.title_indicator * 2 ^ 2

@@ -9,7 +9,7 @@ use crate::layout::{NATIONAL_BIT, POINT_BIT, ROUTING_BIT, SSN_BIT};
 use crate::title_indicator::TitleIndicator;
 use signalling_types::PointCode;
 
-/// By what a message to this address is routed (Q.713 §3.4.1).
+/// What a message to this address is routed by (Q.713 §3.4.1).
 #[derive(Clone, Copy, PartialEq, Eq)]
 pub enum Routing {
     /// By its global title.
@@ -23,7 +23,7 @@ pub enum Routing {
 pub struct Address<'a> {
     /// The bit that is kept for national use.
     pub national: bool,
-    /// By what a message to it is routed.
+    /// What a message to it is routed by.
     pub routing: Routing,
     /// Its signalling point, if it says one.
     pub point: Option<PointCode>,
@@ -31,7 +31,7 @@ pub struct Address<'a> {
     pub ssn: Option<u8>,
     /// What its title is made of.
     pub title_indicator: TitleIndicator,
-    /// The octets of its title: all that are after the fields before.
+    /// The octets of its title: all that follow the fields before.
     pub title: &'a [u8],
 }
 

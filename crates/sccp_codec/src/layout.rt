@@ -30,7 +30,7 @@ pub(crate) const POINT_BIT: u32 = 0;
 /// The bit that says that a subsystem number follows.
 pub(crate) const SSN_BIT: u32 = 1;
 
-/// The bit that says by what the address is routed.
+/// The bit that says what the address is routed by.
 pub(crate) const ROUTING_BIT: u32 = 6;
 
 /// The bit that is kept for national use.

@@ -95,8 +95,8 @@ row_of_title rows (Ok title) =
 abbrev pub row_of : List TitleEntry → AddressValue → Result TitleEntry Cause
 row_of rows address = row_of_title rows (read_title address.title_indicator address.title)
 
--- by what the address is routed at the point that a row leads to, and the subsystem number there: that of the row, if
--- it has one, else that of the address, if it has one
+-- what the address is routed by at the point that a row leads to, and the subsystem number there: that of the row if it
+-- has one, else that of the address if it has one
 abbrev pub routing_by : TitleRoute → Routing
 routing_by (route.Title ssn) = routing.Title
 routing_by (route.Ssn ssn) = routing.Ssn
@@ -117,14 +117,14 @@ translated row address = record address {
   ssn = ssn_by row.route address.ssn;
 }
 
--- the calling address, as a point further on has to see it: if it is by subsystem number and names no point, that of
--- the sender is put in (Q.714 §2.7)
+-- the calling address, as a further point must see it: if it is routed by subsystem number and names no point, it gets
+-- that of the sender (Q.714 §2.7)
 abbrev pub from_point : ℕ → AddressValue → AddressValue
 from_point sender address =
     if is_by_ssn address.routing && is_none address.point then record address { point = Some sender } else address
 
--- whether such parts can be written: the pointers and the length of the data are an octet each, and the field isn't too
--- long
+-- whether such parts can be written: the pointers and the length of the data take an octet each, and the field isn't
+-- too long
 abbrev pub is_writable : PartsValue → Bool
 is_writable parts =
     nat_lt (3 + length (address_octets 0 parts.called) + length (address_octets 0 parts.calling)) (2 ^ 8)
@@ -221,8 +221,8 @@ return_by_row own label number parts (Err cause) = None
 return_by_row own label number parts (Ok row) =
     return_to own.point label row.point (UdtsValue number (led_back row parts))
 
--- a UDTS goes to the address that called: by subsystem number to the point that it names, else back where the message
--- came from; by title to where a row leads
+-- a UDTS goes to the address that called. By subsystem number that is the point that it names, else the point that the
+-- message came from; by title it is where a row leads
 abbrev pub return_by : Routing → OwnValue → List TitleEntry → Label → ℕ → PartsValue → Option (List ℕ)
 return_by Ssn own rows label number parts =
     return_to own.point label (unwrap_or parts.calling.point label.opc) (UdtsValue number (sent_back parts))

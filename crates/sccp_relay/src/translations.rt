@@ -128,9 +128,9 @@ impl Translations {
         self.rows.get(index).copied()
     }
 
-    /// The row that an address of this key and these digits is translated by: among the rows of the key whose digits
-    /// begin these, the one with the most. It takes a step for each digit, however many rows there are; if none begins
-    /// them, it looks for a row of the key by halves.
+    /// The row that translates an address of this key and these digits: of the rows of the key whose digits begin
+    /// these, the one with the most. It takes a step for each digit, however many rows there are. If none begins them,
+    /// it looks for a row of the key by binary search.
     ///
     /// Refused NoNature if there is no row of the key; else NoDigits if none of these begins the digits (Q.714 §2.6).
     pub fn translate(&self, key: TitleKey, digits: &[u8]) -> Result<TitleRow, Cause>

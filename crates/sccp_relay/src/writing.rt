@@ -10,8 +10,8 @@ use sccp_codec::{Address, Field, Routing, Udt, Udts};
 use settings_rows::{TitleRoute, TitleRow};
 use signalling_types::{Limits, PointCode, Ssn};
 
-/// Writes a UDT for another point after a label from this one, which keeps the link selection, at the front of the
-/// field, and returns how many octets it has. None where it would be too long.
+/// Writes a UDT for another point at the front of the field, after a label from this one with the same link selection,
+/// and returns how many octets it has. None if it would be too long.
 pub(crate) fn write_udt(
     point: PointCode,
     own: PointCode,

@@ -50,11 +50,11 @@ abbrev pub is_open : Result Bool ServeFault → Bool
 is_open (Ok opened) = opened
 is_open (Err fault) = false
 
--- an address; if it isn't open, one that no other machine reaches
+-- an address that, unless it is open, no other machine reaches
 abbrev pub guarded : ServeKey → (opened : Bool) → SocketAddr → Result SocketAddr ServeFault
 guarded key opened a = if is_loopback a || opened then Ok a else Err (Range key)
 
--- where the console listens, if there is one: if it isn't open, on an address that no other machine reaches
+-- where the console listens, if there is one; unless it is open, no other machine reaches that
 abbrev pub console_in : Spelling → (opened : Bool) → Option Data → Result (Option SocketAddr) ServeFault
 console_in s opened None = Ok None
 console_in s opened (Some d) =
@@ -97,8 +97,8 @@ udp_at s t = udp_in s (get_member (codes "udp") t)
 unfoldable pub page_open_at : Members → Result Bool ServeFault
 page_open_at t = truth_or key.PageOpen false (get_member (codes "page_open") t)
 
--- where the status page is, if there is one: if it isn't open, at an address that no other machine reaches; and not
--- where the console is
+-- where the status page is, if there is one: not where the console is and, unless it is open, at an address that no
+-- other machine reaches
 abbrev pub page_in : Spelling → (opened : Bool) → Option SocketAddr → Option Data
     → Result (Option SocketAddr) ServeFault
 page_in s opened console None = Ok None

@@ -62,7 +62,7 @@ fn contents(alloc: Global, table: &Table) -> Result<ServeSettings, ServeFault>
     })
 }
 
-/// A text of its own, if there is one. The error means that memory ran out.
+/// The text, owned, if there is one. The error means that memory ran out.
 fn owned(alloc: Global, text: Option<&str>) -> Result<Option<String>, AllocError>
     ensures { IfOk result (λ owned. option_map (λ own. string_bytes own) owned
         ≡ option_map (λ text. text.now) text.entry) }
@@ -75,9 +75,9 @@ fn owned(alloc: Global, text: Option<&str>) -> Result<Option<String>, AllocError
 
 /// Reads the settings of a server from the document that a settings file is.
 ///
-/// Returns the settings, or the first fault of the keys `tick_ms`, `console`, `capture`, `console_open`, `points` and
-/// `udp` of `[serve]`, of the keys of `[serve.sctp]`, of `page_open` and `page`, then of the keys of each link, from
-/// the first on. If memory runs out, that may be returned instead. Keys of other names are ignored.
+/// Returns the settings, or the first fault, in this order: the keys `tick_ms`, `console`, `capture`, `console_open`,
+/// `points` and `udp` of `[serve]`, those of `[serve.sctp]`, `page_open` and `page`, then the keys of each link, from
+/// the first. If memory runs out, that may be returned instead. Keys of other names are ignored.
 pub fn read_server(alloc: Global, document: &Table) -> Result<ServeSettings, ServeFault>
     ensures { (s : Spelling) (text : List ℕ) → parse_document text ≡ Some (table_view document.now)
         → AnswersOrNoMemory (λ settings. settings) (reading s text) result }

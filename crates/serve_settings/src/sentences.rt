@@ -45,8 +45,8 @@ const CONNECTS: &str = "but the link has connect too";
 /// What is wrong with a peer that another link has.
 const SAME_PEER: &str = "whose host and SCTP ports another link has too";
 
-/// The sentence that says what is wrong with the document that a settings file of this name is, which has this fault,
-/// with a line feed: `node.toml: serve.tick_ms is 5, must be 10 to 10000`. Of a fault of the node's settings it is what
+/// The sentence that says what this fault is, in the document of a settings file of this name, with a line feed:
+/// `node.toml: serve.tick_ms is 5, must be 10 to 10000`. A fault of the node's settings gives what
 /// `settings_file::sentence` says.
 ///
 /// `AllocError` if memory ran out.

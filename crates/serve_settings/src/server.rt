@@ -59,9 +59,9 @@ pub(crate) struct OwnAddresses {
     pub(crate) udp: Option<SocketAddr>,
 }
 
-/// The settings of a server: how long a tick is, where its console listens, what file it captures
-/// to, how it shows point codes, where its datagrams go out and by which times, where its status page
-/// is, and how the association of each link comes about.
+/// The settings of a server: the length of a tick, where its console listens, the capture file, how it shows point
+/// codes, where its datagrams go out and with which times, where its status page is, and how the association of each
+/// link comes about.
 #[derive(Drop)]
 pub struct ServeSettings {
     pub(crate) tick_ms: u16,

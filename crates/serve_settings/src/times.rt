@@ -39,7 +39,7 @@ const USUAL: SctpTimes = SctpTimes {
     heartbeat_ms: 5_000,
 };
 
-/// What a number has to be, and what it is where its key is left out.
+/// What a number must be, and what it is if its key is left out.
 #[derive(Clone, Copy)]
 struct Limits {
     least: u32,

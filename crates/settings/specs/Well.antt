@@ -53,7 +53,7 @@ is_link_of_same_name l m = bytes_eq l.name m.name
 abbrev pub is_same_code : LinkEntry → LinkEntry → Bool
 is_same_code l m = nat_eq l.set m.set && nat_eq l.slc m.slc
 
--- a destination is another point, and one to eight of n link sets lead there, none of them twice; at least two if the
+-- a destination is another point. One to eight of n link sets lead there, none of them twice, and at least two if the
 -- first two are joined
 pub record IsDestination (own : ℕ) (n : ℕ) (d : DestinationEntry) : Type 0 where
   pub point : IsFarPoint own d.point

@@ -12,7 +12,7 @@ use std::alloc::Global;
 /// The largest point code.
 const LAST_POINT: u16 = 16_383;
 
-/// A fault of this kind at this key, unless all is well there.
+/// A fault of this kind at this key, unless the test holds.
 pub(crate) fn ensure(well: bool, kind: FaultKind, key: Key) -> Result<(), DraftFault>
     ensures well { OnOk result (fault_unless well kind key ≡ None) }
     ensures fault { IfErr result (λ fault. fault_unless well kind key ≡ Some fault) }

@@ -79,7 +79,7 @@ pub record Names (file sentence : List ℕ) : Type 0 where
   pub rest : List ℕ
   pub text : sentence ≡ file ++ (codes ": " ++ rest)
 
--- a sentence about a fault of a file with these octets names the file; and if the file is TOML, the key that the fault
+-- a sentence about a fault of a file with these octets names the file and, if the file is TOML, the key that the fault
 -- is at
 pub record Explains (file octets : List ℕ) (why : SettingsFault) (sentence : List ℕ) : Type 0 where
   pub names : Names file sentence

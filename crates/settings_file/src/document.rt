@@ -141,10 +141,10 @@ fn checked(alloc: Global, version: i64, draft: Draft) -> Result<Settings, DraftF
 
 /// Reads settings from the text of a file, and checks them.
 ///
-/// Returns the settings, or the first fault: `Text` if the text isn't TOML; then `Missing` and `Kind` over all keys in
-/// their order, the entries of an array from the first on; then `Version`; then what `Settings::check` finds; and last,
-/// in a file of the first version, a window and then destinations beyond the `FirstLimits`. If memory runs out, that
-/// may be returned instead. Keys of other names are ignored.
+/// Returns the settings, or the first fault. First `Text` if the text isn't TOML; then `Missing` and `Kind` over all
+/// keys in order, the entries of each array from the first; then `Version`; then what `Settings::check` finds; and
+/// last, in a file of the first version, a window and then destinations beyond the `FirstLimits`. If memory runs out,
+/// that may be returned instead. Keys of other names are ignored.
 pub fn read(alloc: Global, text: &str) -> Result<Settings, SettingsFault>
     ensures settings { IfOk result (IsReadAs text.now) }
     ensures fault { IfErr result (λ fault. (fault ≡ no_memory) ⊎ IsFirstFault text.now fault) }

@@ -15,8 +15,8 @@ use toml::{Table, Value};
 /// The first version of the format, which has smaller limits.
 const FIRST_VERSION: i64 = 1;
 
-/// The sentence that says what is wrong with the document that a settings file of this name is, which
-/// has this fault, with a line feed: `node.toml: link[2] "e2": slc is 16, must be 0 to 15`.
+/// The sentence that says what this fault is, in the document of a settings file of this name, with a line feed:
+/// `node.toml: link[2] "e2": slc is 16, must be 0 to 15`.
 ///
 /// `AllocError` if memory ran out.
 pub fn sentence(

@@ -100,7 +100,7 @@ struct TableArray {
 /// Warnings of one file, at most.
 const MOST_WARNINGS: usize = 20;
 
-/// A known key is near if at most one edit leads to it, or one for each this many octets of the key that is ignored.
+/// A known key is near if at most one edit leads to it, or one for every this many octets of the ignored key.
 const OCTETS_PER_EDIT: usize = 3;
 
 /// The warnings of a file, as they are written.
@@ -205,7 +205,7 @@ impl WarningText<'_> {
         Ok(())
     }
 
-    /// Warns of the keys of a table, before which this is.
+    /// Warns of the keys of a table, whose path begins like this.
     fn add_table(
         &mut self,
         alloc: Global,
@@ -278,7 +278,7 @@ fn array(name: &'static str, keys: &'static [&'static str]) -> TableArray
     TableArray { name, keys }
 }
 
-/// The warning of a key, before which this is.
+/// The warning of a key, whose path begins like this.
 fn warning(
     alloc: Global,
     file: &str,
@@ -299,7 +299,7 @@ fn warning(
     format!(in alloc; "{file}: {front}{key} is ignored; the nearest key is {front}{nearest}\n")
 }
 
-/// The near known key that the fewest edits lead to.
+/// The near known key that takes the fewest edits.
 fn nearest<'a>(alloc: Global, key: &str, known: &[&'a str]) -> Result<Option<&'a str>, AllocError> {
     let mut nearest = None;
     let mut too_many = 1 + (key.len() / OCTETS_PER_EDIT).max(1);

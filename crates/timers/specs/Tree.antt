@@ -1,6 +1,5 @@
--- A tree of moments, in one list: the node i has the nodes 2 * i and 2 * i + 1 below it, and holds
--- a bound: no moment below it is less. The node 1 is the top; the leaves are in the second half of
--- the list.
+-- A tree of moments, in one list: the node i has the nodes 2 * i and 2 * i + 1 below it, and holds a bound, such that
+-- no moment below it is less. The node 1 is the top; the leaves are in the second half of the list.
 use Rattle.std.specs.Prelude.{◌≢◌, ℕ, zero, suc, ◌+◌, ◌-◌, ◌*◌, ◌≤◌, ◌<◌, nat_lt, nat_le, min, Bool, if◌then◌else◌}
 use Rattle.std.specs.Prelude.{Option, None, Some, List, get_or}
 use Rattle.std.specs.Option.{option_or}

@@ -40,7 +40,7 @@ pub fn setting_changes_one_timer()
     ensures never { (name : TimerName) (r : Running) → has_name r.counts name ≡ false → r.left name ≡ None }
 {}
 
-/// A timer that is started unless it runs goes on if it runs, and else is set.
+/// A timer that is started unless it runs goes on if it runs, and is set if it doesn't.
 pub fn starting_leaves_what_runs()
     ensures runs { (name : TimerName) (ticks : ℕ) (r : Running) → is_running name r ≡ true
         → start_unless_running name ticks r ≡ r }
@@ -85,7 +85,7 @@ pub fn what_is_handed_out_is_stopped()
     ensures none { (r : Running) → due_name r ≡ None → after_due r ≡ r }
 {}
 
-/// Whoever takes what is due comes to an end after as many as are due: each taken leaves one less, setting or stopping
+/// Taking what is due ends after as many calls as there are timers due: each call leaves one less, setting or stopping
 /// a timer adds none, and if nothing is handed out none is left.
 pub fn what_is_due_runs_out()
     ensures taken { (name : TimerName) (r : Running) → due_name r ≡ Some name

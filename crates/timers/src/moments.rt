@@ -19,11 +19,10 @@ const LEVELS: u32 = 48;
 
 /// The ticks that are left at each place, if a timer runs there.
 ///
-/// The clock goes on with each tick, and a place holds the moment at which its timer runs out. The
-/// places are the first leaves of a tree in which no node holds more than the moments below it. So
-/// a tick touches no timer, what is due is found from the top, a timer that stops costs one write,
-/// and one that starts the part of one path to the top that holds later moments. What a timer that
-/// was stopped leaves above it stays until it has come: then a tick mends it.
+/// The clock goes on with each tick, and a place holds the moment at which its timer runs out. The places are the first
+/// leaves of a tree in which no node holds more than the moments below it. So a tick touches no timer, what is due is
+/// found from the top, stopping a timer costs one write, and starting one costs the part of a path to the top that
+/// holds later moments. What a stopped timer leaves above it stays until its moment has come; then a tick mends it.
 #[derive(Drop)]
 pub struct Moments {
     /// Ticks that have passed.
@@ -116,7 +115,7 @@ impl Moments {
 
     /// Takes one tick from each timer.
     ///
-    /// If nothing has come this is one addition and one look at the top.
+    /// If nothing has come, this is one addition and one look at the top.
     pub fn tick(&mut self)
         ensures { self.new ≡ map one_less self.old }
     {

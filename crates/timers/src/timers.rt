@@ -15,9 +15,9 @@ use std::marker::Model;
 /// The timers of a node: a finite map from names to the ticks that are left. `laws` says what each
 /// call does to it.
 ///
-/// Each timer that the node has is at a place of its own, and places rise in name order. Setting
-/// one costs at most one path of a tree over the places, stopping one a write; a tick costs the
-/// timers that run out in it, or that were stopped or set again and would have, and a constant.
+/// Each timer of the node is at a place of its own, and places rise in name order. Setting a timer costs at most one
+/// path of a tree over the places, and stopping one costs a write. A tick costs a constant, and the timers that run out
+/// in it, or would have if they hadn't been stopped or set again.
 #[derive(Drop)]
 pub struct Timers {
     counts: NodeCounts,
@@ -52,9 +52,9 @@ impl Timers {
         })
     }
 
-    /// Starts a timer, which runs out after this many ticks, at the next one if that is 0. If it
-    /// runs already it starts again, and forgets its old moment. A name of a link, set or
-    /// destination that the node doesn't have is ignored.
+    /// Starts a timer, which runs out after this many ticks, at the next one if that is 0. If it runs already it
+    /// restarts, and forgets its old moment. A name of a link, set or destination that the node doesn't have is
+    /// ignored.
     #[inline(always)]
     pub fn set(&mut self, name: TimerName, ticks: u16)
         ensures { self.new ≡ set_timer name ticks self.old }

@@ -1,6 +1,5 @@
-//! A tree of moments, in one list: the node `i` has the nodes `2 * i` and `2 * i + 1` below it, and
-//! holds a bound: no moment below it is less. The node 1 is the top, and the leaves are in the
-//! second half of the list.
+//! A tree of moments, in one list: the node `i` has the nodes `2 * i` and `2 * i + 1` below it, and holds a bound, such
+//! that no moment below it is less. The node 1 is the top, and the leaves are in the second half of the list.
 
 ghost use Rattle.std.specs.Prelude.{◌≡◌, ◌≤◌, ◌<◌, ◌+◌, ◌*◌, ◌^◌, IfOk, length, map, drop, replicate, slice_set};
 ghost use Rattle.timers.specs.Tree.{never, rebased, least, first_below, count_below, IsBounded, AreBounded};

@@ -7,8 +7,8 @@ use super::CellLinks;
 use crate::cell_number::CellNumber;
 
 impl CellLinks {
-    /// Notes the cell at an index of a list, if there is one: the way to it, and to the one after it, is short from
-    /// then on.
+    /// Notes the cell at an index of a list, if there is one. From then on the way to it, and to the one after it, is
+    /// short.
     pub(crate) fn note(&mut self, ring: usize, index: usize)
         requires { ring < length self.old.rings }
         ensures { self.new ≡ self.old }
@@ -71,8 +71,8 @@ impl CellLinks {
         self.chains[ring].first()
     }
 
-    /// The cell at an index of a list: the noted one and the last one are known, and the way to others begins at the
-    /// noted one or at the first.
+    /// The cell at an index of a list. The noted one and the last one are known; the way to others begins at the noted
+    /// one or at the first.
     pub(super) fn cell_at(&self, ring: usize, index: usize) -> CellNumber
         requires ring { ring < length self.now.rings }
         requires index { index < length (ring_at self.now.rings ring) }

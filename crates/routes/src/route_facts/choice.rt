@@ -23,9 +23,8 @@ struct Choice<'a> {
 }
 
 impl<'f> RouteFacts<'f> {
-    /// The routes that messages to a destination take, in the order of its sets: all of the first
-    /// group with one that is allowed and whose set has a link in service, else the same with
-    /// restricted (Q.704 §4.2).
+    /// The routes that messages to a destination take, in the order of its sets: all of the first group that has an
+    /// allowed route whose set has a link in service, else the same with restricted (Q.704 §4.2).
     pub fn routes_of(&self, destination: usize) -> ArrayVec<Route, JOINED>
         ensures { result.items ≡ chosen_routes self.now destination }
     {
@@ -52,8 +51,8 @@ impl<'f> RouteFacts<'f> {
         }
     }
 
-    /// The link of a flow: of the group that messages to its destination take, the first in service in the order in
-    /// which the selection tries them whose set they take (Q.704 §4.2).
+    /// The link of a flow, out of the group that messages to its destination take: of the links in service whose set
+    /// they take, the one that the selection tries first (Q.704 §4.2).
     #[tactic(auto, unfolding(crate::specs::Routes::link_by))]
     pub fn link_of(&self, destination: usize, sls: Sls) -> Option<LinkId>
         ensures { result ≡ chosen_link self.now destination sls }
