@@ -14,8 +14,8 @@ use Rattle.exchange_rules.specs.Timing.{timer_name}
 use Rattle.exchange_rules.specs.Lasting.{after_each}
 use Rattle.exchange_rules.specs.First.{first_state}
 
--- the timer with which a link waits in a state: L2 for its peer to align, L3 to be proved, L4 while it is, and L1 for
--- its peer to be ready
+-- the timer with which a link waits in a state: L2 for its peer to align, L3 to be proved, L4 while it is proved, and
+-- L1 for its peer to be ready
 abbrev pub waiting_in : Alignment → Option LinkTimer
 waiting_in Down = None
 waiting_in NotAligned = Some L2
@@ -37,8 +37,8 @@ is_of_waits L4 = true
 is_of_waits L6 = false
 is_of_waits L7 = false
 
--- Of the timers with which links wait, just that of a link's state runs; and L6 runs just while the link is in service
--- and its peer is busy.
+-- Of the timers with which links wait, only that of a link's state runs. L6 runs only while the link is in service and
+-- its peer is busy.
 pub record HasItsTimer (link : ℕ) (l : Link) (r : Running) : Type 0 where
   pub waits : (timer : LinkTimer) → is_of_waits timer ≡ true →
       is_running (timer_name link timer) r ≡ is_that (waiting_in l.alignment) timer

@@ -36,7 +36,7 @@ code_in_use c set code p =
 abbrev pub time_in_use : Configuration → (link : ℕ) → Parts → Parts
 time_in_use c link p = record p { timers = set_timer (T3 link) c.timers.t3 p.timers }
 
--- the answer came: the code is free, T4 stops, and the code holds nothing any more
+-- the answer came: the code is free and holds nothing any more, and T4 stops
 abbrev pub freed : (set code : ℕ) → Parts → Parts
 freed set code p = record p {
   codes = with_code p.codes set code false;
@@ -87,8 +87,8 @@ module _ {Q : Type 0} (q : QueueKind Q) (c : Configuration) where
   usable link (Some code) node = if_room (no_room q c (declaration c link code) node.queues) code
   usable link None node = None
 
-  -- the code by which the flows are held that a link takes back from another: the least that is free, if both links are
-  -- of one set
+  -- the code that holds the flows that a link takes back from another: the least that is free, if both links are of one
+  -- set
   abbrev pub code_for : (link other : ℕ) → Node Q → Option ℕ
   code_for link other node =
       if nat_eq (set_of c other) (set_of c link)
@@ -101,7 +101,7 @@ module _ {Q : Type 0} (q : QueueKind Q) (c : Configuration) where
       queue_on q c other (declaration c link code) (with_parts node (code_in_use c (set_of c link) code node.parts))
   declared None link other node = node
 
-  -- flows are to be held: by a code, whose declaration goes out, or without one by time, and T3 runs
+  -- flows are to be held: by a code, whose declaration goes out, or by time, and T3 runs
   abbrev pub declare_by : Option ℕ → (link other : ℕ) → Node Q → Node Q
   declare_by (Some code) link other node = declared (Some code) link other node
   declare_by None link other node = with_parts node (time_in_use c link node.parts)

@@ -35,7 +35,7 @@ is_of_flow c destination sls m =
     not (is_management m)
     && (option_eq nat_eq (destination_place c (flow_of m).point) (Some destination) && nat_eq (flow_of m).sls sls)
 
--- whether a flow fails with a link: that was its link, or an unconfirmed message of it is there
+-- whether a flow fails with a link: its link is that one, or an unconfirmed message of it is there
 abbrev pub is_failed : Configuration → Facts → (link : ℕ) → (unconfirmed : List Message) → (destination sls : ℕ) → Bool
 is_failed c f link unconfirmed destination sls =
     goes_by (chosen_link f destination sls) link || list_any (is_of_flow c destination sls) unconfirmed
@@ -68,16 +68,16 @@ fail_link link why p =
     note (notices.Failed link why)
     (record p { links = links_with p link (after_failure (link_at p link)); timers = without_timers link p.timers })
 
--- where it was the last of its set, its point is tested about no route any more
+-- if it was the last of its set, its point is sent no more route set tests
 abbrev pub without_tests_if_last : Configuration → ℕ → Parts → Parts
 without_tests_if_last c link p = if has_other c link p then p else without_tests (set_of c link) p
 
--- T2 runs where an order goes out, else T1
+-- T2 runs if an order goes out, else T1
 abbrev pub timed_changeover : Configuration → (ordered : Bool) → ℕ → Running → Running
 timed_changeover c ordered link r =
     if ordered then set_timer (T2 link) c.timers.t2 r else set_timer (T1 link) c.timers.t1 r
 
--- its changeover isn't complete, and where an order goes out, the answer is awaited
+-- its changeover isn't complete and, if an order goes out, the answer is awaited
 abbrev pub changing : Configuration → (ordered : Bool) → ℕ → Parts → Parts
 changing c ordered link p = record p {
   changeovers = with_standing p.changeovers link (failed ordered (changeover_of p link));
@@ -85,7 +85,7 @@ changing c ordered link p = record p {
 }
 
 module _ {Q : Type 0} (q : QueueKind Q) (c : Configuration) where
-  -- a link goes down. In service, the flows that its changeover is to hold are held first: until then it is their link
+  -- a link goes down. In service, its flows are held first, while it is still their link
   abbrev pub make_unavailable : (serving : Bool) → ℕ → FailureReason → Node Q → Node Q
   make_unavailable true link why node =
       with_parts node
@@ -118,7 +118,7 @@ module _ {Q : Type 0} (q : QueueKind Q) (c : Configuration) where
       with_parts node (with_changeover link (begun_by_peer (changeover_of node.parts link)) node.parts)
   begin_by_peer false link node = node
 
-  -- a link fails since its peer tells so
+  -- a link fails because its peer says so
   abbrev pub fail_by_peer : ℕ → Node Q → Node Q
   fail_by_peer link node =
       node ▷ make_unavailable (in_service node.parts link) link reasons.Changeover
@@ -127,7 +127,7 @@ module _ {Q : Type 0} (q : QueueKind Q) (c : Configuration) where
 -- ---- TCOC (Q.704 §5.4 to §5.7): a changeover goes on and ends, by an order or an acknowledgement of the peer, or by a
 -- timer.
 
--- a user message is lost: that is noted
+-- a user message is lost, and that is noted
 abbrev pub lose : Cause → Message → Parts → Parts
 lose cause m p = p ▷ note (notices.Lost cause (flow_of m).point (flow_of m).sls) ▷ flagged
 
@@ -148,7 +148,7 @@ lifted_parts link p = record p { holds = lifted p.holds (Changeover link); timer
 abbrev pub with_losses : Found → Parts → Parts
 with_losses found p = p ▷ lose_each found.lost ▷ judged found.is_reasonable
 
--- the parts when a completion has found this
+-- the parts after a completion that found this
 abbrev pub concluded : ℕ → Found → Parts → Parts
 concluded link found p = p ▷ with_losses found ▷ lifted_parts link
 
@@ -162,7 +162,7 @@ abbrev pub flagged_by : ChangeoverTimer → Parts → Parts
 flagged_by timer.T1 p = p
 flagged_by timer.T2 p = flagged p
 
--- a timer of the changeover ran out: that is noted
+-- a timer of the changeover ran out, and that is noted
 abbrev pub with_expiry : ChangeoverTimer → ℕ → Parts → Parts
 with_expiry which link p =
     p ▷ note (notices.Expired which link) ▷ with_changeover link (standing.expired which (changeover_of p link))

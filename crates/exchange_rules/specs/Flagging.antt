@@ -10,8 +10,8 @@ use Rattle.exchange_rules.specs.Queues.{WholeQueues, whole}
 use Rattle.exchange_rules.specs.Exchange.{after, taken}
 use Rattle.exchange_rules.specs.First.{Abstract}
 
--- These notices were made. Each possible loss that was counted is told of by one of them, but for some, of which no
--- message is known; and so is each possible lateness.
+-- These notices were made. Each possible loss that was counted has one of them, except some losses of which no message
+-- is known, and so has each possible lateness.
 pub record AreTold (made : List Notice) (unnamed : ℕ) (old new : Parts) : Type 0 where
   pub noted : new.notices ≡ noted_all made old.notices
   pub lost : new.times_lost ≤ old.times_lost + count_by tells_of_loss made + unnamed
@@ -23,7 +23,7 @@ pub record IsUnderWay (what : Happening) (n m : Node WholeQueues) : Type 0 where
   pub link : ℕ
   pub is : (is_about what n.parts link ≡ true) ⊎ HadChangeover link n m
 
--- an event counts no loss without a notice, unless a changeover is under way; and no lateness without one
+-- an event counts no loss without a notice, unless a changeover is under way, and no lateness without one
 pub record HasReasons (what : Happening) (n m : Node WholeQueues) : Type 0 where
   pub made : List Notice
   pub unnamed : ℕ
@@ -33,7 +33,7 @@ pub record HasReasons (what : Happening) (n m : Node WholeQueues) : Type 0 where
 abbrev pub events_flag_for_a_reason : Type 0
 events_flag_for_a_reason = (what : Happening) (a : Abstract) → HasReasons what a.node (after whole what a).node
 
--- a completion counts one loss more than its notices tell of if it has no reasonable number, and else none
+-- a completion without a reasonable number counts one loss more than its notices tell of; any other counts none more
 abbrev pub completions_flag_for_a_reason : Type 0
 completions_flag_for_a_reason =
     (c : Configuration) (link : ℕ) (number : Option ℕ) (node : Node WholeQueues) →

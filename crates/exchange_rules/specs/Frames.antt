@@ -34,7 +34,7 @@ abbrev pub step_on : Configuration → ℕ → Transition → Parts → Parts
 step_on c link step p =
     record p { links = links_with p link (stepped step (link_at p link)); timers = timed c link step p.timers }
 
--- the peer takes no messages for now; a second word of it changes nothing
+-- the peer takes no messages for now; if it says so twice, the second changes nothing
 abbrev pub become_busy : Configuration → ℕ → Parts → Parts
 become_busy c link p =
     if (link_at p link).peer_busy then p
@@ -43,7 +43,7 @@ become_busy c link p =
       timers = timed_busy c link p.timers;
     }
 
--- the peer takes messages again, of which this many are unconfirmed; if it wasn't busy nothing changes
+-- the peer takes messages again, and this many are unconfirmed; if it wasn't busy nothing changes
 abbrev pub end_busy : Configuration → ℕ → (outstanding : ℕ) → Parts → Parts
 end_busy c link outstanding p =
     if (link_at p link).peer_busy
@@ -62,7 +62,7 @@ abbrev pub begun_anew_if : (is_first : Bool) → Configuration → ℕ → Parts
 begun_anew_if true c link p = with_set_reset c (set_of c link) p
 begun_anew_if false c link p = p
 
--- a link takes a step of its alignment, and may so be the first of its set to enter service
+-- a link takes a step of its alignment, and may be the first of its set to enter service by that
 abbrev pub moved_on : Configuration → ℕ → Transition → Parts → Parts
 moved_on c link step p =
     begun_anew_if (enters link step p && not (has_other c link p)) c link (step_on c link step p)
@@ -79,7 +79,7 @@ module _ {Q : Type 0} (q : QueueKind Q) (c : Configuration) where
       return_if (enters link step node.parts) link (facts c node.parts)
       (with_parts node (moved_on c link step node.parts))
 
-  -- what a link's alignment does about an input; if the link is to fail, nothing changes here
+  -- what a link's alignment does about an input; if the link must fail, nothing changes here
   abbrev pub act_by : Action → ℕ → Node Q → Node Q
   act_by act.Ignored link node = node
   act_by act.Fail link node = node
@@ -147,7 +147,7 @@ abbrev pub owing : ℕ → Option Message → Parts → Parts
 owing link None p = p
 owing link (Some m) p = with_link p link (record (link_at p link) { acknowledgement_owed = true })
 
--- this many of our own messages were confirmed, and this many are left
+-- the peer confirmed this many of our messages, and this many are left
 abbrev pub timed_parts : Configuration → ℕ → (confirmed outstanding : ℕ) → Parts → Parts
 timed_parts c link confirmed outstanding p =
     record p { timers = timed_confirming c link (link_at p link).peer_busy confirmed outstanding p.timers }
@@ -157,7 +157,7 @@ module _ {Q : Type 0} (q : QueueKind Q) (c : Configuration) where
   abbrev pub numbers : ℕ → Carrying → Node Q → Result ℕ SeqFault
   numbers link d node = q.accept_answer node.queues link d.fsn d.bsn (carries d)
 
-  -- User Data is accepted, and confirms this many messages of our own
+  -- User Data is accepted, and confirms this many of our messages
   abbrev pub accept : ℕ → Carrying → (confirmed : ℕ) → Node Q → Node Q
   accept link d confirmed node =
       let queues : Q = q.accepted node.queues link d.fsn d.bsn (carries d) in
@@ -171,7 +171,7 @@ module _ {Q : Type 0} (q : QueueKind Q) (c : Configuration) where
   carry link None node = answer Handled node
   carry link (Some m) node = deliver q c link m node
 
-  -- User Data whose numbers were looked at: a wrong one fails the link, which is no refusal
+  -- User Data whose numbers were checked; a wrong one fails the link, which is no refusal
   abbrev pub handle_by : Result ℕ SeqFault → ℕ → Carrying → Node Q → Done Q
   handle_by (Ok confirmed) link d node = carry link d.message (accept link d confirmed node)
   handle_by (Err fault) link d node = answer Handled (fail q c link reasons.Sequence node)
@@ -180,7 +180,7 @@ module _ {Q : Type 0} (q : QueueKind Q) (c : Configuration) where
   abbrev pub handle : ℕ → Carrying → Node Q → Done Q
   handle link d node = handle_by (numbers link d node) link d node
 
-  -- User Data fails a link that doesn't expect it yet, and takes one that does into service
+  -- User Data fails a link that doesn't expect it yet, and takes one that expects it into service
   abbrev pub act_by_data : Action → ℕ → Carrying → Node Q → Done Q
   act_by_data act.Ignored link d node = answer Ignored node
   act_by_data act.Fail link d node = answer Handled (fail q c link reasons.Sequence node)

@@ -25,7 +25,7 @@ pub record AreOnward (c : Configuration) (qs : WholeQueues) : Type 0 where
 abbrev pub first_is_onward : Type 0
 first_is_onward = (c : Configuration) → AreOnward c (first_state c).node.queues
 
--- and so it stays, whatever is asked: a message for this point is never queued as it came
+-- and this stays so, whatever is asked: a message for this point is never queued as it came
 abbrev pub messages_stay_onward : Type 0
 messages_stay_onward =
     (asked : List Asking) (a : Abstract) → IsWell a.settings → AreOnward a.settings a.node.queues →

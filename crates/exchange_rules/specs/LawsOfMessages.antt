@@ -43,7 +43,7 @@ has_fate (Refused cause) = true
 has_fate Handled = false
 has_fate Ignored = false
 
--- so is each user message that a frame newly carries, and each that is submitted
+-- one of these becomes of each user message that a frame newly carries, and of each that is submitted
 abbrev pub carried_messages_have_a_fate : Type 0
 carried_messages_have_a_fate =
     (a : Abstract) (link : ℕ) (text : List ℕ) (m : Message) → new_message link text a ≡ Some m →
@@ -65,7 +65,7 @@ gone_by_asking (Happens what) a = gone what a
 gone_by_asking (Takes link) a = nothing_gone
 gone_by_asking (AsksWants link) a = nothing_gone
 
--- all that came in as an exchange was asked all of this, and all that went
+-- everything that came in and everything that went, as an exchange was asked all of this
 abbrev pub all_brought : List Asking → Abstract → List Message
 all_brought [] a = []
 all_brought (asking ∷ others) a = brought_by_asking asking a ++ all_brought others (after_asking asking a)
@@ -74,8 +74,8 @@ abbrev pub all_gone : List Asking → Abstract → Gone
 all_gone [] a = nothing_gone
 all_gone (asking ∷ others) a = both_gone (gone_by_asking asking a) (all_gone others (after_asking asking a))
 
--- so in each state that comes of the first, all that ever came in is still there, was accepted by a peer, or is named
--- as lost
+-- so in each state reached from the first, everything that ever came in is still there, was accepted by a peer, or is
+-- named as lost
 abbrev pub all_that_came_adds_up : Type 0
 all_that_came_adds_up =
     (c : Configuration) (asked : List Asking) (of : Message → Bool) → length c.links ≤ LINKS → c.window ≤ WINDOW →

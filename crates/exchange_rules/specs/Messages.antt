@@ -38,8 +38,8 @@ abbrev pub is_destination : Configuration → ℕ → Bool
 is_destination c point = is_some (destination_place c point)
 
 module _ {Q : Type 0} (q : QueueKind Q) (c : Configuration) where
-  -- room first; then a message that waits is at the end of Held; then the route, and the message is at the end of that
-  -- link's queue. The sender of one that came by a link and finds no route is told so
+  -- room first; then a message that waits goes to the end of Held; then the route, and the message goes to the end of
+  -- that link's queue. The sender of one that came by a link and finds no route is told so
   abbrev pub offer : Option Cause → (is_waiting : Bool) → (link from : Option ℕ) → Message → Node Q → Done Q
   offer (Some cause) is_waiting link from m node = refuse cause node
   offer None true link from m node = record { outcome = Held; left = hold q m node }
@@ -47,8 +47,8 @@ module _ {Q : Type 0} (q : QueueKind Q) (c : Configuration) where
       refuse NoRoute (answer_no_route q c from (destination_place c (dpc_of m)) node)
   offer None false (Some link) from m node = record { outcome = Queued link; left = queue_on q c link m node }
 
-  -- a message for another point, with the link that it came by, if it came by one: a known destination, then room, then
-  -- no hold, then a route
+  -- a message for another point, with the link that it came by, if any: a known destination, then room, then no hold,
+  -- then a route
   abbrev pub transfer : (from : Option ℕ) → Message → Node Q → Done Q
   transfer from m node =
       unless is_destination c (dpc_of m) then refuse UnknownDestination node
@@ -67,7 +67,7 @@ in_place_of m sif = record m { sif = sif }
 module _ {Q : Type 0} (q : QueueKind Q) (c : Configuration) where
   -- ---- a refused message is returned
 
-  -- the UDTS that returns a message, if one does, goes the way of any message for another point; if it finds none, it
+  -- the UDTS that returns a message, if one does, goes the way of any message for another point; if there is no way, it
   -- is dropped
   abbrev pub send_udts : (udts : Option (List ℕ)) → Message → Node Q → Node Q
   send_udts (Some sif) m node = (transfer q c None (in_place_of m sif) node).left
@@ -106,7 +106,7 @@ module _ {Q : Type 0} (q : QueueKind Q) (c : Configuration) where
 abbrev pub with_titles : List TitleEntry → Parts → Parts
 with_titles titles p = record p { titles = titles }
 
--- why a row isn't added: as the table refuses it; else memory for it was refused
+-- why a row isn't added: the table's refusal, else that memory for it was refused
 abbrev pub title_refusal : List TitleEntry → TitleEntry → (is_memory_refused : Bool) → Option Cause
 title_refusal titles row is_memory_refused =
     option_or (add_refusal titles row) (if is_memory_refused then Some NoMemory else None)
@@ -137,7 +137,7 @@ testing = 1
 abbrev pub sccp : ℕ
 sccp = 3
 
--- whether a user part of this service indicator is on this node
+-- whether this node has a user part of this service indicator
 abbrev pub is_user : Configuration → ℕ → Bool
 is_user c service_indicator = list_any (λ user. nat_eq user service_indicator) c.users
 
@@ -163,7 +163,7 @@ abbrev pub link_with_code : Configuration → (point slc : ℕ) → Option ℕ
 link_with_code c point slc = option_and_then (link_in_set c slc) (set_place c point)
 
 module _ {Q : Type 0} (q : QueueKind Q) (c : Configuration) where
-  -- a link test is answered on the link that it came by; an answer to one is ignored (Q.707 §2.2)
+  -- a link test is answered on the link that it came by, and an answer to one is ignored (Q.707 §2.2)
   abbrev pub do_kind : TestKind → ℕ → ℕ → LinkTestValue → Node Q → Done Q
   do_kind Test link point test node = answer Handled (send_on q c link (test_answer c point test) node)
   do_kind Acknowledgement link point test node = answer Ignored node
@@ -181,7 +181,7 @@ module _ {Q : Type 0} (q : QueueKind Q) (c : Configuration) where
   do_acknowledgement (Some link) number node = on_changeover_acknowledgement q c link number node
   do_acknowledgement None number node = refuse BadManagement node
 
-  -- a management message from a point; that it has restarted asks nothing of this node
+  -- a management message from a point; this node does nothing about one that says it has restarted
   abbrev pub on_management : Management → ℕ → Node Q → Done Q
   on_management TrafficRestartAllowed point node = answer Ignored node
   on_management (ExtendedChangeoverOrder slc number) point node =
@@ -210,7 +210,7 @@ module _ {Q : Type 0} (q : QueueKind Q) (c : Configuration) where
   do_management (Err fault) point node = refuse (cause_of fault) node
   do_management (Ok message) point node = on_management message point node
 
-  -- management and tests, by the link that they came by: only an adjacent point is heard
+  -- management and tests, by the link that they came by; only those of an adjacent point are accepted
   abbrev pub manage : ℕ → Message → Node Q → Done Q
   manage link m node =
       unless is_adjacent c (opc_of m) then refuse NotFromAdjacent node
@@ -244,7 +244,7 @@ module _ {Q : Type 0} (q : QueueKind Q) (c : Configuration) where
   deliver_to (whither.Here label) link m node = distribute q c link m node
   deliver_to (whither.Transfer label) link m node = transfer q c (Some link) m node
 
-  -- a message in a frame, with the link that it came by: if it is refused, that is noted
+  -- a message in a frame, with the link that it came by; a refusal is noted
   abbrev pub deliver : ℕ → Message → Node Q → Done Q
   deliver link m node = note_refusal link (deliver_to (whither_goes c m) link m node)
 

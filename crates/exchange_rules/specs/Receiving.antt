@@ -40,7 +40,7 @@ new_of (Ok frame) link c node = new_in (data_of frame) link c node
 new_of (Err fault) link c node = None
 
 -- the message that a frame newly carries: none if its link isn't there or is down, if it can't be read, if it isn't
--- User Data or a link doesn't expect that, if one of its numbers is wrong, or if it has none
+-- User Data or the link doesn't expect that, if one of its numbers is wrong, or if it carries none
 abbrev pub new_message : ℕ → List ℕ → Abstract → Option Message
 new_message link text a =
     if is_link a.node.parts link && not (down a.node.parts link)
@@ -57,7 +57,7 @@ abbrev pub is_beginning : Happening → (link : ℕ) → Bool
 is_beginning (CameUp its) link = nat_eq its link
 is_beginning what link = false
 
--- what was received on a link in its epoch
+-- how many messages were received on a link in its epoch
 abbrev pub received : Node WholeQueues → (link : ℕ) → ℕ
 received node link = (queue_at node.queues link).received
 
@@ -72,7 +72,7 @@ abbrev pub takes_receive_nothing : Type 0
 takes_receive_nothing =
     (a : Abstract) (link other : ℕ) → received (taken whole a link).node other ≡ received a.node other
 
--- what a frame comes to that delivers nothing
+-- the outcome of a frame that delivers nothing
 abbrev pub is_idle : Outcome → Bool
 is_idle Handled = true
 is_idle Ignored = true

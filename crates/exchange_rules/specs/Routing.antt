@@ -38,7 +38,7 @@ abbrev pub point_of : Configuration → (destination : ℕ) → ℕ
 point_of c destination =
     (slice_index_or c.destinations destination (record { point = 0; sets = []; joined = false })).point
 
--- what an adjacent point speaks of: the set that leads to it, and the number of the destination
+-- what an adjacent point's message is about: the set that leads to that point, and the number of the destination
 abbrev pub route_about : (set destination : Option ℕ) → Result (ℕ × ℕ) Outcome
 route_about (Some set) (Some destination) = Ok (set, destination)
 route_about None (Some destination) = Err Ignored

@@ -1,4 +1,4 @@
--- Laws of the exchange at nodes of one link, at which wrong definitions make them false.
+-- Laws of the exchange at nodes of one link: wrong definitions make them false here.
 use Rattle.std.specs.Prelude.{◌≡◌, Bool, true, false, List, [], ◌∷◌, None, Some}
 use Rattle.signalling_types.specs.Message.{Message}
 use Rattle.signalling_types.specs.declared.notice.FailureReason.TheVariants as reasons
@@ -97,7 +97,7 @@ with_flag = with_node booted (with_parts booted.node (flagged booted.node.parts)
 abbrev pub opening_leaves_the_flag : Type 0
 opening_leaves_the_flag = lost_any (after_each (Happens (CameUp 0) ∷ []) with_flag).node.parts ≡ true
 
--- after forced rerouting no messages of a flow may have gone out of order
+-- after forced rerouting no message of a flow may have gone out of order
 abbrev pub forced_rerouting_leaves_the_flag : Type 0
 forced_rerouting_leaves_the_flag = late_any (forced settings 0 0 Prohibited booted.node.parts) ≡ false
 
@@ -134,7 +134,7 @@ message_goes_on =
 
 -- ---- a failure
 
--- a message is on the link that was never sent, and its flow has no link any more: the changeover holds it
+-- a message on the link was never sent, and its flow has no link any more: the changeover holds it
 abbrev pub failure_holds_the_flow : Type 0
 failure_holds_the_flow =
     holds (fail whole settings 0 reasons.Association (node_with nothing_held [] [] (message ∷ []))).parts.holds
@@ -165,7 +165,7 @@ return_has_its_timer = is_running (T3 0) returned.parts.timers ≡ true
 
 -- ---- timers
 
--- the peer of a link with nothing unconfirmed is busy, and then isn't any more: L6 stops
+-- the peer of a link with nothing unconfirmed is busy, and then no longer: L6 stops
 abbrev pub busy_ends : Running
 busy_ends = timed_busy_ended settings 0 0 (timed_busy settings 0 booted.node.parts.timers)
 

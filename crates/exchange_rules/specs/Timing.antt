@@ -53,13 +53,13 @@ with_timer_if c link (Some timer) r = with_timer c link timer r
 abbrev pub timed : Configuration → ℕ → Transition → Running → Running
 timed c link step r = r ▷ without_timer_if link step.stop ▷ with_timer_if c link step.start
 
--- L7 watches the oldest message that was sent and isn't confirmed; while the peer is busy it doesn't run
+-- L7 watches the oldest message that was sent and isn't confirmed; it doesn't run while the peer is busy
 
 -- a message was sent
 abbrev pub timed_sending : Configuration → ℕ → Running → Running
 timed_sending c link r = start_unless_running (timer_name link L7) (ticks_of c.timers L7) r
 
--- this many messages were confirmed, and this many sent ones are left unconfirmed
+-- the peer confirmed this many messages, and this many sent ones are left
 abbrev pub timed_confirming : Configuration → ℕ → (busy : Bool) → (confirmed outstanding : ℕ) → Running → Running
 timed_confirming c link busy confirmed outstanding r =
     if nat_eq confirmed 0 then r
