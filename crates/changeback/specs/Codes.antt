@@ -3,7 +3,7 @@ use Rattle.std.specs.Prelude.{◌≡◌, ◌≢◌, ℕ, Bool, true, false, not,
 use Rattle.std.specs.Prelude.{position, replicate, slice_index_or, slice_set}
 use Rattle.signalling_types.specs.declared.limits.TheConstants.Limits.{CHANGEBACK_CODES}
 
--- of each set, of each code, whether its acknowledgement is awaited
+-- for each code of each set, whether its acknowledgement is awaited
 abbrev pub Codes : Type 0
 Codes = List (List Bool)
 
@@ -27,7 +27,7 @@ is_outstanding t set code = slice_index_or (codes_of t set) code false
 abbrev pub with_code : Codes → (set code : ℕ) → Bool → Codes
 with_code t set code outstanding = slice_set t set (slice_set (codes_of t set) code outstanding)
 
--- no code is used that awaits its acknowledgement
+-- a code whose acknowledgement is awaited is never used
 abbrev pub awaited_codes_are_not_free : Type 0
 awaited_codes_are_not_free =
     (t : Codes) (set code : ℕ) → is_outstanding t set code ≡ true → free_code t set ≢ Some code

@@ -35,7 +35,7 @@ with_seen seen (Some first) (Some second) = with_pair seen first second
 with_seen seen (Some first) None = seen
 with_seen seen None after = seen
 
--- each link is marked that loses flows to a destination of such a pair
+-- each link that loses flows to a destination of such a pair is marked
 pub record IsSeen (n : Network) (link : ℕ) (seen losing : List Bool) : Type 0 where
   pub marked : (first second destination other : ℕ) → has_pair seen first second ≡ true →
       lone_set (with_link link false (facts_of n)) destination ≡ Some first →

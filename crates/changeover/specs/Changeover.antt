@@ -19,7 +19,7 @@ managements_of ms = filter is_management ms
 abbrev pub accepted_count : Queue → Option ℕ → Option ℕ
 accepted_count q number = option_and_then (named_count q) number
 
--- the messages from there on; without a reasonable number, those that weren't sent
+-- the messages after those; without a reasonable number, those that weren't sent
 abbrev pub behind : Queue → Option ℕ → List Message
 behind q (Some n) = drop n q.all
 behind q None = drop q.sent q.all
@@ -76,7 +76,7 @@ may_restart s = not s.incomplete && not s.awaited
 abbrev pub failed : (ordered : Bool) → Standing → Standing
 failed ordered s = record { incomplete = true; awaited = ordered }
 
--- the adjacent point's order made it fail, so none of its own goes out
+-- the adjacent point's order made it fail, so it sends no order of its own
 abbrev pub begun_by_peer : Standing → Standing
 begun_by_peer s = record s { incomplete = true }
 

@@ -1,4 +1,4 @@
--- What is read of a message that is in a list, and what is done by it.
+-- What is read of a message in a list, and what is done with it.
 use Rattle.std.specs.Prelude.{ℕ, Option, Some, None, if◌then◌else◌}
 use Rattle.signalling_types.specs.Message.{Message, is_management}
 use Rattle.settings_rows.specs.Configuration.{Configuration}

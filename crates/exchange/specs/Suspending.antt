@@ -15,7 +15,7 @@ module _ (f : Facts) (link : ℕ) where
   with_flow place sls holds =
       if goes_by (chosen_link f place sls) link then with_hold holds (Changeover link) place sls else holds
 
-  -- so are the flows of the first n selections to a destination
+  -- the same for the flows of the first n selections to a destination
   unfoldable pub with_selections : (place count : ℕ) → HoldSet → HoldSet
   with_selections place zero holds = holds
   with_selections place (suc count) holds = with_flow place count (with_selections place count holds)

@@ -45,8 +45,8 @@ link_shown q node link = record {
 abbrev pub link_view : {Q : Type 0} → QueueKind Q → State Q → ℕ → Option LinkView
 link_view q s link = if is_link s.node.parts link then Some (link_shown q s.node link) else None
 
--- whether a link may open as far as its changeover goes: it is there and down, its changeover is complete, and no answer
--- is awaited
+-- whether a link may open as far as its changeover goes: it is there and down, its changeover is complete, and no
+-- answer to its order is awaited
 abbrev pub may_restart_at : {Q : Type 0} → State Q → ℕ → Bool
 may_restart_at s link =
     is_link s.node.parts link && (down s.node.parts link && may_restart (changeover_of s.node.parts link))

@@ -32,7 +32,7 @@ kept_first = record { oldest = 0; outstanding = 0; expected = 0 }
 abbrev pub kept_first_at : ℕ → Counts
 kept_first_at number = record { oldest = number; outstanding = 0; expected = 0 }
 
--- how many more messages a number confirms: its distance from the last confirmed one, if as many are outstanding
+-- how many more messages a number confirms: its distance from the last confirmed one, if that many are outstanding
 abbrev pub kept_newly_confirmed : Counts → ℕ → Option ℕ
 kept_newly_confirmed k bsn =
     if nat_le (steps_between k.oldest (next_number bsn)) k.outstanding

@@ -68,7 +68,7 @@ newly_confirmed q bsn = option_map (λ n. n - q.confirmed) (named_count q bsn)
 abbrev pub expected : Queue → Bool → ℕ
 expected q carries = if carries then q.received % modulus else previous_number q.received
 
--- how many messages a frame confirms, or what is wrong with it: the FSN is looked at first
+-- how many messages a frame confirms, or what is wrong with it; the FSN is looked at first
 abbrev pub confirmation : Option ℕ → Result ℕ SeqFault
 confirmation (Some count) = Ok count
 confirmation None = Err BadBsn

@@ -12,7 +12,7 @@ use Rattle.route_management.specs.declared.heard.Heard.TheVariants.{Ignored, Unc
 use Rattle.route_management.specs.declared.heard.RouteTest.{RouteTest}
 use Rattle.route_management.specs.declared.heard.RouteTest.TheVariants as test
 
--- of each set, the number of the destination that its links lead to, and what that point was told of each destination
+-- for each set, the number of the destination that its links lead to, and what that point was told of each destination
 pub record ToldTable : Type 0 where
   pub adjacents : List (Option ℕ)
   pub rows : List (List RouteStatus)
@@ -34,7 +34,7 @@ row_of t set = slice_index_or t.rows set []
 abbrev pub told_at : ToldTable → (set destination : ℕ) → Option RouteStatus
 told_at t set destination = slice_get (row_of t set) destination
 
--- of each set, of how many destinations its point is told
+-- for each set, of how many destinations its point is told
 abbrev pub shape_of : ToldTable → List ℕ
 shape_of t = map length t.rows
 
@@ -62,7 +62,7 @@ with_told set destination status t =
 abbrev pub with_told_reset : ℕ → ToldTable → ToldTable
 with_told_reset set t = record t { rows = slice_set t.rows set (map (λ old. Allowed) (row_of t set)) }
 
--- ---- What adjacent points are to be told, and which of it they weren't told yet (Q.704 §13.2 to §13.4).
+-- ---- What adjacent points are to be told, and what of that they don't know yet (Q.704 §13.2 to §13.4).
 
 -- whether two statuses are the same
 abbrev pub is_same : RouteStatus → RouteStatus → Bool
@@ -86,7 +86,7 @@ abbrev pub is_unlike : Option RouteStatus → RouteStatus → Bool
 is_unlike None status = false
 is_unlike (Some told) status = not (is_same told status)
 
--- whether the adjacent point of a set is owed word of a destination
+-- whether the adjacent point of a set is owed an update about a destination
 abbrev pub is_owed : Facts → ToldTable → (set destination : ℕ) → Bool
 is_owed f t set destination =
     is_reachable f set && (not (is_own_point t set destination)
@@ -133,9 +133,9 @@ abbrev pub all_told : List Owed → ToldTable → ToldTable
 all_told [] t = t
 all_told (o ∷ os) t = all_told os (with_told o.set o.destination o.status t)
 
--- ---- What a message of route management from an adjacent point asks (Q.704 §13.2 to §13.5).
+-- ---- What a route management message from an adjacent point asks for (Q.704 §13.2 to §13.5).
 
--- a status that is told of a route, which has this one if it is there
+-- a status that is reported for a route, which has this one if it is there
 abbrev pub heard_of : Option RouteStatus → RouteStatus → Heard
 heard_of None status = Ignored
 heard_of (Some old) status = if is_same old status then Unchanged else Changed

@@ -5,7 +5,7 @@ use Rattle.route_management.specs.Marks.{is_marked}
 use Rattle.route_management.specs.declared.updates.Extent.{Extent}
 use Rattle.route_management.specs.declared.updates.Extent.TheVariants.{Nothing, Marked, From}
 
--- how far they are looked for, and of each destination whether it is marked
+-- up to where they are looked for, and for each destination whether it is marked
 pub record Updates : Type 0 where
   pub extent : Extent
   pub marks : List Bool
@@ -57,7 +57,7 @@ with_all u = record u { extent = From 0 0 }
 abbrev pub with_none : Updates → Updates
 with_none u = record u { extent = Nothing }
 
--- those about one more destination may be; if none was, no other is marked
+-- one more destination gets updates; if no update was pending, no other is marked
 abbrev pub with_mark : ℕ → Extent → List Bool → Updates
 with_mark destination Nothing marks = record {
   extent = Marked;
@@ -78,7 +78,8 @@ has_all_from set destination Nothing = false
 has_all_from set destination Marked = false
 has_all_from set destination (From first about) = is_from first about set destination
 
--- none before this one is: if all from an earlier one on might be, all from this one on may; else nothing changes
+-- none before this one is pending: if all from an earlier one on might be, all from this one on may; else nothing
+-- changes
 abbrev pub without_before : (set destination : ℕ) → Updates → Updates
 without_before set destination u =
     if has_all_from set destination u.extent

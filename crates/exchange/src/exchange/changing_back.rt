@@ -141,7 +141,7 @@ impl Exchange {
         Some(code)
     }
 
-    /// Puts the declaration that a link is back at the end of the queue of another; refused if it finds no room.
+    /// Puts the declaration that a link is back at the end of the queue of another; refused if there is no room.
     fn send_declaration(&mut self, link: LinkId, other: LinkId, code: u8) -> Result<(), Cause>
         requires link { link < length self.old.settings.links }
         requires other { other < length self.old.settings.links }

@@ -23,8 +23,8 @@ use signalling_types::Number24;
 use timers::TimerName;
 
 impl Exchange {
-    /// The peer orders a changeover of a link, with the number of the last message that it accepted there, or without
-    /// one. It is answered in every case.
+    /// The peer orders a changeover of a link, with or without the number of the last message that it accepted there.
+    /// It is answered in every case.
     pub(super) fn on_changeover_order(&mut self, link: LinkId, number: Option<Number24>) -> Outcome
         requires { link < length self.old.settings.links }
         ensures { Ends self.old result self.new
@@ -88,9 +88,9 @@ impl Exchange {
         }
     }
 
-    /// Does with the messages of a failed link what the peer's number says: those that it accepted are dropped, user
-    /// messages after them go before Held, and management is requeued. Without a reasonable number those that were sent
-    /// are lost.
+    /// Deals with the messages of a failed link by the peer's number: those that it accepted are dropped, user messages
+    /// after them go before Held, and management is requeued. Without a reasonable number, those that were sent are
+    /// lost.
     fn conclude(&mut self, link: LinkId, number: Option<Number24>)
         requires { link < length self.old.settings.links }
         ensures { self.new ≡ with_node self.old (failing.conclude kept self.old.settings
@@ -148,7 +148,7 @@ impl Exchange {
         }
     }
 
-    /// A user message is lost: that is noted.
+    /// A user message is lost, and that is noted.
     pub(super) fn lose(&mut self, cause: Cause, label: &Label)
         ensures { self.new ≡ with_node self.old (with_parts self.old.node
             (flagged (note (notices.Lost cause label.now.dpc label.now.sls) self.old.node.parts))) }

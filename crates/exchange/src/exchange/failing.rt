@@ -14,7 +14,7 @@ use signalling_types::Number24;
 use timers::{RouteTimer, TimerName};
 
 impl Exchange {
-    /// A link fails. Where it was in service, its changeover begins.
+    /// A link fails. If it was in service, its changeover begins.
     pub(super) fn fail(&mut self, link: LinkId, why: FailureReason)
         requires { link < length self.old.settings.links }
         ensures { self.new ≡ with_node self.old (rule.fail kept self.old.settings link why self.old.node) }
@@ -24,8 +24,7 @@ impl Exchange {
         }
     }
 
-    /// A link fails because its peer orders it. Where it was in service, its changeover begins, with no order to the
-    /// peer.
+    /// A link fails because its peer orders it. If it was in service, its changeover begins, with no order to the peer.
     pub(super) fn fail_by_peer(&mut self, link: LinkId)
         requires { link < length self.old.settings.links }
         ensures { self.new ≡ with_node self.old (rule.fail_by_peer kept self.old.settings link self.old.node) }

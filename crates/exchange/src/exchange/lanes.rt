@@ -102,7 +102,7 @@ impl Exchange {
         self.lanes.count(lane_of(link))
     }
 
-    /// Notes an index of a link's list: the message there, and the next one, are found at once then.
+    /// Notes an index of a link's list: the message there, and the next one, are then found at once.
     pub(super) fn note_place(&mut self, link: LinkId, place: usize)
         requires { link < length self.old.settings.links }
         ensures { self.new ≡ self.old }

@@ -1,4 +1,4 @@
-//! Links that change. As long as none enters or leaves service, what is known of routes stays, and telling isn't due.
+//! Links that change. As long as none enters or leaves service, what is known of routes stays, and no update falls due.
 
 ghost use Rattle.std.specs.Prelude.{◌≡◌, ◌<◌, drop, length, not, false, if◌then◌else◌};
 ghost use Rattle.exchange_rules.specs.State.{with_node, with_parts, link_at, with_link};

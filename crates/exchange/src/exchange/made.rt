@@ -52,7 +52,7 @@ impl Exchange {
         });
     }
 
-    /// Puts a management message made here for a point at the end of a link's queue; refused if it finds no room.
+    /// Puts a management message made here for a point at the end of a link's queue; refused if there is no room.
     pub(super) fn queue_management(
         &mut self,
         link: LinkId,

@@ -56,7 +56,7 @@ impl Exchange {
         }
     }
 
-    /// Where a message goes: its length, then its label, then its network, then its destination.
+    /// Where a message goes, by its length, then its label, then its network, then its destination.
     fn whither_goes(&self, message: MsuRef<'_>) -> Discrimination
         ensures whither { result ≡ rule.whither_goes self.now.settings (lent message.entry) }
         ensures here { (label : Label) → result ≡ Discrimination.Here label →

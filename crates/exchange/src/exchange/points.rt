@@ -63,7 +63,7 @@ impl Exchange {
         self.settings.destinations()[destination].point()
     }
 
-    /// The number of a destination, as timers are named by it.
+    /// The number of a destination, as the names of timers have it.
     pub(super) fn number_of(&self, destination: usize) -> u16
         requires { destination < length self.now.settings.destinations }
         ensures { result ≡ destination }
@@ -73,7 +73,7 @@ impl Exchange {
     }
 
     /// The route that an adjacent point's message is about: the set that leads to that point, and the destination.
-    /// Refused UnknownDestination if it speaks of no destination; ignored if no set leads to it.
+    /// Refused UnknownDestination if it is about no destination; ignored if no set leads to the point.
     pub(super) fn route_about(
         &self,
         point: PointCode,

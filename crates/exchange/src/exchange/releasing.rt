@@ -27,7 +27,7 @@ impl Exchange {
         }
     }
 
-    /// Each message of Held goes where it is to go, in order; those that still wait are in Held again.
+    /// Each message of Held goes where it should, in order; those that still wait are in Held again.
     fn release(&mut self)
         ensures { self.new ≡ with_node self.old (rule.release kept self.old.settings self.old.node) }
     {
@@ -44,8 +44,8 @@ impl Exchange {
         }
     }
 
-    /// The first message of Held goes to the end of Held if it still waits, otherwise to its link; if it has none it is
-    /// lost.
+    /// The first message of Held goes to the end of Held if it still waits, otherwise to its link, or is lost if it has
+    /// none.
     fn release_first(&mut self)
         ensures { self.new ≡ with_node self.old
             (draining.first_gone (draining.onward self.old.settings) held_lane self.old.node) }

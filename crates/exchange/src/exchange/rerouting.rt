@@ -40,7 +40,7 @@ impl Exchange {
         }
     }
 
-    /// A status that the adjacent point of this set tells of this destination.
+    /// A status of this destination that the adjacent point of this set reports.
     fn apply_route_status(&mut self, set: SetId, destination: usize, status: RouteStatus) -> Outcome
         requires set { set < length self.old.settings.sets }
         requires destination { destination < length self.old.settings.destinations }
@@ -59,7 +59,7 @@ impl Exchange {
     }
 
     /// The route to a destination over a set gets another status. Prohibited holds nothing (forced rerouting); the
-    /// others hold the flows that go from one link to another (controlled rerouting; Q.704 §7, §8).
+    /// others hold the flows that change their link (controlled rerouting; Q.704 §7, §8).
     fn change_status(&mut self, set: SetId, destination: usize, status: RouteStatus)
         requires set { set < length self.old.settings.sets }
         requires destination { destination < length self.old.settings.destinations }
@@ -99,8 +99,8 @@ impl Exchange {
         self.links.set_status(destination, set, status);
     }
 
-    /// Controlled rerouting: the route to a destination over a set gets a status. Flows to that destination that move
-    /// from one link to another as a result are held, and if there are any, T6 restarts.
+    /// Controlled rerouting: the route to a destination over a set gets a status. Flows to that destination that change
+    /// their link as a result are held, and if there are any, T6 restarts.
     fn reroute(&mut self, set: SetId, destination: usize, status: RouteStatus)
         requires destination { destination < length self.old.settings.destinations }
         ensures { self.new ≡ with_node self.old (with_parts self.old.node
@@ -137,8 +137,8 @@ impl Exchange {
         self.timers.clear_set(RouteTimer::T10, set);
     }
 
-    /// T10 of a set and a destination ran out: the adjacent point is tested about its route once more, while that is
-    /// prohibited or restricted, and T10 runs again (Q.704 §13.5).
+    /// T10 of a set and a destination ran out: while the adjacent point's route is prohibited or restricted it is
+    /// tested once more, and T10 runs again (Q.704 §13.5).
     pub(super) fn ask_again(&mut self, set: SetId, destination: u16)
         ensures { self.new ≡
             with_node self.old (rule.ask_again kept self.old.settings set destination self.old.node) }

@@ -18,8 +18,8 @@ use settings::{FailureReason, LinkId, Outcome};
 
 impl Exchange {
     /// A link does what its alignment does about an input, and says what that is. If it is the first of its set to
-    /// enter service, everything known over that set is reset; if it enters service, it takes its flows back; if it has
-    /// to fail, nothing changes here.
+    /// enter service, everything known over that set is reset. If it enters service, it takes its flows back. If it
+    /// must fail, nothing changes here.
     #[inline(always)]
     pub(super) fn act_by(&mut self, link: LinkId, input: Input) -> Action
         requires { link < length self.old.settings.links }

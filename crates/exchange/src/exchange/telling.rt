@@ -126,8 +126,8 @@ impl Exchange {
         None
     }
 
-    /// The first destination from this one on of which the adjacent point of a set may be owed word; the number of all
-    /// destinations, or this one, if there is none.
+    /// The first destination from this one on that the adjacent point of a set may have to be told of. If there is
+    /// none, this one or the number of all destinations.
     #[inline(always)]
     fn next_pending(&self, set: SetId, from: usize) -> usize
         ensures from { from ≤ result }
@@ -151,7 +151,7 @@ impl Exchange {
         }
     }
 
-    /// Tells the adjacent point of a set the status that it is to be told of a destination.
+    /// Tells the adjacent point of a set the status of a destination that it should know.
     fn tell(&mut self, set: SetId, destination: usize, status: RouteStatus)
         requires set { set < length self.old.settings.sets }
         requires destination { destination < length self.old.settings.destinations }
@@ -166,7 +166,7 @@ impl Exchange {
         self.send_status(set, destination, status);
     }
 
-    /// The adjacent point of a set was told what it is to be told of a destination. That makes nothing pending.
+    /// The adjacent point of a set was told what it should know of a destination. That makes nothing pending.
     fn record_told(&mut self, set: SetId, destination: usize, status: RouteStatus)
         requires { status ≡ status_to_advertise (known self.old) set destination }
         ensures { self.new ≡ with_node self.old (with_parts self.old.node
@@ -185,7 +185,7 @@ impl Exchange {
         self.timers.set(timer, self.settings.timers().t8);
     }
 
-    /// Sends the adjacent point of a set the message that tells a status of a destination.
+    /// Sends the adjacent point of a set the message that says a status of a destination.
     fn send_status(&mut self, set: SetId, destination: usize, status: RouteStatus)
         requires set { set < length self.old.settings.sets }
         requires destination { destination < length self.old.settings.destinations }
@@ -216,8 +216,8 @@ impl Exchange {
         }
     }
 
-    /// Whether no transfer-prohibited message about a destination goes out to the adjacent point of a set: for now, as
-    /// one was just sent; or ever, as it is that point itself.
+    /// Whether no transfer-prohibited message about a destination goes out to the adjacent point of a set: for now,
+    /// since one was just sent; or ever, since it is that point itself.
     fn is_inhibited(&self, set: SetId, destination: usize) -> bool
         requires { destination < length self.now.settings.destinations }
         ensures { result ≡ rule.is_inhibited set destination self.now.node.parts }
@@ -258,7 +258,7 @@ impl Exchange {
         Outcome::Handled
     }
 
-    /// Answers a test, if it is to be answered. What it is answered with counts as told.
+    /// Answers a test, if it should be answered. The answer counts as told.
     fn send_route_status(&mut self, test: RouteTest, set: SetId, destination: usize)
         requires set { set < length self.old.settings.sets }
         requires destination { destination < length self.old.settings.destinations }
@@ -284,7 +284,7 @@ impl Exchange {
     }
 }
 
-/// The message that tells a status of a point.
+/// The message that says a status of a point.
 fn telling(status: RouteStatus, about: PointCode) -> Management
     ensures { result ≡ rule.telling status about }
 {

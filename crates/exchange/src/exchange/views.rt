@@ -68,7 +68,7 @@ impl Exchange {
     }
 
     /// The notices that are new to a reader that last saw this many (`notice_count`): the last ones of `notices`, and
-    /// how many it missed. Of 2^64 new notices or more it takes only the rest modulo 2^64 for new.
+    /// how many it missed. If there are 2^64 new notices or more, only the rest modulo 2^64 count as new.
     pub fn notices_since(&self, count: u64) -> NewNotices
         ensures kept { (a : Abstract) → StandsFor self.now a →
             result.kept ≡ min (made_since count a.node.parts.notices) (length a.node.parts.notices.last) }
