@@ -239,7 +239,7 @@ fn kind_of(name: &str) -> Option<Kind> {
     }
 }
 
-/// A number in decimal digits, where it is from `least` to `most`.
+/// A number in decimal digits, if it is from `least` to `most`.
 fn within(word: &str, least: usize, most: usize) -> Option<usize>
     ensures above { IfSome result (λ number. least ≤ number) }
     ensures fits { IfSome result (λ number. number ≤ most) }

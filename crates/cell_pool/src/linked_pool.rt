@@ -17,12 +17,12 @@ use std::marker::Model;
 /// management messages. A message is copied into its cell once and stays there. Each cell names the next one of its
 /// list.
 ///
-/// All room is made by `new`: no other call takes memory, and a cell's memory isn't touched before the cell is first
-/// used. The cell freed last is taken first, so lists that stay short stay in the same few cells. `drop_front` takes a
-/// step for each message that it drops; `move_where` and `splice_where` one for each message of the list. `get` walks
-/// from the noted message or from the first; the last one, the noted one and the one after that are there at once.
-/// `note` walks as `get` does. Every other call takes a fixed number of steps, however many lists and messages there
-/// are. A move relinks cells, and copies no message.
+/// All room is made by `new`: no other call allocates memory, and a cell's memory isn't touched before the cell is
+/// first used. The cell freed last is taken first, so lists that stay short stay in the same few cells. `drop_front`
+/// takes a step for each message that it drops; `move_where` and `splice_where` one for each message of the list. `get`
+/// walks from the noted message or from the first; the last one, the noted one and the one after that are there at
+/// once. `note` walks as `get` does. Every other call takes a fixed number of steps, however many lists and messages
+/// there are. A move relinks cells, and copies no message.
 #[derive(Drop)]
 pub struct CellPool {
     lists: LinkedLists,

@@ -6,7 +6,7 @@ ghost use Rattle.signalling_types.specs.declared.limits.TheConstants.Limits.{CHA
 use signalling_types::Limits;
 use std::marker::Model;
 
-/// Of each code of an adjacent point, whether its acknowledgement is awaited.
+/// For each code of an adjacent point, whether its acknowledgement is awaited.
 #[derive(Drop)]
 pub(crate) struct SetCodes {
     outstanding: [bool; Limits::CHANGEBACK_CODES],

@@ -38,7 +38,7 @@ pub enum Words {
 }
 
 /// What the program's arguments ask for. Words of which one is empty or begins with `-` are other words, unless they
-/// are `--help` or `--version`. No memory is taken for these, `help` and `version`; for all others it may run out.
+/// are `--help` or `--version`. No memory is allocated for these, `help` and `version`; for all others it may run out.
 pub fn read_words(alloc: Global, words: &[String]) -> Words
     ensures { AreReadAs words.now result }
 {

@@ -44,7 +44,7 @@ pub record HasItsTimer (link : ℕ) (l : Link) (r : Running) : Type 0 where
       is_running (timer_name link timer) r ≡ is_that (waiting_in l.alignment) timer
   pub busy : is_running (timer_name link L6) r ≡ (is_in_service l.alignment && l.peer_busy)
 
--- so it is in each state that comes of the first
+-- this holds in each state reached from the first
 abbrev pub links_have_their_timers : Type 0
 links_have_their_timers =
     (c : Configuration) (asked : List Asking) (link : ℕ) → length c.links ≤ LINKS →

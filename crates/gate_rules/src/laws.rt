@@ -14,7 +14,7 @@ pub fn calls_of_gates_are_steps()
     ensures new { new_gates_show }
 {}
 
-/// Whatever the network does, and whatever happens on links that lead elsewhere, what two nodes do that call their
+/// Whatever the network does, and whatever happens on links that lead elsewhere: what two nodes do that call their
 /// gates, as they like, is what two nodes of `node_rules` may do.
 pub fn runs_of_gates_are_runs_of_nodes()
     ensures { runs_are_runs_of_nodes }

@@ -17,8 +17,8 @@
 //! - `lost_any`, `late_any`: in how many runs an end set the flag.
 //! - `sums compared`: while no end had set `lost_any`, before each 16th step, the sums of both ends were compared: as
 //!   many messages were accepted, by the outcomes and by `Pair::accepted`, as the other end received and as
-//!   `Pair::waiting` counts; and of one message as many. That is done in every group; only the lines of the groups by
-//!   chance say how often. If a sum is wrong, the line says how many `sums` were `wrong`.
+//!   `Pair::waiting` counts; and of one message as many. That is done in every group; only the lines of the groups at
+//!   random say how often. If a sum is wrong, the line says how many `sums` were `wrong`.
 //! - `unended`: in how many runs a link that was to open didn't, rounds never came to rest, not all messages came
 //!   while one of several links was down, though no end had set `lost_any`, or an order to add or remove a translation
 //!   row didn't.

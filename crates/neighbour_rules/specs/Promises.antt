@@ -40,7 +40,8 @@ waiting p =
     join_to (waiting_on p) (length p.near.exchange.settings.links)
     ++ users_to p.far.exchange.settings.own p.near.exchange.node.queues.held
 
--- of every kind of user message, as many were accepted at the near end as came to the far end and wait
+-- of every kind of user message, as many were accepted at the near end as came to the far end, together with those that
+-- wait
 abbrev pub EachOnce : PairState → Type 0
 EachOnce p =
     (test : Message → Bool) →
@@ -53,7 +54,7 @@ InOrder p =
 
 -- ---- always
 
--- after every list of steps, from two exchanges on that were just booted, with settings that share a set
+-- after every list of steps from two newly booted exchanges whose settings share a set
 abbrev pub Always : (PairState → Type 0) → Type 0
 Always Statement =
     (near far : Configuration) (steps : List Step) → AreSharing near far →
@@ -63,7 +64,7 @@ Always Statement =
 abbrev pub each_message_once : Type 0
 each_message_once = Always (λ p. LostNothing p → BothWays EachOnce p)
 
--- "Order", if also no timer of the accepting end ended a hold
+-- "Order", if furthermore no timer of the accepting end ended a hold
 abbrev pub each_flow_in_order : Type 0
 each_flow_in_order = Always (λ p. LostNothing p → BothWays (λ q. IsPunctual q → InOrder q) p)
 
@@ -71,7 +72,8 @@ each_flow_in_order = Always (λ p. LostNothing p → BothWays (λ q. IsPunctual 
 
 -- the books of the near end
 pub record AreBooked (p : PairState) : Type 0 where
-  -- all that the near end accepted is for the far point, and all that it received for its own, and all are user messages
+  -- everything that the near end accepted is for the far point, everything that it received is for its own, and all of
+  -- it are user messages
   pub accepted : All (IsUserMessageTo p.far.exchange.settings.own) p.near.accepted
   pub received : All (IsUserMessageTo p.near.exchange.settings.own) p.near.received
 

@@ -1,4 +1,4 @@
--- A run of two nodes that share a link set, of which the near one has a link to a third besides. A message comes from
+-- A run of two nodes that share a link set, where the near one has a link to a third node too. A message comes from
 -- there for the far point, and goes on to it, once.
 use Rattle.std.specs.Prelude.{◌≡◌, ℕ, true, false, Some, List, [], ◌∷◌, ◌++◌}
 use Rattle.signalling_types.specs.Message.{Message}
@@ -70,7 +70,7 @@ opening =
     ∷ AtNear (Does Ticks) ∷ AtFar (Does Ticks)
     ∷ tells_far ++ tells_near ++ third_tells Ready ∷ []
 
--- ---- states, each by steps from the one before
+-- ---- states, each reached by steps from the one before
 
 abbrev pub served : PairState
 served = after_steps opening (first_pair near_settings far_settings)
@@ -95,7 +95,7 @@ pub record GoesOn : Type 0 where
   -- the near end accepts it, and it waits for the far one
   pub accepted : heard.near.accepted ≡ the_message ∷ []
   pub waits : waiting heard ≡ the_message ∷ []
-  -- after what the near end told the far one of its route to the third node: prohibited, then allowed
+  -- it goes after what the near end told the far one of its route to the third node: prohibited, then allowed
   pub behind :
       (queue_of heard.near 1).all
       ≡ route_message near_settings 1 0 Prohibited ∷ route_message near_settings 1 0 Allowed ∷ the_message ∷ []

@@ -116,7 +116,7 @@ pub data Doing : Type 0 where
   Happens : (what : Happening) → Doing
   -- something happens to the endpoint of a link, and what that tells is handed in, in order
   Associates : (link : ℕ) (what : endpoint.Happening) → Doing
-  -- the next frame of a link is taken, and given to its endpoint
+  -- the next frame of the link is taken, and given to its endpoint
   Sends : (link : ℕ) → Doing
   -- a link that leads elsewhere brings something, whatever joins it to a further neighbour; or its next frame goes
   Brings : (what : Happening) → Doing

@@ -23,7 +23,7 @@ pub record LinkEnd : Type 0 where
   -- since it opened, it heard the other end
   pub heard : Bool
 
--- a link: its two ends, and what is in flight to each: User Data, the first that went out first; and this many link
+-- a link: its two ends, and what is in flight to each: User Data, the first that went out first, and this many link
 -- statuses, on a stream of their own
 pub record Line : Type 0 where
   pub near : LinkEnd
@@ -59,7 +59,7 @@ pub record Side : Type 0 where
   pub holds : Procedure → Flow → Bool
   -- the codes of declarations without their confirmation
   pub outstanding : ℕ → Bool
-  -- a message may be lost; a hold was ended by its timer
+  -- whether a message may be lost, and whether a hold was ended by its timer
   pub lost : Bool
   pub late : Bool
 

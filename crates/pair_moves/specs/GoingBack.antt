@@ -135,14 +135,14 @@ pub record HasReturned (p : Pair) : Type 0 where
   pub stood : (p.line 0).near.queue.all ≡ second_message ∷ []
   pub flags : RaisesNoFlag p
 
--- a code is outstanding at the near node, and one declaration with it or confirmation of it is under way
+-- a code is outstanding at the near node, and one declaration or confirmation with it is under way
 pub record IsOutstanding (p : Pair) (code : ℕ) : Type 0 where
   pub outstanding : p.near.outstanding code ≡ true
   pub one :
       under_way (saying read_plainly (is_declaration code)) p
       + under_way (saying read_plainly (is_confirmation code)) (turned p) ≡ 1
 
--- the run goes on so from where the first message was handed over
+-- the run goes on like this from where the first message was handed over
 pub record Returns : Type 0 where
   pub moves : Moves read_plainly handed_over return_run
   pub declaration : IsOutstanding declaration_sent 0

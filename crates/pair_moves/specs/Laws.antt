@@ -10,9 +10,8 @@ abbrev pub sum_to : (ℕ → ℕ) → ℕ → ℕ
 sum_to f zero = 0
 sum_to f (suc n) = sum_to f n + f n
 
--- how many messages that pass a test the near node accepted or made, and the far node hasn't looked
--- at: those in Held, the loose ones, those of the queues that aren't received, and those that just
--- arrived
+-- how many messages that pass a test the near node accepted or made, and the far node hasn't looked at: those in Held,
+-- the loose ones, those of the queues that aren't received, and those that just arrived
 abbrev pub under_way : (Message → Bool) → Pair → ℕ
 under_way test p =
     count_by test p.near.held + count_by test p.near.loose

@@ -19,9 +19,8 @@ module _ (read : Message → Saying) (flow : Flow) where
   abbrev pub standing_on : Pair → ℕ → List Message
   standing_on p link = of_flow (unreceived (p.line link))
 
-  -- why no later message can overtake those on a link: the flow takes that link; or waits for the
-  -- link's changeover, for a time, or for the confirmation of a declaration that is after all of
-  -- them
+  -- why no later message can overtake those on a link: the flow takes that link, or waits for the link's changeover,
+  -- for a time, or for the confirmation of a declaration that comes after all of them
   pub data IsGuarded (p : Pair) (link : ℕ) : Type 0 where
     by_route : p.near.route flow ≡ Some link → IsGuarded p link
     by_changeover : p.near.holds (Changeover link) flow ≡ true → (p.line link).near.incomplete ≡ true → IsGuarded p link

@@ -1,5 +1,5 @@
--- Moves of the messages of a node: from its user parts, into Held and out of it, and onto a link.
--- Each record says what one node, or one line, becomes; all else of the pair is as before.
+-- Moves of the messages of a node: from its user parts, into Held and out of it, and onto a link. Each record says what
+-- one node or one line becomes; the rest of the pair is as before.
 use Rattle.std.specs.Prelude.{◌≡◌, ◌≢◌, ℕ, true, false, not, ◌<◌, List, [], ◌∷◌, ◌++◌, filter, Some}
 use Rattle.signalling_types.specs.Message.{Message, flow_of}
 use Rattle.signalling_types.specs.declared.point.Flow.{Flow}
@@ -73,8 +73,8 @@ module _ (read : Message → Saying) (p q : Pair) where
       near = record p.near { arrived = heard.rest; received = p.near.received ++ heard.message ∷ [] };
     }
 
-  -- messages of which the laws don't speak come to a node from elsewhere, leave it, or change places; all others stay
-  -- as they are, in their order
+  -- messages that the laws don't speak of come to a node from elsewhere, leave it, or change places; all others stay as
+  -- they are, in order
   pub record MixesOthers : Type 0 where
     pub held : List Message
     pub loose : List Message

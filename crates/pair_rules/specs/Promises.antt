@@ -42,7 +42,8 @@ pub record LostNothing (p : PairState) : Type 0 where
 abbrev pub user : (Message → Bool) → Message → Bool
 user test m = not (is_management m) && test m
 
--- of every kind of user message, as many were accepted at the near end as came to the far end and wait
+-- of every kind of user message, as many were accepted at the near end as came to the far end, together with those that
+-- wait
 abbrev pub EachOnce : PairState → Type 0
 EachOnce p =
     (test : Message → Bool) →
@@ -68,7 +69,7 @@ pub record AreJoined (near far : Configuration) : Type 0 where
   pub far_well : IsWell far
   pub facing : IsFacing near far
 
--- after every list of steps, from two exchanges on that were just booted
+-- after every list of steps from two newly booted exchanges
 abbrev pub Always : (PairState → Type 0) → Type 0
 Always Statement =
     (near far : Configuration) (steps : List Step) → AreJoined near far →
@@ -79,6 +80,6 @@ pub record BothWays (Statement : PairState → Type 0) (p : PairState) : Type 0 
   pub there : Statement p
   pub back : Statement (turned p)
 
--- "Order", if also no timer of the accepting end ended a hold
+-- "Order", if furthermore no timer of the accepting end ended a hold
 abbrev pub IsPunctual : PairState → Type 0
 IsPunctual p = late_any p.near.exchange.node.parts ≡ false

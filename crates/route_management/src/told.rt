@@ -177,7 +177,7 @@ fn goes_by(routes: &[Route], set: SetId) -> bool
     routes.iter().any(|route| route.set.index() == set.index())
 }
 
-/// Of each set, the number of the destination that its links lead to.
+/// For each set, the number of the destination that its links lead to.
 fn adjacents(
     alloc: Global,
     sets: &[SetRow],

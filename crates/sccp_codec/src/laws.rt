@@ -1,5 +1,4 @@
-//! Laws of unitdata, for whoever reads and writes it. Each function says its law by its contract, and
-//! does nothing.
+//! Laws of unitdata, for whoever reads and writes it. Each function states its law in its contract, and does nothing.
 
 ghost use Rattle.std.specs.Prelude.{◌≡◌, ℕ, ◌↔◌, List, Ok};
 ghost use Rattle.sccp_codec.specs.Messages.{AddressValue, IsAddress, IsAddressValue, AreOctets, address_octets, UnitdataValue, IsUnitdata, IsUnitdataValue, spelled, read_address, read_unitdata};

@@ -1,5 +1,4 @@
-//! Laws of translation tables, for whoever keeps one. Each function says its law by its contract, and
-//! does nothing.
+//! Laws of translation tables, for whoever keeps one. Each function states its law in its contract, and does nothing.
 
 ghost use Rattle.std.specs.Prelude.{◌≡◌, ℕ, List, Ok};
 ghost use Rattle.settings_rows.specs.Configuration.{TitleEntry};

@@ -1,4 +1,4 @@
-//! Laws of packets, for whoever reads and writes them. Each function says its law by its contract, and does nothing.
+//! Laws of packets, for whoever reads and writes them. Each function states its law in its contract, and does nothing.
 
 ghost use Rattle.std.specs.Prelude.{◌≡◌, ◌↔◌, ℕ, List, Some, All};
 ghost use Rattle.sctp_codec.specs.Items.{ItemValue, IsItem, AreItems, AreOctets, read_items};

@@ -1,4 +1,4 @@
-//! Laws of tags and of the permutation that gives them. Each function says its law by its contract, and does nothing.
+//! Laws of tags and of the permutation that gives them. Each function states its law in its contract, and does nothing.
 
 ghost use Rattle.std.specs.Prelude.{◌≡◌, ◌≢◌, ℕ, ◌<◌, ◌≤◌, ◌^◌, All};
 ghost use Rattle.std.specs.List.{AllPairs};

@@ -1,4 +1,4 @@
-//! Laws of gates. Each function says its law by its contract, and does nothing.
+//! Laws of gates. Each function states its law in its contract, and does nothing.
 
 ghost use Rattle.exchange.specs.KeptQueues.{kept};
 ghost use Rattle.exchange_rules.specs.Queues.{whole};

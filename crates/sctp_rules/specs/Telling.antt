@@ -4,7 +4,7 @@ use Rattle.sctp_rules.specs.Settings.{Settings, Secrets}
 use Rattle.sctp_rules.specs.State.{Told, Up, Heard, Down, Failed, first_state}
 use Rattle.sctp_rules.specs.Endpoint.{Happening, after_all}
 
--- whether an association is up once this was told; None where it was told out of turn
+-- whether an association is up once this was told; None if it was told out of turn
 abbrev pub turned : (is_up : Bool) → Told → Option Bool
 turned false Up = Some true
 turned true Up = None

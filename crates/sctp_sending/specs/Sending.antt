@@ -157,7 +157,7 @@ gone_next s now (Some place) = gone s place now
 
 -- ---- messages are confirmed
 
--- how many messages a cumulative TSN confirms: Old if it is behind what is confirmed, Beyond where it confirms one that
+-- how many messages a cumulative TSN confirms: Old if it is behind what is confirmed, Beyond if it confirms one that
 -- didn't go out
 unfoldable pub confirmation : Sending → (cumulative : ℕ) → Confirmation
 confirmation s cumulative =

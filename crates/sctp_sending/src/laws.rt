@@ -1,4 +1,4 @@
-//! Laws of what an end sends. Each function says its law by its contract, and does nothing.
+//! Laws of what an end sends. Each function states its law in its contract, and does nothing.
 
 ghost use Rattle.std.specs.Prelude.{◌≡◌, ◌≤◌, ◌+◌, ℕ, ◌∷◌, ◌++◌, [], drop, length, Bool, true, Option, Some};
 ghost use Rattle.sctp_sending.specs.declared.confirmation.Confirmation.{Confirmation};

@@ -1,4 +1,4 @@
-//! Laws of associations and of counters. Each function says its law by its contract, and does nothing.
+//! Laws of associations and of counters. Each function states its law in its contract, and does nothing.
 
 ghost use Rattle.std.specs.Prelude.{◌≡◌, List, true};
 ghost use Rattle.m2pa_codec.specs.Frames.{FrameValue, spelled};

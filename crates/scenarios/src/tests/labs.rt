@@ -8,7 +8,7 @@ use std::io;
 use std::io::Read;
 use std::test::*;
 
-/// A link that opens, of which a frame of 20 octets is carried, octet by octet; it opens again where it was lost.
+/// A link that opens, of which a frame of 20 octets is carried, octet by octet; it opens again after it was lost.
 const OPENS: &str = "open e0\nmove 1 e0\nmove 1 e0\nopen e0\nmove 1 e0\n";
 
 /// What is printed if the link can't be joined.
@@ -46,7 +46,7 @@ fn other_faults_of_a_join(rt: HostRuntime) -> Result<(), Fail> {
     Ok(())
 }
 
-/// Whether the lab prints what it has to where a call fails after this many others; if it joins the link, by this
+/// Whether the lab prints what it has to if a call fails after this many others; if it joins the link, by this
 /// fault.
 fn prints_behind(rt: &HostRuntime, fault: JoinFault, calls: u64) -> Result<bool, Fail> {
     let joiner = MemoryJoiner::new(rt.alloc())?.in_pieces_of(1);
