@@ -223,7 +223,7 @@ fn is_own(event: &Event<'_>) -> bool
     }
 }
 
-/// Calls the gate of a link at a node, where the other one's gates put out some datagrams.
+/// Calls the gate of a link at a node, given the datagrams that the other one's gates put out.
 fn call_at(node: &mut Node, other: &Node, link: LinkId, call: Call, now: u64) -> bool
     ensures answer { result ≡ is_made call link other.now node.old }
     ensures calls { result ≡ true → (a : Abstract) → exchanges.StandsFor node.old.exchange a →

@@ -37,7 +37,7 @@ const NUMBER_OCTETS: usize = 4;
 /// Octets of a SHUTDOWN chunk.
 const SHUTDOWN_OCTETS: usize = 8;
 
-/// A packet that is written. Chunks are bundled into it (RFC 9260 §6.10): if the next one doesn't fit after those that
+/// A packet being written. Chunks are bundled into it (RFC 9260 §6.10). If the next one doesn't fit after those that
 /// wait in it, it goes out, and another one begins.
 #[derive(Drop)]
 pub struct Draft {

@@ -1,5 +1,5 @@
--- The parameters of INIT and INIT ACK, and what is done about each; the causes of ABORT and ERROR
--- (RFC 9260 §3.2.1, §3.3.2, §3.3.3, §3.3.10).
+-- The parameters of INIT and INIT ACK, and what is done about each; the causes of ABORT and ERROR (RFC 9260 §3.2.1,
+-- §3.3.2, §3.3.3, §3.3.10).
 use Rattle.std.specs.Prelude.{ℕ, ◌+◌, ◌-◌, ◌*◌, ◌/◌, ◌%◌, ◌^◌, Bool, true, false, ◌==◌, ◌||◌, ◌&&◌, not}
 use Rattle.std.specs.Prelude.{if◌then◌else◌, nat_le, List, []}
 use Rattle.std.specs.Prelude.{◌∷◌, ◌++◌, length, map, replicate, Option, Some, None}

@@ -28,9 +28,9 @@ pub struct Packet<'a> {
 }
 
 impl<'a> Packet<'a> {
-    /// The packet that the octets are. None, as if the network had lost it, unless it has 16 octets at least, the right
-    /// checksum, and whole chunks to its end, if the padding after the last one may be missing; INIT and INIT ACK stand
-    /// alone, and INIT has the tag 0 (RFC 9260 §3, §6.8, §6.10, §8.5.1).
+    /// The packet that the octets are. None, as if the network had lost it, unless it has at least 16 octets, the right
+    /// checksum, and whole chunks to its end, with or without the padding of the last one. INIT and INIT ACK must stand
+    /// alone, and INIT must have the tag 0 (RFC 9260 §3, §6.8, §6.10, §8.5.1).
     pub fn read(octets: &'a [u8]) -> Option<Packet<'a>>
         ensures { Gives packet_of result (read_packet octets.now) }
     {

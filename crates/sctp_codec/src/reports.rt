@@ -59,7 +59,7 @@ impl<'a> Iterator for Reports<'a> {
 }
 
 /// Writes an INIT ACK chunk at an offset, and returns the offset after it: what is offered, the cookie, and the
-/// parameters of the INIT that are to be reported, as many of the first of them as 512 octets hold (RFC 9260 §3.3.3).
+/// parameters of the INIT that are to be reported, as many of the first as 512 octets hold (RFC 9260 §3.3.3).
 pub fn write_init_ack(
     out: &mut PacketBuffer,
     at: usize,
@@ -84,7 +84,7 @@ pub fn write_init_ack(
 }
 
 /// Writes an ERROR chunk at an offset, and returns the offset after it: the parameters of an INIT ACK that are to be
-/// reported, as many of the first of them as 512 octets hold (RFC 9260 §3.3.10.8).
+/// reported, as many of the first as 512 octets hold (RFC 9260 §3.3.10.8).
 pub fn write_unrecognized_parameters(
     out: &mut PacketBuffer,
     at: usize,
@@ -103,8 +103,8 @@ pub fn write_unrecognized_parameters(
     write_item(out, at, UNRECOGNIZED_PARAMETERS, &reports[..end])
 }
 
-/// Writes reported parameters at an offset, each after the padding of what is before it, as many of the first of them
-/// as there is room for, and returns the offset after them.
+/// Writes reported parameters at an offset, each after the padding of the one before, as many of the first as there is
+/// room for, and returns the offset after them.
 fn write_reports(
     out: &mut PacketBuffer,
     at: usize,

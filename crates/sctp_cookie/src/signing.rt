@@ -20,8 +20,8 @@ impl Cookie {
         signed(self, key)
     }
 
-    /// The cookie of which these are the octets under this key. None if there is no such cookie: there are more or
-    /// fewer octets than 88, or the code isn't that of the body, or the body doesn't end in two zeros.
+    /// The cookie of which these are the octets under this key. None if there is no such cookie: if there are more or
+    /// fewer octets than 88, if the code isn't that of the body, or if the body doesn't end in two zeros.
     pub fn open(octets: &[u8], key: &[u8; COOKIE_KEY_OCTETS]) -> Option<Cookie>
         // What opens was signed.
         ensures signed { IfSome result (λ cookie. IsSigned key.now octets.now cookie) }

@@ -9,9 +9,9 @@ use std::marker::Model;
 /// Octets of the key that tags are drawn under.
 pub const KEY_OCTETS: usize = 32;
 
-/// What an endpoint draws its verification tags from (RFC 9260 §5.3.1): the n-th one is that of the n-th number,
-/// by a permutation of the numbers of 32 bits under a key. So no tag comes twice, and whoever doesn't know the key
-/// can't guess the next one.
+/// What an endpoint draws its verification tags from (RFC 9260 §5.3.1): the n-th one is that of the n-th number, by a
+/// permutation of the 32-bit numbers under a key. So no tag comes twice, and whoever doesn't know the key can't guess
+/// the next one.
 #[derive(Drop)]
 pub struct Tags {
     key: [u8; KEY_OCTETS],

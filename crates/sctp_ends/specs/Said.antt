@@ -46,8 +46,8 @@ pub record Age : Type 1 where
   pub chunk : Chunk → Type 0
   pub ack : Acknowledgement → Type 0
 
--- they were made when the load of their end was as marked, or later: with the messages since then added, DATA was in
--- the window, and an acknowledgement of all that was received
+-- they were made when the load of their end was as marked, or later: if the messages since then are added, DATA was in
+-- the window, and an acknowledgement was of all that was received
 abbrev pub since : (mark : ℕ) → End → Age
 since mark e = record {
   chunk = λ d.
@@ -58,7 +58,7 @@ since mark e = record {
       length epoch.received + mark ≤ a.count + load e.epochs;
 }
 
--- their end sent, or received, fewer than all numbers but those of a window since
+-- since then their end sent, or received, fewer messages than there are numbers, less a window
 abbrev pub young : End → Age
 young e = record {
   chunk = λ d.

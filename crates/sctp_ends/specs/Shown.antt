@@ -84,7 +84,7 @@ pub record IsTaken (m : Message) : Type 0 where
   pub stream : nat_lt m.stream STREAMS ≡ true
   pub octets : length m.octets ≤ most_octets
 
--- the sending half keeps what was sent and isn't confirmed; of an association that is shut down the first of it. All
+-- the sending half keeps what was sent and isn't confirmed; of an association that is shut down, the first of it. All
 -- that was sent counts as put out. In ESTABLISHED, which is open, nothing is dropped
 pub record SendsOut (e : End) (epoch : Epoch) (is_open : Bool) (s : Sending) : Type 0 where
   pub given : List Message
@@ -147,7 +147,7 @@ pub record IsEchoing (e : End) (wanted : Bool) (a : Association) : Type 0 where
   pub wants : e.wanted ≡ true
   pub wanted_is : wanted ≡ true
 
--- what the end shows of an association, and of whether the user wants one
+-- what the end shows of an association, and whether the user wants one
 abbrev pub IsIn : Stage → End → (wanted : Bool) → Association → Type 0
 IsIn Off e wanted a = IsOff e wanted
 IsIn Waiting e wanted a = IsWaiting e wanted a

@@ -9,8 +9,8 @@ use Rattle.sctp_moves.specs.Numbers.{modulus, window}
 use Rattle.sctp_moves.specs.Ends.{Message}
 use Rattle.sctp_ends.specs.Told.{told_by, opened_by, given_by}
 
--- a packet that was put out; and how many messages its endpoint had been given and had told when packets were asked for
--- last before that: what the packet says was made since
+-- a packet that was put out, and how many messages its endpoint had been given and had told when packets were asked for
+-- last before that; what the packet says was made since
 pub record Emitted : Type 0 where
   pub packet : PacketValue
   pub made : ℕ

@@ -62,9 +62,8 @@ impl Model for Gate {
 }
 
 impl Gate {
-    /// A gate without an association. It tries to open one, or waits for its peer to do so. The keys, under which tags
-    /// are drawn and cookies are signed, are to be drawn at random, and no two of them may be the same. The error means
-    /// that memory ran out.
+    /// A gate without an association. It tries to open one, or waits for its peer to do so. Draw the keys for tags and
+    /// cookies at random, no two of them the same. The error means that memory ran out.
     pub fn new(
         alloc: Global,
         link: LinkId,
@@ -121,8 +120,8 @@ impl Gate {
     }
 
     /// The endpoint is set to what the link wants. Close ends the association. Open wants one: this end waits for its
-    /// peer, and tries to open one if it is an end that tries and the wait after the last try that failed is over.
-    /// Nothing ends the try of one, and the wish for one. To be called after each event of the exchange.
+    /// peer and, if it is an end that tries and the wait after the last failed try is over, tries to open one. Nothing
+    /// ends the try of one, and the wish for one. Call it after each event of the exchange.
     pub fn settle<W: Watch>(&mut self, exchange: &mut Exchange, now: u64, watch: &mut W)
         ensures kept { Makes W.has watch.old watch.new self.new exchange.new (settled kept now self.old exchange.old) }
         ensures whole { (a : Abstract) → StandsFor exchange.old a → MakesWhole W.has watch.old watch.new self.new

@@ -7,7 +7,7 @@ ghost use Rattle.sctp_gate.specs.Laws.{taken_frames_are_given, taken_frames_go_o
 ghost use Rattle.sctp_gate.specs.Rising.{associations_come_up, calls_are_seen};
 
 /// After each settling, with which each datagram and each tick ends: if an association is up, the link asks for
-/// nothing; and one is wanted, or a try goes on, only if the link wants to open. It holds whatever happened to the
+/// nothing; and one is wanted, or a try goes on, only if the link wants to open. This holds whatever happened to the
 /// exchange before.
 pub fn settled_gates_do_what_their_links_want()
     ensures whole { settling_agrees whole }
@@ -15,8 +15,8 @@ pub fn settled_gates_do_what_their_links_want()
     ensures kept { settling_agrees kept }
 {}
 
-/// AssociationUp is never refused. Of a gate that was new, whatever was called at it since, and whatever happened to
-/// the exchange between the calls: each time that its association is seen to come up, the link wants to open at that
+/// AssociationUp is never refused. Take a gate that was new, whatever was called at it since, and whatever happened to
+/// the exchange between the calls. Each time that its association is seen to come up, the link wants to open at that
 /// very moment, AssociationUp is handled, and after it the link has an association and isn't down.
 pub fn associations_come_up_at_their_links()
     ensures whole { associations_come_up whole }
@@ -32,7 +32,7 @@ pub fn calls_do_what_is_seen_of_them()
 {}
 
 /// A frame is taken only if it goes out at once. After a fill that took one, all that was ever given and isn't
-/// confirmed went out; and a frame of 1 to 290 octets that finds room is given, after all others.
+/// confirmed has gone out; and a frame of 1 to 290 octets that finds room is given, after all others.
 pub fn frames_that_are_taken_go_out()
     ensures whole { taken_frames_go_out whole }
     // The same on what is kept.

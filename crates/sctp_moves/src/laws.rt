@@ -12,7 +12,7 @@ ghost use Rattle.sctp_moves.specs.Openings.{openings_come_in_turn, established_e
 ghost use Rattle.sctp_moves.specs.Example.{Happens};
 
 /// "Prefix" and "confirmed": if both ends had an association, what one received in it is the beginning of what the
-/// other sent, each message once, in order, whole; and no more was confirmed than had come. An end that received
+/// other sent, each message once, in order, whole, and no more was confirmed than had come. An end that received
 /// something, or saw something confirmed, did so in an association that the other end had too.
 pub fn messages_come_in_order()
     ensures carried { each_association_carries_a_prefix }
@@ -61,10 +61,10 @@ pub fn moves_of_ends_join()
     ensures behind { moves_join }
 {}
 
-/// These laws aren't empty: in a run of 31 moves an association opens at one end and then at the other, and messages go
-/// round the end of the numbers, of which one overtakes another, one comes twice and one is lost. It falls at one end,
-/// if its old cookie opens nothing, and a new one opens at both. After the hole nothing was acknowledged, and no cookie
-/// of another peer might have opened.
+/// These laws aren't empty. In a run of 31 moves an association opens at one end and then at the other. Messages wrap
+/// round the end of the numbers; one overtakes another, one comes twice, and one is lost. The association falls at one
+/// end, where its old cookie opens nothing, and a new one opens at both. After the hole nothing was acknowledged, and
+/// no cookie of another peer might have opened.
 pub fn associations_open_and_fall()
     ensures { Happens }
 {}

@@ -234,8 +234,8 @@ impl Receiver {
         self.duplicates.clear();
     }
 
-    /// A chunk comes. The next one in the order of TSNs is consumed, and answers what it tells; a message that it ends
-    /// is the chunk's own octets, or is in the buffer. Any other is held, noted as come again, or dropped.
+    /// A chunk comes. The next one in the order of TSNs is consumed, and the answer is what it tells; a message that it
+    /// ends is the chunk's own octets, or is in the buffer. Any other chunk is held, noted as come again, or dropped.
     ///
     /// After one that was consumed `take_next` has to be called until it gives none.
     #[inline(always)]

@@ -184,7 +184,7 @@ abbrev pub answered_if_trying : Settings → Secrets → (now : ℕ) → Address
 answered_if_trying c k now source init s =
     if is_waiting s.association.phase then answered_alike c k now source init s else silent s
 
--- an INIT of the peer that this end has echoed the cookie of; or of one that has restarted since, and may have had an
+-- an INIT of the peer whose cookie this end has echoed; or of one that has restarted since, and may have had an
 -- association with this end's tag: then this end restarts, too
 abbrev pub answered_echoed : Settings → Secrets → (now : ℕ) → Address → InitValue → State → Done
 answered_echoed c k now source init s =
@@ -314,8 +314,8 @@ is_far cookie a = nat_eq cookie.peer_tag a.far_tag
 abbrev pub is_tied : Cookie → Association → Bool
 is_tied cookie a = nat_eq cookie.tie_own_tag a.own_tag && nat_eq cookie.tie_peer_tag a.far_tag
 
--- what becomes of a packet that begins with COOKIE ECHO: what the cookie does, and whether the chunks after it belong
--- to the association
+-- the outcome of a packet that begins with COOKIE ECHO: what the cookie does, and whether the chunks after it belong to
+-- the association
 pub record Echo : Type 0 where
   pub does : Done
   pub goes_on : Bool
@@ -363,8 +363,8 @@ echo_in_association phase c source cookie s =
     then stops (restarted phase c source cookie s)
     else stops (silent s)
 
--- a good cookie, by the state (§5.2.4). In COOKIE-WAIT its own tag has to be that of the try, and in COOKIE-ECHOED the
--- peer's, too: another one is of a try that the peer gave up
+-- a good cookie, by the state (§5.2.4). In COOKIE-WAIT its own tag must be that of the try, and in COOKIE-ECHOED the
+-- peer's, too; any other is of a try that the peer gave up
 abbrev pub good_echo_in : Phase → Settings → (now : ℕ) → Address → Cookie → State → Echo
 good_echo_in Closed c now source cookie s =
     if s.is_wanted then opened_by c now source cookie s else stops (silent s)
@@ -383,7 +383,7 @@ is_there phase = not (is_closed phase || is_waiting phase || is_echoed phase)
 abbrev pub staleness : (now : ℕ) → Cookie → ℕ
 staleness now cookie = min (1000 * (now - cookie.made - cookie.life)) (2 ^ 32 - 1)
 
--- a cookie is good within its life, and in its generation: it opens one association at most
+-- a cookie is good within its life and its generation: it opens one association at most
 abbrev pub heard_cookie : Settings → (now : ℕ) → Address → Cookie → State → Echo
 heard_cookie c now source cookie s =
     if is_there s.association.phase && is_own cookie s.association && is_far cookie s.association
@@ -394,7 +394,7 @@ heard_cookie c now source cookie s =
     then good_echo_in s.association.phase c now source cookie s
     else stops (stale c source 1 cookie s)))
 
--- its signature has to be right, and its own tag and port have to be the packet's
+-- its signature must be right, and its own tag and port must be the packet's
 abbrev pub heard_echo_of : Option Cookie → Settings → (now tag : ℕ) → Address → State → Echo
 heard_echo_of None c now tag source s = stops (silent s)
 heard_echo_of (Some cookie) c now tag source s =
@@ -414,7 +414,7 @@ begun_after_stale c k now (Some t) s =
     then ended c StaleTooOften s
     else begun_anew c k now (t.failures + 1) c.address s
 
--- in COOKIE-ECHOED, that the cookie was stale: the try restarts, and its failures count on. Other causes say nothing
+-- in COOKIE-ECHOED: that the cookie was stale. The try restarts, and its failures count on. Other causes say nothing
 -- here
 abbrev pub heard_error : Settings → Secrets → (now : ℕ) → List ItemValue → State → Done
 heard_error c k now causes s =

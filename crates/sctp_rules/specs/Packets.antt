@@ -106,7 +106,7 @@ heard_chunks c k now tag (chunk ∷ chunks) s =
 
 -- ---- a packet for the association, or for a try of one
 
--- after a right tag, the packet's source is where the next answer goes (RFC 6951 §5.4); in COOKIE-WAIT it stays
+-- after a right tag, the next answer goes to the packet's source (RFC 6951 §5.4); in COOKIE-WAIT that stays
 abbrev pub from_source : Address → State → State
 from_source source s =
     if is_waiting s.association.phase

@@ -133,7 +133,7 @@ acknowledges = far (Flushes 3) opens_first.left
 abbrev pub opens_second : Done
 opens_second = near (comes 4 (packet acknowledges)) echoes.left
 
--- what a step does: the state that it leaves, what goes out, and what is told
+-- what a step does: the state after it, what goes out, and what is told
 pub record Does (d : Done) (phase : Phase) (sent : List (List ℕ)) (told : List Told) : Type 0 where
   pub phase_is : phase_of d ≡ phase
   pub sent_is : kinds d ≡ sent
@@ -198,7 +198,7 @@ try_fails = Does (near (Ticked 900) tries_again.left) Closed [] (Failed NoAnswer
 abbrev pub try_is_refused : Type 0
 try_is_refused = Does (near (comes 1 (of_chunk 10 (AbortChunk false []))) tries.left) Closed [] (Failed Refused ∷ [])
 
--- the user gives up: in COOKIE-WAIT there is no tag yet that the peer takes an ABORT by
+-- the user gives up: in COOKIE-WAIT there is no tag yet by which the peer takes an ABORT
 abbrev pub giving_up_in_cookie_wait : Type 0
 giving_up_in_cookie_wait = Does (near Aborts tries.left) Closed [] (Failed Local ∷ [])
 
@@ -313,7 +313,7 @@ abbrev pub data_goes_out_again : Type 0
 data_goes_out_again =
     Does (near (Flushes 400) (near (Ticked 400) sends.left).left) Established ((0 ∷ []) ∷ []) []
 
--- for one time too many, and the association ends
+-- for one time too many: the association ends
 abbrev pub goes_out_thrice : Done
 goes_out_thrice = near (Flushes 1000) (near (Ticked 1000) (near (Flushes 400) (near (Ticked 400) sends.left).left).left).left
 
@@ -479,7 +479,7 @@ abbrev pub former_try_opens_nothing : Type 0
 former_try_opens_nothing =
     Does (near (comes 60003 (opening_behind (packet refuses_old_cookie))) echoes.left) CookieWait ((1 ∷ []) ∷ []) []
 
--- INIT ACK with one stream alone, without a cookie, or without a tag: to the last one no ABORT can be sent
+-- INIT ACK with only one stream, without a cookie, or without a tag; no ABORT can be sent to the last one
 abbrev pub init_ack_comes : InitValue → Done
 init_ack_comes init = near (comes 1 (of_chunk 10 (InitAckChunk init))) tries.left
 
@@ -532,7 +532,7 @@ abbrev pub silence_is_a_loss : Type 0
 silence_is_a_loss =
     Does (near (Ticked 8000) beats_thrice.left) Closed ((4 ∷ 4 ∷ 4 ∷ 6 ∷ []) ∷ []) (Down NoAnswer ∷ [])
 
--- an answer to the heartbeat begins the count again
+-- after an answer to the heartbeat the count begins again
 abbrev pub heartbeat_of_near : ChunkValue
 heartbeat_of_near = HeartbeatAckChunk (information_of 0)
 
@@ -615,7 +615,7 @@ abbrev pub shutdown_goes_out_again : Type 0
 shutdown_goes_out_again =
     Does (near (Flushes 310) (near (Ticked 310) shutdown_goes_out.left).left) ShutdownSent ((7 ∷ []) ∷ []) []
 
--- for one time too many, and the association ends
+-- for one time too many: the association ends
 abbrev pub shutdown_again : Done
 shutdown_again = near (Ticked 910) (near (Flushes 310) (near (Ticked 310) shutdown_goes_out.left).left).left
 
@@ -659,7 +659,7 @@ abbrev pub shutdown_ack_meets_shutdown_ack : Type 0
 shutdown_ack_meets_shutdown_ack =
     Does (near (comes 12 (of_chunk 10 ShutdownAckChunk)) both_shut_down.left) Closed ((14 ∷ []) ∷ []) (Down Shutdown ∷ [])
 
--- T2 in SHUTDOWN-ACK-SENT; of its end the user isn't told again
+-- T2 in SHUTDOWN-ACK-SENT; the user isn't told of its end again
 abbrev pub ack_goes_out_again : Done
 ack_goes_out_again = far (Flushes 311) (far (Ticked 311) shutdown_answered.left).left
 

@@ -75,7 +75,7 @@ with_acknowledged now a = if is_acknowledging a then record (sacked a) { t2 = t2
 abbrev pub due_chunks : (now : ℕ) → Association → List ChunkValue
 due_chunks now a = a.control ++ acknowledgement a ++ data_of now a
 
--- chunks are bundled: as many as fit into a packet (§6.10). `waiting` are those of the packet that isn't full
+-- chunks are bundled, as many as fit into a packet (§6.10). `waiting` are those of the packet that isn't full
 abbrev pub closed : List ChunkValue → List (List ChunkValue)
 closed [] = []
 closed (chunk ∷ chunks) = (chunk ∷ chunks) ∷ []

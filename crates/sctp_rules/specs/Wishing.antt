@@ -48,8 +48,8 @@ Fits (Some Idle) s = (s.association.is_up ≡ false) × (s.is_wanted ≡ false)
 Fits (Some Seeking) s = s.association.is_up ≡ false
 Fits (Some Served) s = s.association.is_up ≡ true
 
--- whatever happens: Up is told only if the user wants an association, which it does from a call of `open` on until Up
--- or Failed is told; and then Down is told before it may want the next one
+-- whatever happens, Up is told only if the user wants an association, that is, from a call of `open` until Up or Failed
+-- is told; and then Down is told before it may want the next one
 abbrev pub told_as_wished : Type 0
 told_as_wished =
     (c : Settings) (k : Secrets) (happenings : List Happening) →

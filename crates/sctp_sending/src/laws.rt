@@ -18,8 +18,8 @@ ghost use Rattle.sctp_sending.specs.Sending.{
 };
 ghost use Rattle.sctp_sending.specs.Waiting.{waiting_octets, has_room_behind, after_going};
 
-/// A message that is given goes after the others, and only a cumulative TSN takes messages away: as many as it
-/// confirms, from the front. Nothing else changes which messages there are.
+/// A message that is given goes after the others, and only a cumulative TSN takes messages away: from the front, as
+/// many as it confirms. Nothing else changes which messages there are.
 pub fn messages_leave_from_the_front()
     ensures given { (s : Sending) (m : Message) → messages_of (given s m) ≡ messages_of s ++ m ∷ [] }
     ensures gone { (s : Sending) (now : ℕ) (place : Option ℕ) → messages_of (gone_next s now place) ≡ messages_of s }
@@ -37,7 +37,7 @@ pub fn a_message_that_finds_room_goes_out_next()
 {}
 
 /// If there is room after what didn't go out yet, a message of at most 290 octets that is given goes out after it, and
-/// nothing holds any of it up: as packets are asked for next, all goes out in order, one message after another.
+/// nothing holds any of it up: when packets are next asked for, all goes out in order, one message after another.
 pub fn messages_that_find_room_behind_others_go_out_with_them()
     ensures { (s : Sending) (m : Message) (octets now place : ℕ) → waiting_octets s ≤ octets
         → has_room_behind s octets ≡ true → length m.octets ≤ most_octets → s.went + place ≤ length s.out

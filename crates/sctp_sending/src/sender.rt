@@ -115,7 +115,7 @@ impl Sender {
     }
 
     /// Whether a message that is sent now goes out as soon as packets are asked for, after those that didn't go out yet
-    /// and have this many octets, or fewer.
+    /// and have at most this many octets.
     #[tactic(auto, unfolding(crate::specs::Waiting::has_room_behind))]
     pub fn has_room_behind(&self, octets: u32) -> bool
         ensures { result ≡ has_room_behind self.now octets }

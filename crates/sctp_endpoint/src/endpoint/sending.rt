@@ -18,7 +18,7 @@ impl Endpoint {
     }
 
     /// Whether a message that is sent now goes out with the next `flush`, after those that were taken since the last
-    /// one and have this many octets in all, or fewer.
+    /// one and have at most this many octets in all.
     pub fn has_room_behind(&self, octets: u32) -> bool
         ensures { result ≡ has_room_behind self.now.state octets }
     {

@@ -33,10 +33,10 @@ const DATA_STREAM: u16 = 1;
 const MOST_FRAMES: usize = 256;
 
 impl Gate {
-    /// Takes frames of the link, one after another, each only while it can go out at once, after those before it. Then
-    /// they go out together, as many in a datagram as fit: Link Status on stream 0, and User Data on stream 1 (RFC 4165
-    /// §4.1.3); and what else is due, such as SACK. The other frames stay in the node, for a changeover. The watch sees
-    /// each frame that is taken.
+    /// Takes frames of the link, one after another, each only while it can go out at once, after those before it. They
+    /// go out together, as many in a datagram as fit: Link Status on stream 0, and User Data on stream 1 (RFC 4165
+    /// §4.1.3). So does what else is due, such as SACK. The other frames stay in the node, for a changeover. The watch
+    /// sees each frame that is taken.
     pub fn fill<W: Watch>(&mut self, exchange: &mut Exchange, now: u64, watch: &mut W)
         ensures kept { Makes W.has watch.old watch.new self.new exchange.new (filled kept now self.old exchange.old) }
         ensures whole { (a : Abstract) → StandsFor exchange.old a → MakesWhole W.has watch.old watch.new self.new
