@@ -30,7 +30,7 @@ OCTETS = (
     ("up e9\n# \xff\nup\nup e0\n", "refused 22 NoSuchName\nfault 3\n"),
 )
 
-# The start of a line, what follows it how often, and what is printed of the line and of `up e0` after it. Nothing is
+# The start of a line, what follows it how often, and what is printed for the line and of `up e0` after it. Nothing is
 # done after a line that is too long.
 LONG_LINES = (
     ("# ", "x", 8298, "handled\n"),

@@ -1,4 +1,4 @@
--- A list is gone through once, message by message: each goes to another list or stays. Or a list is turned round.
+-- A list is walked once, message by message: each goes to another list or stays. Or a list is turned round.
 use Rattle.std.specs.Prelude.{ℕ, Bool, List, Option, Some, None, false, ◌++◌, take, drop}
 use Rattle.std.specs.Prelude.{slice_get, slice_set}
 use Rattle.std.specs.Prelude.{if◌then◌else◌}

@@ -71,8 +71,8 @@ fn asks_version(words: &[String]) -> bool
     }
 }
 
-/// Which command the words ask for. Words of which one is empty or begins with `-` ask for none, and no memory is taken
-/// for them; for all others it may run out.
+/// Which command the arguments ask for. If one of them is empty or begins with `-` they ask for none, and no memory is
+/// allocated for them; for all others it may run out.
 fn read_command(alloc: Global, words: &[String]) -> Words
     ensures { IsReadAs (asked_by (texts words.now)) (are_plain words.now) result }
 {

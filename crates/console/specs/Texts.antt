@@ -128,7 +128,7 @@ flag_line s (suc (suc k)) = None
 abbrev pub digit_octet : ℕ → ℕ
 digit_octet digit = if nat_lt digit 10 then 48 + digit else 87 + digit
 
--- how an address is routed at the point that a row leads to
+-- what the address is routed by at the point that a row leads to
 abbrev pub title_way_text : Option ℕ → List ℕ
 title_way_text (Some ssn) = codes " title " ++ decimal ssn
 title_way_text None = codes " title -"

@@ -30,7 +30,7 @@ each_counter name row counters = first_texts (λ k. counter_at name row (slice_g
 unfoldable pub link_text : (name : List ℕ) → LinkCounters → List ℕ
 link_text name row = each_counter name row ALL
 
--- nothing is shown of a link that has no counters
+-- nothing is shown for a link that has no counters
 abbrev pub row_text : (name : List ℕ) → Option LinkCounters → List ℕ
 row_text name (Some row) = link_text name row
 row_text name None = []

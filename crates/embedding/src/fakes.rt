@@ -22,9 +22,9 @@ enum Played {
 /// The SIO of ISUP in a network of indicator 2.
 const ISUP: u8 = 0x85;
 
-/// The first link opens at once, and the other one as its first frame comes. Both prove themselves and enter service; a
-/// message for point 300 is forwarded, one for this point delivered; one association is lost; and a message is submitted
-/// for point 300, which lies behind that link.
+/// The first link opens at once, and the other one as its first frame comes. Both prove themselves and enter service. A
+/// message for point 300 is forwarded, and one for this point delivered; one association is lost; and a message is
+/// submitted for point 300, which lies behind that link.
 const PLAYED: [Played; 11] = [
     Played::Status(0, 2),
     Played::Status(1, 2),

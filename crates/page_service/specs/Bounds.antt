@@ -11,7 +11,7 @@ abbrev pub head_bounds : Limits
 head_bounds = record { max_head_len = 8192; max_extensions_len = 0; max_trailers_len = 0 }
 
 -- the bounds of a connection: such a head, no body, and no further request before the answer went out; a read has room
--- for 1,024 octets at least
+-- for at least 1,024 octets
 abbrev pub connection_bounds : Config
 connection_bounds = record { limits = head_bounds; max_body_len = 0; max_pending = 0; read_size = 1024 }
 

@@ -240,7 +240,7 @@ turn (AtFar what) p = record {
   left = turned (did what (turned p)).left;
 }
 
--- ---- from the first on
+-- ---- from the first
 
 -- nothing is in flight on this many links
 abbrev pub nothing_in_flight : (links : ℕ) → Streams

@@ -73,7 +73,7 @@ EndsWith wanted lines output output_new ended =
     × (output_new.failures ≡ counted output.failures))
 
 -- the script ran from the first state of a node with these settings, and the program ends by how it ended, which
--- standard error is told
+-- standard error says
 abbrev pub RunsScript : Configuration → Streams → Streams → Status → Type 0
 RunsScript settings old new ended =
     (script : Result Unit ScriptFault) × (after : Abstract)
@@ -103,8 +103,8 @@ RunsNode IsGiven IsWrong IsSentence old new ended =
     ⊎ ((why : SettingsFault) × IsWrong why × EndsWith status.Start (told why) old.output new.output ended
     × (new.input ≡ old.input) × IsToldOf (IsSentence why) old.errors new.errors)
 
--- the same with the settings of a file, after warnings of it; if the file can't be read, nothing is printed, and
--- standard error is told why
+-- the same with the settings of a file, after its warnings; if the file can't be read, nothing is printed, and standard
+-- error says why
 abbrev pub RunsFile : (file : List ℕ) → FileRead → Streams → Streams → Status → Type 0
 RunsFile file (Ok octets) old new ended =
     (warned : Output) × IsWarned file old.errors warned
@@ -115,16 +115,16 @@ RunsFile file (Err (file_fault.Unread why)) old new ended =
     × IsToldOf (λ text. text ≡ unread_sentence file why) old.errors new.errors
 RunsFile file (Err file_fault.NoMemory) old new ended = HasNoMemory old new ended
 
--- `ok` is printed of a file whose settings of a server have no fault, or that says nothing of one, and else their fault,
--- which standard error explains
+-- for a file whose settings of a server have no fault, or that has none, `ok` is printed; else their fault, which
+-- standard error explains
 abbrev pub ChecksServer : (file octets : List ℕ) → (output output_new errors errors_new : Output) → Status → Type 0
 ChecksServer file octets output output_new errors errors_new ended =
     (AreServed octets × EndsWith status.Done (codes "ok\n") output output_new ended × (errors_new ≡ errors))
     ⊎ ((why : ServeFault) × IsServerFault octets why × EndsWith status.Start (told_server why) output output_new ended
     × IsToldOf (server_sentences.Explains file why) errors errors_new)
 
--- of a file that has settings of a node those of its server are checked; else the fault is printed, which standard
--- error explains; and warnings come before
+-- if a file has settings of a node, those of its server are checked; else the fault is printed, which standard error
+-- explains; warnings come before
 abbrev pub ChecksFile : (file : List ℕ) → FileRead → (output output_new errors errors_new : Output) → Status → Type 0
 ChecksFile file (Ok octets) output output_new errors errors_new ended =
     (warned : Output) × IsWarned file errors warned
@@ -143,8 +143,8 @@ abbrev pub HasSettings : (file : List ℕ) → FileRead → Configuration → (e
 HasSettings file (Ok octets) settings errors errors_new = AreSettings octets settings × IsWarned file errors errors_new
 HasSettings file (Err fault) settings errors errors_new = ⊥
 
--- how the program ends if it has no settings of a file: its fault is printed and explained, after warnings; if the file
--- can't be read, nothing is printed, and standard error is told why
+-- how the program ends for a file that has no settings: its fault is printed and explained, after warnings; if the file
+-- can't be read, nothing is printed, and standard error says why
 abbrev pub EndsAtFile : (file : List ℕ) → FileRead → (output output_new errors errors_new : Output) → Status → Type 0
 EndsAtFile file (Ok octets) output output_new errors errors_new ended =
     (why : SettingsFault) × IsFault octets why × EndsWith status.Start (told why) output output_new ended
@@ -156,7 +156,7 @@ EndsAtFile file (Err file_fault.NoMemory) output output_new errors errors_new en
     EndsWith status.Start (told no_memory) output output_new ended × (errors_new ≡ errors)
 
 -- a file that is served has settings, and nothing is said of what a server does; or it has none, and the program ends
--- as it ends then
+-- as it does then
 abbrev pub ServesFile : (file : List ℕ) → FileRead → (output output_new errors errors_new : Output) → Status → Type 0
 ServesFile file (Ok octets) output output_new errors errors_new ended =
     ((settings : Configuration) × AreSettings octets settings)

@@ -119,8 +119,8 @@ fn told(alloc: Global, fault: SettingsFault) -> Result<String, AllocError>
     format!(in alloc; "{fault}\n")
 }
 
-/// Prints what is wrong with the settings of a server in the document that a file is, and explains it; or prints that
-/// memory ran out.
+/// Prints what is wrong with the settings of a server in the document of a file, and explains it; or prints that memory
+/// ran out.
 pub(crate) fn tell_server_fault<W: Sink, E: Sink>(
     alloc: Global,
     file: &str,

@@ -18,8 +18,8 @@ const OCTETS_PER_EDIT: usize = 3;
 /// What parts the words of a line.
 const SPACE: u8 = b' ';
 
-/// The sentence that says what is wrong with the line of this number, of which this was read, with a line feed:
-/// `line 3 "tik 3": no command is named tik; the nearest is tick`.
+/// The sentence that says what is wrong with the line of this number, which was read as this, with a line feed: `line 3
+/// "tik 3": no command is named tik; the nearest is tick`.
 ///
 /// `AllocError` if memory ran out.
 pub(crate) fn sentence(

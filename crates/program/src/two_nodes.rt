@@ -61,7 +61,7 @@ pub(crate) fn run_files<F: Folder, J: Joiner, R: Source, W: Sink, E: Sink>(
     run_if_facing(alloc, near, far, files, medium, reader, writer, errors)
 }
 
-/// Runs the lab script on two nodes with these settings, which files of these names have, if they face each other and
+/// Runs the lab script on two nodes with these settings, read from files of these names, if they face each other and
 /// name their links alike.
 fn run_if_facing<J: Joiner, R: Source, W: Sink, E: Sink>(
     alloc: Global,

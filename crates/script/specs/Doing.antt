@@ -22,7 +22,7 @@ use Rattle.script.specs.Showing.{shown_text}
 use Rattle.script.specs.declared.line.Show.{Show}
 use Rattle.script.specs.Texts.{outcome_line, frame_line, none_line, wants_line}
 
--- what a line means at a node: a call of its exchange, ticks that pass, a text that is shown, or a refusal before any
+-- what a line means to a node: a call of its exchange, ticks that pass, a text that is shown, or a refusal before any
 -- call
 pub data Meaning : Type 0 where
   Calls : Asking → Meaning
@@ -48,7 +48,7 @@ abbrev pub given : (lacks_memory : Bool) → Option Order → Meaning
 given lacks_memory None = Refuses NoSuchName
 given lacks_memory (Some order) = Calls (Happens (ordered order lacks_memory))
 
--- what a line means with these settings, and if memory is refused for a translation row that it adds, if it is
+-- what a line means with these settings and, if memory is refused for a translation row that it adds, with that
 abbrev pub meaning : Configuration → (lacks_memory : Bool) → Asked → Meaning
 meaning c lacks_memory (AskUp name) = at_link (link_place c name) (λ link. Happens (CameUp link))
 meaning c lacks_memory (AskFrame name octets) = at_link (link_place c name) (λ link. Happens (FrameCame link octets))
@@ -91,7 +91,7 @@ abbrev pub after_ticks : {Q : Type 0} → QueueKind Q → ℕ → State Q → St
 after_ticks q zero s = s
 after_ticks q (suc more) s = after_ticks q more (after q Ticked s)
 
--- what is printed of a meaning, and the state after it
+-- what is printed for a meaning, and the state after it
 abbrev pub meaning_printed : {Q : Type 0} → QueueKind Q → Meaning → State Q → List ℕ
 meaning_printed q (Calls asking) s = answer_text s.settings asking (answer_to_call q asking s)
 meaning_printed q (Passes ticks) s = report s.settings Handled
@@ -104,7 +104,7 @@ meaning_done q (Passes ticks) s = after_ticks q ticks s
 meaning_done q (Shows what) s = s
 meaning_done q (Refuses cause) s = s
 
--- what is printed of a line, and the state after it
+-- what is printed for a line, and the state after it
 abbrev pub printed : {Q : Type 0} → QueueKind Q → (lacks_memory : Bool) → Asked → State Q → List ℕ
 printed q lacks_memory asked s = meaning_printed q (meaning s.settings lacks_memory asked) s
 

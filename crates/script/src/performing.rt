@@ -15,7 +15,7 @@ use console::{OrderText, link_name};
 use exchange::{BUFFER_OCTETS, Event, Exchange};
 use settings::{Cause, Limits, LinkId, Msu, Outcome};
 
-/// What is printed of a line that was done.
+/// What is printed for a line that was done.
 #[derive(Drop)]
 pub enum Reply {
     /// The line of this outcome.
@@ -29,7 +29,7 @@ pub enum Reply {
 /// Does what a line asks for, and returns what to print for it.
 ///
 /// A link name that isn't in the settings is refused NoSuchName, and a message whose signalling information field is
-/// too long, TooLong; neither reaches the exchange.
+/// too long is refused TooLong; neither reaches the exchange.
 pub fn perform(exchange: &mut Exchange, line: Line<'_>) -> Reply
     ensures text { reply_text kept result exchange.new
         ≡ printed kept (lacks_memory result) (asked_line line.entry) exchange.old }

@@ -59,13 +59,13 @@ impl Model for OpenLine {
     ghost invariant = { λ l. length l.octets.items ≤ LINE_OCTETS };
 }
 
-/// Does the lines of a script, in order, and prints what becomes of each: a line except `show`, which prints a text.
+/// Does the lines of a script, in order, and prints one line for each, or for `show` a text.
 ///
 /// Empty lines, and lines that begin with `#`, are skipped and print nothing. A line that is malformed, longer than
-/// 8,300 octets, or without a line feed at the end of the script, prints `fault` and its number and ends the script
+/// 8,300 octets, or without a line feed at the end of the script prints `fault` and its number, and ends the script
 /// with `Line`; nothing of it is done. Returns `Read` or `Write` exactly if a read or a write failed. After `Write` the
 /// lines up to some line were taken: the output of those before it was written in full, and the beginning of its own.
-/// At most 4,194,304 reads are made; if each of them found an octet, the lines that are whole by then are done, and the
+/// At most 4,194,304 reads are made. If each of them found an octet, the lines that are whole by then are done, and the
 /// script ends with `TooManyReads`. It allocates no memory.
 pub fn run_script<R: Source, W: Sink>(
     exchange: &mut Exchange,

@@ -9,7 +9,7 @@ use std::alloc::Global;
 use std::io::Write;
 use std::marker::Model;
 
-/// A write failed. Some of the octets, from the first on, may have been written.
+/// A write failed. Some of the octets, from the first, may have been written.
 #[derive(Clone, Copy, Debug, PartialEq, Eq)]
 pub struct WriteFailed;
 

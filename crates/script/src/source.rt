@@ -14,7 +14,7 @@ pub struct ReadFailed;
 
 /// What a script is read from.
 ///
-/// It counts its failures, and tells the octets that are still to be read if it knows them: what was read is what they
+/// It counts its failures and, if it knows them, says which octets are still to be read; what was read is what they
 /// lost at their front.
 pub trait Source {
     // The octets that reads give from here on, if they are known, and the counts of its reads.

@@ -190,8 +190,8 @@ module _ (other p q : End) where
     pub taken : slice_get epoch.sent place ≡ Some message
     pub after : q ≡ record p { chunks = chunk_of epoch place message ∷ p.chunks }
 
-  -- DATA comes with the end's own tag, less than a window ahead of the next message. It isn't older than all numbers
-  -- less a window
+  -- DATA comes with the end's own tag, less than a window ahead of the next message. It isn't older than `modulus -
+  -- window` messages
   pub record HearsChunk : Type 0 where
     pub up : p.phase ≡ Established
     pub epoch : Epoch
@@ -228,8 +228,8 @@ module _ (other p q : End) where
     pub now : p.epochs ≡ epoch ∷ past
     pub after : q ≡ record p { acks = ack_of epoch ∷ p.acks }
 
-  -- an acknowledgement comes with the end's own tag, of no more than was sent. It isn't older than all numbers less a
-  -- window
+  -- an acknowledgement comes with the end's own tag, of no more than was sent. It isn't older than `modulus - window`
+  -- messages
   pub record HearsAck : Type 0 where
     pub up : p.phase ≡ Established
     pub epoch : Epoch

@@ -228,7 +228,7 @@ impl Outbox {
         octets
     }
 
-    /// How many octets the first messages add, and what is counted of the others that went out.
+    /// How many octets the first messages add, and what is counted for the others that went out.
     fn leaving(&self, count: usize) -> (u32, Tally)
         requires { count ≤ self.now.went }
         ensures octets { result.0 ≡ newly_confirmed_in self.now count }

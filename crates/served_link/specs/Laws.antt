@@ -56,7 +56,7 @@ adds counter Retry = 0
 
 -- ---- of many
 
--- the counters of a link after some things are counted of it
+-- the counters of a link after some things are counted for it
 abbrev pub counted_each : List Counted → LinkCounters → LinkCounters
 counted_each [] row = row
 counted_each (what ∷ more) row = counted_each more (counted what row)
@@ -77,7 +77,7 @@ abbrev pub counters_are_sums : Type 0
 counters_are_sums = (counter : Counter) (whats : List Counted)
     → value_of counter (counted_each whats no_counts) ≡ saturated (sum_by (adds counter) whats)
 
--- so is each counter of each of the links, of what was counted of that link
+-- so is each counter of each link, for what was counted for that link
 abbrev pub counters_of_links_are_sums : Type 0
 counters_of_links_are_sums = (links link : ℕ) (counter : Counter) (whats : List (ℕ × Counted)) → link < links
     → value_of counter (row_at (counted_all whats (replicate links no_counts)) link)

@@ -14,21 +14,21 @@ abbrev pub after_texts : {Q : Type 0} → QueueKind Q → (link : ℕ) → List 
 after_texts q link [] s = s
 after_texts q link (text ∷ texts) s = after_texts q link texts (after q (FrameCame link text) s)
 
--- what is seen of it: each text, with what became of it
+-- what is seen of it: each text, with its outcome
 abbrev pub sights_of : {Q : Type 0} → QueueKind Q → (link : ℕ) → List (List ℕ) → State Q → List Sight
 sights_of q link [] s = []
 sights_of q link (text ∷ texts) s =
     CameIn link text (outcome_of q (FrameCame link text) s) ∷ sights_of q link texts (after q (FrameCame link text) s)
 
 -- What is held of a rest that begins with no whole text: all of it, if it is the beginning of a text. If it is broken,
--- the octets that show it are held, and those after them are dropped.
+-- the octets that show that are held, and those after them are dropped.
 abbrev pub Leaves : {A : Type 0} → Result A Broken → (rest held : List ℕ) → Type 0
 Leaves (Ok done) rest held = (next_in rest ≡ Wait) × (held ≡ rest)
 Leaves (Err broken) rest held =
     (next_in rest ≡ BreaksOff) × (next_in held ≡ BreaksOff) × (dropped : List ℕ) × (rest ≡ held ++ dropped)
 
--- Octets that came were read: after those that were held they are these texts and a rest, the texts were handed in, in
--- order and each once, the watch saw them, and the rest is held.
+-- Octets that came were read. With those held before them they are these texts and a rest; the texts were handed in, in
+-- order and each once; the watch saw them; and the rest is held.
 pub record Reads {W Q A : Type 0} (sees : W → Sight → W → Type 0) (q : QueueKind Q) (link : ℕ) (octets : List ℕ)
     (answer : Result A Broken) (held held_new : List ℕ) (s s_new : State Q) (w w_new : W) : Type 0 where
   pub texts : List (List ℕ)

@@ -23,7 +23,7 @@ use std::marker::Model;
 pub struct Broken;
 
 /// One connection of a link: whether the link's association is up over it, the octets that came and aren't a whole
-/// frame yet, and the frames that were taken and aren't written yet, in a buffer of 65,536 octets.
+/// frame yet, and, in a buffer of 65,536 octets, the frames that were taken and aren't written yet.
 ///
 /// It begins when the connection is there, and ends with it: octets that are held then, and frames that aren't written,
 /// are gone. No message is lost with them: one that was taken stays in the node until it is confirmed. It allocates no
@@ -174,7 +174,7 @@ impl Association {
     }
 
     /// Takes frames of the link, one after another, while the longest would find room after those that aren't written
-    /// yet; the others stay in the node, for a changeover. The watch is told of each. Returns whether octets are left
+    /// yet. The others stay in the node, for a changeover. The watch is told of each. Returns whether octets are left
     /// to write.
     pub fn fill<W: Watch>(&mut self, exchange: &mut Exchange, watch: &mut W) -> bool
         requires up { self.old.is_up ≡ true }
@@ -193,14 +193,14 @@ impl Association {
         self.outgoing.is_pending()
     }
 
-    /// The octets of the frames that were taken, one after another except those that are written.
+    /// The octets of the frames that were taken, one after another, without those that are written.
     pub fn pending(&self) -> &[u8]
         ensures { result.now ≡ self.now.pending }
     {
         self.outgoing.pending()
     }
 
-    /// This many of the pending octets were written, from the first on.
+    /// This many of the pending octets were written, from the first.
     pub fn written(&mut self, count: usize)
         requires { count ≤ length self.old.pending }
         ensures { self.new ≡ record self.old { pending = drop count self.old.pending } }

@@ -6,7 +6,7 @@ ghost use Rattle.served_link.specs.Counting.{reason_number};
 
 use signalling_types::{Cause, FailureReason};
 
-/// What is counted of each link.
+/// What is counted for each link.
 #[derive(Clone, Copy)]
 pub enum Counter {
     /// Frames that came in.

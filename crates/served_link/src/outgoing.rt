@@ -8,8 +8,8 @@ use exchange::LONGEST_FRAME;
 /// Octets of frames that are taken and aren't written yet, at most.
 pub const OUTPUT_OCTETS: usize = 65_536;
 
-/// The octets of the frames that were taken, one after another except those that are written: they lie from `start` to
-/// `end` of the buffer.
+/// The octets of the frames that were taken, one after another, without those that are written. They lie from `start`
+/// to `end` of the buffer.
 #[derive(Drop)]
 pub(crate) struct Outgoing {
     buffer: [u8; OUTPUT_OCTETS],
@@ -54,8 +54,8 @@ impl Outgoing {
         self.pending().len() <= OUTPUT_OCTETS - LONGEST_FRAME
     }
 
-    /// Puts a frame after those before it. What is left moves to the front of the buffer first if the room after it is
-    /// too little.
+    /// Adds a frame after those before it. If the room after what is left is too little, that moves to the front of the
+    /// buffer first.
     pub(crate) fn push(&mut self, frame: &[u8])
         requires { length (pending_in self.old) + length frame.now ≤ OUTPUT_OCTETS }
         ensures { pending_in self.new ≡ pending_in self.old ++ frame.now }

@@ -44,7 +44,7 @@ impl TickClock {
         }
     }
 
-    /// Hands out a tick, and returns true, if one is due: it passed by now, and half of a tick's time is over since the
+    /// Hands out a tick, and returns true, if one is due: its time has passed, and half a tick's time is over since the
     /// last one.
     pub fn is_due(&mut self, elapsed_ms: u64) -> bool
         ensures tick { result ≡ is_due self.old elapsed_ms }

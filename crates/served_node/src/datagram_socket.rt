@@ -32,8 +32,8 @@ pub struct DatagramSocket {
 }
 
 impl DatagramSocket {
-    /// A socket at an address, of which the poll tells, and the address that it has: with the port that the system gave
-    /// it, if none was asked for.
+    /// A socket at an address, registered with the poll, and the address that it has: with the port that the system
+    /// gave it if none was asked for.
     ///
     /// Listen if the system refuses the address, Poll if the poll takes no further socket.
     pub fn open<N: Net>(

@@ -37,8 +37,8 @@ impl Listener {
         }
     }
 
-    /// A listener at an address, of which the poll tells under this name, and the address that it has: with the port
-    /// that the system gave it, if none was asked for. A connection may have come at once.
+    /// A listener at an address, registered with the poll under this name, and the address that it has: with the port
+    /// that the system gave it if none was asked for. A connection may have come at once.
     ///
     /// Listen if the system refuses the address, Poll if the poll takes no further socket.
     pub fn open<N: Net>(

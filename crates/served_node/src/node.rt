@@ -99,7 +99,7 @@ impl Node {
         self.observers.seen.note_up(&self.exchange);
     }
 
-    /// Tells the log and the clients that watch them of new notices, if there are any, and the log of flags that were
+    /// Tells the log and the clients that watch them of new notices, if there are any, tells the log of flags that were
     /// raised, and counts failures. A failure whose notice was dropped for later ones is counted as one for this
     /// reason.
     pub fn look<W: Sink>(&mut self, dropped: FailureReason, log: &mut Log<'_, W>)

@@ -174,7 +174,7 @@ impl PageClient {
         self.is_closing || self.patience.is_over(now_ms)
     }
 
-    /// No further answer comes. The client is told, and what it still sends is dropped until it ends its half too: if
+    /// No further answer comes. The client is told, and what it still sends is dropped until it ends its half too. If
     /// octets were left when the connection is closed, it would be reset, and the last answer perhaps lost (RFC 9112
     /// §9.6).
     fn finish(&mut self)

@@ -53,8 +53,8 @@ impl ServedPage {
     /// A page at this address, of which the poll tells from now on; the log has the address. If the page is open it may
     /// be asked for by any name. No client is there yet.
     ///
-    /// Listen if the system refuses the address, Poll if the poll takes no further socket, or the system has no random
-    /// octets to give, NoMemory.
+    /// Listen if the system refuses the address, Poll if the poll takes no further socket or the system gives no random
+    /// octets, NoMemory.
     pub fn open<N: Net + RandomSource, W: Sink>(
         net: &N,
         alloc: Global,
@@ -97,7 +97,7 @@ impl ServedPage {
         self.rests_until_ms = 0;
     }
 
-    /// Does what there is to do on each socket, once, and returns: takes clients, reads, answers one request at most,
+    /// Does what there is to do on each socket, once, and returns: takes clients, reads, answers at most one request,
     /// writes, and closes the connections that are over. While no socket is ready and nothing is due, it is one
     /// comparison, however many clients there are.
     pub fn turn<C: Content>(&mut self, registry: &Registry, content: &C, now_ms: u64)

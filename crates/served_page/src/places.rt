@@ -100,7 +100,7 @@ pub(crate) fn are_busy(places: &[Option<PageClient>], may_answer: bool) -> bool 
     are_busy
 }
 
-/// When something is due at a client of which no socket tells: at the end of its time, or in the next second if a
+/// When something is due at a client that no socket tells of: at the end of its time, or in the next second if a
 /// request waits for that. All are milliseconds since the start.
 pub(crate) fn first_due_ms(places: &[Option<PageClient>], next_second_ms: u64) -> u64 {
     let mut first = u64::MAX;

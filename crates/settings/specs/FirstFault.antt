@@ -272,7 +272,7 @@ arrays_fault d = first_of (
     ∷ tables_fault d
     ∷ [])
 
--- the first fault of settings: the keys in their order, the entries of an array from the first on
+-- the first fault of settings: the keys in their order, the entries of an array from the first
 abbrev pub first_fault : Draft → Option DraftFault
 first_fault d = first_of (
     scalars_fault d

@@ -49,7 +49,7 @@ counter_member row counter = number_member (counter_key counter) (value_of count
 abbrev pub counter_members : LinkCounters → List Counter → List Token
 counter_members row counters = flat_map (counter_member row) counters
 
--- what is counted of a link as a whole
+-- what is counted for a link as a whole
 abbrev pub totals : List Counter
 totals = FramesIn ∷ OctetsIn ∷ FramesOut ∷ OctetsOut ∷ Forwarded ∷ Delivered ∷ Retries ∷ []
 

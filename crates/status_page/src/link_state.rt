@@ -17,7 +17,7 @@ use settings::Settings;
 use signalling_types::{Cause, FailureReason, LinkId, SetId};
 use std::alloc::AllocError;
 
-/// What is counted of a link as a whole.
+/// What is counted for a link as a whole.
 const TOTALS: [Counter; 7] = [
     Counter::FramesIn,
     Counter::OctetsIn,

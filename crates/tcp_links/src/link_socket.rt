@@ -18,7 +18,7 @@ use std::time::Duration;
 /// Reads of a link in one round, at most.
 const READS: usize = 16;
 
-/// Writes of a link in one round, at most: the reads of another link bring fewer octets, so what goes on from one link
+/// Writes of a link in one round, at most. The reads of another link bring fewer octets, so what goes on from one link
 /// to another doesn't pile up while the socket takes it.
 const WRITES: usize = 64;
 

@@ -9,7 +9,7 @@ use Rattle.trace.specs.declared.direction.Direction.TheVariants.{In, Out}
 use Rattle.trace.specs.declared.packet_numbers.PacketNumbers.{PacketNumbers}
 use Rattle.trace.specs.Packets.{file_header, packet_octets, record_header}
 
--- a frame that passed on a link, so long after the node's start
+-- a frame that passed on a link, this long after the node's start
 pub record Seen : Type 0 where
   pub time : Duration
   pub link : ℕ
@@ -25,7 +25,7 @@ is_same Out Out = true
 pub data Passed : Type 0 where
   -- a frame, for which a packet is made
   FramePassed : (seen : Seen) → Passed
-  -- a packet of SCTP, as it was on the wire, so long after the node's start
+  -- a packet of SCTP, as it was on the wire, this long after the node's start
   PacketPassed : (time : Duration) (octets : List ℕ) → Passed
 
 -- whether it is a frame that passed on this link in this direction
@@ -37,7 +37,7 @@ passed_on link direction (PacketPassed time octets) = false
 abbrev pub next_number : (link : ℕ) → Direction → (before : List Passed) → ℕ
 next_number link direction before = count_by (passed_on link direction) before % 2 ^ 32
 
--- how many nanoseconds after 1970 a frame passed, if the node started so long after 1970; at most the longest time
+-- how many nanoseconds after 1970 a frame passed, if the node started this long after 1970; at most the longest time
 abbrev pub since_1970 : (started time : Duration) → ℕ
 since_1970 started time = min (as_nanos started + as_nanos time) max_nanos
 

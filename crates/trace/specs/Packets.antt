@@ -7,8 +7,8 @@ use Rattle.m2pa_codec.specs.Frames.{FrameValue, EmptyFrame, MessageFrame, Status
 use Rattle.trace.specs.declared.direction.Direction.{Direction}
 use Rattle.trace.specs.declared.direction.Direction.TheVariants.{In, Out}
 
--- the header of the file: low octet first with times in microseconds, version 2.4, no correction of times, packets of
--- 65,535 octets at most, and link type 248, whose packets begin with the common header of SCTP
+-- the header of the file: low octet first, times in microseconds, version 2.4, no correction of times, packets of at
+-- most 65,535 octets, and link type 248, whose packets begin with the common header of SCTP
 abbrev pub file_header : List ℕ
 file_header =
     to_le_bytes w32 0xa1b2c3d4 ++ to_le_bytes w16 2 ++ to_le_bytes w16 4 ++ replicate 8 0
@@ -43,7 +43,7 @@ common_header link direction =
     to_be_bytes w16 (source_port link direction) ++ to_be_bytes w16 (destination_port link direction)
     ++ to_be_bytes w32 (far_port link) ++ replicate 4 0
 
--- the stream of a frame: 0 of Link Status, 1 of all else
+-- the stream of a frame: 0 for Link Status, 1 for all else
 abbrev pub stream_said : Result FrameValue FrameFault → ℕ
 stream_said (Ok (EmptyFrame bsn fsn)) = 1
 stream_said (Ok (MessageFrame bsn fsn sio sif)) = 1

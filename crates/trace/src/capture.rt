@@ -59,7 +59,7 @@ pub fn file_header() -> [u8; FILE_HEADER_OCTETS]
         0xd4, 0xc3, 0xb2, 0xa1,
         // Version 2.4.
         2, 0, 4, 0,
-        // No correction of the times, and nothing said of their accuracy.
+        // No correction of the times, and no claim about their accuracy.
         0, 0, 0, 0, 0, 0, 0, 0,
         // Packets of 65,535 octets at most.
         0xff, 0xff, 0, 0,
@@ -95,7 +95,7 @@ pub fn packet(
     write_padding(buffer, at, padding(octets.len()))
 }
 
-/// How many octets of padding are after a frame of this many.
+/// How many octets of padding follow a frame of this many.
 fn padding(octets: usize) -> usize
     requires { octets ≤ Limits.FRAME_OCTETS }
     ensures padding { result ≡ padding octets }
@@ -113,7 +113,7 @@ fn packet_length(octets: usize) -> u32
     (COMMON_HEADER_OCTETS + CHUNK_HEADER_OCTETS + octets + padding(octets)) as u32
 }
 
-/// The header of a packet of this many octets, which passed so long after 1970.
+/// The header of a packet of this many octets, which passed this long after 1970.
 pub(crate) fn record_header(time: Duration, octets: u32) -> [u8; RECORD_HEADER_OCTETS]
     ensures { result ≡ record_header (as_nanos time) octets }
 {

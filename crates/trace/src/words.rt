@@ -34,8 +34,8 @@ impl Model for FrameWords {
     ghost view = { λ w. w.octets.items };
 }
 
-/// A frame that passed on the link of this name, in words, without a line feed:
-/// `e0 in fsn 5 bsn 9 opc 2 dpc 300 sls 5 si 5 aabb`.
+/// A frame that passed on the link of this name, in words, without a line feed: `e0 in fsn 5 bsn 9 opc 2 dpc 300 sls 5
+/// si 5 aabb`.
 ///
 /// A message is shown as the points and the selection of its label, its service indicator, and the octets after the
 /// label; one without a whole label as `no label`, its service indicator and all its octets. Link Status ends in
