@@ -45,7 +45,7 @@ def wait_until(condition: Callable[[], object], what: str) -> None:
         time.sleep(0.005)
 
 
-# The processes that were started. However this one ends, but by SIGKILL, it ends them.
+# The processes that were started. However this one ends, except by SIGKILL, it ends them.
 _started: list[subprocess.Popen] = []
 
 
@@ -55,7 +55,7 @@ def _end_all() -> None:
         process.kill()
 
 
-# The last port that was handed out. They lie below those that the system gives to connections.
+# The last port that was handed out. They are below those that the system gives to connections.
 _last_port = 10_000 + os.getpid() * 37 % 20_000
 
 

@@ -15,7 +15,7 @@ from harness import HOST, PATIENCE
 
 PIECE_OCTETS = 4096
 
-# How many seconds the far node may say something on a connection that is then closed.
+# For how many seconds the far node may say something on a connection that is then closed.
 SILENCE = 0.3
 
 
@@ -27,7 +27,7 @@ class Cut:
     to_near: bool
     # This many of them still pass.
     octets: int
-    # Whether the connection to an end is reset, and not only closed.
+    # Whether the connection to an end is reset, and not just closed.
     resets_near: bool
     resets_far: bool
 

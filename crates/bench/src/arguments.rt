@@ -22,8 +22,8 @@ const WORDS: usize = 5;
 /// How large the settings are beside their destinations and links.
 #[derive(Clone, Copy)]
 pub(crate) enum Size {
-    /// One set leads to each destination, the window is 128, and the kind says how many links make a set and how many
-    /// translation rows there are. Links are in service if the kind says so.
+    /// One set leads to each destination, the window is 128, and the kind says how many links a set has, how many
+    /// translation rows there are, and whether links are in service.
     Usual,
     /// Two links make a set, eight sets lead to each destination, and the window is the largest. All links are in
     /// service.
@@ -127,8 +127,8 @@ pub(crate) struct Arguments {
     pub kind: Kind,
     pub octets: usize,
     pub destinations: usize,
-    /// Links in the settings. One of them carries the messages. If the settings aren't larger than usual the others are
-    /// down except those of its set before a changeover or a return, and if each is a set of its own.
+    /// Links in the settings. One of them carries the messages. Unless the settings are larger than usual, the others
+    /// are down, except those of its set before a changeover or a return, and those that are each a set of their own.
     pub links: usize,
     pub count: u32,
     pub size: Size,

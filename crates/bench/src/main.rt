@@ -3,7 +3,7 @@
 //!
 //! Carries COUNT messages, whose signalling information fields have OCTETS octets, through an exchange with this many
 //! destinations and links, and prints how many frames went out with a checksum of their octets. Count the instructions
-//! of two runs: their difference by that of their COUNTs is what a message costs.
+//! of two runs: their difference divided by that of their COUNTs is what a message costs.
 #![tactic(auto)]
 
 ghost use Rattle.std.specs.Prelude.{◌≤◌};

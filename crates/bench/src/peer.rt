@@ -71,8 +71,8 @@ impl Model for Peer {
 
 impl Peer {
     /// The peer of an exchange with settings of this shape. The last link of the first set is in service and carries
-    /// all messages, so that the others of its set are looked at for nothing. All that is owed was told and confirmed,
-    /// which doesn't count. None if memory ran out.
+    /// all messages, so the others of its set are looked at for nothing. All that is owed was told and confirmed, which
+    /// doesn't count. None if memory ran out.
     pub(crate) fn of_exchange_with(alloc: Global, shape: &Shape) -> Option<Peer>
         requires destinations { shape.now.destinations ≤ Limits.DESTINATIONS }
         requires links { shape.now.links ≤ Limits.LINKS }

@@ -9,7 +9,7 @@ use crate::peer::Peer;
 use mtp3_codec::Management;
 use settings::{Limits, PointCode};
 
-/// Ticks of the clock. With one link the first ten meet T8 of each destination of which its point was told; later ones,
+/// Ticks of the clock. With one link the first ten meet T8 of each destination that its point was told of; later ones,
 /// and all with more links, meet no timer that runs.
 pub(crate) fn tick(peer: &mut Peer, count: u32) {
     for _ in 0..count {
@@ -53,8 +53,8 @@ pub(crate) fn prohibit_each(peer: &mut Peer, destinations: usize)
     }
 }
 
-/// T10 runs out this many times for all routes that are prohibited, in one of the ticks that pass, and each point takes
-/// what it is asked. Each time all of these timers begin again.
+/// T10 runs out this many times for all prohibited routes, in one of the ticks that pass, and each point takes what it
+/// is asked. Each time all of these timers start again.
 pub(crate) fn test_routes(peer: &mut Peer, count: u32) {
     for _ in 0..count {
         peer.outlast_timers();

@@ -49,9 +49,9 @@ impl Table {
     }
 }
 
-/// These translation rows, whose addresses lead to a point. Each is of the same key; their first four digits are the
-/// numbers from 0 on in hexadecimal, so that no row leads an address that begins with `ffff`, and no two rows share
-/// more than three digits.
+/// These translation rows, whose addresses lead to a point. All have the same key. Their first four digits are the
+/// numbers from 0 on in hexadecimal, so no row leads an address that begins with `ffff`, and no two rows share more
+/// than three digits.
 pub(crate) fn title_drafts(
     alloc: Global,
     table: Table,

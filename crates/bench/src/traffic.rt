@@ -49,8 +49,8 @@ pub(crate) fn carry(peer: &mut Peer, arguments: &Arguments)
 }
 
 /// Brings into service what is to be in service beside the link that carries the messages. If the settings are larger
-/// than usual these are all links except the other one of the first set if that set is to fail and return; and nothing
-/// is owed then, and no timer runs.
+/// than usual, that is all links, except the other one of the first set if that set is to fail and return. Nothing is
+/// owed then, and no timer runs.
 fn bring_in(peer: &mut Peer, arguments: &Arguments) {
     match (arguments.size, arguments.kind) {
         (Size::Usual, Kind::Tick | Kind::Status | Kind::Entry | Kind::Expiry) => peer.open_from(1),

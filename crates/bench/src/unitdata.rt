@@ -56,7 +56,7 @@ pub(crate) fn title_from(first: u8) -> Title {
     title
 }
 
-/// Octets of such a message beside its data and its title: the label, the message type, the class, three pointers, and
+/// Octets of such a message beside its data and its title: the label, the message type, the class, three pointers, and,
 /// each after its length, the called address, the calling one and the data.
 const FRAME_OCTETS: usize = 4 + 5 + (1 + 2) + (1 + 4) + 1;
 

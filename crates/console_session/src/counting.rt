@@ -16,7 +16,8 @@ use served_link::{
 };
 use settings::{Limits, LinkId};
 
-/// Prints the counters of each link, in the order of the settings, and then those of datagrams: a line for each counter.
+/// Prints the counters of each link, in the order of the settings, and then those of datagrams: a line for each
+/// counter.
 pub fn print_counters<W: Sink>(
     exchange: &Exchange,
     counters: &Counters,

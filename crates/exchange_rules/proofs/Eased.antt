@@ -87,7 +87,8 @@ pub judged-timers : (reasonable : Bool) (p : Parts) → (judged reasonable p).ti
 judged-timers true p = refl
 judged-timers false p = refl
 
--- ---- by the table of the alignment: where L1, L2 or L3 runs out nothing happens, or a link fails that isn't in service
+-- ---- by the table of the alignment: where L1, L2 or L3 runs out nothing happens, or a link fails that isn't in
+-- service
 
 abbrev IsIdle : Alignment → LinkTimer → Type 0
 IsIdle a its = (action_at a (Expiry its) ≡ act.Ignored) ⊎ ((action_at a (Expiry its) ≡ act.Fail) × (is_in_service a ≡ false))

@@ -40,7 +40,7 @@ fn add_user_message(dice: &mut Dice, far: &FarEnd, out: &mut Octets) {
     out.add_random(dice, octets);
 }
 
-/// The headings of management messages, and two that are no message's: XCO and XCA, CBD and CBA, ECO and ECA, TFP, TFR
+/// The headings of management messages, and two that no message has: XCO and XCA, CBD and CBA, ECO and ECA, TFP, TFR
 /// and TFA, RST and RSR, TRA (Q.704 §15, Q.2210 §9.8).
 const HEADINGS: [u8; 16] = [
     0x31, 0x41, 0x51, 0x61, 0x12, 0x22, 0x14, 0x14, 0x34, 0x54, 0x54, 0x15, 0x25, 0x17, 0x20, 0xff,
@@ -75,8 +75,9 @@ fn add_link_test(dice: &mut Dice, far: &FarEnd, out: &mut Octets) {
     out.add_random(dice, usize::from(octets));
 }
 
-/// An address of an SCCP message: by a title that leads to point 3, 300, to this node, nowhere, or is of another
-/// nature; by a subsystem of this node, one that isn't there, one with a point code; and two that can't be read.
+/// An address of an SCCP message: by a title that leads to point 3, to 300, to this node or nowhere, or of another
+/// nature; by a subsystem of this node, one that isn't there, or one with a point code; or one of two that can't be
+/// read.
 fn address(number: u8) -> &'static [u8] {
     match number % 10 {
         0 => &[0x12, 6, 0, 0x12, 4, 0x94, 0x03],

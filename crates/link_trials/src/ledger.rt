@@ -1,9 +1,9 @@
 //! What was accepted, compared with what was received.
 //!
 //! What is judged is what `Pair::received` promises. While neither end has said that a message may be lost, each one
-//! that was accepted has come once, or waits. While, further, the end that accepted hasn't said that one may be late,
-//! the first of each flow have come, in order, and the others wait. So what came until then is judged. If no end said
-//! so to the last, nothing may be waiting any more.
+//! that was accepted has come once, or waits. While the accepting end hasn't said that one may be late either, the
+//! first messages of each flow have come, in order, and the others wait. So what came until then is judged. If no end
+//! ever said so, no message may still be waiting at the end.
 
 use crate::book::Book;
 use crate::marking::{FLOWS, Mark, counts_up, mark_of, place_of};

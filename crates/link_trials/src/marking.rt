@@ -38,8 +38,8 @@ pub fn message_of(mark: Mark, own: u16, adjacent: u16) -> Option<Msu> {
     Msu::new(SIO, &[a, b, c, d, high, low]).ok()
 }
 
-/// The UDT of a mark, which a user part hands over for its own point: its called address is by a title whose first
-/// digit is 7, its calling one by subsystem number, it asks for a return on error, and its data is the number (Q.713
+/// The UDT of a mark, which a user part hands over for its own point. Its called address is by a title whose first
+/// digit is 7, its calling one by subsystem number; it asks for a return on error, and its data is the number (Q.713
 /// §4.10).
 pub fn unitdata_of(mark: Mark, own: u16) -> Option<Msu> {
     let label = Label {

@@ -26,8 +26,8 @@ pub struct Total {
     pub lost_any: u64,
     /// How many runs there were in which an end said that a message may be late.
     pub late_any: u64,
-    /// How many runs didn't end as they were to: a link didn't open, frames were carried for ever, not all messages
-    /// came while the link was down, though another was left, or a translation row wasn't added or removed.
+    /// How many runs didn't end as they should: a link didn't open, frames were carried for ever, not all messages came
+    /// while the link was down though another was left, or a translation row wasn't added or removed.
     pub unended: u64,
 }
 

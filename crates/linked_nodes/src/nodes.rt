@@ -7,8 +7,8 @@ use pair_world::{End, Pair, PairFault, Step};
 use std::alloc::Global;
 use std::marker::Model;
 
-/// Two nodes and the frames between them, whose state is hidden from proofs. All that is asked of them is answered by a
-/// small value: so that no proof above sees an exchange, a pair or a clause of theirs.
+/// Two nodes and the frames between them, whose state is hidden from proofs. Every question about them has a small
+/// value for its answer, so no proof above sees an exchange, a pair or a clause of theirs.
 pub struct LinkedNodes {
     pair: Pair,
 }

@@ -157,7 +157,8 @@ words_are_final = WhileNothingIsLost AreFinal
 -- ---- (iv) completions move what the peer lacks
 
 pub record MovesLacked (p : PairState) : Type 0 where
-  -- while a link is in use, the number of the last message that the far end accepted names the count of those that it received
+  -- while a link is in use, the number of the last message that the far end accepted names the count of those that it
+  -- received
   pub named : OfEachLink p
       (λ link other.
       is_in_use p link other ≡ true →

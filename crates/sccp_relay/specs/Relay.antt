@@ -58,7 +58,8 @@ pub record IsTranslation (rows : List TitleEntry) (key : TitleKey) (digits : Lis
   pub leading : IsTrue (leads key digits row)
   pub longest : All (λ other. IsTrue (leads key digits other) → length other.digits ≤ length row.digits) rows
 
--- ---- What becomes of an SCCP message for this point: by its called address it is for a subsystem here, or goes on, written
+-- ---- What becomes of an SCCP message for this point: by its called address it is for a subsystem here, or goes on,
+-- written
 -- again (Q.714 §2.3, §2.4).
 
 -- the point that a node is, and the numbers of the subsystems that are there

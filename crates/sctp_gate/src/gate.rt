@@ -87,8 +87,8 @@ impl Gate {
     }
 
     /// A datagram came from an address: what the endpoint tells is handed in. An association that came up is
-    /// AssociationUp, a message is a frame, and one that went down is AssociationDown, each once and in order. A message
-    /// that isn't M2PA's by its payload protocol identifier is dropped, and the watch sees it.
+    /// AssociationUp, a message is a frame, and one that went down is AssociationDown, each once and in order. A
+    /// message that isn't M2PA's by its payload protocol identifier is dropped, and the watch sees it.
     pub fn hear<W: Watch>(
         &mut self,
         exchange: &mut Exchange,
@@ -207,8 +207,8 @@ impl Gate {
         self.standing
     }
 
-    /// Does something at the endpoint, and hands in what it tells. Nothing is done later than 2^63 ms, nor at an endpoint
-    /// that counted that far (`Endpoint::lasts`).
+    /// Does something at the endpoint, and hands in what it tells. Nothing is done later than 2^63 ms, nor at an
+    /// endpoint that counted that far (`Endpoint::lasts`).
     fn act<W: Watch>(&mut self, what: Doing<'_>, exchange: &mut Exchange, now: u64, watch: &mut W)
         ensures { Makes W.has watch.old watch.new self.new exchange.new
             (does kept now (λ e. done_by what.entry now e) self.old exchange.old) }

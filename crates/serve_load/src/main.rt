@@ -1,8 +1,8 @@
 //! A load on served nodes: how long messages take from one process to another, or through a node between two peers.
 //!
-//! `serve_load send PORT COUNT OCTETS` and `serve_load receive PORT COUNT OCTETS`, beside each other, are two nodes
-//! with three links, at PORT and the two ports after it. The first submits COUNT messages of OCTETS octets as fast as
-//! its node takes them, and the second counts them.
+//! `serve_load send PORT COUNT OCTETS` and `serve_load receive PORT COUNT OCTETS`, side by side, are two nodes with
+//! three links, at PORT and the two ports after it. The first submits COUNT messages of OCTETS octets as fast as its
+//! node takes them, and the second counts them.
 //!
 //! `serve_load settings PORT` prints the settings of a node between two peers, whose links listen at PORT and the port
 //! after it. `serve_load through PORT COUNT OCTETS` is both peers: one submits messages to the other, which come by

@@ -158,8 +158,8 @@ impl Station {
     }
 }
 
-/// The front of the signalling information field of the message after this many others: one of each flow in turn, with
-/// its number in the flow.
+/// The front of the signalling information field of the message after this many others. The flows take turns, and each
+/// message has its number in the flow.
 fn front_of(others: u32) -> Option<[u8; FRONT_OCTETS]> {
     let label = Label {
         dpc: PointCode::new(u16::from(RECEIVER))?,

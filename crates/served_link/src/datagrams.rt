@@ -33,8 +33,8 @@ impl DatagramCounters {
         }
     }
 
-    /// Writes their lines, each with a line feed: `counter NAME VALUE`, where NAME is `datagrams_in`, `datagrams_out` or
-    /// `strangers`.
+    /// Writes their lines, each with a line feed: `counter NAME VALUE`, where NAME is `datagrams_in`, `datagrams_out`
+    /// or `strangers`.
     pub fn write(&self, out: &mut ArrayString<DATAGRAMS_OCTETS>)
         ensures { out.new.bytes ≡ datagrams_text self.now }
     {

@@ -15,7 +15,8 @@ pub(crate) struct Seen {
     links: [SeenLink; Limits::LINKS],
 }
 
-/// What was last seen of a link: whether it wasn't down, and whether it failed between the last look and the one before.
+/// What was last seen of a link: whether it wasn't down, and whether it failed between the last look and the one
+/// before.
 #[derive(Clone, Copy)]
 struct SeenLink {
     is_up: bool,

@@ -66,7 +66,8 @@ abbrev pub confirmed_by : {Q : Type 0} → QueueKind Q → State Q → (link bsn
 confirmed_by q s link bsn =
     count_confirmed (q.accept_answer s.node.queues link (q.last_accepted s.node.queues link) bsn false)
 
--- the user messages of a link's queue that aren't confirmed; the number that the next message gets confirms none of them
+-- the user messages of a link's queue that aren't confirmed; the number that the next message gets confirms none of
+-- them
 abbrev pub users_on : {Q : Type 0} → QueueKind Q → State Q → ℕ → ℕ
 users_on q s link =
     unwrap_or (option_map (λ v. count_user_messages

@@ -8,7 +8,7 @@ use std::io;
 use std::io::Read;
 use std::test::*;
 
-/// A link that opens, of which a frame of 20 octets is carried, octet by octet; it opens again after it was lost.
+/// A link that opens and carries a frame of 20 octets, octet by octet; it opens again after it was lost.
 const OPENS: &str = "open e0\nmove 1 e0\nmove 1 e0\nopen e0\nmove 1 e0\n";
 
 /// What is printed if the link can't be joined.
@@ -46,15 +46,15 @@ fn other_faults_of_a_join(rt: HostRuntime) -> Result<(), Fail> {
     Ok(())
 }
 
-/// Whether the lab prints what it has to if a call fails after this many others; if it joins the link, by this
-/// fault.
+/// Whether the lab prints what it should if a call fails after this many others and, if it joins the link, whether with
+/// this fault.
 fn prints_behind(rt: &HostRuntime, fault: JoinFault, calls: u64) -> Result<bool, Fail> {
     let joiner = MemoryJoiner::new(rt.alloc())?.in_pieces_of(1);
     let mut joiner = joiner.with_fault(fault).failing_after(calls);
     prints(rt, &mut joiner, printed_of(calls))
 }
 
-/// Whether the lab prints this where its link is joined so.
+/// Whether the lab prints this if its link is joined in this way.
 fn prints<J: Joiner>(rt: &HostRuntime, joiner: &mut J, printed: &str) -> Result<bool, Fail> {
     let mut reader = MemorySource::new(OPENS.as_bytes());
     let mut writer = MemorySink::new(rt.alloc());

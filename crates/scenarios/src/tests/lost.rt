@@ -45,8 +45,8 @@ const WITHOUT_NUMBER: &str = "\
 frame e0 01000b010000001700ffffff0000000100800180001012
 ";
 
-/// The second link fails. Point 2 orders it over with the same number, and with others before and after its answer,
-/// whose number isn't that either: what is over by then isn't completed again.
+/// The second link fails. Point 2 orders it over with the same number, and, before and after its answer, with others,
+/// which the answer doesn't have either. What is over by then isn't completed again.
 const OVER_ALREADY: &str = "\
 down e1
 frame e0 01000b010000001a00ffffff0000000100800180001031ffffff

@@ -14,8 +14,8 @@ const LENGTHS_AT: [usize; 5] = [LENGTH_AT, 18, 34, 24, 26];
 /// Lengths at their limits.
 const LENGTHS: [u16; 12] = [0, 1, 3, 4, 5, 15, 16, 17, 20, 0x7fff, 0xfffc, 0xffff];
 
-/// Makes a datagram of those that both ends put out: a good one that is harmed once, twice or not at all, seven times of
-/// eight with a right checksum.
+/// Makes a datagram of those that both ends put out: a good one that is harmed once, twice or not at all, seven times
+/// of eight with a right checksum.
 pub fn draw(dice: &mut Dice, near: &[Datagram], far: &[Datagram], out: &mut Octets) {
     out.cut(0);
     out.add(pick(dice, near, far));

@@ -19,9 +19,9 @@ const BEGINNING: Place = Place {
     next: 0,
 };
 
-/// Counts what the user of an end was told, and what of it is out of its place: not the next message of the
-/// association of the other end of which the first message was told. That one is later than all in which messages were
-/// told before, so an association that is told again, or out of its order, is out of place too.
+/// Counts what the user of an end was told, and what of it is out of place: any message that isn't the next one of the
+/// association of the other end whose first message was told. That association is later than all in which messages were
+/// told before, so an association that is told again, or out of order, is out of place too.
 pub fn judge(world: &World, end: End, other: End, counts: &mut Counts) {
     let given = world.given(other);
     let mut place = BEGINNING;

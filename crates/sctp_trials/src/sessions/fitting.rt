@@ -26,7 +26,7 @@ const COOKIE_ECHO: u8 = 10;
 const CHUNKS: usize = 64;
 
 /// Makes a datagram fit that came to an end with these names: its tag, the TSNs that it acknowledges, the cookie that
-/// it echoes, and its checksum. One to no tag, which has none of these, stays as it is.
+/// it echoes, and its checksum. One without a tag, which has none of these, stays as it is.
 pub fn fit(datagram: &mut [u8], names: &[Name], own_names: &[Name], cookie: &[u8]) {
     let Some((name, own)) = matched(number(datagram, TAG_AT), names, own_names) else {
         return;

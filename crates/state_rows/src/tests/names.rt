@@ -8,8 +8,8 @@ use std::alloc::{AllocError, Global};
 use std::test::*;
 use timers::{NodeCounts, TimerName, Timers};
 
-/// Timers of one link, one set and two destinations, by ticks and name: those that run out in one tick come in their
-/// order; one that is due stays due, and comes once; no tick is one; the most ticks; and timers that the node hasn't.
+/// Timers of one link, one set and two destinations, by ticks and name. Those that run out in one tick come in order;
+/// one that is due stays due, and comes once; no tick is one; the most ticks; and timers that the node doesn't have.
 const TIMERS: &str = "\
 set 1 T10 0 1; set 1 T6 0; set 1 L7 0; set 1 T6 1; set 2 T6 1; set 1 T1 0; clear 0 T1 0
 start 1 L6 0; start 2 L7 0; start 2 T6 0; tick 1; due 0 L6 0; due 0 L7 0; due 0 T6 0; due 0 T10 0 1; due 0 none
@@ -102,8 +102,8 @@ fn timers(rt: HostRuntime) -> Result<(), Fail> {
 }
 
 /// A procedure, its number and its code, the destination and the selection of a flow, and whether it can hold this: a
-/// node has three links, two sets, two destinations, and 16 codes for each set. Then codes that it hasn't, and the
-/// codes of a set in their order, until there is none.
+/// node has three links, two sets, two destinations, and 16 codes for each set. Then codes that it doesn't have, and
+/// the codes of a set in order, until there is none.
 const FLOWS: &str = "\
 changeover 2 - 0 15 held; changeover 3 - 0 0 free; changeover 255 - 0 0 free; changeover 0 - 2 0 free
 changeover 0 - 18446744073709551615 0 free; code 1 15 1 0 held; code 2 0 0 0 free; code 255 0 0 0 free

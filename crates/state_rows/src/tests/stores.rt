@@ -11,8 +11,8 @@ use signalling_types::{Msu, Number24};
 use std::alloc::{AllocError, Global};
 use std::test::*;
 
-/// A store with room for three user messages: more is dropped than there is; moves if it is full, also of an empty list
-/// and to one; both limits, and one more if one left. After `=` are both lists.
+/// A store with room for three user messages: dropping more than there is; moves while it is full, even of an empty
+/// list and into one; both limits, and one more once one has left. After `=` are both lists.
 const STORE: &str = "\
 drop 0 0; drop 0 18446744073709551615 = - -; put 0 135; drop 0 0 = 135 -; drop 0 4 = - -
 put 0 246; drop 0 18446744073709551615 = - -; put 0 1; drop 0 1 = - -
@@ -24,9 +24,9 @@ managements 0 256; append 0 1; count 0 0; count 1 259; splice_front 1 0; count 1
 move_where 0 1; count 0 256; drop 0 256 = - 113
 ";
 
-/// The numbers of a link whose messages are in the first list, and which holds those in the second: a fresh link;
-/// numbers that go on with 0; changeovers with a number, and how many messages it leaves in doubt; the largest window,
-/// which keeps one message back; and whole windows, of which the last message moves, all, or none.
+/// The numbers of a link whose messages are in the first list, and which holds those in the second: a new link; numbers
+/// that wrap to 0; changeovers with a number, and how many messages it leaves in doubt; the largest window, which keeps
+/// one message back; and whole windows, whose last message moves, all, or none.
 const NUMBERS: &str = "\
 start 16777214; unsent 8; retrieve 16777213 0; retrieve 16777212 none; retrieve 16777214 none; retrieve 0 none
 put 0 1357; send 1 8; numbers 16777214 16777215 1; send 1 8; numbers 16777215 16777215 2; send 1 8
