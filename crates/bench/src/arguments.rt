@@ -115,7 +115,6 @@ impl Size {
         }
     }
 
-    /// Whether it is as usual.
     pub(crate) fn is_usual(self) -> bool {
         matches!(self, Size::Usual)
     }
@@ -201,7 +200,6 @@ fn sized(words: &[String]) -> Option<(&[String], Size)> {
     Some((&words[..WORDS], size_of(size.as_str())?))
 }
 
-/// The size of this name.
 fn size_of(name: &str) -> Option<Size> {
     match name {
         "wide" => Some(Size::Wide),
@@ -210,7 +208,6 @@ fn size_of(name: &str) -> Option<Size> {
     }
 }
 
-/// The kind of this name.
 fn kind_of(name: &str) -> Option<Kind> {
     match name {
         "forward" => Some(Kind::Forward),

@@ -60,7 +60,6 @@ impl Sets {
         }
     }
 
-    /// The set that a link is in.
     fn set_of(self, link: usize) -> usize {
         match self {
             Sets::Full => link / Limits::LINKS_PER_SET,

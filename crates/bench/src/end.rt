@@ -31,7 +31,6 @@ pub(crate) fn place(link: LinkId) -> usize
     link.index() % Limits::LINKS
 }
 
-/// The first link.
 pub(crate) fn first() -> LinkId {
     LinkId::new(0)
 }

@@ -108,7 +108,6 @@ fn label(sls: Sls) -> Label {
     }
 }
 
-/// An address of this title.
 fn called(title: &[u8]) -> Address<'_>
     ensures { length (address_octets 0 (address_of result)) ≡ 2 + length title.now }
 {

@@ -126,7 +126,6 @@ impl CellLinks {
         }
     }
 
-    /// The first free cell.
     fn first_free(&self) -> CellNumber
         requires { 1 ≤ length self.now.free }
         ensures cell { take 1 self.now.free ≡ result ∷ [] }

@@ -7,7 +7,6 @@ use Rattle.node_links.specs.NodeLinks.{Network, facts_of}
 use Rattle.changeback.specs.Return.{changes_of, gives_up}
 use Rattle.changeback.specs.declared.set_pairs.SetPairs.TheInside.{Inside}
 
--- the number of a pair
 abbrev pub number_of_pair : (first second : ℕ) → ℕ
 number_of_pair first second = SETS * first + second
 

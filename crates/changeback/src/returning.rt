@@ -139,7 +139,6 @@ fn mark_losing(
     }
 }
 
-/// Marks a link.
 fn mark(losing: &mut [bool; Limits::LINKS], from: Option<LinkId>)
     requires { IfSome from (λ from. from < Limits.LINKS) }
     ensures { (other : ℕ) → slice_index_or losing.new other false

@@ -73,7 +73,6 @@ impl SetPairs {
     }
 }
 
-/// The number of a pair.
 fn number_of_pair(first: SetId, second: SetId) -> usize
     ensures { result ≡ number_of_pair first second }
 {

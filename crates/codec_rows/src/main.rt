@@ -77,7 +77,6 @@ fn print_row<R: Print + AllocGlobal>(rt: &R, stores: &mut Stores, row: &str) -> 
     println!(rt; " {text}")
 }
 
-/// Says what a row says.
 fn say(said: &mut Said, stores: &mut Stores, row: &str) {
     let mut buffer = [0; OCTETS];
     let octets = octets(last(row), &mut buffer);

@@ -15,7 +15,6 @@ fn format(word: &str) -> PointFormat {
     }
 }
 
-/// The direction of a row.
 fn direction(row: &str) -> Direction {
     match word(row, 1) {
         "out" => Direction::Out,

@@ -51,7 +51,6 @@ pub fn read_words(alloc: Global, words: &[String]) -> Words
     }
 }
 
-/// Whether the words ask for help.
 fn asks_help(words: &[String]) -> bool
     ensures { result ≡ asks_help (texts words.now) }
 {
@@ -61,7 +60,6 @@ fn asks_help(words: &[String]) -> bool
     }
 }
 
-/// Whether the words ask for the version.
 fn asks_version(words: &[String]) -> bool
     ensures { result ≡ asks_version (texts words.now) }
 {

@@ -22,7 +22,6 @@ pub data Instruction : Type 0 where
   ToAddTitle : (row : TitleEntry) → Instruction
   ToRemoveTitle : (key : TitleKey) (digits : List ℕ) → Instruction
 
--- a word that is there
 abbrev pub is_some_word : List ℕ → Bool
 is_some_word word = not (nat_eq (length word) 0)
 
@@ -46,7 +45,6 @@ abbrev pub instructed_by : PointFormat → Command → List (List ℕ) → Optio
 instructed_by points command.Title behind = title_order points behind
 instructed_by points _ behind = None
 
--- the order of a text
 abbrev pub instruction : OrderText → Instruction
 instruction (text.Activate link) = ToActivate link.now
 instruction (text.Deactivate link) = ToDeactivate link.now

@@ -35,7 +35,6 @@ pub fn show_links(exchange: &Exchange, k: usize, out: &mut ArrayString<LINE_OCTE
     true
 }
 
-/// The line of a link of this name.
 fn write_link(name: &str, view: LinkView, out: &mut ArrayString<LINE_OCTETS>)
     requires { length name.now ≤ Limits.NAME_OCTETS }
     ensures { out.new.bytes ≡ link_text name.now view }

@@ -128,7 +128,6 @@ fn read_digits(text: &[u8]) -> Option<TitleDigits>
     digit_values(text)
 }
 
-/// The values of digits.
 fn digit_values(text: &[u8]) -> Option<TitleDigits>
     requires { length text.now ≤ Limits.TITLE_DIGITS }
     ensures value { option_map (λ digits. digits.items) result

@@ -36,7 +36,6 @@ pub fn show_titles(
     true
 }
 
-/// The line of a row.
 fn write_title(row: &TitleRow, points: PointFormat, out: &mut ArrayString<LINE_OCTETS>)
     ensures { out.new.bytes ≡ title_text points row.now }
 {

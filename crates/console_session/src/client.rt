@@ -216,7 +216,6 @@ impl ConsoleClient {
         do_script_line(context.exchange, line, &mut self.outbox)
     }
 
-    /// Answers a text.
     fn answer(&mut self, text: &[u8]) -> Result<(), WriteFailed>
         ensures { IsAnsweredBy text.now result self.old self.new }
     {

@@ -33,7 +33,6 @@ pub fn print_counters<W: Sink>(
     print_datagrams(counters.datagrams(), writer)
 }
 
-/// Prints the counters of datagrams.
 fn print_datagrams<W: Sink>(datagrams: &DatagramCounters, writer: &mut W) -> Result<(), WriteFailed>
     ensures all { OnOk result (Appends (W.output writer.old).written (W.output writer.new).written
         (datagrams_text datagrams.now)) }
@@ -86,7 +85,6 @@ fn print_row<W: Sink>(
     }
 }
 
-/// Prints the counters of the link of this name.
 fn print_link<W: Sink>(name: &str, row: &LinkCounters, writer: &mut W) -> Result<(), WriteFailed>
     requires { length name.now ≤ Limits.NAME_OCTETS }
     ensures all { OnOk result (Appends (W.output writer.old).written (W.output writer.new).written

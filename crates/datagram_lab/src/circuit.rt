@@ -17,7 +17,6 @@ pub(crate) struct Times {
 }
 
 impl Times {
-    /// The start.
     pub(crate) const START: Times = Times { near: 0, far: 0 };
 
     /// The time of an end.

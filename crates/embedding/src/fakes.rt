@@ -49,7 +49,6 @@ pub(crate) struct PlayedNetwork<'a, R> {
 }
 
 impl<'a, R: Print> PlayedNetwork<'a, R> {
-    /// The network of these links.
     pub(crate) fn new(rt: &'a R, links: [LinkId; 2]) -> PlayedNetwork<'a, R> {
         PlayedNetwork {
             rt,
@@ -59,7 +58,6 @@ impl<'a, R: Print> PlayedNetwork<'a, R> {
         }
     }
 
-    /// The link of this place.
     fn link(&self, place: usize) -> LinkId {
         self.links.get(place).copied().unwrap_or(LinkId::new(0))
     }
@@ -145,7 +143,6 @@ impl<R: Print> UserParts for PrintingUsers<'_, R> {
     }
 }
 
-/// The name of a link.
 fn name_of(link: LinkId) -> &'static str {
     match LINKS.get(link.index()) {
         Some((name, _, _)) => name,

@@ -66,7 +66,6 @@ fn serve<R: Print>(rt: &R, exchange: Exchange, links: [LinkId; 2]) {
     node::serve(&mut exchange, &links, &mut network, &mut users);
 }
 
-/// The link of this name.
 fn link_named(settings: &Settings, name: &str) -> Result<LinkId, NoStart> {
     settings.link_named(name.as_bytes()).ok_or(NoStart::Link)
 }

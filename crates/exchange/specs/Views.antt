@@ -33,7 +33,6 @@ standing_name standing.Proving = codes "Proving"
 standing_name standing.AlignedReady = codes "AlignedReady"
 standing_name standing.InService = codes "InService"
 
--- a link as it is shown
 abbrev pub link_shown : {Q : Type 0} → QueueKind Q → Node Q → ℕ → LinkView
 link_shown q node link = record {
   standing = standing_of (link_at node.parts link).alignment;

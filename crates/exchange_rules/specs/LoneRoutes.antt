@@ -12,7 +12,6 @@ use Rattle.exchange_rules.specs.Queues.{WholeQueues, queue_at}
 use Rattle.exchange_rules.specs.Lasting.{after_each}
 use Rattle.exchange_rules.specs.First.{first_state}
 
--- whether a message is a user message for a point
 abbrev pub is_user_to : (point : ℕ) → Message → Bool
 is_user_to point m = not (is_management m) && nat_eq (dpc_of m) point
 

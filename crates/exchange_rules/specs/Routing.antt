@@ -33,7 +33,6 @@ adjacent_of c set = (slice_index_or c.sets set (record { name = []; adjacent = 0
 abbrev pub peer_of : Configuration → (link : ℕ) → ℕ
 peer_of c link = adjacent_of c (set_of c link)
 
--- the point of a destination
 abbrev pub point_of : Configuration → (destination : ℕ) → ℕ
 point_of c destination =
     (slice_index_or c.destinations destination (record { point = 0; sets = []; joined = false })).point
@@ -93,7 +92,6 @@ abbrev pub is_held_at : HoldSet → Option ℕ → (sls : ℕ) → Bool
 is_held_at holds (Some place) sls = is_held holds place sls
 is_held_at holds None sls = false
 
--- whether the flow of a message has a hold
 abbrev pub is_flow_held : Configuration → HoldSet → Message → Bool
 is_flow_held c holds m = is_held_at holds (destination_place c (flow_of m).point) (flow_of m).sls
 

@@ -15,7 +15,6 @@ use Rattle.exchange_rules.specs.First.{Abstract}
 
 -- ---- whose event it is
 
--- the timers of a link
 abbrev pub link_timers : List LinkTimer
 link_timers = L1 ∷ L2 ∷ L3 ∷ L4 ∷ L6 ∷ L7 ∷ []
 

@@ -94,7 +94,6 @@ pub record NodeFlow : Type 0 where
   pub destination : ℕ
   pub sls : ℕ
 
--- the flows to a destination
 abbrev pub flows_to : (destination : ℕ) → List NodeFlow
 flows_to destination = map (λ sls. record { destination = destination; sls = sls }) (range_with_len 0 SELECTIONS)
 

@@ -42,7 +42,6 @@ fn open_in_round(alloc: Global, way: Way, round: u8, total: &mut Total) {
     }
 }
 
-/// Those of one place.
 fn open_links(alloc: Global, way: Way, place: (u8, u8), total: &mut Total) {
     for link in 0..LINKS {
         let one = stop_at(place, link, Stopped::AtOne);
@@ -70,7 +69,6 @@ fn open_links(alloc: Global, way: Way, place: (u8, u8), total: &mut Total) {
     }
 }
 
-/// A link that stops at a place.
 fn stop_at(place: (u8, u8), link: u8, ends: Stopped) -> Stop {
     let (round, step) = place;
     Stop {
@@ -147,7 +145,6 @@ fn fall(world: &mut World, end: End, link: LinkId) {
     pass_round(world);
 }
 
-/// The end that an end faces.
 fn facing(end: End) -> End {
     match end {
         End::One => End::Two,

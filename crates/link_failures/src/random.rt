@@ -47,7 +47,6 @@ fn take_steps(world: &mut World, dice: Dice) {
     }
 }
 
-/// A step.
 fn step(world: &mut World, dice: &mut Dice) {
     let chance = dice.octet() % 200;
     let link = LinkId::new(dice.octet() % world.links().max(1));

@@ -51,7 +51,6 @@ fn draft_to(alloc: Global, own: i64, adjacent: i64, links: u8) -> Result<Draft, 
     Ok(draft)
 }
 
-/// The link of a code.
 fn link_draft(alloc: Global, code: u8) -> Result<LinkDraft, AllocError> {
     Ok(LinkDraft {
         name: format!(in alloc; "e{code}")?,

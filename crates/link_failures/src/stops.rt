@@ -27,7 +27,6 @@ impl StopTrial for Group {
     }
 }
 
-/// One run.
 #[derive(Clone, Copy)]
 struct StopRun {
     group: Group,

@@ -94,7 +94,6 @@ impl Sums {
         wrong: 0,
     };
 
-    /// One sum.
     fn of(accepted: u128, received: u128, waiting: u128) -> Sums {
         let same = accepted == received.wrapping_add(waiting);
         Sums {

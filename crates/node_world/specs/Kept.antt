@@ -54,7 +54,6 @@ due_of (Some port) = due port.gate
 abbrev pub due_on : KeptNode → (link : ℕ) → Option ℕ
 due_on k link = due_of (slice_get k.ports link)
 
--- the octets of one
 abbrev pub octets_of : Option Sent → List ℕ
 octets_of None = []
 octets_of (Some x) = x.octets

@@ -66,7 +66,6 @@ impl Log {
         }
     }
 
-    /// The datagrams.
     pub(crate) fn sent(&self) -> &[Datagram]
         ensures { result.now ≡ self.now.sent }
     {

@@ -90,7 +90,6 @@ impl Node {
         self.exchange.step(event)
     }
 
-    /// The exchange.
     pub(crate) fn exchange(&self) -> &Exchange
         ensures { result.now ≡ self.now.exchange }
     {

@@ -186,7 +186,6 @@ impl World {
         self.near.exchange().lost_any() || self.far.exchange().lost_any()
     }
 
-    /// A node.
     fn node(&self, end: End) -> &Node
         ensures { result.now ≡ kept_at end self.now }
     {

@@ -67,7 +67,6 @@ module _ (read : Message → Saying) where
   Moves p [] = Unit {0}
   Moves p (q ∷ rest) = Move p q × Moves q rest
 
--- the last of them
 abbrev pub last_of : Pair → List Pair → Pair
 last_of p [] = p
 last_of p (q ∷ rest) = last_of q rest

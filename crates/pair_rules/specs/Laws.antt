@@ -18,7 +18,6 @@ use Rattle.pair_rules.specs.Promises.{AreJoined}
 
 -- ---- a link at an end
 
--- a link is down at an end
 abbrev pub is_down_at : End → (link : ℕ) → Bool
 is_down_at e link = down e.exchange.node.parts link
 

@@ -12,7 +12,6 @@ use Rattle.exchange_rules.specs.State.{lost_any, late_any}
 use Rattle.pair_moves.specs.Order.{join_to}
 use Rattle.pair_rules.specs.Pairs.{End, PairState, Step, turned, first_pair, after_steps}
 
--- the queue of a link at an end
 abbrev pub queue_of : End → (link : ℕ) → Queue
 queue_of e link = queue_at e.exchange.node.queues link
 

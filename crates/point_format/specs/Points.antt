@@ -18,7 +18,6 @@ abbrev pub in_three_parts : ℕ → List ℕ
 in_three_parts point =
     digit (point / 2048) ∷ 45 ∷ three_digits (point / 8 % 256) ++ 45 ∷ digit (point % 8) ∷ []
 
--- the text of a point
 abbrev pub point_text : PointFormat → ℕ → List ℕ
 point_text Plain point = decimal point
 point_text ThreeEightThree point = in_three_parts point

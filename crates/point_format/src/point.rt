@@ -97,7 +97,6 @@ fn number(text: &str) -> Option<u16>
     text.parse::<u16>().ok()
 }
 
-/// The point of these three parts.
 fn parse_three_parts(text: &[u8]) -> Option<PointCode>
     ensures value { IfSome result (λ point. (point < 2 ^ 14) × (text.now ≡ in_three_parts point)) }
     ensures found { (point : ℕ) → point < 2 ^ 14 → text.now ≡ in_three_parts point → result ≡ Some point }

@@ -46,7 +46,6 @@ fn is_shown(text: &str) -> bool {
             .all(|octet| octet == SPACE || octet.is_ascii_graphic())
 }
 
-/// What is wrong with a line.
 fn wrong(alloc: Global, line: &[u8], fault: LineFault) -> Result<String, AllocError> {
     match fault {
         LineFault::Malformed => malformed(alloc, line),

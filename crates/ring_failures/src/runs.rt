@@ -39,7 +39,6 @@ impl StopTrial for StopInRing {
     }
 }
 
-/// One run.
 #[derive(Clone, Copy)]
 struct RingRun {
     stop: Stop,
@@ -141,7 +140,6 @@ fn rounds_with(world: &mut World, beside: &mut Neighbours, stop: &Stop) {
     stop.strike_at(world, ROUNDS, 0);
 }
 
-/// What fails before a round.
 fn fail_before(world: &mut World, beside: &mut Neighbours, round: u8) {
     if round == LOST_ACROSS {
         beside.lose_across();

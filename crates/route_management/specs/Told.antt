@@ -17,7 +17,6 @@ pub record ToldTable : Type 0 where
   pub adjacents : List (Option ℕ)
   pub rows : List (List RouteStatus)
 
--- whether a number is this one
 abbrev pub is_number : ℕ → Option ℕ → Bool
 is_number n None = false
 is_number n (Some m) = nat_eq m n

@@ -19,7 +19,6 @@ is_within Nothing marks set destination = false
 is_within Marked marks set destination = is_marked marks destination
 is_within (From first about) marks set destination = is_from first about set destination || is_marked marks destination
 
--- whether one may be pending
 abbrev pub may_be_pending : Updates → (set destination : ℕ) → Bool
 may_be_pending u set destination = is_within u.extent u.marks set destination
 

@@ -56,7 +56,6 @@ impl ToldRow {
     }
 }
 
-/// All are allowed.
 fn allow_all(statuses: &mut [RouteStatus])
     ensures { statuses.new ≡ map (λ old. status.Allowed) statuses.old }
 {

@@ -170,7 +170,6 @@ fn said_by(set: SetId, routes: &[Route]) -> RouteStatus
     }
 }
 
-/// Whether one of these routes goes by a set.
 fn goes_by(routes: &[Route], set: SetId) -> bool
     ensures { result ≡ list_any (leads_by set) routes.now }
 {

@@ -9,7 +9,6 @@ use Rattle.routes.specs.declared.route.RouteStatus.{RouteStatus}
 use Rattle.routes.specs.declared.route.RouteStatus.TheVariants.{Allowed, Restricted, Prohibited}
 use Rattle.routes.specs.declared.link_group.Member.{Member}
 
--- whether a link is of this set and has this code there
 abbrev pub has_code : (set code : ℕ) → LinkEntry → Bool
 has_code set code link = nat_eq link.set set && nat_eq link.slc code
 
@@ -26,7 +25,6 @@ links_below (suc code) links set = links_below code links set ++ option_to_list 
 abbrev pub links_of : (links : List LinkEntry) (set : ℕ) → List ℕ
 links_of links set = links_below 16 links set
 
--- whether a link is one of these
 abbrev pub has_member : (link : ℕ) → List ℕ → Bool
 has_member link links = list_any (λ l. nat_eq l link) links
 

@@ -162,7 +162,6 @@ fn serves(link: LinkId, set: SetId, in_service: &[bool], sets: &[SetId]) -> bool
     is_in_service(in_service, link) && is_one_of(sets, set)
 }
 
-/// Whether a set is one of these.
 fn is_one_of(sets: &[SetId], set: SetId) -> bool
     ensures { result ≡ list_any (λ s. nat_eq s set) sets.now }
 {

@@ -79,7 +79,6 @@ impl<'a> RouteFacts<'a> {
             .any(|route| self.has_member(route.set, link))
     }
 
-    /// Whether a link is of a set.
     fn has_member(&self, set: SetId, link: LinkId) -> bool
         ensures { result ≡ has_member link (set_at self.now set) }
     {
@@ -98,7 +97,6 @@ impl<'a> RouteFacts<'a> {
             .any(|route| route.set.index() == set.index())
     }
 
-    /// The routes to a destination.
     fn routes_to(&self, destination: usize) -> &[Route]
         ensures { result.now ≡ routes_to self.now destination }
     {

@@ -200,7 +200,6 @@ fn write_ssn(field: &mut Field, at: usize, ssn: Option<u8>) -> usize
     }
 }
 
-/// The indicator octet of an address.
 fn indicator_octet(address: &Address<'_>) -> u8
     ensures octet { result ≡ indicator_octet (address_of address.now) }
     ensures fits { address.now.title_indicator < 2 ^ 4 }

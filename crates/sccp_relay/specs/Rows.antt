@@ -20,7 +20,6 @@ place_of key digits = key.translation ∷ key.plan ∷ key.nature ∷ digits
 abbrev pub key_of : TitleEntry → TitleKey
 key_of row = record { translation = row.translation; plan = row.plan; nature = row.nature }
 
--- the place of a row
 abbrev pub row_place : TitleEntry → List ℕ
 row_place row = row.translation ∷ row.plan ∷ row.nature ∷ row.digits
 

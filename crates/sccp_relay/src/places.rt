@@ -11,7 +11,6 @@ use sccp_codec::TitleKey;
 use settings_rows::TitleRow;
 use std::cmp::Ordering;
 
-/// The key of a row.
 pub(crate) fn key_of(row: &TitleRow) -> TitleKey
     ensures key { result ≡ key_of row.now }
     ensures translation { row.now.translation < 2 ^ 8 }
@@ -64,7 +63,6 @@ pub(crate) fn place(rows: &[TitleRow], key: TitleKey, digits: &[u8]) -> Result<u
     }
 }
 
-/// Whether the row is of this key.
 fn is_of_key(row: &TitleRow, key: TitleKey) -> bool
     ensures { result ≡ has_key key row.now }
 {

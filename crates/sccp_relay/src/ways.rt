@@ -102,7 +102,6 @@ fn point_of(lead: u32) -> PointCode
     PointCode::new((lead % POINTS) as u16).unwrap()
 }
 
-/// The row of this key and these digits that leads there.
 pub(crate) fn row_led(key: TitleKey, digits: &[u8], lead: u32) -> TitleRow
     requires { HasTitleRanges key.plan key.nature digits.now }
     ensures { result ≡ row_led key digits.now lead }

@@ -101,7 +101,6 @@ pub(crate) fn translated<'a>(row: &TitleRow, address: &Address<'a>) -> Address<'
     }
 }
 
-/// The same address.
 pub(crate) fn same<'a>(address: &Address<'a>) -> Address<'a>
     ensures { address_of result ≡ address_of address.now }
 {

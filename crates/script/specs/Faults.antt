@@ -5,7 +5,6 @@ use Rattle.script.specs.declared.fault.TheConstants.{READS}
 use Rattle.script.specs.declared.fault.ScriptFault.{ScriptFault}
 use Rattle.script.specs.declared.fault.ScriptFault.TheVariants.{Read, Write, Line, TooManyReads, NoMemory}
 
--- a fault's number
 abbrev pub fault_number : ScriptFault → ℕ
 fault_number Read = 1
 fault_number Write = 2

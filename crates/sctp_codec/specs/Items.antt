@@ -70,7 +70,6 @@ item_octets item = to_be_bytes w16 item.kind ++ to_be_bytes w16 (4 + length item
 abbrev pub padded_item : ItemValue → List ℕ
 padded_item item = item_octets item ++ replicate (padding_behind (length item.value)) 0
 
--- items, each padded
 abbrev pub padded_items : List ItemValue → List ℕ
 padded_items [] = []
 padded_items (item ∷ items) = padded_item item ++ padded_items items

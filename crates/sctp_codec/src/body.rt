@@ -18,7 +18,6 @@ pub(crate) struct Body<'a> {
 impl<'a> Body<'a> {
     ghost use Rattle.std.specs.Prelude.{◌≡◌};
 
-    /// These items.
     #[inline(always)]
     pub(crate) fn of(items: Items<'a>) -> Body<'a>
         ensures { result.items ≡ items.entry }

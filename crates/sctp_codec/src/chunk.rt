@@ -251,7 +251,6 @@ impl<'a> Chunk<'a> {
     }
 }
 
-/// The DATA chunk of these flags and this value.
 #[inline(always)]
 pub(crate) fn read_data(flags: u8, value: &[u8]) -> Chunk<'_>
     ensures { chunk_value result ≡ data_in flags value.now }
@@ -290,7 +289,6 @@ fn read_init(value: &[u8]) -> Option<Init<'_>>
     Some(Init { offer, parameters })
 }
 
-/// The SACK chunk of this value.
 #[inline(always)]
 pub(crate) fn read_sack(value: &[u8]) -> Chunk<'_>
     ensures { chunk_value result ≡ sack_in value.now }
@@ -316,7 +314,6 @@ pub(crate) fn read_sack(value: &[u8]) -> Chunk<'_>
     })
 }
 
-/// The SHUTDOWN chunk of this value.
 fn read_shutdown(value: &[u8]) -> Chunk<'_>
     ensures { chunk_value result ≡ shutdown_in value.now }
 {

@@ -60,7 +60,6 @@ fn fits(cookie: Cookie)
     let _ = cookie;
 }
 
-/// The body of a cookie.
 fn body(cookie: Cookie) -> [u8; BODY_OCTETS]
     ensures { result ≡ body_of cookie }
 {

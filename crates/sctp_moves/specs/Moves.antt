@@ -274,7 +274,6 @@ abbrev pub Moves : Ends → List Ends → Type 0
 Moves p [] = Unit {0}
 Moves p (q ∷ rest) = Move p q × Moves q rest
 
--- the last of them
 abbrev pub last_of : Ends → List Ends → Ends
 last_of p [] = p
 last_of p (q ∷ rest) = last_of q rest

@@ -102,11 +102,9 @@ first_of (d ∷ ds) = d.packet
 abbrev pub packet : Done → PacketValue
 packet d = first_of d.sent
 
--- a packet comes
 abbrev pub comes : ℕ → PacketValue → Happening
 comes now p = Came now address p
 
--- a packet with one chunk
 abbrev pub of_chunk : ℕ → ChunkValue → PacketValue
 of_chunk tag chunk = record { source = 3565; destination = 3565; tag = tag; chunks = chunk ∷ [] }
 

@@ -109,7 +109,6 @@ next_of s None = if may_begin s then Some s.went else None
 unfoldable pub next_place : Sending → Option ℕ
 next_place s = next_of s (lost_from s.out 0 s.went)
 
--- the octets that are left of a burst
 abbrev pub burst_left : (burst octets : ℕ) → ℕ
 burst_left burst octets = if nat_le octets burst then burst - octets else burst
 

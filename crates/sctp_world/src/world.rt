@@ -140,7 +140,6 @@ impl World {
             AreAssociated (make_of self.now.near) (make_of self.now.far) w }
     {}
 
-    /// An end.
     fn site(&self, end: End) -> &Site
         ensures { result.now ≡ kept_at end self.now }
     {

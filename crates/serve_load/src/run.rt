@@ -31,7 +31,6 @@ struct Run<'a> {
 }
 
 impl<'a> Run<'a> {
-    /// A run begins.
     fn begin(rt: &'a HostRuntime) -> io::Result<Run<'a>> {
         Ok(Run {
             rt,

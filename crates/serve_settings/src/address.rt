@@ -22,7 +22,6 @@ fn spelled(text: &str, key: ServeKey) -> Result<SocketAddr, ServeFault>
     }
 }
 
-/// The address that a value is.
 #[tactic(auto, unfolding(crate::specs::Keyed::address_in))]
 pub(crate) fn address_in(value: &Value, key: ServeKey) -> Result<SocketAddr, ServeFault>
     ensures { (s : Spelling) → result ≡ address_in s key (view value.now) }

@@ -121,7 +121,6 @@ fn reached(udp: Option<SocketAddr>, i: usize, address: SocketAddr) -> Result<Soc
     }
 }
 
-/// An SCTP port.
 #[tactic(auto, unfolding(crate::specs::Endpoints::sctp_port_at))]
 fn sctp_port(link: &Table, name: &str, key: ServeKey) -> Result<u16, ServeFault>
     ensures { result ≡ sctp_port_at name.now key (table_view link.now) }
@@ -144,7 +143,6 @@ fn tries(link: &Table, i: usize) -> Result<bool, ServeFault>
     truth_or(link, "tries", ServeKey::LinkTries(i), true)
 }
 
-/// Whether one of these links has this peer.
 fn has_peer(links: &[Endpoint], remote: Remote) -> bool
     ensures { result ≡ list_any (has_same_peer remote) links.now }
 {

@@ -21,10 +21,8 @@ const NO_SOURCE: &str = "is missing, and a link has remote";
 /// What is wrong with an initial timeout that is left out.
 const NOT_USUAL: &str = "is missing, and 300 isn't from rto_min_ms to rto_max_ms";
 
-/// What the address of a console has to be.
 const LOOPBACK: &str = "a loopback address unless console_open is true";
 
-/// What the address of a page has to be.
 const LOOPBACK_PAGE: &str = "a loopback address unless page_open is true";
 
 /// What the address of a peer has to be.
@@ -160,7 +158,6 @@ fn beside(document: &Table, i: usize) -> &'static str {
     }
 }
 
-/// Whether a key has a value.
 fn has_value(document: &Table, key: ServeKey) -> bool {
     value_at(document, &key_row(key)).is_some()
 }

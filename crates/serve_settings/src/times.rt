@@ -20,7 +20,6 @@ const SHORTEST_TIMEOUT: u32 = 10;
 /// The longest timeout, in milliseconds.
 const LONGEST_TIMEOUT: u32 = 60_000;
 
-/// The most tries.
 const MOST_TRIES: u32 = 100;
 
 /// The shortest time between heartbeats, in milliseconds.

@@ -66,7 +66,6 @@ abbrev pub counted_all : List (ℕ × Counted) → List LinkCounters → List Li
 counted_all [] rows = rows
 counted_all (entry ∷ more) rows = counted_all more (row_counted_at entry.0 entry.1 rows)
 
--- what is counted of one link
 abbrev pub adds_of : (link : ℕ) → Counter → ℕ × Counted → ℕ
 adds_of link counter entry = if entry.0 == link then adds counter entry.1 else 0
 

@@ -264,7 +264,6 @@ tables_fault d = first_of (
     ∷ unreached_fault d.destinations.items d.sets.items
     ∷ [])
 
--- the arrays
 unfoldable pub arrays_fault : Draft → Option DraftFault
 arrays_fault d = first_of (
     sets_fault (natural d.own) d.sets.items

@@ -17,7 +17,6 @@ pub record IsWithin (low : ℕ) (high : ℕ) (n : ℕ) : Type 0 where
   pub above : low ≤ n
   pub below : n ≤ high
 
--- the ticks of all timers
 abbrev pub all_ticks : TimerTicks → List ℕ
 all_ticks t = t.l1 ∷ t.l2 ∷ t.l3 ∷ t.l4 ∷ t.l6 ∷ t.l7 ∷ t.t1 ∷ t.t2 ∷ t.t3 ∷ t.t4 ∷ t.t6 ∷ t.t8 ∷ t.t10 ∷ []
 

@@ -95,7 +95,6 @@ pub(crate) fn checked_sets(
     set_rows(alloc, own, sets)
 }
 
-/// Whether the first of these names is this one.
 fn is_first_name(name: &str, names: &[String]) -> bool
     ensures { result ≡ is_first_name name.now names.now }
 {

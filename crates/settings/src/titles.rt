@@ -54,7 +54,6 @@ fn digit(octet: u8) -> Option<u8>
     }
 }
 
-/// The values of digits.
 #[tactic(auto, using(std::proofs::lemmas::Grind::common_steps))]
 fn digit_values(text: &[u8], key: Key) -> Result<Digits, DraftFault>
     requires { length text.now ≤ Limits.TITLE_DIGITS }

@@ -29,7 +29,6 @@ link_keys =
     codes "name" ∷ codes "set" ∷ codes "slc" ∷ codes "listen" ∷ codes "connect" ∷ codes "remote" ∷ codes "sctp_port"
     ∷ codes "remote_sctp_port" ∷ codes "tries" ∷ []
 
--- the keys of a destination, which may be joined or may not
 abbrev pub destination_keys : (may_be_joined : Bool) → List (List ℕ)
 destination_keys true = codes "point" ∷ codes "sets" ∷ codes "joined" ∷ []
 destination_keys false = codes "point" ∷ codes "sets" ∷ []

@@ -47,11 +47,9 @@ abbrev pub some_in : Key → List Data → Result (List Data) SettingsFault
 some_in key [] = Err (Missing key)
 some_in key (d ∷ ds) = Ok (d ∷ ds)
 
--- the integer at a key
 unfoldable pub integer_at : List ℕ → Key → Members → Result ℤ SettingsFault
 integer_at name key t = and_then (value_at name key t) (integer_in key)
 
--- the text at a key
 unfoldable pub text_at : List ℕ → Key → Members → Result (List ℕ) SettingsFault
 text_at name key t = and_then (value_at name key t) (text_in key)
 

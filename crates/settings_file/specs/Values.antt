@@ -39,6 +39,5 @@ abbrev pub value_of : (front : List ℕ) → (entry : Option ℕ) → (name : Li
 value_of front None name t = value_at_path front t
 value_of front (Some i) name t = value_in_entry name (entry_at front i t)
 
--- the value of the key of a row
 abbrev pub value_at : KeyRow → Members → Option Data
 value_at row t = value_of row.front.now row.entry row.name.now t

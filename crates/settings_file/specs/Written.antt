@@ -68,7 +68,6 @@ title_written t = record {
   ssn = t.ssn;
 }
 
--- what a draft has
 abbrev pub written : Draft → Written
 written d = record {
   own = d.own;

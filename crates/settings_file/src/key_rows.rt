@@ -48,7 +48,6 @@ const ALONE: &str = "false with one set";
 
 const DIGITS: &str = "1 to 32 of 0 to 9 and a to f";
 
-/// The row of a key.
 pub(crate) fn key_row(key: Key) -> KeyRow
     ensures { row_place result ≡ key_place key }
 {

@@ -81,7 +81,6 @@ fn entry_at<'a>(document: &'a Table, array: &str, i: usize) -> Option<&'a Value>
     found(document, array)?.get(i)
 }
 
-/// The value of a key of the document.
 fn found<'a>(document: &'a Table, key: &str) -> Option<&'a Value>
     ensures { option_map (λ value. view value.now) result ≡ get_member key.now (table_view document.now) }
 {

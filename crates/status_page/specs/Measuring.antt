@@ -73,11 +73,9 @@ users_on q s link =
     unwrap_or (option_map (λ v. count_user_messages
     (drop (confirmed_by q s link (next_number v.last_sent)) (q.unconfirmed s.node.queues link))) (link_view q s link)) 0
 
--- the counters of a link
 abbrev pub counters_at : List LinkCounters → ℕ → LinkCounters
 counters_at rows link = unwrap_or (slice_get rows link) no_counts
 
--- the value of a metric of a link
 abbrev pub link_value : {Q : Type 0} → QueueKind Q → LinkMetric → State Q → List LinkCounters → ℕ → ℕ
 link_value q of_link.InService s rows k = bit (is_in_service q s k)
 link_value q of_link.ChangingOver s rows k = bit (is_changing_over q s k)

@@ -13,7 +13,6 @@ use Rattle.status_page.specs.Families.{families, metrics_of}
 use Rattle.status_page.specs.Measuring.{link_value, node_value}
 use Rattle.status_page.specs.Samples.{head_text, link_labels, node_labels, sample_text}
 
--- the sample of a link
 unfoldable pub link_sample :
     {Q : Type 0} → QueueKind Q → State Q → List LinkCounters → Family → LinkMetric → ℕ → List ℕ
 link_sample q s rows family metric k =

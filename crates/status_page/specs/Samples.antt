@@ -68,6 +68,5 @@ metric_labels of_link.ChangingOver = []
 metric_labels of_link.Waiting = []
 metric_labels (of_link.Counted counter) = counter_labels counter
 
--- the labels of a metric of the link of this name
 abbrev pub link_labels : LinkMetric → (name : List ℕ) → List ℕ
 link_labels metric name = codes "{link=\"" ++ name ++ codes "\"" ++ metric_labels metric ++ codes "}"

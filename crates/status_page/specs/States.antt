@@ -97,7 +97,6 @@ set_tokens points set =
 
 -- ---- routes
 
--- the names of sets
 abbrev pub set_names : Configuration → List ℕ → List Token
 set_names c sets = flat_map (λ set. string (set_name_in c set) ∷ []) sets
 

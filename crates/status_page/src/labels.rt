@@ -15,7 +15,6 @@ pub const VERSION: &str = "0.1.0";
 /// Octets of a sample's labels, at most.
 pub const LABELS_OCTETS: usize = 64;
 
-/// The labels of a metric of the node.
 pub(crate) fn node_labels(metric: NodeMetric) -> ArrayString<LABELS_OCTETS>
     ensures { result.bytes ≡ node_labels metric }
 {

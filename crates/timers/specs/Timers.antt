@@ -54,7 +54,6 @@ is_same x y = is_same_key (key_of x) (key_of y)
 
 -- ---- the names of a node
 
--- whether a node has a timer of this name
 abbrev pub has_name : NodeCounts → TimerName → Bool
 has_name n (L1 link) = nat_lt link n.links
 has_name n (L2 link) = nat_lt link n.links
@@ -83,7 +82,6 @@ each name count = map name (range_with_len 0 count)
 abbrev pub each_in_rows : (ℕ → ℕ → TimerName) → (rows columns : ℕ) → List TimerName
 each_in_rows name rows columns = flat_map (λ row. each (name row) columns) (range_with_len 0 rows)
 
--- the names that a node has, kind by kind
 abbrev pub names_by_kind : NodeCounts → List (List TimerName)
 names_by_kind n =
     each L1 n.links
@@ -169,7 +167,6 @@ one_less (Some left) = Some (left - 1)
 abbrev pub ticked : Running → Running
 ticked r = running_with r.counts (λ name. one_less (r.left name))
 
--- no tick is left
 abbrev pub no_tick_left : Option ℕ → Bool
 no_tick_left None = false
 no_tick_left (Some left) = left == 0

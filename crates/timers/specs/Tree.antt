@@ -12,7 +12,6 @@ never = 4294967295
 abbrev pub left_at : (clock moment : ℕ) → Option ℕ
 left_at clock moment = if nat_lt moment never then Some (moment - clock) else None
 
--- whether a moment has come
 abbrev pub has_come : (clock moment : ℕ) → Bool
 has_come clock moment = nat_le moment clock
 

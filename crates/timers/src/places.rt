@@ -150,7 +150,6 @@ pub(crate) fn count_of(counts: NodeCounts) -> usize
     t10_from(counts) + routes(counts)
 }
 
-/// The name of the timer at a place.
 pub(crate) fn name_at(counts: NodeCounts, place: usize) -> TimerName
     requires sets { counts.sets ≤ 256 }
     requires place { place < count_of counts }
@@ -171,7 +170,6 @@ pub(crate) fn name_at(counts: NodeCounts, place: usize) -> TimerName
     }
 }
 
-/// The name of a link's timer.
 fn link_name(links: u8, place: usize) -> TimerName
     requires { place < 9 * links }
     ensures { result ≡ link_name (place / links) (place % links) }

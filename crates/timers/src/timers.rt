@@ -148,7 +148,6 @@ fn at_least_one(ticks: u16) -> u16
     ticks.max(1)
 }
 
-/// The name of the timer of a set for a destination.
 fn route_name(timer: RouteTimer, set: SetId, destination: u16) -> TimerName
     ensures { result ≡ name_of_route timer set destination }
 {

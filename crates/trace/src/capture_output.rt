@@ -86,7 +86,6 @@ impl<W: Write> CaptureOutput for UntilFailure<W> {
     }
 }
 
-/// A write failed.
 #[derive(Clone, Copy)]
 struct WriteFailed;
 

@@ -20,7 +20,6 @@ impl Exchange {
         self.links.set_owed(link, owed);
     }
 
-    /// Sets whether a link's peer is busy.
     pub(super) fn set_peer_busy(&mut self, link: LinkId, busy: bool)
         requires { link < length self.old.settings.links }
         ensures { self.new ≡ with_node self.old (with_parts self.old.node (with_link self.old.node.parts link

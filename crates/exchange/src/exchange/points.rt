@@ -19,7 +19,6 @@ impl Exchange {
         &self.settings.links()[link.index()]
     }
 
-    /// The set of a link.
     pub(super) fn set_of(&self, link: LinkId) -> SetId
         requires { link < length self.now.settings.links }
         ensures set { result ≡ rule.set_of self.now.settings link }
@@ -55,7 +54,6 @@ impl Exchange {
         self.settings.sets()[set.index()].adjacent()
     }
 
-    /// The point of a destination.
     pub(super) fn point_of(&self, destination: usize) -> PointCode
         requires { destination < length self.now.settings.destinations }
         ensures { result ≡ rule.point_of self.now.settings destination }

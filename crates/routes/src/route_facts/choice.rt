@@ -155,7 +155,6 @@ impl<'f> RouteFacts<'f> {
         taken
     }
 
-    /// The links of a group.
     fn members(&self, group: &[Route]) -> LinkGroup
         requires { length group.now ≤ 2 }
         ensures { result ≡ members self.now group.now }

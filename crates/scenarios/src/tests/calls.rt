@@ -28,7 +28,6 @@ const CALLS: &str =
     take status; take status; take status; take other; comes queued; version ignored; empty ignored; \
     submit local; take goes; take none; wants nothing";
 
-/// The call of a row.
 fn call<'a>(row: &str, message: &'a Msu) -> Call<'a> {
     let link = LinkId::new(0);
     match row.split(' ').next().unwrap_or("") {

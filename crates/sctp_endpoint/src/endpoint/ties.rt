@@ -11,7 +11,6 @@ use sctp_rules::Phase;
 const MICROSECONDS: u64 = 1_000;
 
 impl Endpoint {
-    /// Whether a cookie is that of the association.
     pub(super) fn is_of_association(&self, cookie: &Cookie) -> bool
         ensures { result ≡ (is_there self.now.state.association.phase && is_own cookie.now self.now.state.association
             && is_far cookie.now self.now.state.association) }

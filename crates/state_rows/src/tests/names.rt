@@ -21,7 +21,6 @@ absent 1 T4 255 15; absent 1 T6 2; absent 1 T6 65535; absent 1 T8 0 2; absent 1 
 absent 1 T8 255 0; absent 1 T10 0 2; absent 1 T10 0 65535; absent 1 T10 255 65535; tick 1; due 0 T6 1; due 0 none
 ";
 
-/// The timer that a call names.
 fn named(call: &str) -> Option<TimerName> {
     let first: u16 = word(call, 3).parse().ok()?;
     let second: u16 = word(call, 4).parse().unwrap_or(0);
@@ -123,7 +122,6 @@ struct Flows {
     codes: Changeback,
 }
 
-/// The procedure of a call.
 fn procedure(call: &str) -> Procedure {
     let (link, set) = (LinkId::new(octet(call, 1)), SetId::new(octet(call, 1)));
     match word(call, 0) {
