@@ -41,8 +41,8 @@ pub fn nodes_alone_are_the_special_case()
 {}
 
 /// What a gate puts out is octets on its way (`sent_as`), and a gate that hears these octets hears the packet that was
-/// put out, if SCTP ports have 16 bits. So that octets aren't changed is all that has to be asked of the network in
-/// place of "hears a packet"; whose packet it is, and its age, is asked as before.
+/// put out, if SCTP ports have 16 bits. So that octets aren't changed is all that must be asked of the network in place
+/// of "hears a packet"; whose packet it is, and its age, is asked as before.
 pub fn octets_of_gates_read_back()
     ensures { packets_are_read }
 {}

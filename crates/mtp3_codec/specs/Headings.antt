@@ -14,7 +14,7 @@ use Rattle.signalling_types.specs.declared.cause.Cause.TheVariants.{NoLabel, Wro
 use Rattle.mtp3_codec.specs.declared.discrimination.Discrimination.{Discrimination}
 use Rattle.mtp3_codec.specs.declared.discrimination.Discrimination.TheVariants.{Here, Transfer, Refused}
 
--- a number of 24 bits before the fields, low octet first
+-- a 24-bit number before the fields, low octet first
 abbrev pub number_in : List ℕ → Result ℕ MgmtFault
 number_in [] = Err Short
 number_in (low ∷ []) = Err Short

@@ -118,7 +118,7 @@ fn nearest(alloc: Global, word: &str) -> Result<Option<&'static str>, AllocError
     Ok(nearest)
 }
 
-/// What a line of this command has to be.
+/// What a line of this command must be.
 fn form(command: Command) -> &'static str {
     match command {
         Command::Up => "up LINK",

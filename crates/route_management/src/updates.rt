@@ -10,7 +10,7 @@ use signalling_types::SetId;
 use std::alloc::{AllocError, Global};
 use std::marker::Model;
 
-/// How far updates have to be looked for.
+/// How far updates must be looked for.
 #[derive(Clone, Copy, Drop)]
 pub enum Extent {
     /// None may be pending.
@@ -140,7 +140,7 @@ impl PendingUpdates {
     }
 }
 
-/// Whether all updates from this one on have to be looked for.
+/// Whether all updates from this one on must be looked for.
 fn has_all_from(extent: &Extent, set: SetId, destination: usize) -> bool
     ensures { result ≡ has_all_from set destination extent.now }
 {

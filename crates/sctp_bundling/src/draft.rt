@@ -61,7 +61,7 @@ impl Model for Draft {
 }
 
 impl Draft {
-    /// A packet that hasn't begun: `begin_with` has to be called first. It is made in its place, and not moved.
+    /// A packet that hasn't begun: `begin_with` must be called first. It is made in its place, and not moved.
     #[inline(never)]
     pub fn new(way: Way) -> Draft
         ensures { result.way ≡ way_of way }
@@ -74,7 +74,7 @@ impl Draft {
         }
     }
 
-    /// It goes another way from now on: `begin_with` has to be called next.
+    /// It goes another way from now on: `begin_with` must be called next.
     pub fn turn(&mut self, way: Way)
         ensures { self.new.way ≡ way_of way }
     {

@@ -1,11 +1,11 @@
--- Items: a number of 16 bits, a length of 16 bits, and a value after them. Chunks, parameters and error causes have
--- this form (RFC 9260 §3.2, §3.2.1).
+-- Items: a 16-bit number, a length of 16 bits, and a value after them. Chunks, parameters and error causes have this
+-- form (RFC 9260 §3.2, §3.2.1).
 use Rattle.std.specs.Prelude.{◌≡◌, ℕ, zero, suc, ◌+◌, ◌-◌, ◌%◌, ◌^◌, ◌<◌, ◌≤◌, ◌⊎◌, Bool, ◌&&◌}
 use Rattle.std.specs.Prelude.{if◌then◌else◌, nat_le, List, []}
 use Rattle.std.specs.Prelude.{◌∷◌, ◌++◌, length, drop, replicate, slice_index, slice_range, Option, Some, None}
 use Rattle.std.specs.Int.{w16, w32, from_be_bytes, to_be_bytes}
 
--- the number of 16 bits at an offset, and that of 32 bits, most significant octet first (RFC 9260 §3)
+-- the 16-bit number at an offset, and the 32-bit one, most significant octet first (RFC 9260 §3)
 abbrev pub number16_at : List ℕ → ℕ → ℕ
 number16_at octets at = from_be_bytes w16 (slice_index octets at ∷ slice_index octets (at + 1) ∷ [])
 

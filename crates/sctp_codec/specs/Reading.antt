@@ -16,7 +16,7 @@ is_set octet bit = octet / 2 ^ bit % 2 == 1
 
 -- ---- chunks
 
--- the number of 16 bits that is a chunk's type, and its flags
+-- the 16-bit number that is a chunk's type, and its flags
 abbrev pub type_of : ItemValue → ℕ
 type_of item = item.kind / 2 ^ 8
 
@@ -59,7 +59,7 @@ abbrev pub chunk_or_malformed : {V : Type 0} → ℕ → (V → ChunkValue) → 
 chunk_or_malformed kind chunk None = MalformedChunk kind
 chunk_or_malformed kind chunk (Some value) = chunk value
 
--- gap blocks, four octets each, and numbers of 32 bits; fewer than four octets are none
+-- gap blocks, four octets each, and 32-bit numbers; fewer than four octets are none
 abbrev pub blocks_in : List ℕ → List BlockValue
 blocks_in (a ∷ b ∷ c ∷ d ∷ rest) =
     record { start = from_be_bytes w16 (a ∷ b ∷ []); end = from_be_bytes w16 (c ∷ d ∷ []) } ∷ blocks_in rest

@@ -334,7 +334,7 @@ fn is_set(octet: u8, bit: u32) -> bool
     (octet >> bit) % 2 == 1
 }
 
-/// The number of 16 bits at an offset.
+/// The 16-bit number at an offset.
 #[inline(always)]
 pub(crate) fn number16_at(octets: &[u8], at: usize) -> u16
     requires { at + 2 ≤ length octets.now }
@@ -343,7 +343,7 @@ pub(crate) fn number16_at(octets: &[u8], at: usize) -> u16
     u16::from_be_bytes([octets[at], octets[at + 1]])
 }
 
-/// The number of 32 bits at an offset.
+/// The 32-bit number at an offset.
 #[inline(always)]
 pub(crate) fn number32_at(octets: &[u8], at: usize) -> u32
     requires { at + 4 ≤ length octets.now }

@@ -21,7 +21,7 @@ pub(crate) const INIT_OCTETS: usize = 16;
 /// Octets of the fields of a SACK chunk, before the gap blocks (RFC 9260 §3.3.4).
 pub(crate) const SACK_OCTETS: usize = 12;
 
-/// Octets of a gap block, and of a number of 32 bits.
+/// Octets of a gap block, and of a 32-bit number.
 pub(crate) const BLOCK_OCTETS: usize = 4;
 
 pub(crate) const DATA: u8 = 0;

@@ -182,7 +182,7 @@ fn write_block(out: &mut PacketBuffer, at: usize, block: Block) -> usize
     write_at(out, at, &block.end.to_be_bytes())
 }
 
-/// Writes numbers of 32 bits at an offset, and returns the offset after them.
+/// Writes 32-bit numbers at an offset, and returns the offset after them.
 fn write_numbers(out: &mut PacketBuffer, at: usize, numbers: &[u32]) -> usize
     requires { at + 4 * length numbers.now ≤ 1200 }
     ensures count { result ≡ at + 4 * length numbers.now }
@@ -195,7 +195,7 @@ fn write_numbers(out: &mut PacketBuffer, at: usize, numbers: &[u32]) -> usize
     end
 }
 
-/// Writes a number of 32 bits at an offset, and returns the offset after it.
+/// Writes a 32-bit number at an offset, and returns the offset after it.
 #[inline(always)]
 fn write_number(out: &mut PacketBuffer, at: usize, number: u32) -> usize
     requires { at + 4 ≤ 1200 }

@@ -1,4 +1,4 @@
--- A Feistel network over the two halves of a number of 32 bits: a permutation, whatever its rounds compute.
+-- A Feistel network over the two halves of a 32-bit number: a permutation, whatever its rounds compute.
 use Rattle.std.specs.Prelude.{ℕ, ◌+◌, ◌*◌, ◌/◌, ◌%◌, ◌^◌, bit_xor}
 
 -- the halves of a number, of 16 bits each, and the number that two halves make

@@ -10,7 +10,7 @@ use Rattle.sctp_cookie.specs.Permutation.{permuted}
 unfoldable pub half_given : (key : List ℕ) (number half : ℕ) → ℕ
 half_given key number half = from_be_bytes w16 (take 2 (sha256 (key ++ number ∷ to_be_bytes w16 half)))
 
--- the permutation of the numbers of 32 bits under a key
+-- the permutation of the 32-bit numbers under a key
 unfoldable pub permutation : (key : List ℕ) → ℕ → ℕ
 permutation key n = permuted (half_given key) n
 

@@ -31,7 +31,7 @@ pub struct Cookie {
     pub peer_outgoing_streams: u16,
     /// How many streams the peer takes at most.
     pub peer_incoming_streams: u16,
-    /// The endpoint's tag of the association that there was when it was made, or of the try of one; or 0.
+    /// The endpoint's tag of the association that existed when it was made, or of the try of one; or 0.
     pub tie_own_tag: u32,
     /// The peer's tag of that association or try, or 0.
     pub tie_peer_tag: u32,

@@ -19,10 +19,10 @@ pub(crate) const PEER_OUTGOING_STREAMS_AT: usize = 68;
 
 pub(crate) const PEER_INCOMING_STREAMS_AT: usize = 70;
 
-/// The own tag of the association that there was.
+/// The own tag of the association that existed.
 pub(crate) const TIE_OWN_TAG_AT: usize = 72;
 
-/// The peer's tag of the association that there was.
+/// The peer's tag of the association that existed.
 pub(crate) const TIE_PEER_TAG_AT: usize = 76;
 
 /// How long it is good.

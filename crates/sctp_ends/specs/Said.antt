@@ -93,7 +93,7 @@ text_in d = record { stream = d.stream; protocol = d.protocol; octets = d.octets
 abbrev pub chunk_in : (tag : ℕ) → DataValue → (place : ℕ) → Chunk
 chunk_in tag d place = record { to = tag; number = d.tsn; message = text_in d; place = place }
 
--- a DATA chunk that the end put out: a whole message, of a stream that there is
+-- a DATA chunk that the end put out: a whole message, of an existing stream
 pub record IsData (age : Age) (e : End) (tag : ℕ) (d : DataValue) : Type 0 where
   pub begins : d.begins ≡ true
   pub ends : d.ends ≡ true

@@ -79,7 +79,7 @@ texts messages = map given_as messages
 abbrev pub course_of : Sending → List Message → (acked : ℕ) → Course
 course_of s messages acked = record { half = s; messages = texts messages; confirmed = acked; chunks = [] }
 
--- a message that was taken has a stream that there is, and fits into a chunk
+-- a message that was taken has an existing stream, and fits into a chunk
 pub record IsTaken (m : Message) : Type 0 where
   pub stream : nat_lt m.stream STREAMS ≡ true
   pub octets : length m.octets ≤ most_octets
@@ -103,7 +103,7 @@ pub record IsWhole (p : Piece) : Type 0 where
   pub stream : nat_lt p.stream STREAMS ≡ true
   pub octets : length p.octets ≤ most_octets
 
--- the piece so far ahead of the cumulative TSN is one that was heard
+-- the piece this far ahead of the cumulative TSN is one that was heard
 pub record IsHeard (epoch : Epoch) (ahead : ℕ) (p : Piece) : Type 0 where
   pub whole : IsWhole p
   pub heard : Contains epoch.heard (record { place = length epoch.received + (ahead - 1); message = text_of p })

@@ -55,7 +55,7 @@ carried_on before ends m =
     then record { left = None; told = Tells (message_of m) }
     else record { left = Some m; told = Nothing })
 
--- a message of a stream that there isn't is passed over, and a fragment of one is a violation
+-- a message of a stream that doesn't exist is passed over, and a fragment of one is a violation
 abbrev pub of_no_stream : Piece → Consumed
 of_no_stream p = record {
   left = None;

@@ -1,4 +1,4 @@
--- A receiver under any list of calls, of any peer whatever.
+-- A receiver under any list of calls, with any peer.
 use Rattle.std.specs.Prelude.{◌≡◌, ℕ, zero, suc, ◌+◌, ◌%◌, ◌<◌, ◌≤◌, List, [], ◌∷◌, ◌++◌, Option, Some, None}
 use Rattle.std.specs.Prelude.{All, length, map}
 use Rattle.std.specs.List.{Contains}

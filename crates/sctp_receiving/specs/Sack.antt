@@ -6,7 +6,7 @@ use Rattle.sctp_receiving.specs.Receiver.{Receiver, piece_at}
 use Rattle.sctp_receiving.specs.declared.limits.TheConstants.{CHUNKS, BLOCKS}
 use Rattle.sctp_receiving.specs.declared.block.Block.{Block}
 
--- whether the chunk that is so far ahead of the cumulative TSN is held
+-- whether the chunk that is this far ahead of the cumulative TSN is held
 abbrev pub is_held_ahead : Receiver → ℕ → Bool
 is_held_ahead r distance = is_some (piece_at r ((r.cumulative + distance) % modulus))
 

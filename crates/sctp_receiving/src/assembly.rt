@@ -13,7 +13,7 @@ use crate::violation::Violation;
 use std::alloc::{AllocError, Global};
 use std::marker::Model;
 
-/// What a fragment has to have that goes on with a message.
+/// What a fragment must have that goes on with a message.
 #[derive(Clone, Copy)]
 struct Head {
     protocol: u32,
@@ -192,7 +192,7 @@ fn write(buffer: &mut [u8; MESSAGE_OCTETS], octets: &[u8]) -> usize
     octets.len()
 }
 
-/// What a chunk of a stream tells that there isn't.
+/// What a chunk of a stream that doesn't exist tells.
 fn of_no_stream(piece: Piece<'_>) -> Told
     ensures { (buffer : List ℕ) → told_by (lent piece.entry) buffer result ≡ (of_no_stream (lent piece.entry)).told }
 {

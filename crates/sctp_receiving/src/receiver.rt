@@ -178,7 +178,7 @@ impl Receiver {
         blocks
     }
 
-    // Adds the block that begins so far ahead, if one does, and there is a place.
+    // Adds the block that begins this far ahead, if one does, and there is a place.
     fn add_block(&self, blocks: &mut ArrayVec<Block, BLOCKS>, ahead: usize, is_before_held: bool)
         requires { ahead ≤ CHUNKS }
         ensures { blocks.new.items ≡ take BLOCKS (blocks.old.items
@@ -196,7 +196,7 @@ impl Receiver {
         blocks.push(self.block_from(ahead));
     }
 
-    // Whether a block begins so far ahead.
+    // Whether a block begins this far ahead.
     fn begins_at(&self, ahead: usize, is_before_held: bool) -> bool
         requires { ahead ≤ CHUNKS }
         ensures { result ≡ (is_held_ahead self.now ahead && not is_before_held) }
@@ -204,7 +204,7 @@ impl Receiver {
         self.is_held_ahead(ahead) && !is_before_held
     }
 
-    // The block that begins so far ahead.
+    // The block that begins this far ahead.
     fn block_from(&self, start: usize) -> Block
         requires { start ≤ CHUNKS }
         ensures { result ≡ block_from self.now start (CHUNKS - start) }
@@ -219,7 +219,7 @@ impl Receiver {
         }
     }
 
-    // Whether the chunk that is so far ahead is held.
+    // Whether the chunk that is this far ahead is held.
     fn is_held_ahead(&self, ahead: usize) -> bool
         requires { ahead ≤ CHUNKS }
         ensures { result ≡ is_held_ahead self.now ahead }
@@ -237,7 +237,7 @@ impl Receiver {
     /// A chunk comes. The next one in the order of TSNs is consumed, and the answer is what it tells; a message that it
     /// ends is the chunk's own octets, or is in the buffer. Any other chunk is held, noted as come again, or dropped.
     ///
-    /// After one that was consumed `take_next` has to be called until it gives none.
+    /// After one that was consumed `take_next` must be called until it gives none.
     #[inline(always)]
     pub fn hear(&mut self, tsn: u32, piece: Piece<'_>, buffer: &mut [u8; MESSAGE_OCTETS]) -> Told
         ensures told { told_by (lent piece.entry) buffer.new result ≡ (hear self.old tsn (lent piece.entry)).told }
@@ -257,7 +257,7 @@ impl Receiver {
         }
     }
 
-    /// Consumes the next chunk in the order of TSNs, if it is held; answers what it tells. A message that it ends is in
+    /// Consumes the next chunk in the order of TSNs, if it is held; returns what it tells. A message that it ends is in
     /// the buffer.
     #[inline(always)]
     pub fn take_next(&mut self, buffer: &mut [u8; MESSAGE_OCTETS]) -> Option<Told>

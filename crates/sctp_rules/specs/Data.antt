@@ -51,7 +51,7 @@ piece_of d = record {
   octets = d.octets;
 }
 
--- a stream that there isn't (§6.5)
+-- a stream that doesn't exist (§6.5)
 abbrev pub no_stream : ℕ → ChunkValue
 no_stream stream = ErrorChunk (cause_item (NoStream stream) ∷ [])
 

@@ -1,4 +1,4 @@
--- The sending half under any list of calls, with any peer whatever: what goes out was given, and in order.
+-- The sending half under any list of calls, with any peer: what goes out was given, and in order.
 use Rattle.std.specs.Prelude.{◌≡◌, ℕ, ◌+◌, ◌%◌, ◌<◌, ◌^◌, Bool, All, List, [], ◌∷◌, ◌++◌, Option, Some, None, drop}
 use Rattle.std.specs.Prelude.{length}
 use Rattle.std.specs.Prelude.{map, slice_index_or}

@@ -173,7 +173,7 @@ answered_anew_with c k now source init (Some b) s =
 abbrev pub answered_anew : Settings → Secrets → (now : ℕ) → Address → InitValue → State → Done
 answered_anew c k now source init s = answered_anew_with c k now source init (k.beginning s.beginnings) s
 
--- both ends began: the tag and the first TSN of the own INIT (§5.2.1)
+-- both ends began: the tag and the first TSN of its own INIT (§5.2.1)
 abbrev pub own_beginning : Association → Beginning
 own_beginning a = record { tag = a.own_tag; first = a.own_first }
 

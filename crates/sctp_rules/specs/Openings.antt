@@ -1,4 +1,4 @@
--- How often associations open, with any peer whatever; and packets with another tag.
+-- How often associations open, with any peer; and packets with another tag.
 use Rattle.std.specs.Prelude.{◌≡◌, ◌≢◌, ◌≤◌, ℕ, ◌+◌, Bool, true, false, List, [], ◌∷◌}
 use Rattle.sctp_cookie.specs.declared.cookie.Cookie.{Cookie}
 use Rattle.sctp_codec.specs.Packets.{ChunkValue, PacketValue, InitChunk, CookieEchoChunk}

@@ -1,4 +1,4 @@
--- What an endpoint tells its user came in that association, with any peer whatever.
+-- What an endpoint tells its user came in that association, with any peer.
 use Rattle.std.specs.Prelude.{◌≡◌, ℕ, ◌<◌, ◌^◌, true, All, List, [], ◌∷◌, ◌++◌, nat_eq, if◌then◌else◌}
 use Rattle.std.specs.List.{Contains}
 use Rattle.sctp_receiving.specs.Pieces as pieces

@@ -406,7 +406,7 @@ far_tries = far (Opens 0 true) new
 abbrev pub answers_alike : Done
 answers_alike = far (comes 1 (packet tries)) far_tries.left
 
--- the INIT ACK has the tag of the own INIT
+-- the INIT ACK has the tag of its own INIT
 abbrev pub both_begin : Type 0
 both_begin = Does answers_alike CookieWait ((2 ∷ []) ∷ []) []
 

@@ -1,4 +1,4 @@
--- The user gave what an endpoint puts out in that association, with any peer whatever.
+-- The user gave what an endpoint puts out in that association, with any peer.
 use Rattle.std.specs.Prelude.{◌≡◌, ◌≤◌, ◌<◌, ◌⊎◌, ℕ, ◌%◌, ◌^◌, true, false, All, List, [], ◌∷◌, ◌++◌}
 use Rattle.std.specs.Prelude.{length, take, drop, sum_by, nat_eq, slice_index_or, if◌then◌else◌}
 use Rattle.std.specs.List.{Contains}

@@ -1,4 +1,4 @@
--- What the user is told, with any peer whatever: each Down after an Up, and messages only between the two.
+-- What the user is told, with any peer: each Down after an Up, and messages only between the two.
 use Rattle.std.specs.Prelude.{◌≡◌, Bool, true, false, List, [], ◌∷◌, Option, Some, None}
 use Rattle.sctp_rules.specs.Settings.{Settings, Secrets}
 use Rattle.sctp_rules.specs.State.{Told, Up, Heard, Down, Failed, first_state}

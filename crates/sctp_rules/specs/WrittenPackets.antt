@@ -1,4 +1,4 @@
--- Each packet that an endpoint puts out can be written, and so reads back, with any peer whatever.
+-- Each packet that an endpoint puts out can be written, and so reads back, with any peer.
 use Rattle.std.specs.Prelude.{◌≡◌, ℕ, ◌<◌, ◌≤◌, ◌^◌, All, List, length, Option, Some, None}
 use Rattle.sctp_cookie.specs.declared.cookie.Cookie.{Cookie}
 use Rattle.sctp_codec.specs.Packets.{ChunkValue, DataChunk, InitChunk, InitAckChunk, PacketValue}

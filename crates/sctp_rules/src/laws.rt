@@ -1,4 +1,4 @@
-//! Laws of the abstract endpoint, with any peer whatever.
+//! Laws of the abstract endpoint, with any peer.
 
 ghost use Rattle.sctp_rules.specs.GivenMessages.{given_messages_go_out};
 ghost use Rattle.sctp_rules.specs.Openings.{generations_grow, cookies_open_in_their_generation, other_tags_are_dropped};

@@ -16,7 +16,7 @@ pub record Congestion : Type 0 where
   pub threshold : ℕ
   -- what was confirmed since it grew last, partial_bytes_acked
   pub summed : ℕ
-  -- how many of the messages that are under way have to be confirmed until fast recovery ends; 0 outside of it
+  -- how many of the messages that are under way must be confirmed until fast recovery ends; 0 outside of it
   pub recovering : ℕ
 
 -- before anything is sent to a peer with this window (§7.2.1)

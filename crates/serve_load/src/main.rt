@@ -68,7 +68,7 @@ fn port_of_settings(words: &[String]) -> Option<u16> {
     port.as_str().parse::<u16>().ok()
 }
 
-/// What the program's arguments ask for; None if they ask for nothing that there is.
+/// What the program's arguments ask for; None if they ask for nothing that exists.
 fn task_of(words: &[String]) -> Option<Task> {
     let [verb, port, count, octets] = words else {
         return None;

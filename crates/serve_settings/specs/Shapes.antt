@@ -16,7 +16,7 @@ and_then (Err fault) next = Err fault
 unfoldable pub value_at : List ℕ → (missing : ServeFault) → Members → Result Data ServeFault
 value_at name missing t = ok_or (get_member name t) missing
 
--- the integer, the truth value, the text, the table and the entries of the array that a value has to be
+-- the integer, the truth value, the text, the table and the entries of the array that a value must be
 unfoldable pub integer_in : ServeKey → Data → Result ℤ ServeFault
 integer_in key d = ok_or (as_integer d) (Kind key)
 

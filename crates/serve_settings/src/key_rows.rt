@@ -1,4 +1,4 @@
-//! What the value of each key of a server has to be.
+//! What the value of each key of a server must be.
 
 ghost use Rattle.std.specs.Prelude.{◌≡◌};
 ghost use Rattle.settings_file.specs.Sentences.{row_place};

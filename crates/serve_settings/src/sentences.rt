@@ -25,7 +25,7 @@ const LOOPBACK: &str = "a loopback address unless console_open is true";
 
 const LOOPBACK_PAGE: &str = "a loopback address unless page_open is true";
 
-/// What the address of a peer has to be.
+/// What the address of a peer must be.
 const OF_VERSION: &str = "an address of the same version of IP as serve.udp";
 
 /// What is wrong with an address that two listen on.
@@ -124,7 +124,7 @@ fn wrong_with(
     }
 }
 
-/// What an address has to be that is one with a port from 1 on.
+/// What an address must be that is one with a port from 1 on.
 fn demand(key: ServeKey, row: &KeyRow) -> &'static str {
     match key {
         ServeKey::Console => LOOPBACK,

@@ -76,7 +76,7 @@ pub struct ConsoleClients {
     pub(crate) asked: Asked,
 }
 
-/// Which news any client asked for, so that nobody has to be asked for each frame.
+/// Which news any client asked for, so that nobody must be asked for each frame.
 #[derive(Clone, Copy)]
 pub(crate) struct Asked {
     pub(crate) messages: bool,

@@ -32,7 +32,7 @@ abbrev pub natural : ℤ → ℕ
 natural (pos n) = n
 natural (negsuc n) = 0
 
--- the fault of a number that has to be one from low to high
+-- the fault of a number that must be one from low to high
 abbrev pub range_fault : ℕ → ℕ → Key → ℤ → Option DraftFault
 range_fault low high key n = fault_unless (is_within low high n) Range key
 

@@ -93,7 +93,7 @@ is_same_row t e =
     nat_eq t.translation e.translation
     && (nat_eq t.plan e.plan && (nat_eq t.nature e.nature && bytes_eq t.digits e.digits))
 
--- every number is within its limits, every name is a name of something, and what has to be distinct is
+-- every number is within its limits, every name is a name of something, and what must be distinct is
 pub record IsWell (c : Configuration) : Type 0 where
   pub own : c.own < 2 ^ 14
   pub network : c.network < 4

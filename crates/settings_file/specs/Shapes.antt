@@ -26,7 +26,7 @@ each read i (a ∷ rest) = and_then (read i a) (λ b. and_then (each read (i + 1
 unfoldable pub value_at : List ℕ → Key → Members → Result Data SettingsFault
 value_at name key t = ok_or (get_member name t) (Missing key)
 
--- the integer, the truth value, the text, the table and the entries of the array that a value has to be
+-- the integer, the truth value, the text, the table and the entries of the array that a value must be
 unfoldable pub integer_in : Key → Data → Result ℤ SettingsFault
 integer_in key d = ok_or (as_integer d) (Kind key)
 
@@ -42,7 +42,7 @@ table_in key d = ok_or (as_table d) (Kind key)
 unfoldable pub array_in : Key → Data → Result (List Data) SettingsFault
 array_in key d = ok_or (option_map listed (as_array d)) (Kind key)
 
--- entries of which there has to be one
+-- entries, at least one
 abbrev pub some_in : Key → List Data → Result (List Data) SettingsFault
 some_in key [] = Err (Missing key)
 some_in key (d ∷ ds) = Ok (d ∷ ds)
@@ -61,6 +61,6 @@ integers_at name key t = and_then (value_at name key t) (λ d. and_then (array_i
 unfoldable pub texts_at : List ℕ → Key → Members → Result (List (List ℕ)) SettingsFault
 texts_at name key t = and_then (value_at name key t) (λ d. and_then (array_in key d) (each (λ _. text_in key) 0))
 
--- the entries of the array at a key, of which there has to be one
+-- the entries of the array at a key, at least one
 unfoldable pub entries_at : List ℕ → Key → Members → Result (List Data) SettingsFault
 entries_at name key t = and_then (value_at name key t) (λ d. and_then (array_in key d) (some_in key))

@@ -30,7 +30,7 @@ const LAST_VERSION: i64 = 2;
 pub(crate) struct Numbers {
     /// The version of the format.
     pub version: i64,
-    /// The own point code.
+    /// The node's own point code.
     pub own: i64,
     /// The network indicator.
     pub network: i64,

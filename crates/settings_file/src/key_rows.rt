@@ -1,4 +1,4 @@
-//! The keys of a settings file: where each is, and what its value has to be.
+//! The keys of a settings file: where each is, and what its value must be.
 
 ghost use Rattle.std.specs.Prelude.{◌≡◌, None, Some, []};
 ghost use Rattle.settings_file.specs.Sentences.{key_place, row_place};

@@ -6,7 +6,7 @@ use crate::values::value_text;
 use std::alloc::{AllocError, Global};
 use toml::Value;
 
-/// That a value is missing, and what it has to be: `is missing, must be an integer`.
+/// That a value is missing, and what it must be: `is missing, must be an integer`.
 ///
 /// `AllocError` if memory ran out.
 pub fn missing(alloc: Global, demand: &str) -> Result<String, AllocError>
@@ -15,8 +15,8 @@ pub fn missing(alloc: Global, demand: &str) -> Result<String, AllocError>
     format!(in alloc; "is missing, must be {demand}")
 }
 
-/// What a value is, and what it has to be: `is 16, must be 0 to 15`. A number, a truth value and a short text are
-/// shown as they are, anything else by its type.
+/// What a value is, and what it must be: `is 16, must be 0 to 15`. A number, a truth value and a short text are shown
+/// as they are, anything else by its type.
 ///
 /// `AllocError` if memory ran out.
 pub fn must_be(alloc: Global, value: &Value, demand: &str) -> Result<String, AllocError>

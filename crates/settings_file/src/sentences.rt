@@ -52,7 +52,7 @@ fn key_of(fault: SettingsFault) -> Option<Key>
     }
 }
 
-/// What the value of a key has to be in this file, as its version says.
+/// What the value of a key must be in this file, as its version says.
 fn demand(document: &Table, key: Key) -> &'static str {
     match key {
         Key::Window if is_first_version(document) => "1 to 4096 in version 1",

@@ -156,7 +156,7 @@ pub(crate) fn texts(
     each_text(alloc, values, key)
 }
 
-/// The entries of the array at a key, of which there has to be one.
+/// The entries of the array at a key, at least one.
 #[tactic(auto, unfolding(crate::specs::Shapes::entries_at))]
 pub(crate) fn entries<'a>(
     table: &'a Table,

@@ -11,9 +11,9 @@ use std::fmt;
 /// What is wrong at a key. The numbers are part of the interface.
 #[derive(Clone, Copy)]
 pub enum FaultKind {
-    /// A number out of its range, a malformed text, or an empty list that has to have an entry.
+    /// A number out of its range, a malformed text, or an empty list that must have an entry.
     Range = 4,
-    /// What has to be distinct occurs twice.
+    /// What must be distinct occurs twice.
     Duplicate = 5,
     /// A name that nothing has.
     UnknownName = 6,

@@ -6,7 +6,7 @@ ghost use Rattle.signalling_types.specs.Numbers.{three_octets, number_of};
 
 use std::marker::Model;
 
-/// A sequence number of 24 bits, as FSN and BSN are (RFC 4165 §2.2).
+/// A 24-bit sequence number, as FSN and BSN are (RFC 4165 §2.2).
 #[derive(Clone, Copy, Debug, PartialEq, Eq)]
 pub struct Number24 {
     value: u32,

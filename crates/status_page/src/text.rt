@@ -157,7 +157,7 @@ function clock(ms) {
   return isToday ? at.toLocaleTimeString('en-GB') : at.toLocaleString('en-GB');
 }
 
-// How many messages lie between two numbers of 24 bits.
+// How many messages lie between two 24-bit numbers.
 const between = (before, after) => (after - before + NUMBERS) % NUMBERS;
 
 const failures = link => Object.values(link.failed).reduce((sum, n) => sum + n, 0);

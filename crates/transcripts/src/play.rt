@@ -25,7 +25,7 @@ pub fn play_file(rt: &HostRuntime, name: &str) -> Result<u64> {
     Ok(runs)
 }
 
-/// Ends a run, if one was begun. It has to be good.
+/// Ends a run, if one was begun. It must be good.
 fn finish(run: &mut Option<Run<'_>>) -> Result<()> {
     match run {
         Some(run) => run.finish(),

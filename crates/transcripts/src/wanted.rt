@@ -44,7 +44,7 @@ impl Wanted {
         Ok(())
     }
 
-    /// The lines from this index on are wanted so often, one such block after the other.
+    /// The lines from this index on are wanted this often, one such block after the other.
     pub fn repeat(&mut self, from: usize, times: usize) -> Result<(), AllocError> {
         let to = self.lines.len();
         for _ in 1..times {

@@ -126,8 +126,8 @@ impl Exchange {
         None
     }
 
-    /// The first destination from this one on that the adjacent point of a set may have to be told of. If there is
-    /// none, this one or the number of all destinations.
+    /// The first destination from this one on that the adjacent point of a set may must be told of. If there is none,
+    /// this one or the number of all destinations.
     #[inline(always)]
     fn next_pending(&self, set: SetId, from: usize) -> usize
         ensures from { from ≤ result }

@@ -129,7 +129,7 @@ impl Endpoint {
         }
     }
 
-    /// INIT ACK with the tag and the first TSN of the own try.
+    /// INIT ACK with the tag and the first TSN of its own try.
     fn answer_alike<W: Watch>(&self, source: &Address, init: &Init<'_>, now: u64, watch: &mut W)
         ensures { Gives W.has watch.old watch.new
             (answered_alike self.now.settings (secrets_of self.now) now (address_of source.now) (init_of init.now)

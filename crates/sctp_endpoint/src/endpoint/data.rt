@@ -133,7 +133,7 @@ impl Endpoint {
         }
     }
 
-    /// What a chunk tells that isn't for the user: a stream that there isn't, to the peer; a violation is the end.
+    /// What a chunk tells that isn't for the user: a stream that doesn't exist, to the peer; a violation is the end.
     #[inline(always)]
     fn answer<W: Watch>(&mut self, told: Told, watch: &mut W)
         requires { self.old.state.generation < 2 ^ 64 - 1 }

@@ -1,4 +1,4 @@
-//! What a cookie says of the association that there is (RFC 9260 §5.2.4).
+//! What a cookie says of the present association (RFC 9260 §5.2.4).
 
 ghost use Rattle.std.specs.Prelude.{◌≡◌, ◌≤◌, ◌^◌, ◌&&◌};
 ghost use Rattle.sctp_rules.specs.Opening.{is_own, is_far, is_tied, is_there, staleness};

@@ -41,7 +41,7 @@ impl Sender {
             && self.finds_window(self.outbox.get(place).octets())
     }
 
-    /// The next message goes out, if one may: answers its index, which `data` takes. If none may, a burst of lost ones
+    /// The next message goes out, if one may: returns its index, which `data` takes. If none may, a burst of lost ones
     /// is over.
     #[tactic(auto, unfolding(crate::specs::Sending::next_place))]
     pub fn put_out(&mut self, now: u64) -> Option<usize>

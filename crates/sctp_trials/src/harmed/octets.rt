@@ -95,7 +95,7 @@ pub fn piece(octets: &[u8], from: usize, count: usize) -> &[u8] {
     rest.get(..count).unwrap_or(rest)
 }
 
-/// The number of 32 bits at an offset.
+/// The 32-bit number at an offset.
 pub fn number(octets: &[u8], at: usize) -> u32 {
     let mut value = 0u32;
     for i in 0..4usize {

@@ -42,7 +42,7 @@ pub fn tsn(octets: &[u8]) -> u32 {
     number(octets, TSN_AT)
 }
 
-/// The number of 32 bits at an offset.
+/// The 32-bit number at an offset.
 pub fn number(octets: &[u8], at: usize) -> u32 {
     let mut value = 0u32;
     for i in 0..4usize {
