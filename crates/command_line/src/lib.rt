@@ -19,7 +19,7 @@ use std::alloc::{AllocError, Global};
 pub enum Words {
     /// `run` or `run FILE`: run the script on standard input, on the settings of this file, or on those built in.
     Run(Option<String>),
-    /// `check FILE`: tell whether the settings of this file have a fault.
+    /// `check FILE`: check whether the settings of this file have a fault.
     Check(String),
     /// `lab NEAR FAR`: run the lab script on standard input, on two nodes with the settings of these files.
     Lab(String, String),
@@ -27,9 +27,9 @@ pub enum Words {
     DatagramLab(String, String),
     /// `serve FILE`: serve a node on the network with the settings of this file.
     Serve(String),
-    /// `help` or `--help`: tell the words of the program, and their meaning.
+    /// `help` or `--help`: print the program's commands, and what they mean.
     Help,
-    /// `version` or `--version`: tell the version of the program.
+    /// `version` or `--version`: print the version of the program.
     Version,
     /// Any other words.
     Usage,
@@ -37,8 +37,9 @@ pub enum Words {
     NoMemory,
 }
 
-/// What the program's arguments ask for. Words of which one is empty or begins with `-` are other words, unless they
-/// are `--help` or `--version`. No memory is allocated for these, `help` and `version`; for all others it may run out.
+/// What the program's arguments ask for. If one of them is empty or begins with `-`, they are none of the commands,
+/// unless they are `--help` or `--version`. No memory is allocated for these, `help` and `version`; for all others it
+/// may run out.
 pub fn read_words(alloc: Global, words: &[String]) -> Words
     ensures { AreReadAs words.now result }
 {
@@ -104,7 +105,7 @@ fn is_plain(word: &str) -> bool
     }
 }
 
-/// Parses plain words. If they are others than those of the program, or if memory runs out, the parse fails.
+/// Parses plain words. If they aren't the program's, or if memory runs out, the parse fails.
 fn parse<'a>(alloc: Global, words: &'a [String]) -> Result<ArgMatches<'a>, Error>
     requires { are_plain words.now ≡ true }
     ensures taken { IfOk result (λ matches. found (subcommand_rows_of matches) ≡ asked_by (texts words.now)) }
@@ -113,7 +114,7 @@ fn parse<'a>(alloc: Global, words: &'a [String]) -> Result<ArgMatches<'a>, Error
     stp(alloc)?.try_get_matches_from(words)
 }
 
-/// What the words ask for that were parsed so.
+/// What arguments that were parsed like this ask for.
 fn found(alloc: Global, matches: &ArgMatches<'_>) -> Result<Words, AllocError>
     ensures { IfOk result (λ read. said read ≡ Some (found (subcommand_rows_of matches.now))) }
 {
@@ -194,7 +195,7 @@ fn stp<'a>(alloc: Global) -> Result<Command<'a>, AllocError>
         .subcommand(serve(alloc)?)
 }
 
-/// A command line of commands, of which one is needed, without words for help.
+/// A command line of commands, one of which is required, without a help command.
 fn bare<'a>(alloc: Global) -> Command<'a>
     ensures app { app_of result ≡ bare }
     ensures local { (fields_of result).has_globals ≡ false }

@@ -19,7 +19,7 @@ const M2PA_PORT: u16 = 3565;
 /// How long a cookie is good, in milliseconds: Valid.Cookie.Life (RFC 9260 §16).
 const COOKIE_LIFE: u32 = 60_000;
 
-/// RTO.Initial, RTO.Min and RTO.Max. These and the numbers below are those of `stp serve` if its settings say none.
+/// RTO.Initial, RTO.Min and RTO.Max. These and the numbers below are those of `stp serve` if its settings give none.
 const BOUNDS: Bounds = Bounds {
     initial: 300,
     least: 100,

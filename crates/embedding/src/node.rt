@@ -119,7 +119,7 @@ fn send_all<N: Network>(exchange: &mut Exchange, link: LinkId, network: &mut N) 
 /// Takes a frame of a link. A message for this point goes to its user parts.
 ///
 /// A link that still wants to open is one whose association this end began. The other end opened first, since it sent
-/// the frame (docs/EXACTLY_ONCE.md says why it has to): so this end follows.
+/// the frame, so this end follows (docs/EXACTLY_ONCE.md says why it must).
 fn receive_frame<U: UserParts>(exchange: &mut Exchange, link: LinkId, frame: &[u8], users: &mut U) {
     if exchange.wants(link) == Wants::Open {
         let _up = exchange.step(&Event::AssociationUp(link));

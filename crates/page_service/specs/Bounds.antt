@@ -19,11 +19,11 @@ connection_bounds = record { limits = head_bounds; max_body_len = 0; max_pending
 abbrev pub later : (now milliseconds : ℕ) → ℕ
 later now milliseconds = min (now + milliseconds) (2 ^ 64 - 1)
 
--- a client that just came has so long for its first request, and for its answer to be taken
+-- a client that just came has this long for its first request, and for its answer to be taken
 abbrev pub begun : (now : ℕ) → Patience
 begun now = record { until_ms = later now REQUEST_MS }
 
--- a client whose answer went out has so long for the next
+-- a client whose answer went out has this long for the next
 abbrev pub answered : (now : ℕ) → Patience
 answered now = record { until_ms = later now IDLE_MS }
 

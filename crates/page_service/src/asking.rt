@@ -12,7 +12,7 @@ use crate::page::Page;
 use bytes::Bytes;
 use http::{HeaderMap, HeaderValue, Request};
 
-/// What a request gets: first its host is looked at, then its path, then its method.
+/// What a request gets, by its host, then its path, then its method.
 pub fn answer_request(names: &PageNames, request: &Request<Bytes>) -> Answer
     ensures { result ≡ answer_to names.now (head_of request.now) }
 {

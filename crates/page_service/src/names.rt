@@ -8,7 +8,7 @@ use std::marker::Model;
 use std::net::SocketAddr;
 
 /// The names by which a page is asked for: its address, and `localhost` at its port. A page of another site that a
-/// browser was led to has a name of its own, and reads nothing here by it.
+/// browser was led to has a name of its own, and can read nothing here by it.
 #[derive(Drop)]
 pub struct PageNames {
     address: String,

@@ -1,4 +1,4 @@
--- What the program does for what its words ask, and its exit statuses.
+-- What the program does for its arguments, and its exit statuses.
 use Rattle.std.specs.Prelude.{◌≡◌, ◌≢◌, ◌⊎◌, ℕ, List, ◌++◌, codes, Result, Ok, Err, OnOk, String, true}
 use Rattle.std.specs.Global.{Global}
 use Rattle.std.specs.Io.KnownBytes.{Appends, IsAtEnd}
@@ -57,7 +57,7 @@ status_after (Err fault.NoMemory) = status.Start
 abbrev pub told : SettingsFault → List ℕ
 told fault = fault_line fault ++ codes "\n"
 
--- the same of a fault of a server's settings
+-- the same for a fault of a server's settings
 abbrev pub told_server : ServeFault → List ℕ
 told_server fault = server.fault_line fault ++ codes "\n"
 
@@ -65,7 +65,7 @@ told_server fault = server.fault_line fault ++ codes "\n"
 abbrev pub version_line : List ℕ
 version_line = codes "stp 0.1.0\n"
 
--- last lines were written, and the program ends so; or its write failed
+-- last lines were written, and the program ends like this; or its write failed
 abbrev pub EndsWith : Status → List ℕ → Output → Output → Status → Type 0
 EndsWith wanted lines output output_new ended =
     ((ended ≡ wanted) × Appends output.written output_new.written lines × (output_new.failures ≡ output.failures))
@@ -82,7 +82,7 @@ RunsScript settings old new ended =
     × Counts script old.input new.input old.output new.output × (ended ≡ status_after script)
     × IsEndExplained script old.errors new.errors
 
--- these lines are all that the program prints: nothing of the script is read, and standard error is told nothing
+-- these lines are all that the program prints: nothing of the script is read, and nothing is written to standard error
 abbrev pub OnlyPrints : Status → List ℕ → Streams → Streams → Status → Type 0
 OnlyPrints wanted lines old new ended =
     EndsWith wanted lines old.output new.output ended × (new.input ≡ old.input) × (new.errors ≡ old.errors)
@@ -95,7 +95,7 @@ HasNoMemory old new ended = OnlyPrints status.Start (told no_memory) old new end
 abbrev pub NoText : SettingsFault → List ℕ → Type 0
 NoText why text = ⊥
 
--- a node runs the script, or the fault of its settings is told and explained, and nothing of the script is read
+-- a node runs the script, or the fault of its settings is printed and explained, and nothing of the script is read
 abbrev pub RunsNode : (Configuration → Type 0) → (SettingsFault → Type 0) → (SettingsFault → List ℕ → Type 0)
     → Streams → Streams → Status → Type 0
 RunsNode IsGiven IsWrong IsSentence old new ended =
@@ -138,7 +138,7 @@ ChecksFile file (Err (file_fault.Unread why)) output output_new errors errors_ne
 ChecksFile file (Err file_fault.NoMemory) output output_new errors errors_new ended =
     EndsWith status.Start (told no_memory) output output_new ended × (errors_new ≡ errors)
 
--- a file has these settings, and standard error is warned of it
+-- a file has these settings, and its warnings are written to standard error
 abbrev pub HasSettings : (file : List ℕ) → FileRead → Configuration → (errors errors_new : Output) → Type 0
 HasSettings file (Ok octets) settings errors errors_new = AreSettings octets settings × IsWarned file errors errors_new
 HasSettings file (Err fault) settings errors errors_new = ⊥
@@ -226,7 +226,7 @@ DoesTask OtherWords reads old new ended =
     EndsWith status.Usage (codes "usage\n") old.output new.output ended × (new.input ≡ old.input)
     × IsTold usage_text old.errors new.errors
 
--- what the program does for its words: what they ask for, or memory runs out for them, if they take any
+-- what the program does for its arguments: what they ask for, or memory runs out for them, if they take any
 abbrev pub Does : List (String Global) → (List ℕ → FileRead → Type 0) → Streams → Streams → Status → Type 0
 Does words reads old new ended =
     DoesTask (asked words) reads old new ended ⊎ ((take_memory words ≡ true) × HasNoMemory old new ended)

@@ -12,7 +12,8 @@ use strsim::osa_distance;
 /// Octets of a line that a sentence shows, at most.
 const SHOWN_OCTETS: usize = 60;
 
-/// A command is near a word if one edit for each this many octets of the word leads to it; one edit always does.
+/// A command is near a word if it takes at most one edit for every this many octets of the word; one edit is always
+/// near.
 const OCTETS_PER_EDIT: usize = 3;
 
 /// What parts the words of a line.
@@ -104,7 +105,7 @@ fn no_command(alloc: Global, word: &str) -> Result<String, AllocError> {
     }
 }
 
-/// The word of the near command that the fewest edits lead to.
+/// The word of the near command that takes the fewest edits.
 fn nearest(alloc: Global, word: &str) -> Result<Option<&'static str>, AllocError> {
     let mut nearest = None;
     let mut too_many = 1 + (word.len() / OCTETS_PER_EDIT).max(1);

@@ -173,7 +173,7 @@ fn run_booted<J: Joiner, R: Source, W: Sink, E: Sink>(
     end_lab(alloc, script, writer, errors)
 }
 
-/// Runs the lab script on two nodes whose links are joined so.
+/// Runs the lab script on two nodes whose links are joined like this.
 fn run_by<J: Joiner, R: Source, W: Sink>(
     alloc: Global,
     near: &mut Exchange,
@@ -204,7 +204,7 @@ fn booted(alloc: Global, settings: Settings) -> Result<Exchange, NoMemory>
     Exchange::boot(alloc, settings)
 }
 
-/// Tells why a lab script ended before its end, if it did, and how the program ends.
+/// Explains why a lab script ended before its end, if it did, and returns how the program ends.
 fn end_lab<W: Sink, E: Sink>(
     alloc: Global,
     script: Result<(), ScriptFault>,

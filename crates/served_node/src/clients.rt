@@ -24,8 +24,8 @@ const MOST_CLIENTS: usize = 16;
 /// Clients that are taken in one round, at most.
 const ACCEPTS: usize = 16;
 
-/// Has the poll tell of a client's socket, if there is a place for it. The log is told of the client, and the client if
-/// there is none. False if it has no place.
+/// Registers a client's socket with the poll, if there is a place for it. The log is told of the client, and the client
+/// if there is none. False if it has no place.
 fn is_seated<W: Sink>(
     free: usize,
     stream: &mut TcpStream,

@@ -22,7 +22,7 @@ pub enum Received {
     Error,
 }
 
-/// A socket for datagrams of which a poll tells, and whether it may be read and written.
+/// A socket for datagrams registered with a poll, and whether it may be read and written.
 #[derive(Drop)]
 pub struct DatagramSocket {
     socket: UdpSocket,

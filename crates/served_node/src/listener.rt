@@ -10,7 +10,7 @@ use mio::{Interest, Registry};
 use std::marker::Model;
 use std::net::{Net, SocketAddr};
 
-/// A listener of which a poll tells, if there is one, and whether a connection may have come to it.
+/// A listener registered with a poll, if there is one, and whether a connection may have come to it.
 #[derive(Drop)]
 pub struct Listener {
     listener: Option<TcpListener>,
@@ -87,8 +87,8 @@ impl Listener {
         self.may_accept
     }
 
-    /// The next connection that came, and where it leads. If there is none, nothing is asked of the system until
-    /// the next `mark`.
+    /// The next connection that came, and where it leads. If there is none, the system isn't asked again until the next
+    /// `mark`.
     pub fn accept(&mut self) -> Option<(TcpStream, SocketAddr)>
         ensures state { self.new ≡ record self.old { may_accept = is_some result } }
         ensures none { self.old.may_accept ≡ false → IsNone result }

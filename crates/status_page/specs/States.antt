@@ -31,7 +31,7 @@ use Rattle.status_page.specs.Members.{object, text_member, number_member, bool_m
 
 -- ---- counters
 
--- the member that shows a counter: of refusals the cause, of failures the reason
+-- the member that shows a counter: for refusals the cause, for failures the reason
 abbrev pub counter_key : Counter → List ℕ
 counter_key FramesIn = codes "frames_in"
 counter_key OctetsIn = codes "octets_in"

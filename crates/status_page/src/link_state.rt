@@ -81,7 +81,7 @@ pub(crate) fn put_link(
     }
 }
 
-/// Appends the object of a link that is shown so.
+/// Appends the object of a link that is shown like this.
 fn put_shown(
     exchange: &Exchange,
     counters: &Counters,

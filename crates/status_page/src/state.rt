@@ -219,7 +219,7 @@ fn put_route(
     }
 }
 
-/// Appends the object of a destination that is shown so.
+/// Appends the object of a destination that is shown like this.
 fn put_shown_route(
     settings: &Settings,
     view: &RouteView,
