@@ -19,7 +19,7 @@ pub(crate) const FEWEST_DESTINATIONS: usize = 2;
 /// The words that each run has.
 const WORDS: usize = 5;
 
-/// How large the settings are beside their destinations and links.
+/// How large the settings are apart from their destinations and links.
 #[derive(Clone, Copy)]
 pub(crate) enum Size {
     /// One set leads to each destination, the window is 128, and the kind says how many links a set has, how many

@@ -28,8 +28,8 @@ pub(crate) fn change_status(peer: &mut Peer, about: PointCode, count: u32) {
     }
 }
 
-/// The only link in service of the first set fails and returns this many times. Usually most destinations lie behind it
-/// alone. Other points are told of both, and its own point, which takes all for allowed at first, is told of the
+/// The only link in service of the first set fails and returns this many times. Usually most destinations lie only
+/// behind it. Other points are told of both, and its own point, which takes all for allowed at first, is told of the
 /// return.
 pub(crate) fn enter(peer: &mut Peer, count: u32) {
     for _ in 0..count {

@@ -56,8 +56,8 @@ pub(crate) fn title_from(first: u8) -> Title {
     title
 }
 
-/// Octets of such a message beside its data and its title: the label, the message type, the class, three pointers, and,
-/// each after its length, the called address, the calling one and the data.
+/// Octets of such a message apart from its data and its title: the label, the message type, the class, three pointers,
+/// and, each after its length, the called address, the calling one and the data.
 const FRAME_OCTETS: usize = 4 + 5 + (1 + 2) + (1 + 4) + 1;
 
 /// Octets of a title that these rows may lead.
@@ -70,7 +70,7 @@ fn title_octets(table: Table) -> usize
     }
 }
 
-/// Octets of such a message beside its data, if there are these rows.
+/// Octets of such a message apart from its data, if there are these rows.
 pub(crate) fn bare_octets(table: Table) -> usize
     ensures { 4 ≤ result }
 {

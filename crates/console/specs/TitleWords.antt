@@ -39,7 +39,7 @@ name_written translation plan nature digits =
 abbrev pub ssn_written : List ℕ → Option (Option ℕ)
 ssn_written text = if bytes_eq text (codes "-") then Some None else option_map (λ n. Some n) (number_within 1 255 text)
 
--- how addresses are routed: by title, with a subsystem number beside it, if any, or by a subsystem number
+-- how addresses are routed: by title, with a subsystem number, if any, or by a subsystem number
 abbrev pub route_named : (way : List ℕ) → (ssn : Option ℕ) → Option TitleRoute
 route_named way None = if bytes_eq way (codes "title") then Some (Title None) else None
 route_named way (Some ssn) =

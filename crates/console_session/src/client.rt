@@ -50,7 +50,7 @@ pub enum News {
 pub enum Ending {
     /// Its connection stays open.
     Stays,
-    /// Its connection is to be closed: a line was too long or its first line malformed, or what it is told had no room.
+    /// Its connection must be closed: a line was too long or its first line malformed, or what it is told had no room.
     Closes,
     /// It asked the node to stop.
     Stops,
@@ -245,7 +245,7 @@ impl ConsoleClient {
         }
     }
 
-    /// Tells the client news, if it asked for such. It is to be closed if there is no room for them.
+    /// Tells the client news, if it asked for such. It must be closed if there is no room for them.
     pub fn tell(&mut self, news: News, line: &[u8]) -> Ending
         ensures unasked { sees_of self.old news ≡ false → self.new ≡ self.old }
         ensures stays { sees_of self.old news ≡ false → result ≡ Ending.Stays }

@@ -137,7 +137,7 @@ fn open_one(rt: &HostRuntime, name: &str, way: Way) -> io::Result<()> {
     report(rt, name, &total)
 }
 
-/// One link of two stops, and one link alone.
+/// One link of two stops, and a single link.
 fn stop_fewer(rt: &HostRuntime) -> io::Result<()> {
     stop_one(
         rt,

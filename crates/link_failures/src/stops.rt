@@ -63,7 +63,7 @@ pub(crate) fn stop_and_settle(world: &mut World, stop: &Stop, clock: Clock) -> b
     up && settle(world, clock) && brought_all_it_can(world)
 }
 
-/// Whether all came that could: over one link alone nothing does while it is down.
+/// Whether all came that could: over a single link nothing does while it is down.
 fn brought_all_it_can(world: &World) -> bool {
     world.links() == 1 || world.has_brought_all()
 }

@@ -3,7 +3,7 @@
 use exchange::{PointCode, TitleDigits, TitleKey, TitleRoute, TitleRow};
 use pair_world::{End, Step};
 
-/// What the row has beside its digits.
+/// What the row has besides its digits.
 const KEY: TitleKey = TitleKey {
     translation: 0,
     plan: 1,

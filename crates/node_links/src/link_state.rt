@@ -1,4 +1,4 @@
-//! The state of a link, beside its queue.
+//! The state of a link, apart from its queue.
 
 ghost use Rattle.std.specs.Prelude.{◌≡◌, ◌+◌, ◌≤◌, false, drop, length, slice_get};
 ghost use Rattle.std.specs.Option.{option_to_list};
@@ -14,7 +14,7 @@ use std::marker::Model;
 /// How many statuses may wait: Alignment, Proving Normal and Ready go out once in an epoch each.
 const STATUSES: usize = 3;
 
-/// The state of a link, beside its queue.
+/// The state of a link, apart from its queue.
 #[derive(Drop)]
 pub struct LinkState {
     alignment: Alignment,

@@ -53,7 +53,7 @@ pub record PortCalls (was is : KeptPort) (exchange : Kept) (d : Did WholeQueues)
   pub was_whole : is.log.is_whole ≡ true → was.log.is_whole ≡ true
   pub all : is.log.is_whole ≡ true → is.log.sent ≡ was.log.sent ++ map sent_as d.sent
 
--- of all gates that of one link alone is another one
+-- of all gates that of a single link is another one
 pub record NodeCalls (link : ℕ) (call : calling.Call) (was is : KeptNode) (a : Abstract) : Type 0 where
   pub old_port : KeptPort
   pub new_port : KeptPort

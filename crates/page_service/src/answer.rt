@@ -1,4 +1,4 @@
-//! What a request comes to.
+//! What a request gets.
 
 ghost use Rattle.std.specs.Prelude.{◌≡◌};
 ghost use Rattle.page_service.specs.Responses.{status_of};
@@ -6,7 +6,7 @@ ghost use Rattle.page_service.specs.Responses.{status_of};
 use crate::page::Page;
 use http::StatusCode;
 
-/// What a request comes to.
+/// What a request gets.
 #[derive(Clone, Copy, PartialEq, Eq)]
 pub enum Answer {
     /// It gets this page: 200.

@@ -43,7 +43,7 @@ pub data Procedure : Type 0 where
   Code : (code : ℕ) → Procedure
   Time : (link : ℕ) → Procedure
 
--- a node beside its links
+-- a node apart from its links
 pub record Side : Type 0 where
   -- all user messages that it accepted from its user parts, and all that came from the far node
   pub accepted : List Message

@@ -88,7 +88,7 @@ fn serve_with<W: Sink, E: Sink>(
     }
 }
 
-/// Explains why nothing is served, with this capture file if there was to be one.
+/// Explains why nothing is served, with this capture file if one was set.
 fn tell_failure<W: Sink, E: Sink>(
     alloc: Global,
     failure: ServeFailure,

@@ -77,7 +77,7 @@ impl PendingUpdates {
         }
     }
 
-    /// Updates about a destination may be pending, for each set, beside those that might be before.
+    /// Updates about a destination may be pending, for each set, besides those that might be before.
     pub fn add(&mut self, destination: usize)
         requires { destination < length self.old.marks }
         ensures { self.new ≡ with_destination destination self.old }

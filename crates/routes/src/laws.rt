@@ -61,7 +61,7 @@ pub fn a_link_that_leaves_moves_its_own_flows()
         → (now ≡ link) ⊎ (chosen_link (with_link link false f) destination selection ≡ Some now) }
 {}
 
-/// Destinations to which messages go by the same set alone share the link of each selection.
+/// Destinations to which messages go by one and the same set share the link of each selection.
 #[tactic(auto, using(crate::proofs::Lone::lone_alike))]
 pub fn a_lone_set_decides_the_links()
     ensures { (f : Facts) (destination other set selection : ℕ)

@@ -25,7 +25,7 @@ pub enum EncodingScheme {
     Even,
 }
 
-/// What a translation looks at beside the digits of a title (Q.714 §2.4).
+/// What a translation looks at besides the digits of a title (Q.714 §2.4).
 #[derive(Clone, Copy, PartialEq, Eq)]
 pub struct TitleKey {
     /// The translation type.

@@ -72,8 +72,8 @@ pub record KeepsWays (old new : List Node) : Type 0 where
       (at : ℕ) (digits : List ℕ) (to : ℕ) → reached (child old) at digits ≡ Some to →
       reached (child new) at digits ≡ Some to
 
--- each node has a place for each digit, and is led to from one node alone. So it has its own digits: those of that
--- node, and the one that leads on
+-- each node has a place for each digit, and is led to from only one node. So it has its own digits: those of that node,
+-- and the one that leads on
 pub record IsTree (nodes : List Node) : Type 0 where
   pub path : ℕ → List ℕ
   pub at_root : path root ≡ []

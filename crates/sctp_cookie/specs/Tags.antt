@@ -44,7 +44,7 @@ next_given d = if nat_lt d.used numbers then Some (permutation d.key d.used) els
 abbrev pub after_one : Drawing → Drawing
 after_one d = if nat_lt d.used numbers then record { key = d.key; used = d.used + 1 } else d
 
--- a number that gives 0 is passed over
+-- a number that gives 0 is skipped
 abbrev pub is_passed : Option ℕ → Bool
 is_passed None = false
 is_passed (Some tag) = tag == 0

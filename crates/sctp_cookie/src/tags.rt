@@ -34,7 +34,7 @@ impl Tags {
     /// How many numbers there are, one for each tag and one for 0.
     const NUMBERS: u64 = 1 << 32;
 
-    /// The tags under a key, of which none is drawn yet. The key is to be drawn at random.
+    /// The tags under a key, of which none is drawn yet. Draw the key at random.
     pub fn new(key: [u8; KEY_OCTETS]) -> Tags
         ensures { result ≡ first_drawing key }
     {
@@ -65,7 +65,7 @@ impl Tags {
         same.next_tag()
     }
 
-    /// The next tag: a number that gives 0 is passed over.
+    /// The next tag: a number that gives 0 is skipped.
     fn next_tag(&mut self) -> Option<u32>
         ensures tag { result ≡ next_tag self.old }
         ensures drawing { self.new ≡ after_draw self.old }

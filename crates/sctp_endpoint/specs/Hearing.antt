@@ -5,7 +5,7 @@ use Rattle.sctp_rules.specs.Settings.{Settings, Address}
 use Rattle.sctp_rules.specs.State.{State}
 use Rattle.sctp_rules.specs.Opening.{Echo, stops, stale, staleness, good_echo_in}
 
--- within its life a cookie is good in its generation alone
+-- within its life a cookie is good only in its generation
 abbrev pub heard_in_time : Settings → (now : ℕ) → Address → Cookie → State → Echo
 heard_in_time c now source cookie s =
     if nat_eq cookie.generation s.generation

@@ -27,7 +27,7 @@ impl Model for Beginnings {
 }
 
 impl Beginnings {
-    /// None is drawn yet. The key is to be drawn at random.
+    /// None is drawn yet. Draw the key at random.
     #[tactic(auto, unfolding(sctp_ends::specs::Keyed::drawing_after))]
     pub fn new(key: [u8; 32]) -> Beginnings
         ensures { result ≡ record { key = key; count = 0 } }

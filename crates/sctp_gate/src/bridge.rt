@@ -18,7 +18,7 @@ use sctp_endpoint::{Address, Endpoint, Event, Watch as EndpointWatch};
 use settings::LinkId;
 use std::marker::{Brand, PhantomData};
 
-/// What a bridge began with, for proofs alone: a call picks it.
+/// What a bridge began with, only for proofs: a call picks it.
 pub(crate) trait Origin {
     ghost is_from: { Beginning → Type 0 };
 

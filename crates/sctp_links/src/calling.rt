@@ -45,7 +45,7 @@ pub(crate) struct SctpLink {
     gate: Gate,
 }
 
-// Where its peer is, is for the log alone.
+// Where its peer is, is only for the log.
 impl Model for SctpLink {
     ghost use Rattle.sctp_gate.specs.Gates.{Gate};
 

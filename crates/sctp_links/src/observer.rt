@@ -24,7 +24,7 @@ pub trait Datagrams {
     fn send(&mut self, octets: &[u8], to: &Address);
 }
 
-/// What an observer began with, for proofs alone: a call picks it.
+/// What an observer began with, only for proofs: a call picks it.
 pub(crate) trait Origin {
     ghost is_from: { NodeCounters → Type 0 };
 

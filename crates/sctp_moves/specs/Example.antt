@@ -81,7 +81,7 @@ pub record OpensAgain (p : Ends) : Type 0 where
   pub far_own : far_epoch.own ≡ next_far_name
   pub far_far : far_epoch.far ≡ next_near_name
 
--- the near end while it has heard the second message alone
+-- the near end while it has heard only the second message
 abbrev pub with_a_hole : Epoch
 with_a_hole = record (new_epoch near_name far_name) { heard = record { place = 1; message = second_message } ∷ [] }
 

@@ -432,7 +432,7 @@ far_echoes = far (comes 2 (packet near_answers)) answers_alike.left
 abbrev pub cookie_of_both_tags_opens : Type 0
 cookie_of_both_tags_opens = Does (near (comes 3 (packet far_echoes)) both_answer.left) Established [] (Up ∷ [])
 
--- but that of another peer tag doesn't: it opens in COOKIE-WAIT alone
+-- but that of another peer tag doesn't: it opens only in COOKIE-WAIT
 abbrev pub answers_another : Done
 answers_another = near (comes 1 (packet other_tries)) tries.left
 

@@ -228,7 +228,7 @@ unfoldable pub named_below : (ℕ → Bool) → List Outgoing → ℕ → Naming
 named_below names out zero = record { out = out; octets = 0; reach = 0 }
 named_below names out (suc place) = named_one names (named_below names out place) place
 
--- the messages after some indexes were passed over, and whether one was lost by that
+-- the messages after some indexes were passed over, and whether one was lost by this
 pub record Passing : Type 0 where
   pub out : List Outgoing
   pub any : Bool

@@ -89,7 +89,7 @@ impl Ring {
         self.count -= count;
     }
 
-    /// Keeps the first messages alone.
+    /// Keeps only the first messages.
     pub fn truncate(&mut self, count: usize)
         requires { count ≤ length self.old }
         ensures { self.new ≡ take count self.old }

@@ -48,7 +48,7 @@ impl Endpoint {
     }
 }
 
-/// The addresses that a server has itself, beside those at which its links listen.
+/// The addresses that a server has itself, besides those at which its links listen.
 #[derive(Clone, Copy)]
 pub(crate) struct OwnAddresses {
     /// Where the console listens, if there is one.
@@ -97,14 +97,14 @@ impl ServeSettings {
         self.tick_ms
     }
 
-    /// The address of the console, if there is to be one.
+    /// The address of the console, if one is set.
     pub fn console(&self) -> Option<SocketAddr>
         ensures { result ≡ self.now.console }
     {
         self.console
     }
 
-    /// The file that frames are captured to, if there is to be one.
+    /// The file that frames are captured to, if one is set.
     pub fn capture(&self) -> Option<&str>
         ensures { option_map (λ file. file.now) result ≡ self.now.capture }
     {
@@ -143,7 +143,7 @@ impl ServeSettings {
         self.sctp
     }
 
-    /// The address of the status page, if there is to be one.
+    /// The address of the status page, if one is set.
     pub fn page(&self) -> Option<SocketAddr>
         ensures { result ≡ self.now.page }
     {

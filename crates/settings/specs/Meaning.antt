@@ -69,7 +69,7 @@ digit_of octet = if nat_le octet 57 then octet - 48 else octet - 87
 abbrev pub is_by_title : TitleDraft → Bool
 is_by_title t = bytes_eq (string_bytes t.route) (codes "title")
 
--- a route by title has a subsystem number beside it, if any; any other is by its subsystem number
+-- a route by title has a subsystem number too, if any; any other is by its subsystem number
 abbrev pub route_of : Bool → Option ℕ → TitleRoute
 route_of by_title ssn = if by_title then Title ssn else Ssn (unwrap_or ssn 0)
 

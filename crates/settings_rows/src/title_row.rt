@@ -18,7 +18,7 @@ const LAST_DIGIT: u8 = 15;
 /// How an address is routed at the point that it is translated to (Q.714 §2.4).
 #[derive(Clone, Copy)]
 pub enum TitleRoute {
-    /// By its title, with this subsystem number beside it, if any.
+    /// By its title, with this subsystem number, if any.
     Title(Option<Ssn>),
     /// By this subsystem number.
     Ssn(Ssn),

@@ -70,7 +70,7 @@ impl Endpoint {
     }
 
     /// A cookie that this end signed came. One of the association is acknowledged again; any other opens within its
-    /// life, and in its generation alone. Else the peer is told that it is stale.
+    /// life, and only in its generation. Else the peer is told that it is stale.
     fn hear_cookie<W: Watch>(
         &mut self,
         source: &Address,
@@ -116,7 +116,7 @@ impl Endpoint {
         }
     }
 
-    /// A cookie came within its life: it opens in its generation alone.
+    /// A cookie came within its life: it opens only in its generation.
     fn hear_timely_cookie<W: Watch>(
         &mut self,
         source: &Address,

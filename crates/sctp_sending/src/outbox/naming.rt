@@ -71,7 +71,7 @@ impl Outbox {
         named
     }
 
-    /// The messages at the first indexes are passed over; returns whether one was lost by that.
+    /// The messages at the first indexes are passed over; returns whether one was lost by this.
     pub fn pass_over_first(&mut self, reach: usize) -> bool
         requires { reach ≤ self.old.went }
         ensures any { result ≡ (passed_below self.old.out reach).any }
