@@ -1,4 +1,4 @@
--- Two nodes that face each other are joined: what the skip the rules asks of their settings.
+-- Two nodes that face each other are joined: what the pass over the rules asks of their settings.
 use Rattle.pair_rules.proofs.Basics.{◌≡◌, ◌<◌, ◌^◌, ℕ, Bool, true, false, ◌&&◌, suc, List, [], ◌∷◌, Option, Some, length, map, get_or, nat_eq, position, refl, ap, sym, ◌∙◌, arith, nat_tests}
 use Rattle.pair_rules.proofs.Definitions.{Configuration, LinkEntry, IsFacing, destination_place, IsWell, IsManagement, read_management, Management, entry_of, set_of, management_to, made-indicator, made-dpc, made-opc, made-says, code-fits, UserMessage}
 use Rattle.std.proofs.Common.{if◌then◌else◌}

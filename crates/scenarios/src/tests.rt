@@ -13,7 +13,7 @@ use std::alloc::{AllocError, Global};
 use std::test::*;
 use test_nodes::settings_text::with_built_in;
 
-/// What is other than built in, point 1, where it leads only to point 2.
+/// What is other than built in, point 1, if it leads only to point 2.
 const NEAR: &str = r#"destination = [{ point = 2, sets = ["east"] }]"#;
 
 /// The same, at point 2.

@@ -1,4 +1,4 @@
--- What an endpoint puts out can be written, by one skip all rules.
+-- What an endpoint puts out can be written, by one pass over all rules.
 use Rattle.std.proofs.Common.{◌≡◌, ◌≢◌, ℕ, zero, suc, ◌+◌, ◌-◌, ◌*◌, ◌%◌, ◌^◌, ◌<◌, ◌≤◌, arith, Bool, true, false, List, [], ◌∷◌, ◌++◌}
 use Rattle.std.proofs.Common.{Option, Some, None, refl, length, map, take, drop, get_or, replicate, length-append, nat_eq, nat_le, nat_lt}
 use Rattle.std.specs.Prelude.{All, ◌==◌, ◌&&◌, ◌||◌, not, is_some, if◌then◌else◌, slice_index, sum_by}

@@ -1,4 +1,4 @@
--- How often associations open, by the skip all rules; and packets with another tag.
+-- How often associations open, by the pass over all rules; and packets with another tag.
 use Rattle.std.proofs.Common.{◌≡◌, ◌≢◌, ◌≤◌, ℕ, ◌+◌, ◌-◌, Bool, true, false, List, [], ◌∷◌, ◌++◌, refl, ap, ◌∙◌}
 use Rattle.std.proofs.Common.{arith, nat_eq, nat_lt}
 use Rattle.std.specs.Prelude.{◌&&◌, ◌||◌, not, if◌then◌else◌}

@@ -1,4 +1,4 @@
--- One skip all rules, for laws that hold of every list of happenings.
+-- One pass over all rules, for laws that hold of every list of happenings.
 use Rattle.std.proofs.Common.{◌≡◌, ◌≤◌, ℕ, ◌+◌, ◌-◌, ◌*◌, arith, Bool, true, false, List, [], ◌∷◌, ◌++◌, Option, Some, None, refl, ap, sym, ◌∙◌, subst}
 use Rattle.std.proofs.Common.{nat_eq, nat_lt, nat_le, length}
 use Rattle.std.proofs.lemmas.Bool.Decides.{nat_tests}

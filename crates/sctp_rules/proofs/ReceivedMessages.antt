@@ -1,4 +1,4 @@
--- What an endpoint receives, by the skip all rules.
+-- What an endpoint receives, by the pass over all rules.
 use Rattle.std.proofs.Common.{◌≡◌, ℕ, zero, suc, ◌<◌, ◌^◌, Bool, true, false, List, [], ◌∷◌, ◌++◌, Option, Some, None}
 use Rattle.std.proofs.Common.{refl, ap, sym, ◌∙◌, subst, arith, append_assoc}
 use Rattle.std.specs.Prelude.{All, is_some, if◌then◌else◌}

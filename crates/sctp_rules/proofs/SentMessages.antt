@@ -1,4 +1,4 @@
--- What an endpoint puts out was given, by the skip all rules.
+-- What an endpoint puts out was given, by the pass over all rules.
 use Rattle.std.proofs.Common.{◌≡◌, ℕ, suc, ◌+◌, ◌<◌, Bool, true, false, List, [], ◌∷◌, ◌++◌, Option}
 use Rattle.std.proofs.Common.{refl, ap, sym, ◌∙◌, subst, arith, map, nat_eq}
 use Rattle.std.specs.Prelude.{All, ◌&&◌, if◌then◌else◌}

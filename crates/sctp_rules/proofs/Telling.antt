@@ -1,4 +1,4 @@
--- What the user is told, by the skip all rules.
+-- What the user is told, by the pass over all rules.
 use Rattle.std.proofs.Common.{◌≡◌, ℕ, Bool, true, false, List, [], ◌∷◌, ◌++◌, Option, Some, None, refl, ap, sym, ◌∙◌}
 use Rattle.std.specs.Prelude.{zero, suc, is_some, if◌then◌else◌}
 use Rattle.sctp_receiving.specs.Pieces.{Piece}

@@ -1,4 +1,4 @@
--- What the user wants and is told, by the skip all rules.
+-- What the user wants and is told, by the pass over all rules.
 use Rattle.std.proofs.Common.{◌≡◌, Bool, true, false, List, [], ◌∷◌, ◌++◌, Option, Some, None, refl, sym, ◌∙◌, subst}
 use Rattle.std.specs.Prelude.{ℕ, not, ◌||◌, if◌then◌else◌}
 use Rattle.sctp_receiving.specs.Pieces as pieces

@@ -89,7 +89,7 @@ impl Timers {
 
     /// Stops a timer of a set, for every destination for which it runs.
     ///
-    /// This costs one skip the destinations.
+    /// This costs one pass over the destinations.
     pub fn clear_set(&mut self, timer: RouteTimer, set: SetId)
         ensures { self.new ≡ clear_set timer set self.old }
     {
