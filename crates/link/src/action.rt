@@ -1,4 +1,4 @@
-//! What an alignment is told, and what it answers.
+//! What an alignment is told, and what it does.
 
 ghost use Rattle.std.specs.Prelude.{◌≡◌, true};
 
@@ -60,7 +60,7 @@ pub struct Transition {
 }
 
 impl Transition {
-    /// The same step, after which the rules of a link in service handle the input.
+    /// The same step, with the rules of a link in service handling the input after it.
     pub(crate) fn then_serve(self) -> Transition
         ensures { result ≡ record self { serve = true } }
     {

@@ -75,7 +75,7 @@ impl Sequence {
         Sequence::starting_at(Number24::zero())
     }
 
-    /// The same, where the first message that goes out has this number.
+    /// The same, if the first message that goes out has this number.
     pub fn starting_at(number: Number24) -> Sequence
         ensures counts { result ≡ kept_first_at number }
         ensures queue { (window : ℕ) → window ≤ Limits.WINDOW → Keeps window result [] (first_queue_at number) }
@@ -146,7 +146,7 @@ impl Sequence {
         }
     }
 
-    // What `accept` does to the numbers alone.
+    // What `accept` does to the numbers.
     #[inline(always)]
     fn accept_numbers(
         &mut self,
@@ -174,8 +174,8 @@ impl Sequence {
         Ok(count)
     }
 
-    /// The next message that goes out, with its number; it counts as sent from now on. None if as many as the window
-    /// are unconfirmed, or no message is left.
+    /// The next message that goes out, with its number; it counts as sent from now on. None if the window is full of
+    /// unconfirmed messages, or no message is left.
     pub fn next_to_send<'l, L: Lanes>(
         &mut self,
         lanes: &'l L,

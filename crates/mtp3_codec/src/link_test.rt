@@ -104,7 +104,7 @@ impl<'a> LinkTest<'a> {
     }
 }
 
-/// The pattern after a heading, and what it makes of it.
+/// The pattern after a heading, and the message that it gives.
 fn read_pattern(kind: TestKind, slc: Sls, rest: &[u8]) -> Result<LinkTest<'_>, MgmtFault>
     ensures exact { Gives result (pattern_in kind slc rest.now) }
     ensures fits { IfOk result (λ test. length test.pattern.now ≤ 15) }

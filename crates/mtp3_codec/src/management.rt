@@ -57,9 +57,9 @@ pub enum Management {
     EmergencyChangeoverOrder(Sls),
     /// ECA: answers XCO or ECO; the sender can't tell what it accepted (Q.704 §5.6).
     EmergencyChangeoverAcknowledgement(Sls),
-    /// TFP: the receiver is to send nothing more for this point by way of the sender (Q.704 §13.2, §15.7).
+    /// TFP: the receiver must send nothing more for this point by way of the sender (Q.704 §13.2, §15.7).
     TransferProhibited(PointCode),
-    /// TFR: the receiver is to send for this point by another way, if it has one (Q.704 §13.4, §15.9).
+    /// TFR: the receiver should send for this point by another way, if it has one (Q.704 §13.4, §15.9).
     TransferRestricted(PointCode),
     /// TFA: the receiver may send for this point by way of the sender again (Q.704 §13.3, §15.8).
     TransferAllowed(PointCode),
@@ -90,7 +90,7 @@ impl Management {
         Management::of_heading(heading, label.sls, fields)
     }
 
-    /// The message of a heading, of a link code, which is in the label, and of the fields after the heading.
+    /// The message of a heading, of the link code in the label, and of the fields after the heading.
     fn of_heading(heading: u8, slc: Sls, fields: &[u8]) -> Result<Management, MgmtFault>
         ensures { result ≡ message_of heading slc fields.now }
     {

@@ -11,7 +11,7 @@ use link::{Action, Alignment, Input, Transition};
 use m2pa_codec::LinkStatus;
 use std::marker::Model;
 
-/// How many statuses may wait: Alignment, Proving Normal and Ready go out once in an epoch each.
+/// How many statuses may wait: Alignment, Proving Normal and Ready each go out once in an epoch.
 const STATUSES: usize = 3;
 
 /// The state of a link, apart from its queue.
@@ -108,8 +108,7 @@ impl LinkState {
         self.waiting.first().copied()
     }
 
-    /// Does what its alignment does about an input, and says what that is. If the link is to fail, nothing changes
-    /// here.
+    /// Does what its alignment does about an input, and says what that is. If the link must fail, nothing changes here.
     pub fn on(&mut self, input: Input) -> Action
         ensures action { result ≡ action_at self.old.alignment input }
         ensures state { self.new ≡ after_action result self.old }
@@ -158,21 +157,21 @@ impl LinkState {
         self.association = false;
     }
 
-    /// May open from now on, or not.
+    /// Sets whether it may open.
     pub fn allow(&mut self, active: bool)
         ensures { self.new ≡ record self.old { active = active } }
     {
         self.active = active;
     }
 
-    /// Knows its peer busy from now on, or not.
+    /// Sets whether its peer counts as busy.
     pub fn set_peer_busy(&mut self, busy: bool)
         ensures { self.new ≡ record self.old { peer_busy = busy } }
     {
         self.peer_busy = busy;
     }
 
-    /// Owes an acknowledgement from now on, or not.
+    /// Sets whether it owes an acknowledgement.
     pub fn set_owed(&mut self, owed: bool)
         ensures { self.new ≡ record self.old { acknowledgement_owed = owed } }
     {

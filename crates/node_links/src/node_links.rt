@@ -88,7 +88,7 @@ impl NodeLinks {
         self.routes.facts_by(in_service)
     }
 
-    /// Which links would be in service if a link weren't.
+    /// Which links would be in service without a link.
     pub fn in_service_without(&self, link: LinkId) -> ArrayVec<bool, { Limits::LINKS }>
         ensures { result.items ≡ slice_set (serving self.now.links) link false }
     {
@@ -144,7 +144,7 @@ impl NodeLinks {
         before.link_of(destination, sls)
     }
 
-    /// A link does what its alignment does about an input, and says what that is. If the link is to fail, nothing
+    /// A link does what its alignment does about an input, and says what that is. If the link must fail, nothing
     /// changes here.
     #[tactic(auto, using(crate::proofs::Serving::kept))]
     pub fn on(&mut self, link: LinkId, input: Input) -> Action
@@ -186,7 +186,7 @@ impl NodeLinks {
         self.states[link.index()].lose_association();
     }
 
-    /// A link may open from now on, or not.
+    /// Sets whether a link may open.
     pub fn allow(&mut self, link: LinkId, active: bool)
         requires { link < length self.old.links }
         ensures { self.new ≡ with_state self.old link (record (link_in self.old.links link) { active = active }) }
@@ -194,7 +194,7 @@ impl NodeLinks {
         self.states[link.index()].allow(active);
     }
 
-    /// A link knows its peer busy from now on, or not.
+    /// Sets whether a link's peer counts as busy.
     pub fn set_peer_busy(&mut self, link: LinkId, busy: bool)
         requires { link < length self.old.links }
         ensures { self.new ≡ with_state self.old link (record (link_in self.old.links link) { peer_busy = busy }) }
@@ -202,7 +202,7 @@ impl NodeLinks {
         self.states[link.index()].set_peer_busy(busy);
     }
 
-    /// A link owes an acknowledgement from now on, or not.
+    /// Sets whether a link owes an acknowledgement.
     pub fn set_owed(&mut self, link: LinkId, owed: bool)
         requires { link < length self.old.links }
         ensures { self.new ≡ with_state self.old link

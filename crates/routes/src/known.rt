@@ -12,8 +12,8 @@ use signalling_types::{Limits, LinkId, SetId};
 use std::alloc::{AllocError, Global};
 use std::marker::Model;
 
-/// Which links are in service, and by which sets each destination is reached with which status. A destination goes by
-/// its number in the order of the settings.
+/// Which links are in service, and by which sets, with which status, each destination is reached. Destinations go by
+/// their number in the order of the settings.
 #[derive(Drop)]
 pub(crate) struct KnownRoutes {
     sets: Vec<LinkSet>,
@@ -110,7 +110,7 @@ impl KnownRoutes {
         &self.in_service
     }
 
-    /// Which links would be in service if a link weren't.
+    /// Which links would be in service without a link.
     pub fn in_service_without(&self, link: LinkId) -> ArrayVec<bool, { Limits::LINKS }>
         ensures { result.items ≡ slice_set self.now.in_service link false }
     {

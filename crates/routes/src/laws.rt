@@ -54,14 +54,14 @@ pub fn a_flow_has_a_link_where_it_has_a_set()
         → is_some (chosen_link f destination selection) ≡ nat_lt 0 (length (chosen_sets f destination)) }
 {}
 
-/// A link that leaves service takes its own flows with it: every other flow keeps its link.
+/// A link that leaves service moves its own flows, and every other flow keeps its link.
 #[tactic(auto, using(crate::proofs::Leaving::goes_or_stays))]
 pub fn a_link_that_leaves_moves_its_own_flows()
     ensures { (f : Facts) (link destination selection now : ℕ) → chosen_link f destination selection ≡ Some now
         → (now ≡ link) ⊎ (chosen_link (with_link link false f) destination selection ≡ Some now) }
 {}
 
-/// Destinations to which messages go by one and the same set share the link of each selection.
+/// Destinations whose messages take one and the same set share the link of each selection.
 #[tactic(auto, using(crate::proofs::Lone::lone_alike))]
 pub fn a_lone_set_decides_the_links()
     ensures { (f : Facts) (destination other set selection : ℕ)
@@ -94,7 +94,7 @@ pub fn reset_out_of_service_moves_nothing()
         → chosen_link (with_statuses_reset set f) destination selection ≡ chosen_link f destination selection }
 {}
 
-/// A status that a route gets is the one that is read; there are no more routes than before.
+/// The status that a route gets is the one that is read, and no route is added.
 #[tactic(auto, using(crate::proofs::Telling::read_told, crate::proofs::Telling::read_reset))]
 pub fn told_status_is_read()
     ensures told { (f : Facts) (destination set : ℕ) (status : RouteStatus)

@@ -56,7 +56,7 @@ impl LinkGroup {
         }
     }
 
-    /// The links of a set join the group, after those that are there. At most one set is there before.
+    /// The links of a set join the group, after those that are there. At most one set was there before.
     pub fn add(&mut self, set: SetId, links: &LinkSet)
         requires { length self.old ≤ Limits.LINKS_PER_SET }
         ensures members { self.new ≡ self.old ++ members_of set links.now }
@@ -113,8 +113,8 @@ impl LinkGroup {
         Some(members[usize::from(sls.number()) % members.len()])
     }
 
-    /// The same as `first_member`, link by link. If the link that is tried first serves this isn't needed, and stays
-    /// out of the path of such flows.
+    /// The same as `first_member`, link by link. It isn't needed if the link that is tried first serves, and stays out
+    /// of the path of such flows.
     #[inline(never)]
     fn search(&self, sls: Sls, in_service: &[bool], sets: &[SetId]) -> Option<Member>
         ensures { result ≡ first_member sls in_service.now sets.now self.now }

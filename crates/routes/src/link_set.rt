@@ -25,7 +25,7 @@ impl Model for LinkSet {
 }
 
 impl LinkSet {
-    /// The links of this set among the links of a node. Of two with one code it has the first.
+    /// The links of this set among the links of a node. Of two with the same code it has the first.
     #[tactic(auto, using(crate::proofs::Members::steps))]
     pub fn of(links: &[LinkRow], set: SetId) -> LinkSet
         requires { length links.now ≤ Limits.LINKS }

@@ -107,7 +107,7 @@ impl RouteList {
     }
 }
 
-/// The second route is joined to the first, or isn't.
+/// Whether the second route is joined to the first.
 fn join_second(routes: &mut [Route], joined: bool)
     ensures { routes.new ≡ with_second_joined joined routes.old }
 {

@@ -1,4 +1,4 @@
-//! What follows from routing facts, worked out on each call.
+//! What follows from routing facts, computed on each call.
 
 ghost use Rattle.std.specs.Prelude.{◌≡◌, length};
 ghost use Rattle.routes.specs.Routes.{has_member, has_link, set_at, routes_to, status_of};
@@ -11,10 +11,10 @@ use crate::route::{Route, RouteStatus};
 use signalling_types::{LinkId, SetId};
 use std::marker::Model;
 
-/// Which links are in service, or would be, and by which sets each destination is reached with which status. A
-/// destination goes by its number in the order of the settings.
+/// Which links are in service, or would be, and by which sets, with which status, each destination is reached.
+/// Destinations go by their number in the order of the settings.
 ///
-/// Each call is worked out again: that takes the sets that lead to the destination and their links, however many others
+/// Each call computes its answer again, from the sets that lead to the destination and their links, however many others
 /// there are.
 #[derive(Drop)]
 pub struct RouteFacts<'a> {

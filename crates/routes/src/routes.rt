@@ -16,11 +16,11 @@ use std::alloc::{AllocError, Global};
 use std::marker::Model;
 use table::{compiled, mend, mend_by_link, mend_by_set};
 
-/// Which links are in service, and by which sets each destination is reached with which status. A destination goes by
-/// its number in the order of the settings.
+/// Which links are in service, and by which sets, with which status, each destination is reached. Destinations go by
+/// their number in the order of the settings.
 ///
 /// All room is made by `new`. The link of each flow is in a table, which is mended as links and statuses change:
-/// `link_of` is one look-up. What else follows from the facts is worked out on each call of `facts`.
+/// `link_of` is one look-up. What else follows from the facts is computed on each call of `facts`.
 #[derive(Drop)]
 pub struct Routes {
     known: KnownRoutes,
@@ -59,8 +59,8 @@ impl Routes {
 
     /// A link enters service, or leaves it. A link that isn't there is ignored.
     ///
-    /// If that changes the link, the flows are looked at again of each destination to which its set leads, and of no
-    /// other.
+    /// If that changes the link, the flows to each destination that its set leads to are looked at again, and no
+    /// others.
     pub fn set_link(&mut self, link: LinkId, in_service: bool)
         ensures { self.new ≡ with_link link in_service self.old }
     {
@@ -83,7 +83,7 @@ impl Routes {
     }
 
     /// All routes by a set are allowed again, as its first link enters service (Q.704 §13). It takes a step for each
-    /// route of the node; the flows to each destination to which the set leads are looked at again.
+    /// route of the node, and looks again at the flows to each destination that the set leads to.
     pub fn reset_statuses(&mut self, set: SetId)
         ensures { self.new ≡ with_statuses_reset set self.old }
     {
@@ -117,7 +117,7 @@ impl Routes {
         RouteFacts::of(&self.known, in_service)
     }
 
-    /// Which links would be in service if a link weren't.
+    /// Which links would be in service without a link.
     pub fn in_service_without(&self, link: LinkId) -> ArrayVec<bool, { Limits::LINKS }>
         ensures { result.items ≡ slice_set self.now.in_service link false }
     {

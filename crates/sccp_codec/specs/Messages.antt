@@ -8,7 +8,7 @@ use Rattle.sccp_codec.specs.declared.fault.SccpFault.TheVariants.{Short, Pointer
 
 -- what an address says
 pub record AddressValue : Type 0 where
-  -- the bit that is kept for national use
+  -- the bit reserved for national use
   pub national : Bool
   -- by what it is routed
   pub routing : Routing
@@ -102,12 +102,12 @@ parts_of (UdtsValue return_cause parts) = parts
 
 -- ---- what octets say
 
--- where the length octet of the part is that the pointer at this octet names (Q.713 §2.3)
+-- the offset of the length octet of the part that the pointer at this octet names (Q.713 §2.3)
 abbrev pub length_place : List ℕ → ℕ → ℕ
 length_place text pointer = pointer + slice_index text pointer
 
--- the pointer at this octet names this part: after the five octets of type, class and pointers is its length, and then
--- the part itself
+-- the pointer at this octet names this part: its length comes after the five octets of type, class and pointers, and
+-- then the part itself
 pub record IsPart (text : List ℕ) (pointer : ℕ) (part : List ℕ) : Type 0 where
   pub behind : 5 ≤ length_place text pointer
   pub rest : List ℕ

@@ -21,7 +21,7 @@ pub enum Routing {
 /// The address of a party: what its octets say (Q.713 §3.4).
 #[derive(Clone, Copy, PartialEq, Eq)]
 pub struct Address<'a> {
-    /// The bit that is kept for national use.
+    /// The bit reserved for national use.
     pub national: bool,
     /// What a message to it is routed by.
     pub routing: Routing,
@@ -38,9 +38,8 @@ pub struct Address<'a> {
 impl<'a> Address<'a> {
     /// The address that these octets are, all of them. Its title is a slice of them.
     ///
-    /// Short if there is no indicator octet, or if the point code or the subsystem number that it
-    /// announces isn't there whole. The title may be empty. The two top bits of the point code are
-    /// ignored (Q.713 §3.4.2.1).
+    /// Short if there is no indicator octet, or if the point code or the subsystem number that it announces isn't
+    /// complete. The title may be empty. The two top bits of the point code are ignored (Q.713 §3.4.2.1).
     pub fn read(octets: &'a [u8]) -> Result<Address<'a>, SccpFault>
         // What reading gives.
         ensures exact { Gives address_of result (read_address octets.now) }
@@ -71,7 +70,7 @@ impl<'a> Address<'a> {
     }
 }
 
-/// Whether a bit of an octet is set, bits being counted from the lowest, 0.
+/// Whether a bit of an octet is set, counting from the lowest, 0.
 fn is_set(octet: u8, bit: u32) -> bool
     requires { bit < 8 }
     ensures { result ≡ is_set octet bit }

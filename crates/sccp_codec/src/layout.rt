@@ -21,7 +21,7 @@ pub(crate) const PARTS_AT: usize = 5;
 /// The pointer to a part that is first: from the first pointer to the first length.
 pub(crate) const FIRST_POINTER: u8 = (PARTS_AT - CALLED_POINTER) as u8;
 
-/// Octets of the routing label, which is before the message (Q.704 §2.2).
+/// Octets of the routing label, which comes before the message (Q.704 §2.2).
 pub(crate) const LABEL_OCTETS: usize = 4;
 
 /// The bit of an indicator octet that says that a point code follows (Q.713 §3.4.1).
@@ -33,5 +33,5 @@ pub(crate) const SSN_BIT: u32 = 1;
 /// The bit that says what the address is routed by.
 pub(crate) const ROUTING_BIT: u32 = 6;
 
-/// The bit that is kept for national use.
+/// The bit reserved for national use.
 pub(crate) const NATIONAL_BIT: u32 = 7;

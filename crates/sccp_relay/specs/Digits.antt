@@ -22,13 +22,12 @@ without map digits other = if bytes_eq other digits then None else map other
 abbrev pub behind : DigitMap → List ℕ → DigitMap
 behind map front digits = map (front ++ digits)
 
--- this many digits and what is stored there; or what was found at fewer
+-- n digits and what is stored there; or what was found at fewer
 abbrev pub found_at : ℕ → Option ℕ → Option (ℕ × ℕ) → Option (ℕ × ℕ)
 found_at count (Some value) fewer = Some (count, value)
 found_at count None fewer = fewer
 
--- the most digits, but not more than this many, that begin these and at which something is stored, and what is stored
--- there
+-- the most digits, but at most n, that begin these and at which something is stored, and what is stored there
 abbrev pub longest_within : DigitMap → List ℕ → ℕ → Option (ℕ × ℕ)
 longest_within map digits zero = found_at zero (map []) None
 longest_within map digits (suc count) =

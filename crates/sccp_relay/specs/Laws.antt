@@ -1,4 +1,4 @@
--- What a row more, and a row less, leave of a translation table: laws.
+-- What adding and removing a row leave of a translation table: laws.
 use Rattle.std.specs.Prelude.{◌≡◌, ◌≢◌, ℕ, List, [], ◌∷◌, filter}
 use Rattle.std.specs.declared.cmp.Ordering.TheVariants.{Equal}
 use Rattle.settings_rows.specs.Configuration.{TitleEntry}
@@ -8,7 +8,7 @@ use Rattle.sccp_relay.specs.Rows.{row_place, place_order, is_at, with_row, witho
 abbrev pub rows_at : List ℕ → List TitleEntry → List TitleEntry
 rows_at place rows = filter (is_at place) rows
 
--- a row that is added is alone at its place
+-- an added row is alone at its place
 abbrev pub added_stands : Type 0
 added_stands = (row : TitleEntry) (rows : List TitleEntry) → rows_at (row_place row) (with_row row rows) ≡ row ∷ []
 

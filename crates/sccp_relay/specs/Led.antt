@@ -15,7 +15,7 @@ pub record SameTitle (a b : AddressValue) : Type 0 where
   pub title_indicator : b.title_indicator ≡ a.title_indicator
   pub title : b.title ≡ a.title
 
--- the called address where a row leads it: routed as the row says, for the subsystem of the row before its own
+-- the called address that a row leads on: routed as the row says, for the subsystem of the row rather than its own
 pub record IsLed (row : TitleEntry) (a b : AddressValue) : Type 0 where
   pub kept : SameTitle a b
   pub point : b.point ≡ None

@@ -40,7 +40,7 @@ longest_from best (row ∷ rows) = longest_from (longer best row) rows
 abbrev pub longest : List TitleEntry → Option TitleEntry
 longest rows = longest_from None rows
 
--- why an address is led nowhere: no row is of its key, or none of these begins its digits
+-- why an address leads nowhere: no row is of its key, or none of these begins its digits
 abbrev pub translation_refusal : List TitleEntry → TitleKey → Cause
 translation_refusal rows key = if list_any (has_key key) rows then NoDigits else NoNature
 
@@ -52,7 +52,7 @@ or_refusal None cause = Err cause
 abbrev pub translation : List TitleEntry → TitleKey → List ℕ → Result TitleEntry Cause
 translation rows key digits = or_refusal (longest (filter (leads key digits) rows)) (translation_refusal rows key)
 
--- what it is to be that row
+-- what makes a row that one
 pub record IsTranslation (rows : List TitleEntry) (key : TitleKey) (digits : List ℕ) (row : TitleEntry) : Type 0 where
   pub among : Contains rows row
   pub leading : IsTrue (leads key digits row)
@@ -76,7 +76,7 @@ pub data RelayedValue : Type 0 where
 
 -- ---- for this point
 
--- whether a subsystem of this number is here; none does without a number
+-- whether a subsystem of this number is here; without a number none is
 abbrev pub is_equipped : OwnValue → Option ℕ → Bool
 is_equipped own None = false
 is_equipped own (Some ssn) = list_any (λ subsystem. nat_eq subsystem ssn) own.subsystems

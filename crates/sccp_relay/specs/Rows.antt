@@ -55,16 +55,16 @@ with_row row rows = filter (is_before (row_place row)) rows ++ row ∷ filter (i
 abbrev pub is_same_place : TitleEntry → TitleEntry → Bool
 is_same_place row other = bytes_eq (row_place row) (row_place other)
 
--- the table of rows that are put in one by one, the last first
+-- the table of rows that are added one by one, the last one first
 abbrev pub table_of : List TitleEntry → List TitleEntry
 table_of [] = []
 table_of (row ∷ rows) = with_row row (table_of rows)
 
--- the rows without that at the place
+-- the rows without the one at the place
 abbrev pub without_row : List ℕ → List TitleEntry → List TitleEntry
 without_row place rows = filter (λ row. not (is_at place row)) rows
 
--- why a row is refused: one is at its place already; else there are as many as there may be
+-- why a row is refused: there is one at its place already; else there are as many as there may be
 abbrev pub add_refusal : List TitleEntry → TitleEntry → Option Cause
 add_refusal rows row =
     if has_row rows (row_place row) then Some DuplicateRow

@@ -1,4 +1,4 @@
--- How a row is found: by the digits of its key and its own in a row, its way; and where it leads, as one number.
+-- How a row is found, by its way, the digits of its key followed by its own; and where it leads, as one number.
 use Rattle.std.specs.Prelude.{ℕ, ◌+◌, ◌*◌, ◌^◌, ◌/◌, ◌%◌, ◌<◌, ◌≤◌, IfSome, if◌then◌else◌, nat_eq, nat_lt, List, [], ◌∷◌, ◌++◌, Option, Some, None}
 use Rattle.std.specs.Str.{bytes_eq}
 use Rattle.sccp_relay.specs.Digits.{DigitMap}

@@ -8,19 +8,19 @@ ghost use Rattle.sccp_relay.specs.Relay.{IsTranslation, translation};
 ghost use Rattle.sccp_relay.specs.Laws.{added_stands, added_leaves, removed_is_gone, removed_leaves};
 ghost use Rattle.sccp_relay.specs.Led as led;
 
-/// An address has one translation at most, and it is the one that a table in its order answers.
+/// An address has at most one translation, and it is the one that a table in its order gives.
 pub fn one_translation()
     ensures { (rows : List TitleEntry) (key : TitleKey) (digits : List ℕ) (row : TitleEntry) → IsOrdered rows
         → IsTranslation rows key digits row → translation rows key digits ≡ Ok row }
 {}
 
-/// A row that is added is at its place, and every other row stays.
+/// An added row is at its place, and every other row stays.
 pub fn adding_a_row_leaves_the_others()
     ensures own { added_stands }
     ensures others { added_leaves }
 {}
 
-/// A row that is removed is gone, and every other row stays.
+/// A removed row is gone, and every other row stays.
 pub fn removing_a_row_leaves_the_others()
     ensures own { removed_is_gone }
     ensures others { removed_leaves }

@@ -57,7 +57,7 @@ pub(crate) fn value_at(nodes: &[Node], at: usize) -> Option<u32>
     nodes[at].value
 }
 
-/// Lets a digit lead from a node to a new one, after the others, and returns its number.
+/// Makes a digit lead from a node to a new one, after the others, and returns its number.
 pub(crate) fn add_child(nodes: &mut Vec<Node>, at: usize, digit: u8) -> usize
     requires at { at < length nodes.old.items }
     requires digit { digit < 16 }

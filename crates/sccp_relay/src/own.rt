@@ -16,7 +16,7 @@ pub struct Own<'a> {
 }
 
 impl Own<'_> {
-    /// Whether a subsystem of this number is here; none does without a number.
+    /// Whether a subsystem of this number is here; without a number none is.
     pub(crate) fn is_equipped(&self, ssn: Option<u8>) -> bool
         ensures { result ≡ is_equipped (own_value self.now) ssn }
     {

@@ -35,7 +35,7 @@ fn order(row: &TitleRow, key: TitleKey, digits: &[u8]) -> Ordering
         .then_with(|| row.digits().cmp(digits))
 }
 
-/// How many rows come before the place of this key and these digits, looked for by halves.
+/// How many rows come before the place of this key and these digits, by binary search.
 fn count_before(rows: &[TitleRow], key: TitleKey, digits: &[u8]) -> usize
     requires { IsOrdered rows.now }
     ensures bound { result ≤ length rows.now }
@@ -69,7 +69,7 @@ fn is_of_key(row: &TitleRow, key: TitleKey) -> bool
     row.translation() == key.translation && row.plan() == key.plan && row.nature() == key.nature
 }
 
-/// Whether there is a row of this key: the first that doesn't come before it, looked for by halves.
+/// Whether there is a row of this key: the first that doesn't come before it, by binary search.
 pub(crate) fn has_key(rows: &[TitleRow], key: TitleKey) -> bool
     requires { IsOrdered rows.now }
     ensures { result ≡ list_any (has_key key) rows.now }

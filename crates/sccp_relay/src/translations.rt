@@ -41,7 +41,7 @@ impl Model for Translations {
 }
 
 impl Translations {
-    /// A table without rows. It takes its memory from this allocator as rows are added.
+    /// A table without rows. It allocates from this allocator as rows are added.
     pub fn new(alloc: Global) -> Translations
         ensures { result ≡ [] }
     {
@@ -51,8 +51,8 @@ impl Translations {
         }
     }
 
-    /// A table of these rows, no two of one key and the same digits, sorted once. It takes its memory, now
-    /// and as rows are added, from this allocator.
+    /// A table of these rows, no two of one key and the same digits, sorted once. It allocates from this allocator, now
+    /// and as rows are added.
     pub fn of_rows(alloc: Global, rows: &[TitleRow]) -> Result<Translations, AllocError>
         requires fits { length rows.now ≤ Limits.TITLES }
         requires differ { IsDistinct is_same_place rows.now }
@@ -80,10 +80,10 @@ impl Translations {
     }
 
     /// Adds a row at its place: by translation type, plan, nature, then digit by digit, a prefix before what it begins.
-    /// It looks for the place by halves, and moves the rows after it.
+    /// It finds the place by binary search, and moves the rows after it.
     ///
-    /// Refused DuplicateRow if a row of its key and digits is there; else TableFull if 65,535 rows are; else NoMemory
-    /// if room for it is refused. A refusal leaves the table as it was.
+    /// Refused DuplicateRow if there is a row of its key and digits; else TableFull if there are 65,535 rows; else
+    /// NoMemory if an allocation is refused. A refusal leaves the table as it was.
     pub fn add(&mut self, row: TitleRow) -> Result<(), Cause>
         ensures added { OnOk result (self.new ≡ with_row row self.old) }
         ensures unchanged { OnErr result (self.new ≡ self.old) }
@@ -102,8 +102,7 @@ impl Translations {
         }
     }
 
-    /// Removes the row of this key and these digits, all of them. It looks for it by halves, and moves the rows after
-    /// it.
+    /// Removes the row of this key and exactly these digits. It finds it by binary search, and moves the rows after it.
     ///
     /// Refused NoSuchName if there is none; then the table stays as it was.
     pub fn remove(&mut self, key: TitleKey, digits: &[u8]) -> Result<(), Cause>
@@ -147,8 +146,8 @@ impl Translations {
     }
 }
 
-/// Puts a row at its place among the others, and lets the trie lead to it. Room is made for both before the row is put
-/// there, so an error leaves both as they were.
+/// Puts a row at its place among the others, and makes the trie lead to it. Room is made for both first, so an error
+/// leaves both as they were.
 fn put(
     rows: &mut Vec<TitleRow>,
     trie: &mut Trie,

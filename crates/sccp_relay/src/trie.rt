@@ -16,10 +16,10 @@ const ROOT: usize = 0;
 /// How many nodes have numbers.
 const NODES: usize = 1 << 32;
 
-/// Values by lists of digits, each 0 to 15: one at most at each list.
+/// Values by lists of digits, each 0 to 15: at most one at each list.
 ///
 /// It is stored as nodes in one vector: a node for each list that begins one that was ever stored. So each call takes a
-/// step for each digit, however many lists are stored, and what is removed leaves its nodes for what comes later.
+/// step for each digit, however many lists are stored, and what is removed leaves its nodes for later values.
 #[derive(Drop)]
 pub struct Trie {
     nodes: Vec<Node>,
@@ -39,7 +39,7 @@ impl Model for Trie {
 }
 
 impl Trie {
-    /// Nothing. It takes its memory from this allocator as values are stored.
+    /// Nothing is stored. It allocates from this allocator as values are stored.
     pub fn new(alloc: Global) -> Trie
         ensures { stored result ≡ nothing }
     {
@@ -50,8 +50,8 @@ impl Trie {
 
     /// Stores a value at digits.
     ///
-    /// Refused Present if one is stored there; else NoMemory if room for its nodes is refused, of which there are 2^32
-    /// at most. A refusal leaves all as it was.
+    /// Refused Present if a value is stored there; else NoMemory if room for its nodes is refused. There are at most
+    /// 2^32 nodes. A refusal leaves all as it was.
     pub fn insert(&mut self, digits: &[u8], value: u32) -> Result<(), TrieFault>
         requires { All (λ digit. digit < 16) digits.now }
         ensures added { OnOk result (stored self.new ≡ with_value (stored self.old) digits.now value) }

@@ -84,7 +84,7 @@ fn ssn_number(ssn: Option<Ssn>) -> u32
     }
 }
 
-/// How a row is routed, of such a number.
+/// How a row with such a number is routed.
 fn route_of(number: u32) -> TitleRoute
     ensures { result ≡ route_of number }
 {
@@ -117,7 +117,7 @@ pub(crate) fn row_led(key: TitleKey, digits: &[u8], lead: u32) -> TitleRow
     .unwrap()
 }
 
-/// Lets a trie lead to a row. Refused Present if it leads to one of this way; else NoMemory if there is no room for
+/// Makes a trie lead to a row. Refused Present if it leads to one of this way; else NoMemory if there is no room for
 /// its way. A refusal leaves it as it was.
 pub(crate) fn enter(trie: &mut Trie, row: &TitleRow) -> Result<(), TrieFault>
     ensures entered { OnOk result (stored trie.new ≡ with_value (stored trie.old) (way_of row.now) (lead_of row.now)) }
@@ -128,7 +128,7 @@ pub(crate) fn enter(trie: &mut Trie, row: &TitleRow) -> Result<(), TrieFault>
     trie.insert(way_of(row).as_slice(), lead_of(row))
 }
 
-/// A trie that leads to each of these rows, no two of one way.
+/// A trie that leads to each of these rows, no two with the same way.
 pub(crate) fn trie_of(alloc: Global, rows: &[TitleRow]) -> Result<Trie, AllocError>
     ensures leads { IfOk result (λ trie. stored trie ≡ leads_of rows.now) }
     ensures rows { OnOk result (All IsRow rows.now) }

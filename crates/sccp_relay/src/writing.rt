@@ -79,7 +79,7 @@ fn number_or(ssn: Option<Ssn>, other: Option<u8>) -> Option<u8>
     }
 }
 
-/// By what an address is routed at that point.
+/// What an address is routed by at that point.
 fn routing_by(route: TitleRoute) -> Routing
     ensures { result ≡ rule.routing_by route }
 {

@@ -95,8 +95,8 @@ impl<'f> RouteFacts<'f> {
         }
     }
 
-    /// The first group of these routes with one that has this status, and whose set has a link in service; no route if
-    /// there isn't one.
+    /// The first group with a route that has this status and whose set has a link in service; no route if there is
+    /// none.
     fn open_group<'a>(&self, routes: &'a [Route], status: RouteStatus) -> &'a [Route]
         ensures group { result.now ≡ open_group self.now status (groups_of routes.now) }
         ensures fits { length result.now ≤ 2 }
@@ -109,7 +109,7 @@ impl<'f> RouteFacts<'f> {
         }
     }
 
-    /// The same of routes that each are a group by themselves.
+    /// The same, for routes that each are a group by themselves.
     fn open_alone<'a>(&self, routes: &'a [Route], status: RouteStatus) -> &'a [Route]
         ensures group { result.now ≡ open_group self.now status (alone routes.now) }
         ensures fits { length result.now ≤ 1 }

@@ -29,7 +29,7 @@ pub(super) fn mend(rows: &mut [FlowLinks], facts: &RouteFacts<'_>, destination: 
     }
 }
 
-/// The rows of those destinations are made again to which the set of this link leads.
+/// The rows of the destinations that the set of this link leads to are made again.
 #[tactic(auto, using(crate::proofs::Compiling::mended))]
 pub(super) fn mend_by_link(rows: &mut [FlowLinks], facts: &RouteFacts<'_>, link: LinkId)
     ensures { rows.new
@@ -42,7 +42,7 @@ pub(super) fn mend_by_link(rows: &mut [FlowLinks], facts: &RouteFacts<'_>, link:
     }
 }
 
-/// The rows of those destinations are made again to which this set leads.
+/// The rows of the destinations that this set leads to are made again.
 #[tactic(auto, using(crate::proofs::Compiling::mended))]
 pub(super) fn mend_by_set(rows: &mut [FlowLinks], facts: &RouteFacts<'_>, set: SetId)
     ensures { rows.new
