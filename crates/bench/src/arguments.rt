@@ -68,8 +68,8 @@ pub(crate) enum Kind {
 }
 
 impl Kind {
-    /// How the links make sets. If the settings aren't larger than usual each link is one, if it counts how many
-    /// adjacent points are told.
+    /// How the links make sets. Unless the settings are larger than usual, each link is a set of its own if it matters
+    /// how many adjacent points are told.
     pub(crate) fn sets(self, size: Size) -> Sets {
         match (size, self) {
             (Size::Wide | Size::Largest, _) => Sets::Pairs,

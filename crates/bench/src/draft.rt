@@ -110,7 +110,7 @@ impl Routes {
     }
 }
 
-/// A number of a set, counted on past the last one from the first again.
+/// The number of a set, which continues from the first after the last.
 fn turned(number: usize, sets: usize) -> usize
     ensures { result ≤ number }
 {

@@ -14,12 +14,12 @@ pub(crate) enum Stage {
     Queue,
     /// Then its association goes down.
     Failure,
-    /// Then the peer tells what it accepted, and the messages go on by the other links of the set.
+    /// Then the peer says what it accepted, and the messages go on by the other links of the set.
     Completion,
 }
 
-/// Messages come by the first link of a set, and are on the last one; a window of them is sent. If the stage says so
-/// that link fails then, and its changeover ends. Each link of the set is in service before.
+/// Messages come by the first link of a set, and are on the last one; a window of them is sent. If the stage says so,
+/// that link then fails, and its changeover ends. Each link of the set is in service before.
 pub(crate) fn change_over(peer: &mut Peer, stage: Stage, mut message: Incoming, count: u32) {
     for _ in 0..count {
         peer.send(first(), &mut message);
@@ -39,7 +39,7 @@ pub(crate) fn change_over(peer: &mut Peer, stage: Stage, mut message: Incoming, 
     }
 }
 
-/// The peer tells that it accepted half a window of messages after this one.
+/// The peer says that it accepted half a window of messages after this one.
 fn complete(peer: &mut Peer, before: Number24) {
     let half = peer.window() as u32 / 2;
     if let Some(number) = Number24::new((before.value() + half) % Number24::MODULUS) {

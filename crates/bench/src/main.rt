@@ -1,4 +1,4 @@
-//! `bench KIND OCTETS DESTINATIONS LINKS COUNT`: what a message costs. A sixth word, `wide` or `largest`, makes the
+//! `bench KIND OCTETS DESTINATIONS LINKS COUNT`: what a message costs. A sixth argument, `wide` or `largest`, makes the
 //! settings larger.
 //!
 //! Carries COUNT messages, whose signalling information fields have OCTETS octets, through an exchange with this many

@@ -36,8 +36,8 @@ fn fail(peer: &mut Peer) {
     peer.answer(first(), &mut answer);
 }
 
-/// The link returns, and each declaration is answered. A message of the link comes by the first link before, and goes
-/// out after the last answer.
+/// The link returns, and each declaration is answered. A message of the link comes by the first link before that, and
+/// goes out after the last answer.
 fn come_back(peer: &mut Peer, message: &mut Incoming) {
     let link = peer.link();
     peer.open(link);

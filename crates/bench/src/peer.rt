@@ -241,7 +241,7 @@ impl Peer {
         }
     }
 
-    /// What was taken last of a link is its next message.
+    /// What was last taken of a link is its next message.
     fn count_message(&mut self, link: LinkId) {
         let at = place(link);
         self.ends[at].taken = next(self.ends[at].taken);
@@ -283,8 +283,8 @@ impl Peer {
         }
     }
 
-    /// Answers the declarations of the return of a link on the first links, this many. One at most is on each other
-    /// link of its set.
+    /// Answers the declarations that the return of a link brings, on the first links, this many. At most one is on each
+    /// other link of its set.
     pub(crate) fn answer_each(&mut self, links: u8, returned: LinkId) {
         for number in 0..links {
             let link = LinkId::new(number);

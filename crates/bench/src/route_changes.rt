@@ -17,8 +17,7 @@ pub(crate) fn tick(peer: &mut Peer, count: u32) {
     }
 }
 
-/// The adjacent point of the first set tells of a point: transfer-prohibited and then transfer-allowed, this many
-/// times.
+/// The adjacent point of the first set reports a point, transfer-prohibited and then transfer-allowed, this many times.
 pub(crate) fn change_status(peer: &mut Peer, about: PointCode, count: u32) {
     let mut prohibited = Incoming::with_management(Management::TransferProhibited(about));
     let mut allowed = Incoming::with_management(Management::TransferAllowed(about));
@@ -41,8 +40,8 @@ pub(crate) fn enter(peer: &mut Peer, count: u32) {
     }
 }
 
-/// The adjacent point of the first set tells that each destination is prohibited by it. Of those that the set leads to
-/// T10 runs from then on.
+/// The adjacent point of the first set reports that each destination is prohibited by it. T10 runs from then on for
+/// those that the set leads to.
 pub(crate) fn prohibit_each(peer: &mut Peer, destinations: usize)
     requires { destinations ≤ Limits.DESTINATIONS }
 {

@@ -35,7 +35,7 @@ const USER_DATA: u16 = 1;
 const M2PA: u32 = 5;
 
 /// An end of the association. It hears what the other end puts out as that is put out, without a copy. Its state is
-/// hidden from proofs: nothing is promised of it.
+/// hidden from proofs, so nothing is promised of it.
 pub(crate) struct Side {
     endpoint: Endpoint,
     /// What it tells, and the datagrams that it puts out while it hears one.

@@ -38,8 +38,8 @@ const DIGITS: usize = 12;
 /// The octets of a title with as many digits as a row may have. The first twelve are a title, too.
 pub(crate) type Title = [u8; TITLE_HEAD + Limits::TITLE_DIGITS / 2];
 
-/// A title that begins with these two octets: the first row leads that of zeros, and no row that of 0xff. After them
-/// are the digits 4917 2000, and further zeros.
+/// A title that begins with these two octets: the first row leads the one of zeros, and no row that of 0xff. The digits
+/// 4917 2000 follow, and further zeros.
 pub(crate) fn title_from(first: u8) -> Title {
     let mut title = [0; TITLE_HEAD + Limits::TITLE_DIGITS / 2];
     let head = [

@@ -1,4 +1,4 @@
--- What gates put out is octets on its way: these are read as the packets that were put out.
+-- What gates put out is octets on their way, which are read as the packets that were put out.
 use Rattle.std.specs.Prelude.{◌≡◌, ℕ, Some}
 use Rattle.std.specs.List.{Contains}
 use Rattle.sctp_codec.specs.Reading.{read_packet}

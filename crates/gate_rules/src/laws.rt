@@ -22,7 +22,7 @@ pub fn runs_of_gates_are_runs_of_nodes()
 
 /// "Exactly once" over datagrams, of two nodes with gates, in both directions, whatever further neighbours each has.
 /// While neither exchange may have lost a message, as many user messages of any kind were accepted at one node for the
-/// other as the other received for itself and as wait between them.
+/// other as the other received for itself, together with those that wait between them.
 pub fn each_message_comes_once()
     ensures { each_message_once }
 {}
@@ -41,8 +41,8 @@ pub fn nodes_alone_are_the_special_case()
 {}
 
 /// What a gate puts out is octets on its way (`sent_as`), and a gate that hears these octets hears the packet that was
-/// put out, if SCTP ports have 16 bits. So that octets aren't changed is all that must be asked of the network in place
-/// of "hears a packet"; whose packet it is, and its age, is asked as before.
+/// put out, if SCTP ports have 16 bits. So all that must be required of the network, in place of "hears a packet", is
+/// that octets aren't changed; whose packet it is, and its age, is required as before.
 pub fn octets_of_gates_read_back()
     ensures { packets_are_read }
 {}

@@ -11,7 +11,7 @@ pub struct Book {
     pub accepted: Vec<Mark>,
     /// This many messages had come to the other end when neither end had yet said that one may be lost.
     pub once: usize,
-    /// This many had come when, besides, this end hadn't yet said that one may be late.
+    /// This many had come when, furthermore, this end hadn't yet said that one may be late.
     pub in_order: usize,
 }
 

@@ -25,7 +25,7 @@ pub struct Verdict {
     pub lost: u64,
     /// Messages that came again, or were never accepted.
     pub doubled: u64,
-    /// Flows of which a message came that wasn't the next one.
+    /// Flows with a message that wasn't the next one.
     pub turned: u64,
 }
 

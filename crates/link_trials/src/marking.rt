@@ -26,7 +26,7 @@ pub struct Mark {
 
 /// The message of a mark, from a point to another: two octets after the label have its number.
 pub fn message_of(mark: Mark, own: u16, adjacent: u16) -> Option<Msu> {
-    // The point that a message says it comes from isn't checked: on every other flow it is the far one.
+    // The point that a message says it comes from isn't checked; on every other flow it is the far one.
     let origin = if mark.flow % 2 == 0 { own } else { adjacent };
     let label = Label {
         dpc: PointCode::new(adjacent)?,

@@ -34,7 +34,7 @@ impl LinkedNodes {
         Ok(LinkedNodes { pair })
     }
 
-    /// Takes a step except a frame that goes elsewhere.
+    /// Takes a step, except for a frame that goes elsewhere.
     pub fn turn(&mut self, step: Step) -> Became {
         turn(&mut self.pair, step)
     }

@@ -82,7 +82,7 @@ pub record IsShort (frame : FrameValue) : Type 0 where
   pub some : 0 < length (spelled frame)
   pub fits : length (spelled frame) ≤ most_octets
 
--- any frame that a link has to go out next
+-- this holds for any frame that a link sends next
 abbrev pub AreShort : Node → Type 0
 AreShort n =
     (link : ℕ) (frame : FrameValue) → frame_to_take whole n.books.exchange link ≡ Some frame → IsShort frame

@@ -27,7 +27,7 @@ use Rattle.sctp_ends.specs.Worlds as ends
 abbrev pub m2pa : ℕ
 m2pa = 5
 
--- an exchange; all user messages that it accepted, and all that came to it from the other one, whomever they are for
+-- an exchange, all user messages that it accepted, and all that came to it from the other one, whomever they are for
 pub record Books : Type 0 where
   pub exchange : Abstract
   pub accepted : List Message
@@ -46,7 +46,7 @@ happened what b = record {
   received = b.received ++ carried what b.exchange;
 }
 
--- something happens to it on a link that leads elsewhere: what comes by that doesn't come from the other one
+-- something happens to it on a link that leads elsewhere; what comes that way doesn't come from the other one
 abbrev pub happened_elsewhere : Happening → Books → Books
 happened_elsewhere what b = record b {
   exchange = after whole what b.exchange;
@@ -183,8 +183,8 @@ IsOwn (Deactivated link) = Unit {0}
 IsOwn (TitleAdded row is_memory_refused) = Unit {0}
 IsOwn (TitleRemoved key digits) = Unit {0}
 
--- an endpoint isn't left to itself with a wish that its link doesn't have: if it wants an association, or begins to,
--- its link wants to open
+-- an endpoint doesn't keep a wish that its link doesn't have: if it wants an association, or begins to, its link wants
+-- to open
 abbrev pub IsLooked : (link : ℕ) → endpoint.Happening → Node → Type 0
 IsLooked link what n = wish_by_call what (n.ports link).wish ≡ Seeking → wants_of n.books.exchange link ≡ Open
 
@@ -194,7 +194,7 @@ pub record IsAsked (link : ℕ) (n : Node) : Type 0 where
   pub down : (n.ports link).wish ≢ Served
 
 -- packets that come were put out by the other end of the link and aren't too old; messages are frames of the link. An
--- endpoint may be asked for packets at any moment, and told to end what it has, or the wish for it
+-- endpoint may be asked for packets at any moment, and told to end what it has, or to give up its wish
 abbrev pub MayAssociate : (there : ends.Site) → (link : ℕ) → endpoint.Happening → Node → Type 0
 MayAssociate there link (endpoint.Opens now is_active) n = IsAsked link n
 MayAssociate there link (endpoint.Came now source packet) n =
@@ -211,7 +211,7 @@ CanGo link n =
     (frame : FrameValue) → frame_to_take whole n.books.exchange link ≡ Some frame →
     may_send (message_of (spelled frame)) (n.ports link).site.state ≡ true
 
--- anything may happen on a link that leads elsewhere, but that a frame speaks for one of the two to the other
+-- anything may happen on a link that leads elsewhere, except that a frame speaks for one of the two to the other
 abbrev pub MayBring : (own other : Configuration) → Happening → Type 0
 MayBring own other (CameUp link) = LeadsElsewhere own other link
 MayBring own other (WentDown link) = LeadsElsewhere own other link

@@ -15,7 +15,7 @@ pub fn runs_of_two_nodes_are_runs_of_pairs()
 
 /// "Exactly once" over datagrams, in both directions, whatever further neighbours each node has. While neither exchange
 /// may have lost a message, as many user messages of any kind were accepted at one node for the other as the other
-/// received for itself and as wait between them.
+/// received for itself, together with those that wait between them.
 pub fn each_message_comes_once()
     ensures { each_message_once }
 {}
@@ -29,25 +29,25 @@ pub fn each_flow_keeps_its_order()
 
 /// Two nodes that have only each other are the special case. Settings that face each other share a set, each link is
 /// between the two and has one number at both, and none leads elsewhere. All that a node accepted is for the other, and
-/// all that it received for itself: it is what two exchanges of `pair_rules` do with frames in flight between them, and
-/// both promises hold of all user messages.
+/// all that it received is for itself. It is what two exchanges of `pair_rules` do with frames in flight between them,
+/// and both promises hold of all user messages.
 pub fn nodes_alone_are_the_special_case()
     ensures { alone_is_special }
 {}
 
-/// A frame that a link has to go out next has 1 to 290 octets: an endpoint takes it as a message.
+/// The next frame that a link sends has 1 to 290 octets, so an endpoint takes it as a message.
 pub fn frames_fit_an_endpoint()
     ensures { frames_are_short }
 {}
 
-/// These laws aren't empty: in a run of 11 steps a link opens at one node and then at the other, and a link status of
+/// These laws aren't empty. In a run of 11 steps a link opens at one node and then at the other, and a link status of
 /// the one crosses in a datagram that comes twice, once.
 pub fn a_link_opens_over_datagrams()
     ensures { Happens }
 {}
 
-/// And in a run of 30 steps, which begins as that one does, the link enters service at both nodes; a user message that
-/// is submitted at the one goes out in a datagram that comes twice, and is received at the other, once. Neither sets a
+/// In a run of 30 steps, which begins like that one, the link enters service at both nodes. A user message that is
+/// submitted at one goes out in a datagram that comes twice, and is received at the other, once. Neither run sets a
 /// flag.
 pub fn a_user_message_crosses_datagrams()
     ensures { Crosses }

@@ -1,4 +1,4 @@
--- What calls of gates in code tell of, and what becomes of them.
+-- What calls of gates in code mean, and what becomes of them.
 use Rattle.std.specs.Prelude.{◌≡◌, ℕ, Bool, true, ◌&&◌, nat_lt, All, List, [], ◌++◌, Some, map, length, slice_get, slice_set}
 use Rattle.std.specs.List.{Contains}
 use Rattle.sctp_codec.specs.Reading.{read_packet}
@@ -14,7 +14,7 @@ use Rattle.node_world.specs.declared.call.Call.{Call}
 use Rattle.node_world.specs.declared.call.Call.TheVariants.{Hear, Tick, Settle, Fill, Close}
 use Rattle.node_world.specs.Kept.{KeptPort, KeptNode, sent_on, octets_of}
 
--- the octets that come by a call, of all that the other node's gate of the link put out
+-- the octets that come with a call, of all that the other node's gate of the link put out
 abbrev pub octets_heard : Call → (link : ℕ) → (other : KeptNode) → List ℕ
 octets_heard (Hear place source) link other = octets_of (slice_get (sent_on other link) place)
 octets_heard Tick link other = []
@@ -34,7 +34,7 @@ is_there Close link other = true
 abbrev pub is_made : Call → (link : ℕ) → (other k : KeptNode) → Bool
 is_made call link other k = nat_lt link (length k.ports) && is_there call link other
 
--- what a call tells of, by the octets that come
+-- what a call means, by the octets that come
 abbrev pub told : Call → (octets : List ℕ) → (now : ℕ) → calling.Call
 told (Hear place source) octets now = Hears now (read_packet octets) (address_of source)
 told Tick octets now = Ticks now
@@ -53,7 +53,7 @@ pub record PortCalls (was is : KeptPort) (exchange : Kept) (d : Did WholeQueues)
   pub was_whole : is.log.is_whole ≡ true → was.log.is_whole ≡ true
   pub all : is.log.is_whole ≡ true → is.log.sent ≡ was.log.sent ++ map sent_as d.sent
 
--- of all gates that of a single link is another one
+-- the same gates, with another one for a single link
 pub record NodeCalls (link : ℕ) (call : calling.Call) (was is : KeptNode) (a : Abstract) : Type 0 where
   pub old_port : KeptPort
   pub new_port : KeptPort

@@ -1,4 +1,4 @@
--- The abstract gate: an endpoint beside an exchange. Each call is a list of the endpoint's rules, whose events are
+-- The abstract gate: an endpoint next to an exchange. Each call is a list of the endpoint's rules, whose events are
 -- handed in to the exchange as they are told.
 use Rattle.std.specs.Prelude.{ℕ, zero, suc, ◌+◌, length, Bool, ◌^◌, ◌&&◌, List, [], ◌∷◌, ◌++◌}
 use Rattle.std.specs.Prelude.{Option, Some, None, slice_index, nat_eq, nat_lt, nat_le, if◌then◌else◌}
@@ -55,7 +55,7 @@ followed_by d call = behind d (call d.gate d.exchange)
 abbrev pub with_state : Endpoint → rules.State → Endpoint
 with_state e left = record e { state = left }
 
--- an endpoint counts what it began and its heartbeats, and milliseconds, up to 2^63; then it does nothing any more
+-- an endpoint counts what it began, its heartbeats, and milliseconds, up to 2^63; after that it does nothing
 abbrev pub is_lasting : (now : ℕ) → Endpoint → Bool
 is_lasting now e = nat_le now (2 ^ 63) && (nat_lt e.state.generation (2 ^ 63) && nat_lt e.state.nonces (2 ^ 63))
 
@@ -92,7 +92,7 @@ module _ {Q : Type 0} (q : QueueKind Q) (now : ℕ) where
   abbrev pub does : (Endpoint → Done) → Gate → State Q → Did Q
   does rule g s = if is_lasting now g.endpoint then handed (rule g.endpoint) g s else nothing g s
 
-  -- the same while the link comes to stand so
+  -- the same, and the link stands like this from then on
   abbrev pub does_as : Standing → (Endpoint → Done) → Gate → State Q → Did Q
   does_as standing rule g s =
       if is_lasting now g.endpoint
@@ -111,7 +111,7 @@ module _ {Q : Type 0} (q : QueueKind Q) (now : ℕ) where
   abbrev pub wanted : Gate → State Q → Did Q
   wanted g s = if g.standing.is_up then aborted g s else opened g s
 
-  -- as the link wants it: Close ends the association. Open wants one: the endpoint waits for its peer, and tries once a
+  -- as the link wants it. Close ends the association. Open wants one: the endpoint waits for its peer, and tries once a
   -- try may begin. Nothing ends the wish for one, and the try
   abbrev pub settled_by : Wants → Gate → State Q → Did Q
   settled_by Close g s = aborted g s
@@ -121,7 +121,7 @@ module _ {Q : Type 0} (q : QueueKind Q) (now : ℕ) where
   abbrev pub settled : Gate → State Q → Did Q
   settled g s = settled_by (wants_of s g.link) g s
 
-  -- a rule of the endpoint, between two looks at what the link wants: so no association comes up that the link doesn't
+  -- a rule of the endpoint, between two looks at what the link wants, so no association comes up that the link doesn't
   -- want
   abbrev pub between : (Endpoint → Done) → Gate → State Q → Did Q
   between rule g s =
@@ -168,8 +168,7 @@ module _ {Q : Type 0} (q : QueueKind Q) where
   taken_by rest None g s = nothing g (taken q s g.link)
   taken_by rest (Some frame) g s = followed_by (given frame g (taken q s g.link)) (rest frame)
 
-  -- frames are taken one after another, this many at most, while each can go out with those before it, of this many
-  -- octets
+  -- frames are taken one after another, at most n, while each can go out with those before it, of this many octets
   unfoldable pub taken_all : (most octets : ℕ) → Gate → State Q → Did Q
   taken_all zero octets g s = nothing g s
   taken_all (suc most) octets g s =

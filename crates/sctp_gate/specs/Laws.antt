@@ -1,4 +1,4 @@
--- What holds of an abstract gate, whatever exchange it stands beside.
+-- What holds of an abstract gate, with any exchange.
 use Rattle.std.specs.Prelude.{◌≡◌, ◌⊎◌, ◌<◌, ◌≤◌, ℕ, true, List, [], ◌∷◌, ◌++◌, length}
 use Rattle.m2pa_codec.specs.Frames.{FrameValue, EmptyFrame, MessageFrame, StatusFrame, spelled}
 use Rattle.sctp_sending.specs.Sending.{messages_of, most_octets}
@@ -15,7 +15,7 @@ pub record Agrees {Q : Type 0} (g : Gate) (s : State Q) : Type 0 where
   pub up : g.standing.is_up ≡ true → wants_of s g.link ≡ Nothing
   pub seeking : g.standing.is_seeking ≡ true → wants_of s g.link ≡ Open
 
--- so it is behind each settling; and each datagram and each tick ends with one
+-- this holds after each settling, and each datagram and each tick ends with one
 abbrev pub settling_agrees : {Q : Type 0} → QueueKind Q → Type 0
 settling_agrees {Q = Q} q =
     (now : ℕ) (g : Gate) (s : State Q) → is_lasting now g.endpoint ≡ true →

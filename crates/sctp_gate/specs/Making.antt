@@ -1,4 +1,4 @@
--- What a call of the code makes of a watch, a gate and an exchange: that of the abstract gate.
+-- What a call of the code does to a watch, a gate and an exchange: what the abstract gate does.
 use Rattle.std.specs.Prelude.{◌≡◌, ℕ, List, ◌++◌, map}
 use Rattle.sctp_rules.specs.State.{Told}
 use Rattle.sctp_bundling.specs.Watching.{Sent, sent_as}
@@ -34,7 +34,7 @@ pub record Beginning : Type 0 where
   pub standing : Standing
   pub exchange : Kept
 
--- what a bridge has that began so, with a watch that had this
+-- what a bridge has that began like this, with a watch that had this
 pub record HasHanded {W : Type 0} (has : W → List Sent → List Sight → Type 0) (had : List Sent → List Sight → Type 0)
     (b : Beginning) (sent : List Sent) (told : List Told) (now : Beginning) (watch : W) : Type 0 where
   pub now_is : now ≡ record b { standing = stands_after b.time told b.standing; exchange = after_told kept b.link told b.exchange }

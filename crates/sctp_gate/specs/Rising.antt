@@ -17,7 +17,7 @@ module _ {Q : Type 0} (q : QueueKind Q) (link : ℕ) where
     pub has_one : (link_at (after q (CameUp link) s).node.parts link).association ≡ true
     pub not_down : down (after q (CameUp link) s).node.parts link ≡ false
 
-  -- what is seen tells what the exchange was asked, and so the exchange then
+  -- what is seen says what the exchange was asked, and so the exchange then
   abbrev pub after_sight : Sight → State Q → State Q
   after_sight Rose s = after q (CameUp link) s
   after_sight (CameIn frame outcome) s = after q (FrameCame link frame) s

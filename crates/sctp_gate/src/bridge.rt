@@ -68,7 +68,7 @@ impl<W: Watch, K: Origin> EndpointWatch for Bridge<'_, W, K> {
     }
 }
 
-/// An endpoint does something, and what it tells is handed in. Where a link stands is kept along.
+/// An endpoint does something, and what it tells is handed in. Where a link stands is kept up to date.
 pub(crate) fn do_and_hand_in<W: Watch>(
     endpoint: &mut Endpoint,
     what: Doing<'_>,

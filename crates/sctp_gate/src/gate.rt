@@ -107,7 +107,7 @@ impl Gate {
         self.settle(exchange, now, watch);
     }
 
-    /// Time went by: the endpoint's timers that are due run out, and what it tells is handed in. To be called when
+    /// Time went by: the endpoint's timers that are due run out, and what it tells is handed in. Call it when
     /// `deadline` says so.
     pub fn tick<W: Watch>(&mut self, exchange: &mut Exchange, now: u64, watch: &mut W)
         ensures kept { Makes W.has watch.old watch.new self.new exchange.new (timed kept now self.old exchange.old) }
@@ -218,7 +218,7 @@ impl Gate {
         }
     }
 
-    /// The same while the link comes to stand so.
+    /// The same, and the link stands like this from then on.
     fn act_as<W: Watch>(
         &mut self,
         standing: Standing,

@@ -12,7 +12,7 @@ pub const FIRST_WAIT: u64 = 1000;
 /// The longest wait, in milliseconds.
 pub const LONGEST_WAIT: u64 = 30_000;
 
-/// Whether an association is up, or wanted, by what the endpoint told; and when it may be tried to open one.
+/// Whether an association is up, or wanted, by what the endpoint told, and when a try to open one may begin.
 #[derive(Clone, Copy)]
 pub struct Standing {
     /// Up was told, and Down wasn't since.

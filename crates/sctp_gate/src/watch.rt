@@ -27,7 +27,7 @@ pub trait Watch {
     fn came_in(&mut self, frame: &[u8], outcome: &Outcome)
         ensures { Gives has self.old self.new [] (CameIn frame.now outcome.now ∷ []) };
 
-    /// A message came in that is no frame of M2PA by its payload protocol identifier. It isn't handed in.
+    /// A message came in that isn't a frame of M2PA by its payload protocol identifier. It isn't handed in.
     fn dropped(&mut self, message: &Message<'_>)
         ensures { Gives has self.old self.new [] (Dropped (message_of message.now) ∷ []) };
 

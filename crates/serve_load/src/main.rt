@@ -57,7 +57,7 @@ fn main(rt: HostRuntime) -> io::Result<()> {
     }
 }
 
-/// The port of the node whose settings the words ask for; None if they ask for something else.
+/// The port of the node whose settings the arguments ask for; None if they ask for something else.
 fn port_of_settings(words: &[String]) -> Option<u16> {
     let [verb, port] = words else {
         return None;
@@ -85,7 +85,7 @@ fn task_of(words: &[String]) -> Option<Task> {
     })
 }
 
-/// What a run is by this word, if it is one.
+/// What a run is by this argument, if it is one.
 fn verb_of(word: &str) -> Option<Verb> {
     match word {
         "send" => Some(Verb::Send),

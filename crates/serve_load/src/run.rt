@@ -13,7 +13,7 @@ const TICK_MS: u16 = 100;
 /// How long a run takes at most, in milliseconds.
 const MOST_MS: u64 = 120_000;
 
-/// How long a node must have been at rest until messages go, in milliseconds: no flow is held for so long.
+/// How long a node must have been at rest until messages go, in milliseconds: no flow is held for that long.
 const REST_MS: u64 = 1_000;
 
 /// Messages that are submitted between two rounds, at most.

@@ -113,7 +113,7 @@ impl Station {
         is_taken
     }
 
-    /// Waits until something happens, but not longer than so.
+    /// Waits until something happens, but no longer than this.
     pub(crate) fn wait(&mut self, now: Duration, most: Duration) -> io::Result<()> {
         self.server.wait(now, most)
     }

@@ -19,12 +19,12 @@ fn boot(alloc: Global, text: &str) -> Result<Exchange, SettingsFault> {
 
 /// What is tried with a node.
 pub trait NodeTrial {
-    /// Whether the node does what it is to do.
+    /// Whether the node does what it should.
     fn holds(&self, alloc: Global, node: &mut Node) -> bool;
 }
 
-/// Whether a trial holds of a node with the settings of a text, before its first event. What calls this owns no node,
-/// so that its proof has none to drop.
+/// Whether a trial holds of a node with the settings of a text, before its first event. Its callers own no node, so
+/// their proofs have none to drop.
 pub fn holds_of_node<T: NodeTrial>(
     alloc: Global,
     text: &str,
@@ -93,7 +93,7 @@ impl Node {
     }
 }
 
-/// Hands in an event. What calls this and the next ones sees no clause of `Exchange`.
+/// Hands in an event. Callers of this and the next ones see no clause of `Exchange`.
 fn step(exchange: &mut Exchange, event: &Event<'_>) -> Outcome {
     exchange.step(event)
 }
