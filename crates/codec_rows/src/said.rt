@@ -3,7 +3,7 @@
 use std::alloc::Global;
 use std::fmt::{Debug, Display, Write};
 
-/// What is said of a row: words, each after a space. What finds no memory is left out, so that the row fails.
+/// What is said of a row: words, each after a space. What there is no memory for is left out, so that the row fails.
 #[derive(Drop)]
 pub struct Said {
     /// The words.

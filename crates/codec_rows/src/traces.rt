@@ -7,7 +7,7 @@ use signalling_types::{Limits, LinkId};
 use std::time::Duration;
 use trace::{Capture, Direction, ObservedFrame, UntilFailure, frame_words};
 
-/// The format in which point 4237 is written so.
+/// The format in which point 4237 is written like this.
 fn format(word: &str) -> PointFormat {
     match word {
         "2-017-5" => PointFormat::ThreeEightThree,

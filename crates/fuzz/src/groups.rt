@@ -9,7 +9,7 @@ use crate::world::World;
 use exchange::{Limits, LinkId, LinkStanding};
 use test_nodes::Dice;
 
-/// A random link. It is brought into service, or goes on as it may; and at random a tick passes before.
+/// A random link. It is brought into service, or goes on as it may; sometimes a tick passes before that.
 fn random_link(world: &mut World, dice: &mut Dice, serving: bool) -> LinkId {
     let link = LinkId::new(dice.octet() % LINKS);
     if !serving {

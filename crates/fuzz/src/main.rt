@@ -1,7 +1,7 @@
 //! Frames and streams of frames that are harmed or made up at random.
 //!
 //! They are handed in to point 1, with two links each to points 2 and 3, point 300 behind both (by `west`, then
-//! `east`), point 400 behind point 2, and three translation rows. Its window is three messages and its pool four:
+//! `east`), point 400 behind point 2, and three translation rows. Its window is three messages and its pool four, and
 //! both fill.
 //!
 //! - 12,000 frames on links in service: one that is down is brought up first. At random a tick passes before a frame,
@@ -66,8 +66,8 @@ fn main(rt: HostRuntime) -> io::Result<()> {
     Ok(())
 }
 
-/// Tries a group of frames or streams on a node of its own. Only this drops a node: the states of a body that does are
-/// many.
+/// Tries a group of frames or streams on a node of its own. Nodes are dropped only here: the states of a body that does
+/// it are many.
 fn try_group(rt: &HostRuntime, kind: Kind, serving: bool, seed: u64) -> io::Result<()> {
     match World::new(rt.alloc()) {
         Some(mut world) => tell_group(rt, &mut world, kind, serving, seed),

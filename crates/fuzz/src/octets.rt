@@ -83,7 +83,7 @@ impl Octets {
         }
     }
 
-    /// Gives the frame from a place to the end the length field that it ought to have.
+    /// Gives the frame from an offset to the end the right length field.
     pub(crate) fn mend_length(&mut self, start: usize) {
         let length = u32::try_from(self.len_from(start)).unwrap_or(u32::MAX);
         self.set_length(start, length);

@@ -50,7 +50,7 @@ pub(crate) struct Found {
     pub returned: u64,
     /// A bit for each kind of outcome that they had.
     pub kinds: u8,
-    /// How many frames, the good ones between them too, changed what they may not.
+    /// How many frames, including good ones, changed what they may not.
     pub changed: u64,
 }
 
@@ -184,7 +184,7 @@ impl World {
         }
     }
 
-    /// The far end of a link tells a state.
+    /// The far end of a link sends a state.
     pub(crate) fn tell(&mut self, link: LinkId, state: u8) {
         let mut frame = Octets::new();
         add_status(&self.far_end(link), state, &mut frame);

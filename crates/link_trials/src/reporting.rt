@@ -31,7 +31,7 @@ fn print_counts(rt: &HostRuntime, name: &str, total: &Total) -> io::Result<()> {
     )
 }
 
-/// Prints whether each message came once, and how many were judged by that.
+/// Prints whether each message came once, and how many messages that was judged for.
 fn print_once(rt: &HostRuntime, verdict: &Verdict) -> io::Result<()> {
     let Verdict {
         once,
@@ -45,7 +45,7 @@ fn print_once(rt: &HostRuntime, verdict: &Verdict) -> io::Result<()> {
     }
 }
 
-/// Prints whether each flow came in order, and how many messages were judged by that.
+/// Prints whether each flow came in order, and how many messages that was judged for.
 fn print_in_order(rt: &HostRuntime, verdict: &Verdict) -> io::Result<()> {
     let Verdict {
         in_order,
@@ -58,7 +58,7 @@ fn print_in_order(rt: &HostRuntime, verdict: &Verdict) -> io::Result<()> {
     }
 }
 
-/// Prints in how many runs an end set a flag, and how many didn't end as they were to.
+/// Prints in how many runs an end set a flag, and how many didn't end as they should.
 fn print_flags(rt: &HostRuntime, total: &Total) -> io::Result<()> {
     print!(rt;
         "; lost_any {}, late_any {}, unended {}",

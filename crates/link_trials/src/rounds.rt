@@ -11,7 +11,8 @@ pub const MOST_ROUNDS: usize = 200;
 /// This many ticks pass while a link is proved.
 pub const PROVING_TICKS: u8 = 3;
 
-/// So often the ticks between two rounds pass until T1 has run out, during which a link alone may not open again.
+/// This many times the ticks between two rounds pass until T1 has run out; a link that is the only one may not open
+/// before that.
 const T1_PASSES: usize = 4;
 
 /// This many exchanges of frames carry the statuses of a link.

@@ -51,7 +51,7 @@ impl Stop {
         }
     }
 
-    /// The link stops if it is to before this step.
+    /// The link stops if it is to stop before this step.
     pub fn strike_at(&self, world: &mut World, round: u8, step: u8) {
         if self.round == round && self.step == step {
             self.strike(world);

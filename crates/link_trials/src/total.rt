@@ -9,7 +9,7 @@ use std::alloc::Global;
 
 /// What is tried in a run.
 pub trait Trial {
-    /// Tries it. Says whether all ended as it was to.
+    /// Tries it. Says whether all ended as it should.
     fn run(&self, alloc: Global, world: &mut World) -> bool;
 }
 
@@ -56,7 +56,7 @@ impl Total {
         }
     }
 
-    /// One more run, in this world. Only here is one dropped, since a function that does it has a long proof.
+    /// One more run, in this world. Worlds are dropped only here, since a function that does it has a long proof.
     fn run_in<T: Trial>(&mut self, alloc: Global, world: World, trial: &T) {
         let mut world = world;
         let ended = trial.run(alloc, &mut world);

@@ -30,8 +30,8 @@ destination = [
 ]
 "#;
 
-/// Those of point 3: one link leads to point 4, which it also reaches by point 1, as all others. Of point 9 no other
-/// knows.
+/// Those of point 3: one link leads to point 4, which it also reaches by point 1, like all others. No other node knows
+/// point 9.
 const THREE: &str = r#"own = 3
 set = [{ name = "one", adjacent = 1 }, { name = "four", adjacent = 4 }]
 link = [

@@ -43,7 +43,7 @@ impl Folder for Files {
     }
 }
 
-/// Runs the program with these words, each after a comma. The links of its lab are joined so.
+/// Runs the program with these arguments, each after a comma. The links of its lab are joined in this way.
 fn run<J: Joiner, R: Source, W: Sink, E: Sink>(
     rt: &HostRuntime,
     words: &str,

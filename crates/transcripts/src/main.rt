@@ -1,7 +1,7 @@
-//! Plays the transcripts of worked runs, and tells which differ from what the program writes.
+//! Plays the transcripts of worked runs, and prints which differ from what the program writes.
 //!
-//! It is given the names of the transcripts; those that end in `.differs` are to differ, to show that
-//! differences are seen. A transcript is what a user types and sees:
+//! It is given the names of the transcripts; those that end in `.differs` must differ, to show that differences are
+//! seen. A transcript is what a user types and sees:
 //!
 //! - `# ..` is a remark; the first is the title. Empty lines are skipped.
 //! - `$ stp WORDS` begins a run. Its files are those of the folder that holds the transcripts.

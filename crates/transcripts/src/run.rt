@@ -10,17 +10,17 @@ use std::alloc::Global;
 /// How the lines begin that no prologue prints.
 const FAULTS: [&[u8]; 5] = [b"fault", b"refused", b"ignored", b"lost", b"not open"];
 
-/// A run of the program: its words, its script, and what it is to write.
+/// A run of the program: its arguments, its script, and what it should write.
 #[derive(Drop)]
 pub struct Run<'a> {
     rt: &'a HostRuntime,
     /// The program's arguments.
     words: Vec<String>,
-    /// The last file that the words name, if the transcript changes it.
+    /// The last file that the arguments name, if the transcript changes it.
     changed: Option<ChangedFile>,
     script: Vec<u8>,
     printed: Wanted,
-    /// What standard error is to have, if the transcript says something of it.
+    /// What standard error should have, if the transcript says something about it.
     told: Option<Wanted>,
     /// How many lines were wanted before the last line of the script, and how often that line came.
     block: (usize, usize),
@@ -130,7 +130,7 @@ impl<'a> Run<'a> {
         Ok(self.printed.push(line.as_bytes(), number)?)
     }
 
-    /// What standard error is to have: no lines but those that the transcript names.
+    /// What standard error should have: no lines but those that the transcript names.
     pub fn told(&mut self) -> &mut Wanted {
         let (alloc, number) = (self.rt.alloc(), self.number);
         self.told
@@ -149,7 +149,7 @@ impl<'a> Run<'a> {
         play_script(self.rt, self.words.as_slice(), self, self.script.as_slice())
     }
 
-    /// Runs the program, and compares what it writes with what it is to write.
+    /// Runs the program, and compares what it writes with what it should write.
     pub fn finish(&mut self) -> Result<()> {
         self.end_block()?;
         let mut ended = self.play()?;
@@ -162,7 +162,7 @@ impl<'a> Run<'a> {
     }
 }
 
-/// The line that tells an exit status: `[3]`, and nothing for 0.
+/// The line that says an exit status: `[3]`, and nothing for 0.
 fn status_line(status: Status) -> &'static [u8] {
     match status {
         Status::Done => b"",

@@ -3,7 +3,7 @@
 use anyhow::{Result, bail};
 use std::alloc::{AllocError, Global};
 
-/// The lines that a run is to write.
+/// The lines that a run should write.
 #[derive(Drop)]
 pub struct Wanted {
     alloc: Global,
@@ -14,7 +14,7 @@ pub struct Wanted {
     number: usize,
 }
 
-/// A line that is to be written, and the number of the transcript's line that says so.
+/// A line that should be written, and the number of the transcript's line that says so.
 #[derive(Drop)]
 struct WantedLine {
     text: Vec<u8>,
@@ -66,7 +66,7 @@ impl Wanted {
         Ok(())
     }
 
-    /// Compares what was written with what is to be written.
+    /// Compares what was written with what should be written.
     pub fn compare(&self, written: &[u8]) -> Result<()> {
         let mut lines = written.split(|octet| *octet == b'\n');
         let mut last = self.number;
@@ -87,7 +87,7 @@ impl Wanted {
     }
 }
 
-/// A line that was written, as it is told of.
+/// A line that was written, as it is shown.
 fn shown(line: &[u8]) -> &str {
     match str::from_utf8(line) {
         Ok("") => "no more",

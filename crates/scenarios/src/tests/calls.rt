@@ -15,14 +15,14 @@ const READY: &[u8] = b"\x01\0\x0b\x02\0\0\0\x14\0\xff\xff\xff\0\xff\xff\xff\0\0\
 /// A frame with a message from point 2 to point 300, the first of its link. It confirms the first that went out.
 const COMES: &[u8] = b"\x01\0\x0b\x01\0\0\0\x18\0\0\0\0\0\0\0\0\0\x85\x2c\x81\0\x50\xaa\xbb";
 
-/// The frame that it leaves by, the second that went out.
+/// The frame in which it goes out, the second that went out.
 const GOES: &[u8] = b"\x01\0\x0b\x01\0\0\0\x18\0\0\0\0\0\0\0\x01\0\x85\x2c\x81\0\x50\xaa\xbb";
 
 /// A frame of another version.
 const OTHER_VERSION: &[u8] = b"\x02\0\x0b\x02\0\0\0\x08";
 
-/// Calls about link 0, and what is answered to them. The link comes into service, what its adjacent point is told of
-/// point 300 is taken, and a message goes through.
+/// Calls about link 0, and the answers to them. The link comes into service, what its adjacent point is told of point
+/// 300 is taken, and a message goes through.
 const CALLS: &str =
     "up handled; proving handled; ready handled; tick handled; tick handled; tick handled; \
     take status; take status; take status; take other; comes queued; version ignored; empty ignored; \
@@ -79,7 +79,7 @@ fn are_wanted(answers: &[Answer]) -> bool {
     rows.next().is_none()
 }
 
-/// The calls, whose answers are those of the rows; the frame of another version is noted.
+/// The calls, whose answers are those of the rows; the frame with another version is noted.
 #[derive(Clone, Copy)]
 struct InARow;
 

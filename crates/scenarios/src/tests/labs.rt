@@ -1,4 +1,4 @@
-//! Labs whose links fail. What a lab does else is in the transcripts.
+//! Labs whose links fail. All else that a lab does is in the transcripts.
 
 use super::run;
 use lab::{JoinFault, Joiner, MemoryJoiner};

@@ -7,7 +7,7 @@ use script::{MemorySink, MemorySource, ReadFailed, ReaderSource, Sink, Source, W
 use std::io;
 use std::test::*;
 
-/// Words of the program, each after a comma, and a script each of whose lines prints one line.
+/// Arguments of the program, each after a comma, and a script whose lines each print one line.
 #[derive(Clone, Copy)]
 struct Case {
     words: &'static str,
@@ -65,7 +65,7 @@ fn lines_in(text: &str) -> usize {
     text.split('\n').count().saturating_sub(1)
 }
 
-/// How a run is to end. A read of one octet each fails before the script's end is found, or a write of one line each.
+/// How a run should end: a read of one octet each fails before the script's end is found, or a write of one line each.
 fn end_of(case: Case, reads: usize, writes: usize) -> End {
     if writes < lines_in(case.script) {
         UNWRITTEN
@@ -184,7 +184,7 @@ fn narrow_writers(rt: HostRuntime) -> Result<(), Fail> {
     Ok(())
 }
 
-/// Whether a writer with room for this many octets is filled by the first ones, and a lack of room is told.
+/// Whether a writer with room for this many octets is filled by the first ones, and reports a lack of room.
 fn is_filled(rt: &HostRuntime, room: usize) -> Result<bool, Fail> {
     let printed = OF_A_NODE.printed.get(..room).unwrap_or("");
     let is_whole = room == OF_A_NODE.printed.len();

@@ -14,8 +14,8 @@ const LENGTHS_AT: [usize; 5] = [LENGTH_AT, 18, 34, 24, 26];
 /// Lengths at their limits.
 const LENGTHS: [u16; 12] = [0, 1, 3, 4, 5, 15, 16, 17, 20, 0x7fff, 0xfffc, 0xffff];
 
-/// Makes a datagram of those that both ends put out: a good one that is harmed once, twice or not at all, seven times
-/// of eight with a right checksum.
+/// Makes a datagram out of those that both ends put out: a good one that is harmed once, twice or not at all. Seven of
+/// eight get a right checksum.
 pub fn draw(dice: &mut Dice, near: &[Datagram], far: &[Datagram], out: &mut Octets) {
     out.cut(0);
     out.add(pick(dice, near, far));
@@ -28,7 +28,7 @@ pub fn draw(dice: &mut Dice, near: &[Datagram], far: &[Datagram], out: &mut Octe
     }
 }
 
-/// A good datagram: three times of four one of the far end.
+/// A good datagram, three times of four one of the far end.
 fn pick<'a>(dice: &mut Dice, near: &'a [Datagram], far: &'a [Datagram]) -> &'a [u8] {
     let from = if dice.below(4) == 0 { near } else { far };
     match from.get(dice.below(from.len())) {

@@ -134,7 +134,7 @@ impl Session {
         pass(&mut self.far, &mut self.near, self.now);
     }
 
-    /// The near end ends the association; mostly it waits for another one then.
+    /// The near end ends the association, and mostly waits for another one then.
     fn close(&mut self, dice: &mut Dice) {
         self.near.act(Doing::Abort, self.now);
         if dice.below(4) != 0 {

@@ -1,4 +1,4 @@
-//! Whether what was told is in its place.
+//! Whether what was told is in order.
 
 use crate::schedules::counts::{Counts, count};
 use crate::schedules::octets::number;

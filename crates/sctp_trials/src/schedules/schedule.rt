@@ -153,7 +153,7 @@ fn step(
     note_sent(world, end, sent, here, counts);
 }
 
-/// Something is done; what isn't done doesn't matter.
+/// Does something; it doesn't matter if it can't be done.
 fn act(world: &mut World, end: End, what: Doing<'_>, now: u64) {
     let _done = world.act(end, what, now);
 }
@@ -177,7 +177,7 @@ fn send(world: &mut World, dice: &mut Dice, end: End, now: u64, here: &mut Known
     act(world, end, Doing::Send(message), now);
 }
 
-/// A datagram of the other end comes, mostly one of the latest. Answers the type of its first chunk.
+/// A datagram of the other end comes, mostly one of the latest. Returns the type of its first chunk.
 fn hear(
     world: &mut World,
     dice: &mut Dice,

@@ -38,7 +38,7 @@ pub fn fit(datagram: &mut [u8], names: &[Name], own_names: &[Name], cookie: &[u8
     put(datagram, CHECKSUM_AT, &checksum.to_le_bytes());
 }
 
-/// Makes the chunks fit an end whose TSNs are so much greater.
+/// Makes the chunks fit an end whose TSNs are greater by this much.
 fn fit_chunks(datagram: &mut [u8], shift: u32, cookie: &[u8]) {
     let mut at = HEADER_OCTETS;
     for _ in 0..CHUNKS {

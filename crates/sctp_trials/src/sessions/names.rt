@@ -9,7 +9,8 @@ pub struct Name {
     pub first: u32,
 }
 
-/// Adds a name, if its tag isn't the last one's. What finds no memory is left out, so that the session goes wrong.
+/// Adds a name, if its tag isn't the last one's. What there is no memory for is left out, so that the session goes
+/// wrong.
 pub fn add(names: &mut Vec<Name>, name: Name) {
     if let Some(last) = names.last()
         && last.tag == name.tag

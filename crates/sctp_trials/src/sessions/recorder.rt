@@ -12,7 +12,7 @@ use std::fmt::Write;
 /// Takes what an endpoint puts out and tells.
 #[derive(Drop)]
 pub struct Recorder {
-    /// What it told, a line each. What finds no memory is left out, so that the session goes wrong.
+    /// What it told, a line each. What there is no memory for is left out, so that the session goes wrong.
     pub told: String,
     /// How many datagrams it put out.
     pub put_out: u32,

@@ -55,7 +55,7 @@ pub struct Session {
     recorded: String,
     now: u64,
     heard: u32,
-    /// What was put out by each row, but by messages that came or were sent and by what confirms them: a line each.
+    /// What was put out by each row, except by messages that came or were sent and by what confirms them: a line each.
     answers: String,
     /// The same of the recorded end.
     recorded_answers: String,
@@ -205,7 +205,7 @@ impl Session {
         self.recorder.put_out
     }
 
-    /// What was put out by each row, but by messages and by SACK, and what the recorded end put out: a line each.
+    /// What was put out by each row, except by messages and by SACK, and what the recorded end put out: a line each.
     pub fn answers(&self) -> (&str, &str) {
         (self.answers.as_str(), self.recorded_answers.as_str())
     }

@@ -1,4 +1,4 @@
-//! Names that a node has and hasn't: of timers, of what holds flows, and of changeback codes.
+//! Names that a node has and doesn't have: of timers, of what holds flows, and of changeback codes.
 
 use super::{Part, all_right, first_wrong, number, octet, word};
 use changeback::Changeback;

@@ -1,4 +1,4 @@
-//! Stores of messages, and the numbers of a link's messages over one. Digits are messages, even ones of management.
+//! Stores of messages, and the numbers of a link's messages over one. Digits are messages; even digits are management.
 
 ghost use Rattle.std.specs.Prelude.{◌≤◌};
 ghost use Rattle.signalling_types.specs.declared.limits.TheConstants.Limits;
@@ -46,7 +46,7 @@ start 16777214; fill 0 1 16384; send 16384 16384; complete 16777213 none; count 
 start 16777214; fill 0 1 16384; send 16384 16384; complete 16382 16384 = - -
 ";
 
-/// Puts the message of a digit at the end of a list, and answers why it is refused, if it is.
+/// Puts the message of a digit at the end of a list, and returns why it is refused, if it is.
 fn push<L: Lanes>(lanes: &mut L, list: usize, digit: u8) -> &'static str {
     let sio = if digit % 2 == 0 { 0x80 } else { 0x85 };
     match Msu::new(sio, &[0x2c, 0x41, 0x00, 0x50, digit]) {
@@ -58,7 +58,7 @@ fn push<L: Lanes>(lanes: &mut L, list: usize, digit: u8) -> &'static str {
     }
 }
 
-/// Puts the message of each digit at the end of a list. Whether each is refused for this cause, or for none.
+/// Puts the message of each digit at the end of a list. Returns whether each is refused for this cause, or for none.
 fn put<L: Lanes>(lanes: &mut L, list: usize, digits: &str, cause: &str) -> bool {
     for digit in digits.bytes() {
         if push(lanes, list, digit) != cause {
