@@ -48,7 +48,7 @@ marked-set rings chains i ring chain long marks mark = record {
 pub mark-of : (next : List ℕ) (chains : List Chained) (i : ℕ) → i < length chains → AreMarked (rings_of next chains) chains → IsMarked (cells_of next (chain_at chains i)) (chain_at chains i)
 mark-of next chains i h marks = rw (← ring-cells next chains i h) (marks.each i h)
 
--- ---- one list behind another
+-- ---- one list after another
 
 pub end-none : (front back : Chained) → front.count ≡ 0 → end_of front back ≡ back.last
 end-none front back e = ap (λ (b : Bool). cond b back.last front.last) (eq-eqb front.count 0 e)

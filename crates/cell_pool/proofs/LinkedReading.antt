@@ -1,4 +1,4 @@
--- What the lists are after a message was written into a cell of the row or after it, and after cells were relinked.
+-- What the lists are once a message is written into a cell of the row or after it, and once cells are relinked.
 use Rattle.cell_pool.proofs.Basics.{◌≡◌, ◌≢◌, ℕ, ◌+◌, ◌<◌, ◌≤◌, Bool, true, false, List, [], ◌∷◌, ◌++◌, length, take, drop, refl, ap, sym, ◌∙◌, arith, nat_lt, sum_by, if◌then◌else◌, set, ltb-true, ltb-false, lt-ltb, le-ltb, map-set, map-append, length-map, take-map, drop-map, get_or_push, sum_by-cons, get_or-le-sum_by, Message, uses, ring_at, lane_at, pushed, all_behind, put_behind, cut_at, Occupied, message_at, messages_at, lists_at}
 use Rattle.cell_pool.specs.Row.{occupied_in, written}
 use Rattle.cell_pool.specs.declared.linked_lists.LinkedLists.TheInside.{Inside}
@@ -10,7 +10,7 @@ use Rattle.cell_pool.proofs.Walks.{get_or-push_other}
 pub within_linked : (s : Inside) (v : Occupied) (i : ℕ) → occupied_in s ≡ v → i < length v.lists → i < length s.links.rings
 within_linked s v i e h = omega (arith, ap (λ (w : Occupied). length w.lists) e, length-map s.links.rings (messages_at s.cells.items))
 
--- ---- a message behind the row
+-- ---- a message after the row
 
 grown-elsewhere : (cells : List Message) (m : Message) (numbers : List ℕ) → uses (length cells) numbers ≡ 0 → messages_at (cells ++ m ∷ []) numbers ≡ messages_at cells numbers
 grown-elsewhere cells m [] h = refl
@@ -40,7 +40,7 @@ grown-lists cells rings i m h f =
     ∙ ap (λ (lists : List (List Message)). set lists i (messages_at (cells ++ m ∷ []) (ring_at rings i ++ n ∷ []))) (grown-unused cells m rings f)
     ∙ ap (set (lists_at cells rings) i) list
 
--- ---- a message in the row or behind it
+-- ---- a message in the row or after it
 
 written-either : (b : Bool) (cells : List Message) (rings : List (List ℕ)) (i n : ℕ) (m : Message) → nat_lt n (length cells) ≡ b → n ≤ length cells → i < length rings → sum_by (uses n) rings ≡ 0 → lists_at (if b then set cells n m else cells ++ m ∷ []) (set rings i (ring_at rings i ++ n ∷ [])) ≡ pushed (lists_at cells rings) i m
 written-either true cells rings i n m e l h f = pushed-lists cells rings i n m h (ltb-true n (length cells) e) f

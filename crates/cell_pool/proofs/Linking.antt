@@ -37,7 +37,7 @@ value-within s v i place e shared h j =
     let same : ring_at (rings_of s.next.items s.chains.items) i ≡ ring_at v.rings i = ap (λ (w : Linked). ring_at w.rings i) e in
     rw (← same) (in_ring-within _ (rings_of s.next.items s.chains.items) (length s.next.items) i place shared (omega (arith, h, length-map s.chains.items (cells_of s.next.items))) (omega (arith, j, ap (length {A = ℕ}) same)))
 
--- the one behind a cell of a list is the one that it names
+-- the one after a cell of a list is the one that it names
 pub value-next : (s : Inside) (v : Linked) (i place : ℕ) → linked_in s ≡ v → i < length s.chains.items → place + 1 < length (ring_at v.rings i) → get_or (ring_at v.rings i) (place + 1) 0 ≡ get_or s.next.items (get_or (ring_at v.rings i) place 0) 0
 value-next s v i place e h j =
     let on : place + 1 ≡ suc place = omega arith in

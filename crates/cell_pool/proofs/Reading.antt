@@ -1,4 +1,4 @@
--- What the lists are after a message was written into a cell that no list had, and after a cell left a list or moved.
+-- What the lists are once a message is written into a cell that no list has, and once a cell leaves a list or moves.
 use Rattle.cell_pool.proofs.Basics.{◌≡◌, ℕ, zero, suc, ◌<◌, ◌≢◌, List, [], ◌∷◌, ◌++◌, length, take, drop, replicate, refl, ap, sym, ◌∙◌, arith, sum_by, set, map-set, map-append, get_or-map, get_or-set_same, get_or-set_other, length-set, take-map, drop-map, sum_by-cons, get_or-le-sum_by, Message, uses, ring_at, lane_at, pushed, dropped, put_behind, first_behind, message_at, messages_at, lists_at}
 use Rattle.cell_pool.proofs.Sharing.{use_of, uses-cons, use_of-itself}
 

@@ -15,7 +15,7 @@ uses-cons n k xs = sum_by-cons (use_of n) k xs
 pub use_of-itself : (k : ℕ) → use_of k k ≡ 1
 use_of-itself k = ap (λ b. cond b 1 0) (eq-eqb k k refl)
 
--- a number that stands in a list is used there
+-- a number that occurs in a list is used there
 pub uses-get_or : (xs : List ℕ) (i : ℕ) → i < length xs → 1 ≤ uses (get_or xs i 0) xs
 uses-get_or xs i h = omega (arith, use_of-itself (get_or xs i 0), get_or-le-sum_by (use_of (get_or xs i 0)) xs i 0 h)
 

@@ -6,9 +6,9 @@ use Rattle.cell_pool.proofs.Walks.{length-walk, walk-first, walk-joined, walk-dr
 use Rattle.cell_pool.proofs.Chaining.{ring-cells, rings-relinked, marked-set, mark-of, end-none, end-some, positive, last-used, joined-cells, joined-marked}
 use Rattle.cell_pool.proofs.Taking.{used-once, used-in}
 
--- ---- all of a list goes behind another
+-- ---- all of a list goes after another
 
--- of the cell that is made to name the first one of the list behind, where that list has no cells any more
+-- of the cell that is made to name the first one of the list after it, if that list is left without cells
 pub record IsSeam (next : List ℕ) (spare : List ℕ) (rings : List (List ℕ)) (front back : Chained) : Type 0 where
   pub once : uses (end_of front back) (cells_of next front) + uses (end_of front back) (cells_of next back) ≡ 1
   pub alone : sum_by (uses (end_of front back)) rings ≡ uses (end_of front back) (cells_of next front)
@@ -198,7 +198,7 @@ marked-turned next chains free ring count marks h some less cut =
     } in
     marked-set (rings_of next chains) chains ring _ (turned_round chain first last) (length-map chains (cells_of next)) marks (rw (ring-cells next chains ring h) mark)
 
--- a cut before all cells, or behind them, leaves the list
+-- a cut before all cells, or after them, leaves the list
 pub uncut-front : (xs : List ℕ) (n : ℕ) → n ≡ 0 → drop n xs ++ take n xs ≡ xs
 uncut-front xs n e = ap (λ (i : ℕ). drop i xs ++ take i xs) e ∙ append-nil xs
 

@@ -1,9 +1,9 @@
--- A list that is turned round: what was after its first messages comes before them, and there are as many of each kind.
+-- A list that is turned round: what followed its first messages now precedes them, and there are as many of each kind.
 use Rattle.cell_pool.proofs.Basics.{◌≡◌, ◌≢◌, ℕ, ◌<◌, List, [], ◌++◌, length, take, drop, ap, sym, ◌∙◌, arith, sum_by, set, set-set, get_or-set_same, get_or-set_other, take_at, drop_at, length-set, sum_by-set, sum_by-append, sum_by-take-drop, Message, HasAsMany, list_at, put_behind, put_before, cut_at}
 use Rattle.cell_pool.proofs.Counting.{as_user, as_management}
 
 module _ {A : Type 0} where
-  -- what was put behind a list comes before it, where the list is cut at its old end
+  -- what was put after a list comes before it, if the list is cut at its old end
   pub cut-behind : (lists : List (List A)) (from to : ℕ) (left gone : List A) → from ≢ to → to < length lists →
       cut_at (length (list_at lists to)) (put_behind lists from left gone to) to ≡ put_before lists from left gone to
   cut-behind lists from to left gone apart h =

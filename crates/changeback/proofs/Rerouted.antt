@@ -1,4 +1,4 @@
--- One more flow to a destination, whose route gets a status.
+-- One more flow to a destination whose route changes its status.
 use Rattle.changeback.proofs.Basics.{◌≡◌, ℕ, zero, suc, ◌+◌, ◌<◌, Bool, true, false, ◌||◌, cond, List, [], ◌∷◌, ◌++◌, length, slice_index_or, refl, ap, sym, ◌∙◌, arith, add-one, Option, None, nat_lt, filter, range_with_len, nat_tests, map-id, filter_of_map_range_with_len_more, Facts, chosen_link, Reroute, SELECTIONS, HoldSet, with_hold, is_other_link, changes_link, rerouted, moved_from, held_for}
 
 -- ---- the flows

@@ -1,4 +1,4 @@
--- Destinations whose messages went by one set alone, and go by one set alone, lose the same links.
+-- Destinations whose messages went by one set alone, and still do, lose the same links.
 use Rattle.changeback.proofs.Basics.{and_parts, or_left, or_right, ◌≡◌, ◌≢◌, ◌⊎◌, ◌<◌, ℕ, zero, suc, ◌*◌, Bool, true, false, ◌||◌, List, Option, Some, None, refl, ap, sym, ◌∙◌, arith, ◌&&◌, nat_lt, if◌then◌else◌, slice_index_or, slice_set, ⊎_elim, cases_eq, ltb-true, get_or-set_other, SETS, SELECTIONS, Facts, with_link, chosen_link, lone_set, lone_alike, Network, facts_of, former_link, change_from, former_link_of, changes_of, comes_from, gives_up, number_of_pair, no_pairs, has_pair, with_pair, is_seen, with_seen, IsSeen}
 use Rattle.std.proofs.Math.Logic.{inl, inr}
 use Rattle.changeback.proofs.Changes.{gives_up-append, gives_up-one, none_set}

@@ -1,4 +1,4 @@
--- Dropping what the changeover is done with, and splicing what is left, completes as the whole queue does.
+-- Dropping what the changeover is done with, and then splicing the rest, completes as the whole queue does.
 use Rattle.changeover.proofs.Basics.{◌≡◌, ◌≢◌, ℕ, Bool, ◌<◌, List, ◌++◌, length, drop, refl, ap, ◌∙◌, Option, Some, None, Message, lane_at, Queue, Counts, counts_of, Keeps, answers-last_accepted, users_of, managements_of, accepted_count, doubted, held_after, queued_anew, begins_with, beginning, kept_beginning, kept_accepted_count, kept_behind, kept_done, kept_done_with, kept_doubted, spliced}
 use Rattle.changeover.proofs.Keeping.{ahead, alike, counted}
 use Rattle.changeover.proofs.Splicing.{splices}

@@ -1,4 +1,4 @@
--- The user messages of one list go before all of another, and its management messages stay.
+-- The user messages of one list go before everything in another, and its management messages stay.
 use Rattle.changeover.proofs.Basics.{◌≡◌, ◌≢◌, ℕ, ◌<◌, Bool, true, false, not, cond, List, [], ◌∷◌, ◌++◌, length, drop, refl, ap, sym, ◌∙◌, arith, filter, set, get_or-set_same, get_or-set_other, length-set, Message, is_management, lane_at, dropped, list_at, put_before, left-before, users_of, managements_of, splicing_completes}
 
 twice : (b : Bool) → not (not b) ≡ b

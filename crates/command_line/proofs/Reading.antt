@@ -100,7 +100,7 @@ unfolding clap_on_literals
 lab_udp-command = is_command _ _ (λ words. sym (walk_stopped rules names (walk_from nothing_held) (codes "lab-udp") [] words))
     (stopped_fault (built stp).top names (walk_from nothing_held) (codes "lab-udp", [])) (λ words. refl) (λ words. refl)
 
--- ---- the words behind it
+-- ---- the words after it
 
 plain-first : (x : ℕ) → not (nat_eq x 45) ≡ true → nat_eq x 45 ≡ false
 plain-first x e = not-true (nat_eq x 45) e

@@ -11,7 +11,7 @@ use Rattle.point_format.specs.declared.point.PointFormat.{PointFormat}
 use Rattle.console_session.specs.declared.client.Ending.{Ending}
 use Rattle.console_session.specs.declared.client.TheConstants.{LINE_OCTETS}
 
--- an octet behind some that end no line may end it
+-- an octet after some that end no line may end it
 pub up-to : (octets : List ℕ) (k : ℕ) → k < length octets → EndsNoLine (take k octets) → IsOneLine (take (k + 1) octets)
 up-to octets k within none =
     let len : length (take (k + 1) octets) ≡ k + 1 = length-take-le (k + 1) octets (omega arith) in
@@ -31,7 +31,7 @@ grown octets k line now old within same longer =
 
 -- ---- where a line ends
 
--- the octet that ends a line stands behind those that end none
+-- the octet that ends a line comes after those that end none
 front-within : (octets front behind : List ℕ) (k : ℕ) → octets ≡ front ++ behind → EndsNoLine front → slice_index_or octets k 0 ≡ 10 → length front ≤ k
 front-within octets front behind k parts none ends =
     elim (cases_lt k (length front)) [
@@ -60,7 +60,7 @@ never-ends octets front behind k now old parts all some same room long =
     (λ more. subst (λ (c : ClientState). length c.line ≤ LINE_OCTETS) same (room more)) long
 
 module _ (octets front behind : List ℕ) (k : ℕ) (parts : octets ≡ front ++ 10 ∷ behind) where
-  -- octets that end no line stand in front of the end
+  -- octets that end no line come before the end
   within-front : k ≤ length octets → EndsNoLine (take k octets) → k ≤ length front
   within-front fits none =
       elim (cases_lt (length front) k) [

@@ -1,4 +1,4 @@
--- Steps of the division go through xor, so what several octets leave is what each of them leaves, by xor.
+-- Steps of the division distribute over xor, so what several octets leave is the xor of what each of them leaves.
 use Rattle.std.proofs.Common.{◌≡◌, ℕ, zero, suc, ◌+◌, ◌*◌, ◌/◌, ◌%◌, ◌^◌, ◌<◌, Bool, true, false, List, [], ◌∷◌, ◌++◌, length, get_or, take, drop, bit_xor, refl, sym, ap, ◌∙◌, arith}
 use Rattle.std.proofs.lemmas.Bool.{ne_eqb}
 use Rattle.std.proofs.lemmas.List.{append_assoc, at_drop_more, take-append-drop}
@@ -173,7 +173,7 @@ after_octets-append r (x ∷ xs) ys =
 abbrev pub joined : ℕ → ℕ → ℕ → ℕ → ℕ
 joined a b c d = a + (b + (c + d * 2 ^ 8) * 2 ^ 8) * 2 ^ 8
 
--- what a number of four octets leaves after so many steps and 24 more: what each of them leaves
+-- what a number of four octets leaves after n steps and 24 more: what each of them leaves
 pub word_step : (k r a b c d : ℕ) → r ≡ joined a b c d → a < 2 ^ 8 → b < 2 ^ 8 → c < 2 ^ 8
     → bit_xor (divided_by (8 + (8 + (8 + k))) a) (bit_xor (divided_by (8 + (8 + k)) b) (bit_xor (divided_by (8 + k) c) (divided_by k d))) ≡ divided_by (8 + (8 + (8 + k))) r
 word_step k r a b c d e fa fb fc =

@@ -1,4 +1,4 @@
--- A wrong number in User Data changes nothing but that it fails the link.
+-- A wrong number in User Data only fails the link.
 use Rattle.exchange.proofs.Basics.{◌≡◌, ◌∙◌, ℕ, Bool, List, [], Option, Some, None, Result, Err, is_some, refl, ap, sym, slice_set, option_map, set-get_or, Message, lent, Handled, dropped, SeqFault, count_confirmed, Counts, kept_first, kept_after_answer, State, with_node, Ends, fail, handle, handle_by, KeptQueues, kept, lane_of, counts_at, carrying}
 use Rattle.signalling_types.specs.declared.notice.FailureReason.TheVariants as reasons
 use Rattle.exchange.specs.declared.exchange.frames.UserData.{UserData}

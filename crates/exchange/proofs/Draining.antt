@@ -1,4 +1,4 @@
--- Messages that leave a list one after the other are taken out in order, and each meets its fate.
+-- Messages that leave a list one after another are taken out in order, and each meets its fate.
 use Rattle.exchange.proofs.Basics.{◌≡◌, ◌≢◌, ◌⊎◌, ℕ, zero, suc, ◌+◌, ◌-◌, ◌<◌, ◌≤◌, Bool, true, false, List, [], ◌∷◌, ◌++◌, length, take, drop, refl, ap, sym, subst, ◌∙◌, arith, Option, Some, None, slice_get, set, ⊎_elim, cases_eq, set-set, set_comm, set-get_or, get_or-set_same, get_or-set_other, drop-append-le, take-append-le, take_all, drop_all, length-set, length-append, Message, flow_of, Configuration, lane_at, pushed, dropped, first_behind, Parts, Node, State, with_node, KeptQueues, kept, held_lane, link_of, waits, NoRoute, unsent, send_anew, send, lose, send_each, go_on, go_by, go, go_each, release, Fate, GoesTo, IsDropped, fate_on, anew, onward, onward_by, placed, placed_each, without_first, drained, gone, gone_by, first_gone}
 
 abbrev Lists : Type 0
@@ -106,7 +106,7 @@ pub record OneFewer (fate : Message → Parts → Fate) (n lane : ℕ) (before a
 
 module _ (fate : Message → Parts → Fate) (n lane : ℕ) (node : Node KeptQueues) (m : Message) (rest : List Message) (e : lane_at node.queues.lanes lane ≡ m ∷ rest)
     (h : n ≤ length rest) (k : lane < length node.queues.lanes) where
-  -- all but the first are taken out behind it
+  -- all but the first are taken out after it
   out : drained fate (suc n) lane node ≡ placed_each fate (take n rest) (placed (fate m node.parts) m (without_first (suc n) lane node))
   out = ap (λ (xs : List Message). placed_each fate (take (suc n) xs) (without_first (suc n) lane node)) e
 

@@ -1,4 +1,4 @@
--- What the code keeps of whole queues, it keeps after each word on them.
+-- What the code keeps of whole queues, it still keeps after each operation on them.
 use Rattle.exchange.proofs.Basics.{◌≡◌, ◌≤◌, ◌+◌, ◌++◌, ◌∷◌, ℕ, Bool, List, [], Option, map, get_or, is_some, refl, sym, ap, ◌∙◌, sum_by-cons, set, get_or-map, map-set, Message, users_in, managements_in, Queue, IsQueue, first_queue, unconfirmed, Counts, counts_of, kept_emptied, kept-accept_answer, counts-accepted, unconfirmed-accepted, kept-to_send, counts-sent_one, unconfirmed-sent_one, unconfirmed-appended, kept-last_sent, kept-last_accepted, sound-first, sound-appended, sound-accepted, sound-sent_one, sound-emptied, WINDOW, accepted_count, moved, lost, kept_accepted_count, kept_lost, kept_queued_anew, alike, counted-some, WholeQueues, queue_at, with_queue, whole, KeptQueues, counts_at, kept, AreQueues, kept_queues_of, IsKept, IsKeeping, map-set_alike, sum_by-map, each-set}
 use Rattle.link.specs.Queue as queue
 use Rattle.link.specs.Keeps.{Keeps}

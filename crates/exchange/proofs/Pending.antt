@@ -1,4 +1,4 @@
--- Nothing is owed but what may be pending, nor before the place that a walk over what may be has reached.
+-- Nothing is owed except what may be pending, and nothing before the index that a walk over what may be has reached.
 use Rattle.exchange.proofs.Basics.{◌≡◌, ◌≢◌, ◌<◌, ◌≤◌, ◌+◌, ◌-◌, ℕ, zero, suc, Bool, true, false, length, List, [], ◌∷◌, Option, Some, None, refl, ap, sym, subst, ◌∙◌, inl, inr, arith, common_steps, if◌then◌else◌, ◌||◌, replicate, slice_get, slice_index_or, slice_set, eqb_tells, leb_tells, nat_tests, get_or-set_same, get_or-set_other, length-set, length-replicate, slice_get_past, Configuration, Facts, with_status, is_marked, Updates, is_from, is_within, is_any, has_all_from, with_all, with_none, with_mark, with_destination, without_before, Extent, Nothing, Marked, From, RouteStatus, ToldTable, is_own_point, row_of, shape_of, told_at, with_told, Owed, owed_at, status_to_advertise, is_reachable, told_shape, owed_by, none_owed, once, after_status, still, next_is_not_owed, QueueKind, Node, facts, may_tell, tell, tell_if, tell_each, tell-facts, tell-told, OwesNone, OwesNoneBefore, OwesNoneBetween, OwesNoneBut, tell_at}
 use Rattle.route_management.specs.Updates.{is_some}
 use Rattle.exchange.proofs.Telling.{row_left}

@@ -44,7 +44,7 @@ release-waits_kept c n =
     (record { same = refl; all = ap (λ (ms : List Message). all_wait c n.parts.holds ms) (no-held n.queues.lanes) }) in
     ap (λ (t : HoldSet). all_wait c t (kept.held (release kept c n).queues)) w.same ∙ w.all
 
--- the node with these messages in Held, and these lists behind it
+-- the node with these messages in Held, and these lists after it
 abbrev with_lists : List Message → List (List Message) → Node KeptQueues → Node KeptQueues
 with_lists held lanes n = record n { queues = record n.queues { lanes = held ∷ lanes } }
 

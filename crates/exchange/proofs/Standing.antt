@@ -1,4 +1,4 @@
--- An exchange that stood for an abstract state stands for the state after each event and each frame that goes out.
+-- An exchange that stands for an abstract state still does after each event and each frame that goes out.
 use Rattle.exchange.proofs.Basics.{◌≡◌, ℕ, suc, List, [], refl, ap, ◌∙◌, length, ◌≤◌, replicate, Configuration, TitleEntry, Message, WINDOW, Notice, IsQueue, first_queue, unconfirmed, Counts, counts_of, kept_first, sound-first, Running, none_running, Network, first_network_of, Node, Done, keep, whole, KeptQueues, kept, Happening, apply, outcome_of, after, frame_to_take, taken, wants_of, Abstract, AreQueues, IsSound, Kept, StandsFor, kept_of, kept_queues_of, counts_in, first_state, Keeps, apply-kept, frame_taken-kept, after_take-kept, Standing, no_changeover, Codes, no_codes, ToldTable, first_told, HoldSet, no_holds, table_of, take-waits, done-waits, done-told, take-told, first-told, each-replicate, map-replicate}
 use Rattle.exchange.proofs.KeptQueues.{keeps_whole}
 

@@ -1,4 +1,4 @@
--- One more flow, and one more destination; and the walk over all flows holds those that fail with the link.
+-- One more flow, and one more destination; the walk over all flows holds those that fail with the link.
 use Rattle.exchange.proofs.Basics.{add-one, ◌≡◌, ◌<◌, ℕ, zero, suc, ◌+◌, Bool, true, false, ◌&&◌, ◌||◌, not, List, [], ◌∷◌, length, Option, Some, None, nat_eq, nat_lt, refl, ap, sym, ◌∙◌, arith, if◌then◌else◌, list_any, option_eq, nat_tests, Message, flow_of, is_management, Configuration, destination_place, Facts, chosen_link, Changeover, SELECTIONS, HoldSet, with_hold, may_parts, Adds, adds-none, adds-one, adds-more, adds-alike, added_flows, Parts, facts, goes_by, HasPlacesFor, is_of_flow, is_failed, suspended, with_flow, with_selections, with_destinations, with_flow_to, with_message, with_messages}
 
 pub no_selections : (f : Facts) (link place : ℕ) (holds : HoldSet) → holds ≡ with_selections f link place 0 holds
@@ -108,7 +108,7 @@ module _ (f : Facts) (link : ℕ) where
       few-selections : (s : ℕ) → s < SELECTIONS → nat_lt s SELECTIONS ≡ true
       few-selections s few = grind (arith, nat_tests, few)
 
-  -- all of them, in a node of so many destinations
+  -- all of them, in a node of n destinations
   adds-going : (h : HoldSet) (count : ℕ) → h.destinations ≡ count → Adds h (with_destinations f link count h) (Changeover link) goes
   adds-going h count e =
       adds-alike h (with_destinations f link count h) (Changeover link) (λ d s. nat_lt d count && goes d s) goes

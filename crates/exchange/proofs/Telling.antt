@@ -4,7 +4,7 @@ use Rattle.exchange.proofs.Basics.{◌≡◌, ◌<◌, ◌≤◌, ℕ, suc, ◌+
 module _ {Q : Type 0} (q : QueueKind Q) (c : Configuration) where
   -- ---- one destination after the other
 
-  -- what the adjacent point of a set is still to be told, of so many destinations from one on
+  -- what the adjacent point of a set is still to be told, of n destinations from one on
   abbrev pub row_left : (set from count : ℕ) → Node Q → Node Q
   row_left set from count n = tell_each q c (owed_from (facts c n.parts) n.parts.told set from count) n
 
@@ -32,7 +32,7 @@ module _ {Q : Type 0} (q : QueueKind Q) (c : Configuration) where
 
   -- ---- one set after the other
 
-  -- what the adjacent points of so many sets from one on are still to be told
+  -- what the adjacent points of n sets from one on are still to be told
   abbrev pub sets_left : (from count : ℕ) → Node Q → Node Q
   sets_left from count n = tell_each q c (owed_by_sets (facts c n.parts) n.parts.told from count) n
 
@@ -55,11 +55,11 @@ module _ {Q : Type 0} (q : QueueKind Q) (c : Configuration) where
 
 -- ---- the same of a state of the code
 
--- a state once the adjacent point of a set was told of so many destinations from one on
+-- a state once the adjacent point of a set was told of n destinations from one on
 abbrev pub row_rest : (set from count : ℕ) → State KeptQueues → State KeptQueues
 row_rest set from count s = with_node s (row_left kept s.settings set from count s.node)
 
--- and once those of so many sets from one on were told all
+-- and once those of n sets from one on were told all
 abbrev pub sets_rest : (from count : ℕ) → State KeptQueues → State KeptQueues
 sets_rest from count s = with_node s (sets_left kept s.settings from count s.node)
 

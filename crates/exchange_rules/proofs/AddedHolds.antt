@@ -69,7 +69,7 @@ module _ (c : Configuration) where
   return_if-waits true link before n w = change_back-waits link before n w
   return_if-waits false link before n w = w
 
-  -- nor does it change when all that is known over a set begins anew
+  -- nor does it change when what is known over a set is reset
   anew-waits : (b : Bool) (link : ℕ) (p : Parts) (ms : List Message) → all_wait c p.holds ms ≡ true → all_wait c (begun_anew_if b c link p).holds ms ≡ true
   anew-waits true link p ms w = w
   anew-waits false link p ms w = w

@@ -1,4 +1,4 @@
--- Through ticks, too: a timer that runs out takes its link out of the state in which that runs.
+-- Through ticks, too: a timer that runs out takes its link out of the state in which it runs.
 use Rattle.exchange_rules.proofs.Basics.{◌≡◌, ◌≢◌, ◌<◌, ◌≤◌, ℕ, Bool, true, false, ◌&&◌, not, nat_lt, length, Option, Some, None, refl, ap, sym, subst, ◌∙◌, arith, ⊎_elim, cases_eq, cases_lt, is_some, nat_tests, get_or_past, length-replicate}
 use Rattle.exchange_rules.proofs.Definitions.{Configuration, Alignment, Action, Expiry, Fail, Go, Transition, action_at, is_in_service, LinkTimer, TimerName, NodeCounts, Running, one_less, due_name, after_due, after-clear, after-none, due-left, counts-clear, left-clear_other, left-clear, left-ticked, left-none, clear_timer, timer_name, timed, with_timer_if, enters, has_other, begun_anew_if, return_if, advance, act_by_timer, run_out, links_with, stepped, Link, down_link, Node, with_parts, link_at, in_service, facts, with_timers, run_timer, run_due, first_state, counts_in, after_each, HasAllPlaces, WholeQueues, whole}
 use Rattle.timers.specs.OneMap.{one_map}

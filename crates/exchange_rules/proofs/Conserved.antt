@@ -145,7 +145,7 @@ module _ (of : Message → Bool) (a : Abstract) where
 
   -- ---- a link opens
 
-  -- it is down without an association, so nothing stands in its queue
+  -- it is down without an association, so nothing is in its queue
   not-serving : (state : Alignment) → is_down state ≡ true → is_in_service state ≡ false
   not-serving stage.Down e = refl
   not-serving state e = absurd cc

@@ -37,7 +37,7 @@ few-last k n xs few =
     let left : length xs - n + (length (keep_last n xs) - k) ≡ length xs - k = omega (arith, size, few) in
     drop-drop (length (keep_last n xs) - k) (length xs - n) xs ∙ ap (λ (j : ℕ). drop j xs) left
 
--- and of what is behind others
+-- and of what comes after others
 last-behind : (k : ℕ) (xs ys : List Notice) → k ≤ length ys → keep_last k (xs ++ ys) ≡ keep_last k ys
 last-behind k xs ys few =
     let at : length (xs ++ ys) - k ≡ length xs + (length ys - k) = omega (arith, length-append xs ys, few) in

@@ -1,4 +1,4 @@
--- A tick hands out all timers that are due, and makes none due: after it none is.
+-- A tick hands out all timers that are due, and makes none due: afterwards none is.
 use Rattle.exchange_rules.proofs.Basics.{◌≡◌, ◌≢◌, ◌≤◌, ℕ, zero, suc, Bool, true, false, cond, List, [], ◌∷◌, length, filter, Option, Some, None, refl, ap, sym, ◌∙◌, arith}
 use Rattle.exchange_rules.proofs.Definitions.{Configuration, opening, carries, TimerName, Running, NodeCounts, is_due, due_name, after_due, after-none, Node, link_at, with_timers, run_due, run_next, run_times, WholeQueues, whole}
 use Rattle.timers.specs.Timers.{names_of, due_count}

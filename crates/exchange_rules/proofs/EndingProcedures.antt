@@ -1,4 +1,4 @@
--- A procedure that holds other flows than before, with its timer: what ends the others is as it was.
+-- A procedure that holds other flows than before, with its timer: what ends the others' holds is unchanged.
 use Rattle.exchange_rules.proofs.Basics.{◌≡◌, ◌≢◌, ◌⊎◌, inl, inr, ℕ, Bool, true, false, ◌&&◌, List, [], ◌∷◌, refl, ap, sym, ◌∙◌, subst, arith, ⊎_elim, eqb-true, nat_lt}
 use Rattle.exchange_rules.proofs.Definitions.{Configuration, CHANGEBACK_CODES, Procedure, Changeover, Code, Time, Reroute, HoldSet, holds, with_hold, may_parts, Standing, TimerName, has_name, Parts, Node, changeover_of, WholeQueues, HasAllPlaces}
 use Rattle.std.proofs.lemmas.Bool.{lt-ltb}

@@ -1,4 +1,4 @@
--- A node has its places, and the counts of its queues are in order: so it stays through each step.
+-- A node has its indices, and the counts of its queues are in order; each step keeps this.
 use Rattle.exchange_rules.proofs.Basics.{List, refl, subst, sym, ℕ, ◌≡◌}
 use Rattle.exchange_rules.proofs.Definitions.{sound-accepted, sound-appended, sound-emptied, sound-first, sound-sent_one, IsQueue, Queue, emptied, first_queue, Configuration, Message, counts-after, after_due, ticked, handle_event, carries, Happening, HasAllPlaces, WholeQueues, queue_at, whole, with_queue, AreQueues, Node, run_next, with_timers}
 use Rattle.exchange_rules.proofs.Asked.{any}

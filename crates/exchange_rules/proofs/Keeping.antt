@@ -13,7 +13,7 @@ use Rattle.exchange_rules.proofs.KeepingRelaying.{add_title-kept, remove_title-k
 use Rattle.exchange_rules.proofs.KeepingLinks.{association_up-kept, association_down-kept, activate-kept, deactivate-kept, on_link_status-kept, tick-kept}
 
 module _ {P Q : Type 0} (p : QueueKind P) (q : QueueKind Q) (h : P → Q) (IsFit : P → Type 0) (c : Configuration) (k : IsKeeping p q h IsFit c.window) where
-  -- the end of an event behind a rule
+  -- the end of an event after a rule
   behind_done : (s : Done P) (t : Done Q) → t ≡ record { outcome = s.outcome; left = keep h s.left }
       → KeepsNode h IsFit (tell_owed q c (release q c (keep h s.left))) (tell_owed p c (release p c s.left)) → Keeps h IsFit (settled q c t) (settled p c s)
   behind_done s t e r = record {

@@ -1,4 +1,4 @@
--- T10 of a route runs on as timers are set, and stops only of one that is allowed.
+-- T10 of a route runs on as timers are set, and stops only if the route is allowed.
 use Rattle.exchange_rules.proofs.Basics.{◌≡◌, ◌≢◌, ℕ, Bool, true, false, ◌==◌, refl, ap, sym, subst, ◌∙◌, arith, ⊎_elim, is_some, nat_tests}
 use Rattle.exchange_rules.proofs.Definitions.{Configuration, RouteStatus, Allowed, Restricted, Prohibited, TimerName, Running, has_name, is_running, set_timer, clear_timer, clear_set, left-set, left-set_other, left-clear_other, left-clear_set_other, Parts, timed_telling}
 use Rattle.timers.specs.declared.name.TimerName.TheVariants as name
@@ -10,7 +10,7 @@ use Rattle.exchange_rules.proofs.Steps.{status_over, KeepsTests}
 no-way : {A : Type 0} (b : Bool) → b ≡ true → b ≡ false → A
 no-way b e f = (let no : true ≡ false = sym e ∙ f in absurd cc)
 
--- one that runs runs on where another is set, or it is set anew
+-- one that runs runs on if another is set, or it is set again
 pub set-still : (its : TimerName) (ticks : ℕ) (r : Running) (other : TimerName) → is_running other r ≡ true → is_running other (set_timer its ticks r) ≡ true
 set-still its ticks r other e =
     ⊎_elim

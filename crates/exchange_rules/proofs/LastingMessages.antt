@@ -1,4 +1,4 @@
--- No message for this point is in Held, or in a queue: so it is at first, and so it stays.
+-- No message for this point is in Held or in a queue: this holds at first, and stays so.
 use Rattle.exchange_rules.proofs.Basics.{◌≡◌, ℕ, Bool, true, false, ◌&&◌, not, List, [], ◌∷◌, ◌++◌, zero, suc, Option, Some, None, Result, Ok, Err, refl, ap, sym, subst, ◌∙◌, if◌then◌else◌, filter, drop, slice_set, and_from as pair}
 use Rattle.exchange_rules.proofs.Definitions.{Message, is_management, Configuration, IsWell, Queue, Sending, first_queue, emptied, after_answer, accept_answer, to_send, appended, SeqFault, behind, moved, accepted_count, Node, queue_on, declaration, test_answer, carries, WholeQueues, queue_at, whole}
 use Rattle.std.specs.Prelude.{length}
@@ -50,7 +50,7 @@ module _ (c : Configuration) where
   moved-onward : (q : Queue) (number : Option ℕ) → all_onward c q.all ≡ true → all_onward c (moved q number) ≡ true
   moved-onward q number e = filtered (λ m. not (is_management m)) (behind q (accepted_count q number)) (behind-onward q (accepted_count q number) e)
 
--- what is accepted or sent stands where it stood
+-- what is accepted or sent is where it was
 pub accepted-all : (q : Queue) (carries : Bool) (answer : Result ℕ SeqFault) → (after_answer q carries answer).all ≡ q.all
 accepted-all q carries (Ok count) = refl
 accepted-all q carries (Err fault) = refl

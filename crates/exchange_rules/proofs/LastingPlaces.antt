@@ -1,4 +1,4 @@
--- A node keeps a place for all that its settings name.
+-- A node keeps an index for everything that its settings name.
 use Rattle.exchange_rules.proofs.Basics.{◌≡◌, ℕ, Bool, List, length, refl, ap, ◌∙◌, false, slice_set, length-set, length-replicate, length-map}
 use Rattle.exchange_rules.proofs.Definitions.{Message, FailureReason, Configuration, TitleEntry, opening, Queue, first_queue, appended, emptied, down_link, after_failure, with_code, HoldSet, NodeCounts, Running, ticked, after_due, counts-after, Route, first_routes, ToldTable, shape_of, first_shape, Link, Standing, no_changeover, Node, Noted, with_parts, link_at, links_with, note, flagged, flagged_late, without_timers, with_changeover, fail_link, declaration, test_answer, carries, WholeQueues, queue_at, whole, with_titles, HasTimersFor, HasAllPlaces, places_at_first, places_stay}
 use Rattle.signalling_types.specs.declared.notice.Notice.TheVariants as notices

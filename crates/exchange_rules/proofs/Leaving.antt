@@ -12,7 +12,7 @@ use Rattle.exchange_rules.proofs.Leaves.{Leaves, Stays}
 use Rattle.exchange_rules.proofs.LeavingMessages.{submit_to-leaves, add_title-leaves, remove_title-leaves, association_up-leaves, association_down-leaves, activate-leaves, deactivate-leaves}
 use Rattle.exchange_rules.proofs.LeavingFrames.{left_of_text, up_leaves}
 
--- ---- the end of an event behind a rule
+-- ---- the end of an event after a rule
 
 -- a release changes no link
 go_on-serves : (c : Configuration) (link : Option ℕ) (m : Message) (n : Node WholeQueues) (l : ℕ) → in_service (go_on whole c link m n).parts l ≡ in_service n.parts l

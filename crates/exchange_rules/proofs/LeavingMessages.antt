@@ -140,7 +140,7 @@ module _ (c : Configuration) (n : Node WholeQueues) (by : Cause → Node WholeQu
 
 -- ---- messages by where they go
 
--- a refusal that leaves nothing behind
+-- a refusal that leaves nothing
 abbrev as_it_was : Node WholeQueues → Cause → Node WholeQueues
 as_it_was n cause = n
 

@@ -1,4 +1,4 @@
--- What a management message says that a node makes, and what the node does with it that it is for.
+-- What a management message says that a node makes, and what its addressee does with it.
 use Rattle.exchange_rules.proofs.Basics.{◌≡◌, ◌<◌, ◌≤◌, ◌^◌, ℕ, true, false, Ok, length, nat_eq, nat_lt, [], refl, ap, arith, slice_index_or, ⊎_elim, cases_lt, nat_tests, get_or_past}
 use Rattle.exchange_rules.proofs.Definitions.{Message, dpc_of, opc_of, service_indicator, network_indicator, is_management, SIF_OCTETS, Configuration, LinkEntry, IsWell, IsLink, label_at, Management, IsManagement, read_management, management_to, entry_of, whither_goes}
 use Rattle.mtp3_codec.specs.declared.label.Label.{Label}

@@ -4,7 +4,7 @@ use Rattle.exchange_rules.proofs.Definitions.{Configuration, set_place, destinat
 use Rattle.std.proofs.Common.{position}
 use Rattle.exchange_rules.proofs.Onward.{link-set}
 
--- ---- where an element of a list stands whose elements differ
+-- ---- the index of an element in a list whose elements differ
 
 all-at : {X : Type 0} (same : X → X → Bool) (x : X) (xs : List X) (k : ℕ) (d : X) → AllByRecursion (λ y. same x y ≡ false) xs → k < length xs → same x (get_or xs k d) ≡ false
 all-at same x [] k d h l = absurd (omega (arith, l))

@@ -30,7 +30,7 @@ concluded-names : (link : ℕ) (found : Found) (p : Parts) → (concluded link f
 concluded-names link found p = judged-names found.is_reasonable link (lose_each found.lost p) ∙ lose_each-names found.lost p
 
 module _ (c : Configuration) where
-  -- what a message notes that goes out anew
+  -- what is noted by a message that goes out again
   abbrev Notes : (n m : Node WholeQueues) → Type 0
   Notes n m = (others : List Notice) × (m.parts.notices ≡ noted_all others n.parts.notices)
 

@@ -190,7 +190,7 @@ allowed-sure routes set destination =
     ap (λ (rs : List Route). is_unsure (over set rs)) (get_or_past (given_to set destination Allowed routes) destination [] (omega (arith, past, length-set routes destination (map (with_status_over set Allowed) (slice_index_or routes destination []))))))
     (cases_lt destination (length routes))
 
--- nor is one over a set that begins anew, and every other is as before
+-- nor is one over a set that is reset, and every other is as before
 pub reset-sure : (routes : List (List Route)) (set destination : ℕ) → is_unsure (status_over set destination (map (map (with_status_over set Allowed)) routes)) ≡ false
 reset-sure routes set destination =
     ap (λ (rs : List Route). is_unsure (over set rs)) (get_or-map (map (with_status_over set Allowed)) routes destination []) ∙ over-allowed set (slice_index_or routes destination [])

@@ -1,4 +1,4 @@
--- As flows are held and lifted, and codes used, each link, set and destination has its places still.
+-- As flows are held and lifted, and codes used, each link, set and destination keeps its index.
 use Rattle.exchange_rules.proofs.Basics.{◌≡◌, ◌≢◌, ◌<◌, ◌≤◌, ℕ, Bool, true, false, List, [], ◌∷◌, length, replicate, refl, ap, sym, ◌∙◌, subst, arith, slice_set, if◌then◌else◌, ⊎_elim, cases_lt, cases_eq, get_or_past, get_or-set_same, get_or-set_other, get_or-replicate, length-set, length-replicate}
 use Rattle.exchange_rules.proofs.Definitions.{CHANGEBACK_CODES, Configuration, Procedure, Code, Reroute, HoldSet, no_holds, with_hold, lifted, with_flows, IsSameNode, flows-same_node, flows_of_node, first_of_node, lifted_of_node, hold_of_node, Codes, codes_of, with_code, no_codes, HasHoldsFor, HasCodes}
 use Rattle.changeback.specs.Rerouting.{held_for}

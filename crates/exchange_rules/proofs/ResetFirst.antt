@@ -1,5 +1,5 @@
--- A link takes a step of its alignment, and all that is known over its set begins again: whichever comes first, the
--- node is the same.
+-- A link takes a step of its alignment, and what is known over its set is reset: whichever comes first, the node is the
+-- same.
 use Rattle.exchange_rules.proofs.Basics.{◌≡◌, ◌≢◌, ℕ, Bool, true, false, Option, Some, None, refl, ap, sym, subst, ◌∙◌, ⊎_elim}
 use Rattle.exchange_rules.proofs.Definitions.{Configuration, Transition, LinkTimer, TimerName, NodeCounts, Running, has_name, is_of_set, set_timer, clear_timer, clear_set, left-set, left-set_other, left-clear, left-clear_other, left-clear_set_other, counts-set, counts-clear, counts-clear_set, timer_name, ticks_of, without_timer_if, with_timer_if, timed, Parts, step_on, with_set_reset}
 use Rattle.timers.proofs.Maps.{left-clear_set}
@@ -28,7 +28,7 @@ apart-by : (of : RouteTimer) (set : ℕ) (its other : TimerName) → is_of_set o
 apart-by of set its other e f same = (let no : true ≡ false = sym f ∙ sym (ap (is_of_set of set) same) ∙ e in cc)
 
 module _ (of : RouteTimer) (set : ℕ) where
-  -- a timer that is of no set is set before those of a set are stopped, or behind them
+  -- a timer that is of no set is set before those of a set are stopped, or after them
   cleared-set : (its : TimerName) (ticks : ℕ) (r : Running) → is_of_set of set its ≡ false → clear_set of set (set_timer its ticks r) ≡ set_timer its ticks (clear_set of set r)
   cleared-set its ticks r none =
       one_map _ _ (counts-clear_set of set (set_timer its ticks r) ∙ counts-set its ticks r ∙ sym (counts-clear_set of set r) ∙ sym (counts-set its ticks (clear_set of set r)))

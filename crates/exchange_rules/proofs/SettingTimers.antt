@@ -1,4 +1,4 @@
--- Whatever happens, timers are set to their settings.
+-- Whatever happens, timers are set to the values in the settings.
 use Rattle.exchange_rules.proofs.Basics.{◌≡◌, ◌≤◌, inl, inr, ℕ, zero, suc, ◌-◌, Bool, true, false, List, [], ◌∷◌, Option, Some, None, refl, sym, subst, ◌∙◌, arith, max, if◌then◌else◌}
 use Rattle.exchange_rules.proofs.Definitions.{apply, Configuration, FailureReason, ChangeoverTimer, Facts, opening, carries, completed, TimerName, one_less, ticked, due_name, after_due, after-clear, after-none, left-ticked, left-none, Found, Parts, Node, with_parts, link_at, in_service, down, is_link, set_of, has_other, suspended, fail_link, without_tests, make_unavailable, changing, begin, change_over, begin_by_peer, fail_by_peer, fail_by_order, complete_by_order, complete_if, concluded, lose_each, judged, changeover_of, with_changeover, changeover_order, changeover_acknowledgement, on_changeover_order, with_changeover_acknowledged, with_expiry, hold_flows, held_by_rerouting, answer, Handled, Ignored, with_timers, run_next, run_times, due_count, tick, Asking, Happens, Takes, AsksWants, Happening, CameUp, WentDown, FrameCame, Ticked, Submitted, Activated, Deactivated, TitleAdded, TitleRemoved, first_state, after_asking, after_each, Abstract, WholeQueues, whole}
 use Rattle.timers.specs.declared.name.TimerName.TheVariants as name

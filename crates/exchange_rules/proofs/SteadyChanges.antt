@@ -99,7 +99,7 @@ module _ (exact : Bool) (w : ℕ) (l : Link) (s : Standing) (q : Queue) (b : Boo
         serving-stands false l.acknowledgement_owed q (if nat_eq (q.sent - q.confirmed) 0 then b else true) h.queue
         (λ x. resumed-runs (nat_eq (q.sent - q.confirmed) 0) refl busy x)
 
-    -- User Data confirms so many: L7 stops where nothing is left, and else begins anew
+    -- User Data confirms n: L7 stops if nothing is left, and otherwise restarts
     confirmed-runs : (none busy : Bool) (left : ℕ) → nat_eq left 0 ≡ none → b ≡ (not busy && nat_lt 0 (q.sent - q.confirmed))
         → (if none then false else if busy then b else true) ≡ (not busy && nat_lt 0 left)
     confirmed-runs true busy left f r = sym (ap (λ (some : Bool). not busy && some) (none-left left f) ∙ and-false (not busy))

@@ -62,7 +62,7 @@ module _ (exact : Bool) (c : Configuration) where
         (cases_eq l k);
   }
 
-  -- ---- one more message stands on a link in service
+  -- ---- one more message is on a link in service
 
   pub queued-keeps : (l k : ℕ) (m : Message) (n : Node WholeQueues) → in_service n.parts k ≡ true → Keeps exact c l n (queue_on whole c k m n)
   queued-keeps l k m n e =

@@ -36,7 +36,7 @@ stepped-at c link step p there = get_or-set_same p.links link (stepped step (lin
 pub stepped-other : (c : Configuration) (link other : ℕ) (step : Transition) (p : Parts) → other ≢ link → link_at (step_on c link step p) other ≡ link_at p other
 stepped-other c link other step p apart = get_or-set_other p.links link other (stepped step (link_at p link)) down_link apart
 
--- links are what they are where all that is known over a set begins anew
+-- links are unchanged if what is known over a set is reset
 anew-link : (first : Bool) (c : Configuration) (link other : ℕ) (p : Parts) → link_at (begun_anew_if first c link p) other ≡ link_at p other
 anew-link true c link other p = refl
 anew-link false c link other p = refl
@@ -111,7 +111,7 @@ module _ {c : Configuration} {Own Counts : ℕ → Type 0} {R : Node WholeQueues
       (λ other apart serves. ap (λ (l : Link). is_in_service l.alignment) (moved-at c link other step n.parts ∙ stepped-other c link other step n.parts apart) ∙ serves)
   entered-steps false link step n there e = s.sends.none (with_parts n (moved_on c link step n.parts))
 
-  -- it takes the step, where it is the first of its set behind what begins anew by that
+  -- it takes the step, and comes after a reset if it is the first of its set
   moved-steps : (first : Bool) (link : ℕ) (input : Input) (step : Transition) (n : Node WholeQueues) → Own link → action_at (link_at n.parts link).alignment input ≡ act.Go step
       → (enters link step n.parts && not (has_other c link n.parts)) ≡ first → R n (with_parts n (begun_anew_if first c link (step_on c link step n.parts)))
   moved-steps false link input step n own e f =

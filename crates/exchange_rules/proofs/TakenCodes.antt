@@ -44,7 +44,7 @@ module _ (c : Configuration) (before after : Facts) (link : ℕ) where
   -- ---- all of them
 
   module _ (n : Node WholeQueues) where
-    -- the node when so many links gave their flows back
+    -- the node when n links have given their flows back
     abbrev pub at : ℕ → Node WholeQueues
     at many = take_back_each whole c before after link many n
 

@@ -60,7 +60,7 @@ module _ {Q : Type 0} (q : QueueKind Q) (c : Configuration) where
     abbrev pub holder_of : (other : ℕ) → Node Q → Procedure
     holder_of other n = procedure_by c link (code_for q c link other (take_back_each q c before after link other n))
 
-    -- a pair is added: that of a flow which one of the first so many links loses, with what holds those
+    -- a pair is added: that of a flow which one of the first n links loses, with what holds those
     pub record IsTakenFrom (many : ℕ) (n : Node Q) (procedure : Procedure) (destination sls : ℕ) : Type 0 where
       pub other : ℕ
       pub below : other < many

@@ -1,4 +1,4 @@
--- A point is told at most once within T8 that messages find no route.
+-- Within T8 a point is told at most once that messages find no route.
 use Rattle.exchange_rules.proofs.Basics.{◌≡◌, ◌<◌, inl, inr, ℕ, Bool, true, false, ◌&&◌, ◌||◌, not, nat_lt, length, Option, Some, None, refl, ap, sym, subst, ◌∙◌, arith, max, if◌then◌else◌, nat_tests, and_from}
 use Rattle.exchange_rules.proofs.Definitions.{Configuration, Message, dpc_of, flow_of, Cause, Refused, NoRoute, destination_place, Running, is_running, left-set, Prohibited, Node, with_parts, refuse, set_of, link_of, no_room, waits, is_destination, offer, may_tell, inhibited, prohibit, answer_no_route, send, route_message, HasAllPlaces, WholeQueues, whole}
 use Rattle.signalling_types.specs.declared.cause.Cause.TheVariants as causes

@@ -1,5 +1,5 @@
--- T10 that runs out asks, and runs again; so through ticks, too, it runs for each route over a set in service that
--- isn't allowed.
+-- T10 tests the route as it runs out, and runs again; so through ticks, too, it runs for each route over a set in
+-- service that isn't allowed.
 use Rattle.exchange_rules.proofs.Basics.{◌≡◌, ◌≢◌, ◌<◌, ℕ, Bool, true, false, ◌&&◌, nat_lt, length, List, [], Option, Some, None, refl, ap, sym, subst, ◌∙◌, arith, ⊎_elim, if◌then◌else◌, is_some, and_from, slice_index_or, map, length-map, get_or-map}
 use Rattle.exchange_rules.proofs.Definitions.{Configuration, DestinationEntry, Link, Message, TimerName, NodeCounts, Running, is_running, one_less, set_timer, clear_timer, left-clear_other, left-ticked, counts-set, counts-clear, due_name, after_due, after-clear, after-none, ticked, Route, RouteStatus, Allowed, Restricted, Prohibited, status_of, Node, with_parts, facts, with_timers, run_timer, run_due, ask_by, ask, prohibited_test, restricted_test, first_state, first_routes, WholeQueues, whole}
 use Rattle.timers.specs.declared.name.TimerName.TheVariants as name
@@ -15,7 +15,7 @@ use Rattle.exchange_rules.proofs.Asked.{IsOfAll, asked-all}
 use Rattle.exchange_rules.proofs.TestedAll.{no-way, below, cleared, set-runs, tests-rules}
 
 module _ (c : Configuration) where
-  -- ---- T10 runs out: the point is asked, and it runs again
+  -- ---- T10 runs out: a route test goes out, and it runs again
 
   handed : TimerName → Node WholeQueues → Node WholeQueues
   handed its n = with_timers n (clear_timer its n.parts.timers)

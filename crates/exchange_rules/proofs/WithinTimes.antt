@@ -1,4 +1,4 @@
--- Each timer that completes a changeover or ends holds has no more ticks left than the longest of them is set to.
+-- No timer that completes a changeover or ends holds has more ticks left than the longest of them is set to.
 use Rattle.exchange_rules.proofs.Basics.{◌≡◌, ◌≢◌, ◌≤◌, ◌-◌, ℕ, Bool, true, false, List, [], ◌∷◌, Option, Some, None, refl, ap, sym, ◌∙◌, subst, arith, max, ⊎_elim, if◌then◌else◌}
 use Rattle.exchange_rules.proofs.Definitions.{Configuration, FailureReason, Facts, opening, completed, TimerName, Running, has_name, set_timer, after_due, after-clear, after-none, due_name, one_less, left-set, left-set_other, left-ticked, left-none, Parts, Node, with_parts, answer, Handled, Ignored, link_at, in_service, down, set_of, suspended, fail_link, has_other, make_unavailable, changing, begin, change_over, begin_by_peer, fail_by_peer, changeover_order, changeover_of, with_changeover, complete_if, fail_by_order, complete_by_order, changeover_acknowledgement, on_changeover_order, with_changeover_acknowledged, hold_flows, held_by_rerouting, carries, is_link, with_timers, first_state, WholeQueues, whole}
 use Rattle.timers.proofs.Maps.{set-absent}
@@ -30,7 +30,7 @@ waited (name.L7 link) e = refl
 waited (name.T8 set destination) e = absurd cc
 waited (name.T10 set destination) e = absurd cc
 
--- those of a kind have no more ticks left than so many
+-- those of a kind have at most n ticks left
 pub record Within (kind : TimerName → Bool) (most : ℕ) (r : Running) : Type 0 where
   pub each : (timer : TimerName) → kind timer ≡ true → (x : ℕ) → r.left timer ≡ Some x → x ≤ most
 

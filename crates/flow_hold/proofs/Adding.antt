@@ -1,4 +1,4 @@
--- One procedure holds more flows: by which steps they are added is all one, if the flows are the same.
+-- One procedure holds more flows: it doesn't matter by which steps they are added, if the flows are the same.
 use Rattle.flow_hold.proofs.Basics.{◌≡◌, ◌≢◌, ℕ, Bool, true, false, ◌&&◌, ◌||◌, refl, ap, sym, ◌∙◌, arith, nat_eq, nat_tests, Procedure, HoldSet, is_same, holds, may_hold, with_hold, with_flows, false≢true, true≢false}
 use Rattle.flow_hold.proofs.Numbers.{same, same-itself}
 use Rattle.flow_hold.proofs.Pairing.{may-alike}

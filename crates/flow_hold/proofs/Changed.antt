@@ -57,7 +57,7 @@ set-with_pair-may t procedure destination sls h may =
     (λ other. contains-pair t procedure destination sls other (eq_by_cmp by_numbers other hold) h may refl
     ∙ sym (contains-insert in_order (set_of t).pairs hold other)))
 
--- a pair that may not be held is left aside
+-- a pair that may not be held is ignored
 not-held : (t : HoldTable) (procedure : Procedure) (destination sls : ℕ) (to there few : Bool) → HasPlaces t → sls < SELECTIONS →
     may_hold_to (set_of t) procedure destination ≡ to → nat_lt destination t.destinations ≡ there → nat_lt sls SELECTIONS ≡ few → (to && (there && few)) ≡ false →
     with_pair t procedure destination sls ≡ t

@@ -17,7 +17,7 @@ next-mark marks n h =
     ap (λ (xs : List Bool). get_or (replicate n false ++ xs) n false) (drop_more marks n false h)
     ∙ grind (arith, common_steps, length-replicate)
 
--- what a row adds to the count of a flow by its marks in front of a place
+-- what a row adds to the count of a flow by its marks before an index
 abbrev pub mark_before : (first place flow : ℕ) → List Bool → ℕ
 mark_before first place flow marks =
     as_count (nat_lt flow (first + place) && has_mark flow (record { first = first; marks = marks }))
@@ -42,7 +42,7 @@ others-alike : (first place flow : ℕ) (marks : List Bool) (b : Bool) → nat_l
 others-alike first place flow marks b e f =
     ap (λ (c : Bool). as_count (c && has_mark flow (record { first = first; marks = marks }))) (e ∙ sym f)
 
--- the counts from which the marks in front of a place are taken
+-- the counts from which the marks before an index are taken
 abbrev pub IsTaken : (old now : List ℕ) (first place flow : ℕ) → List Bool → Type 0
 IsTaken old now first place flow marks = get_or now flow 0 ≡ get_or old flow 0 - mark_before first place flow marks
 

@@ -38,7 +38,7 @@ unmarked shared destinations place flow = unmarked-case (nat_lt place shared) sh
 pub unmarked-more : (rows : List Marks) (row : Marks) (flow : ℕ) → marked_as_held rows flow ≡ 0 → mark_of flow row ≡ 0 → marked_as_held (rows ++ row ∷ []) flow ≡ 0
 unmarked-more rows row flow e f = omega (arith, e, f, sum_by_push (mark_of flow) rows row)
 
--- the flow behind the last of a row
+-- the flow after the last of a row
 abbrev pub end_of : Marks → ℕ
 end_of row = row.first + length row.marks
 

@@ -1,4 +1,4 @@
--- Each change keeps the places of the marks, so that the row of a procedure has the flows that it may hold.
+-- Each change keeps the indices of the marks, so that the row of a procedure has the flows that it may hold.
 use Rattle.flow_hold.proofs.Basics.{◌≡◌, ℕ, ◌+◌, ◌-◌, ◌*◌, ◌<◌, ◌≤◌, Bool, true, false, List, [], length, map, get_or, replicate, refl, ap, sym, ◌∙◌, arith, nat_lt, Option, Some, None, if◌then◌else◌, set, and_parts, ltb-true, nat_tests, get_or-map, set-get_or, length-set, length-map, map-set, length-replicate, length-map-range_with_len, get_or-map-range_with_len, Procedure, Changeover, Code, Time, Reroute, Marks, marks_at, place_of_flow, HoldTable, HasPlaces, marks_shape, no_marks, with_pair, without_pairs, first_row, place_of, flow_place, with_mark_at, with_flow_marked, with_row_cleared, may_hold_to, set_of, CHANGEBACK_CODES, SELECTIONS}
 
 -- ---- they stay
@@ -65,7 +65,7 @@ first-shape : (b : Bool) (shared destinations place : ℕ) →
 first-shape true shared destinations place = ap (λ (n : ℕ). (0, n)) (length-replicate (SELECTIONS * destinations) false)
 first-shape false shared destinations place = refl
 
--- where a flow stands in the row of a procedure
+-- the index of a flow in the row of a procedure
 pub record HasFlow (t : HoldTable) (procedure : Procedure) (flow : ℕ) : Type 0 where
   pub row : ℕ
   pub is : place_of t procedure ≡ Some row

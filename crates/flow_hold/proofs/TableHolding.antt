@@ -1,4 +1,4 @@
--- A hold puts one mark, which is that of its pair.
+-- A hold puts one mark, that of its pair.
 use Rattle.flow_hold.proofs.Basics.{◌≡◌, ℕ, zero, suc, ◌+◌, ◌-◌, ◌*◌, ◌<◌, ◌≤◌, Bool, true, false, ◌&&◌, List, [], ◌∷◌, length, get_or, refl, ap, sym, ◌∙◌, arith, nat_lt, nat_le, nat_eq, Option, Some, None, if◌then◌else◌, set, common_steps, and_from, ltb-true, nat_tests, get_or-set_same, get_or-set_other, Procedure, Changeover, Code, Time, Reroute, Marks, marks_at, place_of_flow, has_mark, HoldTable, place_of, flow_place, row_has, has_pair, HasPlaces, marks_shape, with_mark_at, with_flow_marked, with_pair, may_hold_to, set_of, CHANGEBACK_CODES, SELECTIONS}
 use Rattle.flow_hold.proofs.TablePairing.{same-places, named}
 use Rattle.flow_hold.proofs.Placing.{HasFlow, flow_at, shared_rows, own-shape}
@@ -53,7 +53,7 @@ adds_its_pair t procedure destination sls h may there few =
     ∙ ap (λ (o : Option ℕ). row_has (with_flow_marked t (Some at.row) o) (Some at.row) o) (is-there t destination sls there)
     ∙ is-marked t at.row (SELECTIONS * destination + sls) at.there at.from at.to
 
--- ---- what isn't there is left aside
+-- ---- what isn't there is ignored
 
 no-row : (t : HoldTable) (row flow : Option ℕ) → row ≡ None → with_flow_marked t row flow ≡ t
 no-row t row flow e = ap (λ (o : Option ℕ). with_flow_marked t o flow) e

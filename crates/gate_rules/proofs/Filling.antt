@@ -1,5 +1,4 @@
--- Frames that a fill takes are given to the endpoint of the node's link, each if that takes it; and then what is due
--- goes out.
+-- Frames that a fill takes are given to the endpoint of the node's link if it takes them; then what is due goes out.
 use Rattle.std.proofs.Common.{◌≡◌, ◌≤◌, ◌+◌, ℕ, zero, suc, Bool, true, false, ◌&&◌, List, [], ◌∷◌, ◌++◌, Option, Some, None, length, map, refl, ap, sym, ◌∙◌, subst, arith, append-nil}
 use Rattle.std.specs.Prelude.{if◌then◌else◌}
 use Rattle.std.specs.Option.{option_map}

@@ -1,4 +1,4 @@
--- Runs of two nodes with gates are runs of two nodes of `node_rules`, whose promises they have.
+-- Runs of two nodes with gates are runs of two nodes of `node_rules`, and so have their promises.
 use Rattle.std.proofs.Common.{◌≡◌, ◌⊎◌, inl, inr, ◌≤◌, ◌+◌, ℕ, Bool, true, false, List, [], ◌∷◌, ◌++◌, Some, None, map, refl, ap, sym, ◌∙◌, subst, nat_eq, arith}
 use Rattle.std.proofs.lemmas.Bool.Decides.{nat_tests}
 use Rattle.std.specs.Prelude.{if◌then◌else◌}

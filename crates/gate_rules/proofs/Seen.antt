@@ -1,4 +1,4 @@
--- What is seen of a call: it tells what happened to the exchange, and counts the messages that passed.
+-- What is seen of a call: what happened to the exchange, and how many messages passed.
 use Rattle.std.proofs.Common.{◌≡◌, ◌⊎◌, inl, inr, ◌≤◌, ◌+◌, ℕ, Bool, true, false, List, [], ◌∷◌, ◌++◌, length, refl, ap, ◌∙◌, arith, length-append}
 use Rattle.std.specs.Prelude.{if◌then◌else◌}
 use Rattle.sctp_receiving.specs.Pieces as pieces
@@ -38,7 +38,7 @@ pub in-behind : {X : Type 0} (x : X) (xs ys : List X) → In x ys → In x (xs +
 in-behind x [] ys i = i
 in-behind x (y ∷ xs) ys i = inr (in-behind x xs ys i)
 
--- ---- one thing behind another
+-- ---- one thing after another
 
 pub seen-more : (k : ℕ) (xs ys : List Sight) (b : Books) → seen_all k (xs ++ ys) b ≡ seen_all k ys (seen_all k xs b)
 seen-more k [] ys b = refl

@@ -1,4 +1,4 @@
--- Each word on what is kept of a queue is what is kept of that word on the queue.
+-- Each operation on what is kept of a queue is what is kept of that operation on the queue.
 use Rattle.link.proofs.Basics.{◌≡◌, ℕ, Bool, true, false, ◌+◌, ◌-◌, ◌%◌, ◌^◌, ◌≤◌, ◌++◌, [], ◌∷◌, drop, arith, refl, Option, Some, None, Result, Ok, Err, nat_eq, if◌then◌else◌, sym, ap, ◌∙◌, common_steps, drop-drop, drop-append-le, Message, previous_number, SeqFault, Queue, IsQueue, Sending, newly_confirmed, expected, accept_answer, count_confirmed, after_answer, accepted, to_send, after_sending, sent_one, appended, last_sent, last_accepted, confirmation, unconfirmed, counts_of, kept_newly_confirmed, kept_expected, kept_accept_answer, kept_after_answer, kept_accepted, kept_to_send, kept_after_sending, kept_sent_one, kept_last_sent, kept_last_accepted}
 use Rattle.link.proofs.Named.{found_ahead, slice_get-drop}
 

@@ -7,7 +7,7 @@ pub found : (base first many target : ℕ) → many ≤ 2 ^ 24 → target < 2 ^ 
 found base first zero target h t = grind (arith, common_steps, nat_tests)
 found base first (suc many) target h t = grind (arith, common_steps, nat_tests, found base (first + 1) many target (omega arith) t)
 
--- how far it stands from the first of them
+-- its distance from the first of them
 pub ahead : (d first many : ℕ) →
     option_map (λ n. n - first) (if nat_lt d (many + 1) then Some (first + d) else None) ≡ (if nat_le d many then Some d else None)
 ahead d first many = grind (arith, common_steps, nat_tests)
@@ -18,7 +18,7 @@ pub found_ahead : (base first many bsn : ℕ) → many < 2 ^ 24 →
 found_ahead base first many bsn h =
     rw (found base first (many + 1) (next_number bsn) (omega arith) (omega arith)) (ahead (steps_between ((base + first) % 2 ^ 24) (next_number bsn)) first many)
 
--- an element behind others
+-- an element after others
 pub slice_get-drop : {X : Type 0} (xs : List X) (n i : ℕ) → slice_get (drop n xs) i ≡ slice_get xs (n + i)
 slice_get-drop [] n i = grind (arith, common_steps)
 slice_get-drop (x ∷ xs) zero i = grind (arith, common_steps)

@@ -1,4 +1,4 @@
--- Each word leaves a queue a queue.
+-- Each operation leaves a queue a queue.
 use Rattle.link.proofs.Basics.{◌≡◌, ℕ, Bool, true, false, ◌-◌, ◌<◌, ◌≤◌, length, nat_lt, nat_le, slice_get, arith, refl, Option, Some, None, Result, Ok, Err, nat_eq, subst, if◌then◌else◌, common_steps, nat_tests, slice_get_within, Message, WINDOW, SeqFault, steps_between, next_number, Queue, IsQueue, confirmation, count_confirmed, forward_number, numbered, first_queue, expected, accept_answer, after_answer, accepted, after_sending, sent_one, appended, emptied}
 use Rattle.std.proofs.lemmas.Bool.{ltb-true}
 use Rattle.link.proofs.Kept.{kept-newly_confirmed}

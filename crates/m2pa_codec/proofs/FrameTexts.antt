@@ -127,7 +127,7 @@ user_data-frame text fits e k =
           (slice_index text 16, subst (λ (body : List ℕ). IsHeaded text user_data (bsn_field text) (fsn_field text) body) (body-cells text long) h)
     ]
 
--- the state that a text tells stands in its octets
+-- the state that a text tells is in its octets
 pub state-octets : (text : List ℕ) (status : LinkStatus) → AreOctets text → state_field text ≡ Some status → state_octets status ≡ slice_index text 16 ∷ slice_index text 17 ∷ slice_index text 18 ∷ slice_index text 19 ∷ []
 state-octets text status fits e = four_octets _ _ _ _ (status_number status) (fits 16) (fits 17) (fits 18) (fits 19) (number-status_of _ status e)
 

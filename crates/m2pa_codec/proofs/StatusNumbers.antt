@@ -1,4 +1,4 @@
--- The states by number: each state is that of its own number, and no other.
+-- The states by number: each state is that of its own number alone.
 use Rattle.std.proofs.Common.{◌≡◌, ℕ, ◌<◌, ◌^◌, Some, refl, arith}
 use Rattle.std.proofs.lemmas.Bool.Decides.{nat_tests}
 use Rattle.m2pa_codec.specs.declared.status.LinkStatus.{LinkStatus}

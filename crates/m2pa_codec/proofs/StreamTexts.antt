@@ -63,7 +63,7 @@ is_text octets count w =
       announced = length_field-take count octets w.header ∙ w.announced ∙ sym len;
     }
 
--- a text with more behind it is whole
+-- a text with more after it is whole
 pub text-next_in : (text more : List ℕ) → IsText text → next_in (text ++ more) ≡ Whole (length text)
 text-next_in text more t = whole-next_in (text ++ more) (length text) (record {
   announced = length_field-append text more t.header ∙ t.announced;
@@ -72,7 +72,7 @@ text-next_in text more t = whole-next_in (text ++ more) (length text) (record {
   there = omega (arith, length-append text more);
 })
 
--- a text that was copied in front of a buffer, and let go of
+-- a text that was copied before a buffer, and let go of
 pub gives_first : (octets old kept given behind : List ℕ) (count : ℕ) → octets ≡ old → next_in octets ≡ Whole count → given ≡ take count octets → kept ≡ drop count octets
     → IsText (take count (given ++ behind)) × (old ≡ take count (given ++ behind) ++ kept)
 gives_first octets old kept given behind count same e copied left =
@@ -83,7 +83,7 @@ gives_first octets old kept given behind count same e copied left =
 
 -- ---- a stream has one list of texts
 
--- two texts in front of the same octets are one
+-- two texts before the same octets are one
 same_text : (t u x y : List ℕ) → IsText t → IsText u → t ++ x ≡ u ++ y → t ≡ u
 same_text t u x y a b e =
     let len : length t ≡ length u = sym a.announced ∙ sym (length_field-append t x a.header) ∙ ap length_field e ∙ length_field-append u y b.header ∙ b.announced in

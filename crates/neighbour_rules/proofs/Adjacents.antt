@@ -1,5 +1,5 @@
--- A node knows which destinations its adjacent points are, and what it has for other points is bound for such as it
--- knows; and so it stays.
+-- A node knows which destinations its adjacent points are, and what it has for other points is bound for those that it
+-- knows. This stays so.
 use Rattle.pair_rules.proofs.Basics.{◌≡◌, ◌<◌, ℕ, true, false, List, length, map, [], Option, Some, None, refl, ap, sym, ◌∙◌, nat_eq, slice_index_or, position, eq-eqb}
 use Rattle.pair_rules.proofs.Definitions.{IsWell, Configuration, SetEntry, DestinationEntry, destination_place, IsOfSteps, ToldTable, is_own_point, adjacent_place, Node, Happening, WholeQueues, whole, apply}
 use Rattle.std.proofs.lemmas.List.{get_or-map}

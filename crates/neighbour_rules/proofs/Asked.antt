@@ -1,5 +1,5 @@
--- Each end of a pair is an exchange that was asked some things since it was booted: a step asks it one, or nothing. And
--- what it books is user messages for the far point, and for its own.
+-- Each end of a pair is an exchange that was asked some things since it was booted: a step asks it one thing, or
+-- nothing. What it books is user messages for the far point, and for its own.
 use Rattle.pair_rules.proofs.Basics.{◌≡◌, ℕ, Bool, true, false, not, ◌&&◌, List, [], ◌∷◌, ◌++◌, Option, Some, None, refl, ap, sym, subst, ◌∙◌, arith, nat_eq, nat_tests, All, slice_get, option_to_list, if◌then◌else◌}
 use Rattle.std.proofs.lemmas.List.Elements.{All-append, All-cons, All-nil}
 use Rattle.pair_rules.proofs.Definitions.{Message, dpc_of, is_management, Configuration, FrameValue, Happening, brought_in, new_message, whole, wants_of, End, PairState, Streams, first_pair, turned, in_flight, may_follow, Nothing, Open, Close, change_statuses, happens}

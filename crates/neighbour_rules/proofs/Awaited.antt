@@ -1,4 +1,4 @@
--- Nothing is awaited in vain, since so it is of the moves.
+-- Nothing is awaited in vain, since this holds of the moves.
 use Rattle.pair_rules.proofs.Basics.{◌≡◌, ◌+◌, ℕ, Bool, false, Option, refl, ap, sym, ◌∙◌, arith}
 use Rattle.pair_rules.proofs.Definitions.{Message, Configuration, Saying, is_order, is_answer, Pair, PairState, turned, LostNothing}
 use Rattle.pair_moves.specs.Ends as ends

@@ -1,5 +1,5 @@
--- A changeover is completed, of a link between the two nodes by the peer's order or its answer, of another one by
--- whatever: by moves.
+-- A changeover is completed: of a link between the two nodes, by the peer's order or its answer; of another link, by
+-- anything. By moves.
 use Rattle.pair_rules.proofs.Basics.{append-nil, filter, ◌≡◌, ◌≢◌, ◌<◌, ◌&&◌, ℕ, Bool, true, false, not, List, [], ◌∷◌, ◌++◌, length, Option, Some, None, refl, ap, sym, subst, ◌∙◌, nat_eq, drop, if◌then◌else◌, is_some, slice_set, slice_index_or, ⊎_elim, cases_eq}
 use Rattle.pair_rules.proofs.Definitions.{link_at, send_anew, Message, Flow, is_management, Configuration, Running, clear_timer, Link, link_in, is_down, lifted, leaves_others, HoldSet, Queue, emptied, named_count, last_accepted, Standing, standing_at, with_standing, behind, users_of, managements_of, Node, Parts, Found, Route, down, WholeQueues, queue_at, whole, changeover_of, concluded, lose, lose_each, send_each, set_of, Fits, StaysFit, Order, Answer, Pair, Saying, ChangesOnly, with_completion}
 use Rattle.signalling_types.specs.declared.cause.Cause.TheVariants.{LostUnconfirmed}
@@ -39,7 +39,7 @@ module _ (c z : Configuration) (j : Joint c z) where
 
   -- ---- a changeover is complete
 
-  -- the node then: the messages behind a count have left the link, and its changeover holds nothing any more
+  -- the node then: the messages after a count have left the link, and its changeover holds nothing any more
   abbrev pub finished : (link count : ℕ) → Standing → Running → Node WholeQueues → Node WholeQueues
   finished link count s t n = record {
     queues = record {
@@ -268,7 +268,7 @@ module _ (c z : Configuration) (j : Joint c z) where
             (others-hold n.parts.holds link procedure flow.sls (λ code e same. d (at-line c j.near_well (set c z j) link code l same).of_set))
             ∙ sym (holds-by c z j n.parts procedure flow)
 
-  -- ---- management queued anew goes on
+  -- ---- management queued again goes on
 
   pub anew-passes : (ms : List Message) (w : World) (n : Node WholeQueues) (arrived more : List Message)
       → Passes c z j (at c z j w n arrived (managements_of ms ++ more)) (at c z j w (send_each whole c (managements_of ms) n) arrived more)

@@ -1,5 +1,5 @@
--- A link enters service: each flow to the other that had a link keeps it or takes the one that entered, and the route
--- to the other stays allowed.
+-- A link enters service: each flow to the other node that had a link keeps it or takes the one that entered, and the
+-- route to that node stays allowed.
 use Rattle.pair_rules.proofs.Basics.{◌≡◌, ◌⊎◌, inl, inr, ℕ, Bool, true, false, [], ◌∷◌, map, Option, Some, None, refl, ap, sym, ◌∙◌, nat_eq, if◌then◌else◌, option_and_then, slice_index_or, ⊎_elim}
 use Rattle.pair_rules.proofs.Definitions.{Flow, Configuration, destination_place, with_link, chosen_link, first_route, Parts, facts, link_of, set_of, begun_anew_if}
 use Rattle.exchange_rules.proofs.Basics.{get_or-map}
@@ -26,7 +26,7 @@ keeps-or-takes c p q link destination sls former i e = by (chosen_link (facts c 
         (goes_or_stays (facts c q) link destination sls now f)
     by None f = absurd (had_has (facts c q) link destination sls former had f)
 
--- ---- all that is known over a set begins anew, and a route that was allowed is so
+-- ---- what is known over a set is reset, and a route that was allowed still is
 
 row-open : (its leads : ℕ) → map (with_status_over its Allowed) (first_route leads ∷ []) ≡ first_route leads ∷ []
 row-open its leads = by (nat_eq leads its)

@@ -1,5 +1,5 @@
--- What holds of a node at work that shares a set with another, whatever neighbours it has besides, and of what is in
--- flight to it; and that a rule goes by moves and keeps that.
+-- What holds of a node at work that shares a set with another, whatever other neighbours it has, and of what is in
+-- flight to it; and that a rule goes by moves and keeps this.
 use Rattle.pair_rules.proofs.Basics.{◌≡◌, ◌≢◌, ℕ, true, false, List, [], ◌∷◌, Some, Ok, slice_index_or}
 use Rattle.pair_rules.proofs.Definitions.{Message, SIF_OCTETS, is_management, service_indicator, dpc_of, opc_of, Configuration, destination_place, Label, FrameValue, EmptyFrame, MessageFrame, IsSayable, read_management, Management, ExtendedChangeoverOrder, ExtendedChangeoverAcknowledgement, ChangebackDeclaration, ChangebackAcknowledgement, Node, Fits, WholeQueues, queue_at, changeover_of, down, link_at, set_of, whither_goes, first_route, IsWell}
 use Rattle.std.proofs.Common.{◌<◌, ◌≤◌, length}
@@ -81,7 +81,7 @@ module _ (c z : Configuration) (j : Joint c z) where
     -- no answer is awaited about a link that isn't down, and where a link is down nothing waits to go out
     pub unawaited : (link : ℕ) → down w.near.node.parts link ≡ false → (changeover_of w.near.node.parts link).awaited ≡ false
     pub silent : (link : ℕ) → IsSilent (link_at w.near.node.parts link)
-    -- what stands on the links of the set, on others, in Held, and nowhere yet
+    -- what is on the links of the set, on others, in Held, and nowhere yet
     pub queued : (link : ℕ) → Each (IsSent c z set) (queue_at w.near.node.queues link).all
     pub elsewhere : (link : ℕ) → set_of c link ≢ set → Each (λ m. says_of c.own z.own m ≡ Other) (queue_at w.near.node.queues link).all
     pub held : Each (IsSent c z set) w.near.node.queues.held

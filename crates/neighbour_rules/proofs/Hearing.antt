@@ -1,4 +1,4 @@
--- A message that came is looked at, one of the other's or one that passes by: by moves.
+-- A message that came is looked at, whether it is the other node's or passes by: by moves.
 use Rattle.pair_rules.proofs.Basics.{append-nil, ◌≡◌, ◌<◌, ◌≤◌, ◌&&◌, ◌||◌, ℕ, Bool, true, false, not, List, [], ◌∷◌, ◌++◌, length, Option, Some, Result, Ok, inr, refl, ap, sym, subst, ◌∙◌, nat_eq, nat_lt, arith, nat_tests, if◌then◌else◌, is_some, eq-eqb}
 use Rattle.pair_rules.proofs.Definitions.{Message, SIF_OCTETS, is_management, service_indicator, network_indicator, dpc_of, opc_of, Configuration, Discrimination, Label, Management, MgmtFault, read_management, Node, Done, refuse, in_service, set_of, WholeQueues, whole, distribute, manage, local, do_management, do_order, do_acknowledgement, do_test, is_adjacent, testing, on_management, on_changeback_acknowledgement, deliver, deliver_to, whither_goes, link_with_code, all_wait, brought_here, brought_to, unitdata_in, Order, Answer, Saying, UserMessage}
 use Rattle.mtp3_codec.specs.Headings.{label_at}

@@ -1,4 +1,4 @@
--- What a node makes: a word for the other says there what it says, and all else passes by.
+-- What a node makes: a message for the other says there what it says, and all else passes by.
 use Rattle.pair_rules.proofs.Basics.{◌≡◌, ◌≢◌, ◌<◌, ◌≤◌, ◌^◌, ℕ, Bool, true, false, ◌&&◌, ◌||◌, ◌+◌, ◌%◌, [], length, Ok, refl, ap, ◌∙◌, nat_eq, arith, slice_index_or, ⊎_elim, cases_lt, eq-eqb, get_or_past}
 use Rattle.pair_rules.proofs.Definitions.{Message, SIF_OCTETS, is_management, dpc_of, opc_of, service_indicator, Configuration, DestinationEntry, SetEntry, IsWell, IsDestination, IsSet, IsManagement, read_management, Management, management_to, changeback_acknowledgement, made-indicator, made-dpc, made-opc, made-says, comes-here, RouteStatus}
 use Rattle.std.specs.Prelude.{◌*◌}

@@ -73,7 +73,7 @@ coded-in slc (octet ∷ fields) h = coded-message octet slc fields h
 coded-read : (sif : List ℕ) → IsCoded (read_management sif)
 coded-read sif = coded-in (label_at sif).sls (drop 4 sif) (omega arith)
 
--- the pattern of a link test that is read stands in what was read
+-- the pattern of a link test that is read is in what was read
 abbrev IsWithin : ℕ → Result LinkTestValue MgmtFault → Type 0
 IsWithin many (Ok test) = length test.pattern + 2 ≤ many
 IsWithin many (Err fault) = Unit {0}

@@ -190,7 +190,7 @@ module _ (c z : Configuration) (j : Joint c z) where
     };
   }
 
-  -- what stands nowhere is given up: a flag tells
+  -- what is nowhere is given up: a flag tells
   pub dropping : (w : World) (n o : Node WholeQueues) (arrived : List Message) (m : Message) (rest : List Message) → lost_any o.parts ≡ true → StaysFit c n o → o.queues ≡ n.queues
       → o.parts.routes ≡ n.parts.routes → o.parts.links ≡ n.parts.links → o.parts.changeovers ≡ n.parts.changeovers
       → Passes c z j (at c z j w n arrived (m ∷ rest)) (at c z j w o arrived rest)
@@ -254,7 +254,7 @@ module _ (c z : Configuration) (j : Joint c z) where
   release-passes w n arrived =
       passes-both c z j _ _ _ (taking_out w n arrived) (go_each-passes w (record n { queues = whole.without_held n.queues }) arrived n.queues.held refl)
 
-  -- ---- management that stands nowhere goes out on the link of its flow
+  -- ---- management that is nowhere goes out on the link of its flow
 
   none-user : (m : Message) {A : Type 0} → is_management m ≡ true → is_user_message (read m) ≡ true → A
   none-user m e f = (let no : true ≡ false = sym e ∙ says-user c.own z.own m f in absurd cc)

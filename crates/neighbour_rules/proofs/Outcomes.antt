@@ -1,4 +1,4 @@
--- What a frame that is handed in comes to tells what it brought, and what was accepted of that.
+-- What a frame that is handed in leads to tells what it brought, and what was accepted of that.
 use Rattle.pair_rules.proofs.Basics.{◌≡◌, ◌≢◌, inl, inr, ℕ, Bool, true, false, List, [], ◌∷◌, ◌++◌, length, Option, Some, None, Ok, refl, ap, sym, subst, ◌∙◌, nat_eq, not, ◌⊎◌, if◌then◌else◌, drop, option_to_list, slice_get, ◌||◌, eq-eqb, is_some, nat_lt, Result, Err}
 use Rattle.pair_rules.proofs.Definitions.{Label, Message, dpc_of, opc_of, flow_of, SIF_OCTETS, network_indicator, read_management, is_management, service_indicator, Cause, Outcome, Handled, Ignored, Local, Refused, Queued, Held, Configuration, TitleEntry, FrameValue, read_frame, Discrimination, Management, is_outstanding, set_place, Node, Done, answer, refuse, FrameCame, WholeQueues, whole, changeover_of, on_changeback_acknowledgement, accept_text, answered_in, brought_by, brought_here, brought_in, brought_to, taken_in, unitdata_in, distribute, do_order, do_acknowledgement, is_user, local, manage, on_management, sccp, deliver, deliver_to, whither_goes, on_unitdata, is_idle, new_message, outcome_of, receive, users_of, PairState, Streams, Delivers, DeliversStatus, after_steps, deliver_frame, first_pair, in_flight, turned, without_data, without_status}
 use Rattle.signalling_types.specs.declared.cause.Cause.TheVariants as causes

@@ -367,7 +367,7 @@ first-stands near far a = record {
 pub all-stand : (near far : Configuration) (steps : List Step) (a : AreFacing near far) → Stands near far a (after_steps steps (first_pair near far))
 all-stand near far steps a = steps-stand near far a steps (first_pair near far) (first-stands near far a)
 
--- a statement about one direction, that follows from what stands and from the books
+-- a statement about one direction, that follows from what is there and from the books
 pub always : (Statement : PairState → Type 0)
     → ((c z : Configuration) (a : AreFacing c z) (q : PairState) → Stands c z a (with_settings c z q) → LostNothing (with_settings c z q) → AreBooked (with_settings c z q) → AreBooked (turned (with_settings c z q)) → Statement (with_settings c z q))
     → Always (λ p. LostNothing p → BothWays Statement p)

@@ -1,5 +1,5 @@
 -- A link takes a step of its alignment, and if it enters service it takes its flows back from one link after another:
--- by moves, if it is one of the two, and unseen where it leads elsewhere.
+-- by moves if it is one of the two, and unseen if it leads elsewhere.
 use Rattle.pair_rules.proofs.Basics.{◌≡◌, ◌≢◌, ◌⊎◌, inl, inr, ◌<◌, ◌&&◌, ℕ, zero, suc, Bool, true, false, not, List, [], length, Option, refl, ap, sym, subst, ◌∙◌, nat_lt, nat_eq, if◌then◌else◌, option_map, ⊎_elim, fun_ext, and_parts, cases_eq, None}
 use Rattle.pair_rules.proofs.Definitions.{SELECTIONS, Message, Flow, Configuration, destination_place, Input, action_at, Link, down_link, is_down, is_in_service, stepped, FrameValue, each-set, facts_alike, chosen_link, Route, Running, Standing, ToldTable, Facts, Node, Parts, with_parts, down, in_service, link_at, WholeQueues, whole, has_other, facts, network_of, set_of, change_back, loses_flows, take_back_each, advance, begun_anew_if, enters, return_if, step_on, changeover_of, StaysFit, fit-steps, each-step, anew-steps, stepped-at, stepped-other, stepping-there, IsAlike, take_back_each-alike, LinkEnd, Pair, Saying}
 use Rattle.std.proofs.Common.{option_and_then}
@@ -40,7 +40,7 @@ anew-link false c link other p = refl
 abbrev moved_parts : Parts → List Link → List (List Route) → ToldTable → Running → Parts
 moved_parts p links routes told timers = record p { links = links; routes = routes; told = told; timers = timers }
 
--- a link takes a step, and what is known over its set may begin anew
+-- a link takes a step, and what is known over its set may be reset
 abbrev pub anew : (again : Bool) → Configuration → ℕ → Transition → Parts → Parts
 anew again c link step p = begun_anew_if again c link (step_on c link step p)
 
@@ -196,7 +196,7 @@ module _ (c z : Configuration) (j : Joint c z) where
         (λ (d : other ≢ link). ap (λ (l : Link). is_down l.alignment) (stepped-other c link other step n.parts d))
         (cases_eq other link)
 
-    -- whether or not what is known over its set begins anew
+    -- whether or not what is known over its set is reset
     anew-fits : (again : Bool) → StaysFit c n (with_parts n (anew again c link step n.parts))
     anew-fits again = (fit-steps c).both _ _ _ ((fit-steps c).stepped link input step n tt e) (anew-steps (rules-of (fit-steps c)) again link (with_parts n once))
 
@@ -303,7 +303,7 @@ module _ (c z : Configuration) (j : Joint c z) where
         moving-aside w n arrived link once.links once.routes once.told once.timers
         (anew-fits false) (anew-other false) (anew-down false) (anew-open false c link (set c z j) j.destination once) (anew-silent false)
 
-    -- ---- where it enters, all that is known over its set may begin anew
+    -- ---- if it enters, what is known over its set may be reset
 
     module _ (entered : enters link step n.parts ≡ true) where
       unserved : in_service n.parts link ≡ false

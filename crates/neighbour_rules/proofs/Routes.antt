@@ -1,4 +1,4 @@
--- The lines that flows to the other take, and those that they take once a link is down.
+-- The lines that flows to the other node take, and those that they take once a link is down.
 use Rattle.pair_rules.proofs.Basics.{◌≡◌, ◌≢◌, ◌&&◌, ℕ, Bool, true, false, [], ◌∷◌, Option, Some, None, refl, ap, sym, ◌∙◌, nat_eq, nat_lt, if◌then◌else◌, option_and_then, option_map, slice_index_or, ⊎_elim, eq-eqb}
 use Rattle.pair_rules.proofs.Definitions.{SELECTIONS, Flow, Configuration, Facts, with_link, chosen_link, destination_place, first_route, Parts, facts, link_of}
 use Rattle.routes.proofs.Leaving.{goes_or_stays}

@@ -1,4 +1,4 @@
--- Between two nodes that have only each other each step does what it does in `pair_rules`.
+-- Between two nodes that have only each other, each step does what it does in `pair_rules`.
 use Rattle.pair_rules.proofs.Basics.{◌≡◌, ◌<◌, ◌≤◌, ◌+◌, count_by, drop, ℕ, Ok, Bool, true, false, not, ◌&&◌, suc, List, [], ◌∷◌, ◌++◌, length, map, Option, Some, None, refl, ap, sym, subst, ◌∙◌, nat_eq, arith, if◌then◌else◌, All, slice_get, option_to_list, eq-eqb, ◌||◌, IsDistinct, list_any, nat_tests, slice_index_or}
 use Rattle.std.proofs.lemmas.Option.{slice_get-get_or, slice_get_past}
 use Rattle.pair_rules.proofs.Definitions.{DestinationEntry, IsWell, IsDestination, LeadsOnlyTo, Message, dpc_of, is_management, Configuration, LinkEntry, FrameValue, read_frame, Node, WholeQueues, queue_at, whole, FrameCame, Submitted, entry_of, peer_of, link_with_code, wanted, Nothing, Open, Close, brought_in, new_message, users_of, frame_taken, frame_to_take, PairState, Streams, in_flight, may_open_at, first_pair, without_data, without_status, turned, AreJoined}

@@ -1,5 +1,5 @@
--- Sums and rows over the lines between two nodes, by their codes, and over the links of a node: alike, if a code has
--- one link of the set at most, and links that lead elsewhere count nothing.
+-- Sums and rows over the lines between two nodes, by their codes, and over the links of a node: they are alike if a
+-- code has at most one link of the set, and links that lead elsewhere count nothing.
 use Rattle.pair_rules.proofs.Basics.{◌≡◌, ◌≢◌, ◌<◌, ◌≤◌, ◌+◌, ℕ, zero, suc, Bool, true, false, List, [], ◌++◌, length, refl, ap, sym, ◌∙◌, arith, nat_eq, nat_lt, if◌then◌else◌, ⊎_elim, cases_eq, cases_lt, eq-eqb, lt-ltb, le-ltb, append-nil}
 use Rattle.pair_rules.proofs.Definitions.{Message, Configuration, IsWell, code-fits, set_of}
 use Rattle.exchange_rules.proofs.Basics.{eqb-true}
@@ -10,7 +10,7 @@ use Rattle.pair_moves.proofs.Joins.{empty-or, join-alike, join-none, join-only}
 use Rattle.neighbour_rules.proofs.World.{code_of, codes, link_at_code}
 use Rattle.neighbour_rules.proofs.Lines.{at-line, own-line}
 
--- so many codes, the link of each, and the code of each link that has one
+-- n codes, the link of each, and the code of each link that has one
 pub record AreOwn (own : ℕ → ℕ) (has : ℕ → Bool) (code : ℕ → ℕ) (many links : ℕ) : Type 0 where
   pub fits : (link : ℕ) → link < links → code link < many
   pub line : (link : ℕ) → link < links → has link ≡ true → own (code link) ≡ link

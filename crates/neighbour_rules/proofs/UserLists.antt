@@ -1,4 +1,4 @@
--- The user messages and the management of a list, by their service indicator and by what they say: alike except those
+-- The user messages and the management of a list, by their service indicator and by what they say: alike, except those
 -- that pass by.
 use Rattle.pair_rules.proofs.Basics.{◌≡◌, ◌⊎◌, inl, inr, ℕ, Bool, true, false, not, List, [], ◌∷◌, ◌++◌, refl, ap, sym, ◌∙◌, if◌then◌else◌}
 use Rattle.pair_rules.proofs.Definitions.{Message, is_management, read_management, users_of, managements_of, Pair, Saying, UserMessage, is_user_message}
@@ -43,7 +43,7 @@ module _ (one two : ℕ) where
   abbrev stays : List Message → List Message
   stays ms = without_others read ms
 
-  -- ---- of a message in front of others
+  -- ---- of a message before others
 
   module _ (m : Message) (ms more : List Message) where
     -- by whether it is management, and by whether it says that it is a user message
@@ -59,7 +59,7 @@ module _ (one two : ℕ) where
     abbrev said_managements : Bool → List Message
     said_managements u = stays ((if not u then m ∷ coarse.managements_of read ms else coarse.managements_of read ms) ++ more)
 
-    -- in front of what stays of a list
+    -- before what stays of a list
     abbrev kept : Saying → List Message → List Message
     kept said xs = if not (is_other said) then m ∷ xs else xs
 

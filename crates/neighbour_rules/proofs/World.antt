@@ -66,7 +66,7 @@ says-alike one two = λ i. λ m. each-alike one two m i
 
 -- ---- lines
 
--- so many signalling link codes there are (Q.704 §15.2)
+-- the number of signalling link codes (Q.704 §15.2)
 abbrev pub codes : ℕ
 codes = 16
 

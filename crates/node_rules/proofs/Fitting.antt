@@ -1,5 +1,5 @@
--- No frame is longer than what an endpoint takes: no message of a queue has more octets than a field has, one that the
--- far exchange takes for its own, or one that passes by.
+-- No frame is longer than an endpoint takes: no message of a queue has more octets than a field has, one that the far
+-- exchange takes for its own, or one that passes by.
 use Rattle.std.proofs.Common.{◌≡◌, ◌≤◌, ◌+◌, ℕ, arith, Bool, true, false, List, ◌∷◌, Option, Some, None, length, refl, sym, subst}
 use Rattle.std.proofs.lemmas.Bool.Decides.{nat_tests}
 use Rattle.std.specs.Prelude.{if◌then◌else◌, nat_lt, slice_get}

@@ -1,5 +1,5 @@
--- What is in flight between two exchanges on each link, as the messages that associations still carry; and two books
--- that a pair has.
+-- What is in flight between two exchanges on each link, as the messages that associations still carry; and two books of
+-- a pair.
 use Rattle.std.proofs.Common.{◌≡◌, ◌≢◌, ℕ, Bool, true, false, List, [], ◌∷◌, ◌++◌, length, refl, ap, sym, subst, nat_eq, arith, ⊎_elim}
 use Rattle.std.proofs.lemmas.Bool.{cases_eq}
 use Rattle.std.proofs.lemmas.Bool.Decides.{nat_tests}

@@ -256,7 +256,7 @@ ahead-none x y h a =
 tail-is : {A : Type 0} (a b : A) (xs ys : List A) → a ∷ xs ≡ b ∷ ys → xs ≡ ys
 tail-is a b xs ys e = cc
 
--- what is left behind a beginning
+-- what is left after a prefix
 pub split : (r h s : List Message) → r ++ h ≡ take (length (r ++ h)) s → drop (length r) s ≡ h ++ drop (length (r ++ h)) s
 split [] h s e = sym (take-append-drop (length h) s) ∙ ap (λ (xs : List Message). xs ++ drop (length h) s) (sym e)
 split (a ∷ r) h [] e = absurd (none-taken a (r ++ h) e) where

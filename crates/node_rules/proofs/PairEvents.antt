@@ -1,4 +1,4 @@
--- What happens to an exchange that no link between the nodes brings: steps of a pair, which has the same in the air.
+-- What happens to an exchange but comes over no link between the nodes: steps of a pair, with the same in the air.
 use Rattle.std.proofs.Common.{◌≡◌, ◌<◌, ℕ, Bool, true, false, not, List, [], ◌++◌, Option, Some, None, length, refl, ap, sym, ◌∙◌, subst, append-nil}
 use Rattle.std.specs.Prelude.{slice_get}
 use Rattle.signalling_types.specs.Message.{Message}

@@ -1,5 +1,5 @@
 -- What an endpoint tells by one thing that happens to it: messages of the association that is up, and Down after them;
--- or Up, and then these; or none of it.
+-- or Up, and then messages; or only some of these.
 use Rattle.std.proofs.Common.{◌≡◌, ◌⊎◌, inl, inr, ℕ, Bool, true, false, List, [], ◌∷◌, ◌++◌, Option, Some, None, length, refl, ap, sym, ◌∙◌, subst, append-nil}
 use Rattle.std.proofs.lemmas.List.{append_assoc}
 use Rattle.std.specs.Prelude.{if◌then◌else◌}

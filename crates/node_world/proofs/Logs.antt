@@ -58,7 +58,7 @@ kept-none was mid is x same e =
 
 -- ---- a call
 
--- a log that is whole behind a call was whole before
+-- a log that is whole after a call was whole before
 whole-sent : (was is : KeptLog) (sent had : List Sent) (seen : List Sight) → was.is_whole ≡ false → All (Contains had) was.sent → Gives HasSent was is sent seen
     → is.is_whole ≡ true → is.sent ≡ had ++ sent
 whole-sent was is sent had seen lost there g w =

@@ -1,4 +1,4 @@
--- The laws by counts, kept by a move that is known by what it makes and what it looks at.
+-- The laws by counts, kept by a move that is characterized by what it makes and what it looks at.
 use Rattle.pair_moves.proofs.Basics.{◌≡◌, ◌≢◌, ℕ, Bool, ◌+◌, List, count_by, ap, sym, arith, subst, ⊎_elim, cases_eq}
 use Rattle.pair_moves.proofs.Definitions.{Message, last_accepted, Saying, is_order, is_answer, is_untrue, is_declaration, is_confirmation, LinkEnd, Line, Side, Pair, turned, turned_line, unreceived, BecomeAt, sum_to, under_way, one_if, saying, OrdersAreAwaited, WordsAreTrue, CodesAreOutstanding, user, EachOnce}
 use Rattle.pair_moves.proofs.Counts.{sum-but}

@@ -52,7 +52,7 @@ module _ (read : Message → Saying) (flow : Flow) where
   one-in_flow true m xs e = refl
   one-in_flow false m xs e = false_is_true e
 
-  -- a message of another flow, or of none, in front
+  -- a message of another flow, or of none, comes first
   pub flow-without : (m : Message) (ms : List Message) → is_of_flow read flow m ≡ false → of_flow read flow (m ∷ ms) ≡ of_flow read flow ms
   flow-without m ms e = one-of_flow (is_of_flow read flow m) m (of_flow read flow ms) e
 

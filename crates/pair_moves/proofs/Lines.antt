@@ -174,7 +174,7 @@ line-status z up h = record {
   second = λ n. up-first z h up n;
 }
 
--- of the statuses in flight to it, so many are left
+-- of the statuses in flight to it, n are left
 pub line-told : (z : Line) (rest count : ℕ) → z.told_near ≡ suc rest → IsLine z → IsLine (with_statuses_left z count)
 line-told z rest count some h = record {
   near = h.near;

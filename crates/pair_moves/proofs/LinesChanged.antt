@@ -196,7 +196,7 @@ line-names z h used =
     let f : Flows z = h.there used in
     named-there z.near.queue z.far.queue.received h.near.queue h.near.base f.confirmed f.received
 
--- nothing stands on an end that is down and has nothing to complete
+-- nothing is on an end that is down and has nothing to complete
 pub nothing-idle : (x : LinkEnd) → IsEnd x → x.up ≡ false → x.incomplete ≡ false → x.queue.all ≡ []
 nothing-idle x h down complete =
     h.idle (none-of_two x.serving x.incomplete (not-without x.serving h.serving down) complete)

@@ -1,4 +1,4 @@
--- Messages of which the laws don't speak come, leave and change places: all laws stay.
+-- Messages that the laws don't mention come, leave and change places: all laws stay.
 use Rattle.pair_moves.proofs.Basics.{◌≡◌, ℕ, Bool, true, false, not, ◌+◌, ◌&&◌, List, [], ◌∷◌, ◌++◌, count_by, refl, ap, sym, ◌∙◌, subst, arith, if◌then◌else◌}
 use Rattle.pair_moves.proofs.Definitions.{Message, Flow, Saying, UserMessage, Order, Answer, Declaration, Confirmation, Other, is_other, is_user_message, is_same_flow, is_of_flow, flow_of, Side, Pair, turned, last_accepted, is_order, is_answer, is_untrue, is_declaration, is_confirmation, without_others, MixesOthers, under_way, one_if, saying, user, of_flow, IsInOrder}
 use Rattle.pair_moves.proofs.Counts.{count-cons}
@@ -72,7 +72,7 @@ module _ (read : Message → Saying) where
     abbrev mixed : Pair
     mixed = record p { near = s }
 
-    -- so many are under way as before
+    -- as many are under way as before
     way-there : (test : Message → Bool) → IsDeaf test → under_way test mixed ≡ under_way test p
     way-there test d = omega (arith, count-stays test d m.held p.near.held m.held_stay, count-stays test d m.loose p.near.loose m.loose_stay)
 

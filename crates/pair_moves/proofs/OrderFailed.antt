@@ -104,7 +104,7 @@ module _ (read : Message → Saying) (flow : Flow) where
 
   -- ---- a completion
 
-  -- the messages that the far end lacks go before all that is held; the others that are queued anew
+  -- the messages that the far end lacks go before all that is held; the others that are queued again
   -- are of no flow
   module _ (p : Pair) (link count : ℕ) (e : count ≡ (p.line link).far.queue.received) (awaited : Bool) (lines : ℕ → Line)
       (set : BecomeAt p link (with_completion (p.line link) awaited) lines) (s : Side) (accepted : s.accepted ≡ p.near.accepted)
@@ -130,7 +130,7 @@ module _ (read : Message → Saying) (flow : Flow) where
     guard-elsewhere k d (by_code c h ahead declaration behind is says none) =
         by_code c (lifted (Code c) flow (code-no-changeover c link) ∙ h) ahead declaration behind (ap unreceived (set.others k d) ∙ is) says none
 
-    -- what stood on links and behind is the same together
+    -- what was on links and after them is the same together
     moved : (standing_on read flow p link ≡ []) ⊎ (standing_on read flow p link ≢ []) → IsInOrder read flow p →
         standing_of read flow after_completion ++ behind_of read flow after_completion ≡ standing_of read flow p ++ behind_of read flow p
     moved (inl none) h =

@@ -14,14 +14,14 @@ module _ (read : Message → Saying) (flow : Flow) where
   abbrev of : List Message → List Message
   of ms = of_flow read flow ms
 
-  -- ---- all of the flow stands on one link
+  -- ---- all of the flow is on one link
 
-  -- where nothing of the flow stands on other links, all that stands is on this one
+  -- if nothing of the flow is on other links, all that is on links is on this one
   pub all-on : (p : Pair) (link : ℕ) → link < p.links → ((k : ℕ) → k < p.links → k ≢ link → standing_on read flow p k ≡ []) →
       standing_of read flow p ≡ standing_on read flow p link
   all-on p link l alone = join-only (standing_on read flow p) p.links link l alone
 
-  -- what stands somewhere stands there
+  -- what is somewhere is there
   pub only-there : (p : Pair) (link k : ℕ) → k < p.links → ((j : ℕ) → j < p.links → j ≢ link → standing_on read flow p j ≡ []) →
       standing_on read flow p k ≢ [] → k ≡ link
   only-there p link k l alone n = ⊎_elim (λ (e : k ≡ link). e) (λ (d : k ≢ link). absurd (n (alone k l d))) (cases_eq k link)
@@ -32,7 +32,7 @@ module _ (read : Message → Saying) (flow : Flow) where
   others-empty p link l h n k kl d =
       ⊎_elim (λ (e : standing_on read flow p k ≡ []). e) (λ (m : standing_on read flow p k ≢ []). absurd (d (h.single k link kl l m n))) (empty-or (standing_on read flow p k))
 
-  -- ---- a message of no flow goes behind those of a link
+  -- ---- a message of no flow goes after those of a link
 
   pub guard-appended : (p : Pair) (link : ℕ) (m : Message) (lines : ℕ → Line) → BecomeAt p link (with_message (p.line link) m) lines →
       (p.line link).near.serving ≡ true → IsLine (p.line link) → is_of_flow read flow m ≡ false → (s : Side) →
@@ -77,7 +77,7 @@ module _ (read : Message → Saying) (flow : Flow) where
       (taken-off read flow p p.near.held p.near.loose m rest first other)
       (λ k l n g. guard-appended p link m lines set serving line other s (λ procedure held. held) k (λ e. by_route e) g) h
 
-  -- a flow that may go on by a link stands on no other
+  -- a flow that may go on by a link is on no other
   free-elsewhere : (p : Pair) (link : ℕ) → MayGo read p.near flow link → IsInOrder read flow p →
       (k : ℕ) → k < p.links → k ≢ link → standing_on read flow p k ≡ []
   free-elsewhere p link go h k l d =
@@ -137,7 +137,7 @@ module _ (read : Message → Saying) (flow : Flow) where
 
   -- ---- a message comes off a link
 
-  -- the first that wasn't received is received; some of the flow stands behind it
+  -- the first that wasn't received is received; some of the flow comes after it
   guard-taken : (p q : Pair) (k : ℕ) (m : Message) → unreceived (p.line k) ≡ m ∷ unreceived (q.line k) → of (unreceived (q.line k)) ≢ [] →
       q.near.route ≡ p.near.route → q.near.holds ≡ p.near.holds → (q.line k).near.incomplete ≡ (p.line k).near.incomplete →
       IsGuarded read flow p k → IsGuarded read flow q k

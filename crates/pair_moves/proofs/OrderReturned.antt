@@ -26,7 +26,7 @@ same-code a b e = cc
 codes-differ : (a b : ℕ) → a ≢ b → Code a ≢ Code b
 codes-differ a b d e = d (same-code a b e)
 
--- a message that stands in a list counts
+-- a message that occurs in a list counts
 counts-there : (test : Message → Bool) (ms ahead : List Message) (m : Message) (behind : List Message) → ms ≡ ahead ++ m ∷ behind → test m ≡ true →
     1 ≤ count_by test ms
 counts-there test ms ahead m behind e t =

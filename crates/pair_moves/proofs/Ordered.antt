@@ -1,4 +1,4 @@
--- The order of one flow, kept by a move that is known by what it changes.
+-- The order of one flow, kept by a move that is characterized by what it changes.
 use Rattle.pair_moves.proofs.Basics.{◌≡◌, ◌≢◌, ℕ, true, false, ◌<◌, List, [], ◌∷◌, ◌++◌, ap, sym, ◌∙◌, arith, Option, Some, append-nil, append_assoc}
 use Rattle.pair_moves.proofs.Definitions.{Message, Flow, Saying, is_of_flow, Procedure, Changeover, Code, Time, Pair, unreceived, join_to, of_flow, standing_on, IsGuarded, by_route, by_changeover, by_time, by_code, IsInOrder}
 use Rattle.pair_moves.proofs.Joins.{join-alike, four, flow-append_without}
@@ -14,7 +14,7 @@ module _ (read : Message → Saying) (flow : Flow) where
   abbrev of : List Message → List Message
   of ms = of_flow read flow ms
 
-  -- what the far node has of the flow, what stands on links, and what is held or loose behind that
+  -- what the far node has of the flow, what is on links, and what is held or loose after that
   abbrev pub received_of : Pair → List Message
   received_of p = of p.far.received ++ of p.far.arrived
 
@@ -34,7 +34,7 @@ module _ (read : Message → Saying) (flow : Flow) where
   added-behind : (t w b m : List Message) → (t ++ (w ++ b)) ++ m ≡ t ++ (w ++ (b ++ m))
   added-behind t w b m = append_assoc t (w ++ b) m ∙ ap (λ (xs : List Message). t ++ xs) (append_assoc w b m)
 
-  -- what stands on links is as before
+  -- what is on links is as before
   pub order-still : (p q : Pair) → q.links ≡ p.links → ((k : ℕ) → standing_on read flow q k ≡ standing_on read flow p k) → (added : List Message) →
       of q.near.accepted ≡ of p.near.accepted ++ added → received_of q ≡ received_of p → behind_of q ≡ behind_of p ++ added →
       ((k : ℕ) → k < p.links → standing_on read flow p k ≢ [] → IsGuarded read flow p k → IsGuarded read flow q k) →
@@ -85,7 +85,7 @@ module _ (read : Message → Saying) (flow : Flow) where
       (λ link held. ap (λ r. r (Time link) flow) holds ∙ held)
       (λ code held. ap (λ r. r (Code code) flow) holds ∙ held) same
 
-  -- one message more that is of no flow stands behind those of a link
+  -- one more message that is of no flow comes after those of a link
   pub guard-behind : (p q : Pair) (k : ℕ) (m : Message) → is_of_flow read flow m ≡ false →
       (p.near.route flow ≡ Some k → IsGuarded read flow q k) →
       ((procedure : Procedure) → p.near.holds procedure flow ≡ true → q.near.holds procedure flow ≡ true) →

@@ -25,7 +25,7 @@ drop-first (x ∷ ms) (suc n) m e =
 pub drop-appended : (ms : List Message) (n : ℕ) (m : Message) → n ≤ length ms → drop n (ms ++ m ∷ []) ≡ drop n ms ++ m ∷ []
 drop-appended ms n m l = drop-append-le n ms (m ∷ []) l
 
--- a message that goes behind those of a queue stands behind those that aren't received
+-- a message that goes after those of a queue comes after those that aren't received
 pub unreceived-appended : (z : Line) (m : Message) → z.near.serving ≡ true → IsLine z → unreceived (with_message z m) ≡ unreceived z ++ m ∷ []
 unreceived-appended z m serving h =
     let f : Flows z = serving-flows z h serving in

@@ -11,7 +11,7 @@ use Rattle.pair_moves.proofs.Passed.{unreceived-appended}
 use Rattle.pair_moves.proofs.LinesChanged.{line-opened_first, line-opened_second, line-service, nothing-idle}
 use Rattle.pair_moves.proofs.Tells.{one-said, none-said, count-beyond}
 
--- nothing stands on an end that may open
+-- nothing is on an end that may open
 pub nothing-stands : (x : LinkEnd) → MayOpen x → IsEnd x → x.queue.all ≡ []
 nothing-stands x m h = nothing-idle x h m.down m.complete
 
@@ -19,7 +19,7 @@ none-unreceived : (test : Message → Bool) (ms : List Message) (n : ℕ) → ms
 none-unreceived test ms n e = ap (λ (xs : List Message). count_by test (drop n xs)) e ∙ count-beyond test n
 
 module _ (read : Message → Saying) (p q : Pair) where
-  -- nothing is said about a link that may open, nor has an end of it anything that stands there
+  -- nothing is said about a link that may open, nor is anything on an end of it
   unsaid : (link : ℕ) → MayOpen (p.line link).near → one_if (p.line link).far.awaited ≡ 0 → Sound read p → under_way (untrue_of read link opened_end) p ≡ 0
   unsaid link may far_free h =
       let near_free : one_if (p.line link).near.awaited ≡ 0 = none-said (p.line link).near.awaited may.unawaited in

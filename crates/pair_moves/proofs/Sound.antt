@@ -1,4 +1,4 @@
--- What a move keeps beside order, known by what it changes at the near node and on one line.
+-- What a move keeps besides order, characterized by what it changes at the near node and on one line.
 use Rattle.pair_moves.proofs.Basics.{◌≡◌, ℕ, Bool, ◌+◌, List, count_by, arith}
 use Rattle.pair_moves.proofs.Definitions.{Message, Saying, Line, Side, Pair, turned, turned_line, unreceived, BecomeAt}
 use Rattle.pair_moves.proofs.Lines.{IsLine}

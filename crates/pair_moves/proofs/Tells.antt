@@ -52,7 +52,7 @@ module _ (read : Message → Saying) (p : Pair) where
       (unless-true z.near_may_follow (incomplete-first z (h.lines link) incomplete)) (unless-true z.far_may_follow (incomplete-joined z (h.lines link) incomplete))
       (or-second z.near.up z.near.incomplete z.far.up incomplete)))
 
-  -- the user messages that move and the others that are queued anew are those that weren't received
+  -- the user messages that move and the others that are queued again are those that weren't received
   pub moved-counts : (link count : ℕ) → count ≡ (p.line link).far.queue.received → (test : Message → Bool) →
       count_by test (users_of read (drop count (p.line link).near.queue.all)) + count_by test (managements_of read (drop count (p.line link).near.queue.all))
       ≡ count_by test (unreceived (p.line link))

@@ -1,4 +1,4 @@
--- A frame that newly carries a message: what it comes to, and the node that the message comes to.
+-- A frame that newly carries a message: what it leads to, and the node that the message comes to.
 use Rattle.pair_rules.proofs.Basics.{◌≡◌, ◌&&◌, ℕ, zero, suc, Bool, true, false, not, List, length, Option, Some, None, Result, Ok, Err, refl, subst, ◌∙◌, if◌then◌else◌, sym}
 use Rattle.pair_rules.proofs.Definitions.{Message, Outcome, Ignored, Configuration, TitleEntry, FrameValue, EmptyFrame, MessageFrame, StatusFrame, read_frame, Action, UserData, action_at, SeqFault, Facts, Node, answer, refuse, down, is_link, link_at, WholeQueues, whole, Carrying, accept, accept_data, accept_frame, accept_text, act_by_data, carry, data_of, empty_data, handle_by, message_data, numbers, read, receive, receive_frame, deliver, new_at, new_by, new_in, new_message, new_of, advance, begun_anew_if, enters, return_if, step_on, loses_flows, hold_flows, code_for, take_back_each, count_confirmed, facts, owing, Parts, with_parts, has_other}
 use Rattle.signalling_types.specs.declared.cause.Cause.TheVariants as causes

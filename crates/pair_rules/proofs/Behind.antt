@@ -1,4 +1,4 @@
--- User messages after a number: as many are if a node makes management alone.
+-- User messages after a number: there are as many if a node makes only management.
 use Rattle.pair_rules.proofs.Basics.{◌≡◌, ◌≤◌, ◌+◌, ◌&&◌, ℕ, zero, suc, Bool, true, false, not, List, [], ◌∷◌, ◌++◌, length, drop, Option, Some, None, refl, ap, ◌∙◌, arith, if◌then◌else◌, count_by}
 use Rattle.pair_rules.proofs.Definitions.{Message, flow_of, is_management, Cause, Configuration, Queue, appended, first_queue, named_count, Facts, Node, with_parts, WholeQueues, whole, queue_at, queue_on, no_room, link_of, send, entry_of, peer_of, set_of, ChangebackDeclaration, advance, enters, return_if, loses_flows, hold_flows, code_for, declaration, take_back_each, facts, after}
 use Rattle.std.specs.Prelude.{unwrap_or}
@@ -15,20 +15,20 @@ use Rattle.pair_moves.specs.Laws.{sum_to}
 use Rattle.pair_moves.proofs.Counts.{count-append, sum-alike}
 use Rattle.pair_rules.specs.Promises.{user}
 
--- ---- user messages behind a number
+-- ---- user messages after a number
 
 -- how many of these are user messages
 abbrev pub users : List Message → ℕ
 users ms = count_by (user (λ m. true)) ms
 
--- the messages of a queue behind the count that a number names; where it names none, all that aren't confirmed
+-- the messages of a queue after the count that a number names; if it names none, all that aren't confirmed
 abbrev pub behind_number : (number : ℕ) → Queue → List Message
 behind_number number q = drop (unwrap_or (named_count q number) q.confirmed) q.all
 
 abbrev pub behind_at : (number : ℕ) → WholeQueues → (link : ℕ) → ℕ
 behind_at number qs link = users (behind_number number (queue_at qs link))
 
--- those of so many links, and those of Held
+-- those of n links, and those of Held
 abbrev pub standing_behind : (number links : ℕ) → WholeQueues → ℕ
 standing_behind number links qs = sum_to (behind_at number qs) links + users qs.held
 

@@ -13,7 +13,7 @@ use Rattle.pair_rules.proofs.World.{link_of_code, management_says, read_says, sa
 use Rattle.pair_rules.proofs.Good.{IsBetween, IsJoined, IsWord, IsWritable}
 use Rattle.pair_rules.proofs.Good as good
 
--- ---- where something stands in a list
+-- ---- the index of something in a list
 
 -- two tests that say the same of each element
 map-alike : {X Y : Type 0} (f g : X → Y) (xs : List X) (d : X) → ((k : ℕ) → k < length xs → f (get_or xs k d) ≡ g (get_or xs k d)) → map f xs ≡ map g xs

@@ -1,4 +1,4 @@
--- What is between two ends, by counts, and what the words among it say.
+-- What is between two ends, by counts, and what the messages among it say.
 use Rattle.pair_rules.proofs.Basics.{◌≡◌, subst, ◌<◌, ◌≢◌, ◌+◌, ℕ, Bool, true, false, zero, suc, List, [], ◌∷◌, length, Some, refl, ap, sym, ◌∙◌, arith, Contains, count_by, drop, take, slice_get, ⊎_elim, cases_eq, Contains-append_left, Contains-append_right}
 use Rattle.pair_rules.proofs.Definitions.{Message}
 use Rattle.std.proofs.lemmas.Option.{slice_get_read}
@@ -23,7 +23,7 @@ each-join P f (suc n) e = each-behind P (join_to f n) (f n) (each-join P f n e) 
 got : (ms : List Message) (m : Message) (h : Contains ms m) → slice_get ms h.0 ≡ Some m
 got ms m h = slice_get_read ms (length ms) h.0 m refl h.1 (sym h.2)
 
--- and back: what stands on a link behind a count is one of all
+-- and back: what is on a link after a count is one of all
 pub contained-behind : (ms : List Message) (n : ℕ) (m : Message) → slice_get ms n ≡ Some m → Contains (drop n ms) m
 contained-behind ms n m e =
     let back : n + 0 ≡ n = omega arith in
@@ -58,6 +58,6 @@ none-at test [] k m e f = absurd cc
 none-at test (x ∷ ms) zero m e f = (let same : x ≡ m = cc in ap test (sym same) ∙ none-passes (test x) (count_by test ms) (sym (count-cons test x ms) ∙ e))
 none-at test (x ∷ ms) (suc k) m e f = none-at test ms k m (omega (arith, count-cons test x ms, e)) f
 
--- where none passes a test, what stands there doesn't
+-- if none passes a test, what is there doesn't
 pub none-contained : (test : Message → Bool) (ms : List Message) (m : Message) → count_by test ms ≡ 0 → Contains ms m → test m ≡ false
 none-contained test ms m e h = none-at test ms h.0 m e (got ms m h)

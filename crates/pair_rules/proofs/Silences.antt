@@ -2,7 +2,7 @@
 use Rattle.pair_rules.proofs.Basics.{◌≡◌, ◌&&◌, ◌-◌, ℕ, Bool, true, false, not, Option, Some, None, refl, ap, sym, ◌∙◌, nat_lt, if◌then◌else◌, slice_get}
 use Rattle.pair_rules.proofs.Definitions.{Message, LinkStatus, Queue, Sending, forward_number, numbered, to_send, SendsStatus, SendsMessage, Acknowledges, message_first, status_first}
 
--- what is sent next stands in the queue
+-- what is sent next is in the queue
 pub record IsNext (q : Queue) (window : ℕ) (next : Sending) : Type 0 where
   pub number : next.number ≡ forward_number q q.sent
   pub stands : slice_get q.all q.sent ≡ Some next.message

@@ -1,4 +1,4 @@
--- What a fetched frame and an event come to.
+-- What a fetched frame and an event lead to.
 use Rattle.pair_rules.proofs.Basics.{◌≡◌, ◌<◌, ◌≤◌, ℕ, length, Some, None, refl, ap, if◌then◌else◌, slice_get, ⊎_elim, cases_lt, get_or_past}
 use Rattle.pair_rules.proofs.Definitions.{Configuration, FrameValue, Link, down_link, Node, Happening, WholeQueues, whole, apply, handle_event, outcome_of, frame_from, frame_taken, may_send, message_first, status_first}
 

@@ -1,4 +1,4 @@
--- What holds of each of a list holds of each of some of them.
+-- What holds of every element of a list holds of every one of some of them.
 use Rattle.pair_rules.proofs.Basics.{ℕ, Bool, true, false, List, [], ◌∷◌, zero, suc, drop, filter, if◌then◌else◌}
 use Rattle.pair_rules.proofs.Good.{Each}
 

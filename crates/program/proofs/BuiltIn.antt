@@ -1,4 +1,4 @@
--- The built-in settings as they were written mean the checked ones.
+-- The built-in settings as they are written mean the checked ones.
 use Rattle.std.proofs.Common.{◌≡◌, ℕ, ℤ, pos, Bool, true, false, List, [], ◌∷◌, Some, None, map, refl, ap, sym, ◌∙◌, codes, string_bytes, ◌⊎◌, inl, inr}
 use Rattle.std.specs.Prelude.{unwrap_or, position}
 use Rattle.std.specs.Str.{bytes_eq}

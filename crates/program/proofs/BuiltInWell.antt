@@ -1,4 +1,4 @@
--- The built-in settings as they were written have no fault.
+-- The built-in settings as they are written have no fault.
 use Rattle.std.proofs.Common.{◌≡◌, ℤ, pos, true, List, [], ◌∷◌, None, map, refl, codes, string_bytes}
 use Rattle.std.specs.declared.alloc.Global.{Global}
 use Rattle.std.specs.Prelude.{String}

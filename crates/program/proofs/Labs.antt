@@ -68,7 +68,7 @@ lab-ended script old input output output_new errors ended whole counts unread un
       })
     ]
 
--- nodes that begin behind an output that is as it was
+-- nodes that begin after an output that is unchanged
 pub output-kept : (near far : List ℕ) (near_settings far_settings : Configuration) (input : Input) (output old errors : Output) (new : Streams) (ended : Status)
     → output ≡ old
     → RunsNodes near far near_settings far_settings (streams input output errors) new ended

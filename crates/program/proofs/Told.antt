@@ -1,4 +1,4 @@
--- A text of some kind that was made is told, or memory ran out for it.
+-- A text of some kind that was made is told, or there was no memory for it.
 use Rattle.std.proofs.Common.{◌≡◌, List, ℕ, Some, Result, Ok, Err, string_bytes, inl, inr}
 use Rattle.std.specs.Prelude.{String, IfOk}
 use Rattle.std.specs.Global.{Global}

@@ -1,4 +1,4 @@
--- No number is marked from one to the next, nor past the bound.
+-- No number is marked between one and the next, or past the bound.
 use Rattle.route_management.proofs.Basics.{◌≡◌, ◌≤◌, ◌+◌, ℕ, zero, suc, Bool, false, List, [], ◌∷◌, length, refl, ap, ◌∙◌, inl, inr, arith, eqb_tells, leb_tells, is_marked, NoneFrom, NoneBetween}
 
 pub none_yet : (marks : List Bool) (from : ℕ) → NoneBetween marks from from
@@ -16,7 +16,7 @@ past_all [] number past = refl
 past_all (mark ∷ marks) zero past = absurd (omega (arith, past))
 past_all (mark ∷ marks) (suc number) past = past_all marks number (omega (arith, past))
 
--- where none is from one on up to another, and none of the numbers behind that, none is up to an end
+-- if none is from one on up to another, and none of the numbers after that, none is up to an end
 pub joined : (marks : List Bool) (from at end : ℕ) → NoneBetween marks from at → NoneBetween marks at end → NoneBetween marks from end
 joined marks from at end before behind = λ number least below.
     elim (leb_tells at number) [

@@ -1,4 +1,4 @@
--- What is read of rows, one element of which is replaced.
+-- What is read of rows, if one element of one of them is replaced.
 use Rattle.route_management.proofs.Basics.{◌≡◌, ◌≢◌, ◌<◌, ◌+◌, ℕ, zero, suc, List, [], ◌∷◌, ◌++◌, length, map, take, drop, refl, ap, sym, arith, slice_get, slice_index_or, slice_set, option_map, common_steps, get_or-set_other, length-set, map_over_more}
 
 get_back : {A : Type 0} (xs : List A) (i : ℕ) (x : A) → slice_get (slice_set xs i x) i ≡ option_map (λ old. x) (slice_get xs i)

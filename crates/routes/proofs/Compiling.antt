@@ -1,4 +1,4 @@
--- The table of the links of all flows: what a look-up finds, and what the rows are that were mended.
+-- The table of the links of all flows: what a look-up finds, and what the mended rows are.
 use Rattle.routes.proofs.Basics.{◌≡◌, ◌<◌, ◌≤◌, ◌+◌, ℕ, zero, suc, Bool, true, false, List, [], ◌∷◌, ◌++◌, map, take, drop, length, refl, ap, sym, ◌∙◌, arith, add-one, drop_more, map_more, length-map, length-take-le, append_assoc, get_or_past, get_or_read, get_or-map, fill_by_all, get_or-map-range_with_len, filter, nat_tests, Option, None, nat_lt, slice_index_or, slice_set, if◌then◌else◌, Member, first_serving, Route, RouteStatus, Facts, routes_to, with_status_over, with_status, is_open, choice_among, sets_of, members, link_by, chosen_link, SELECTIONS, links_of_group, links_among, table_of, mended_at, mended_below}
 use Rattle.std.proofs.lemmas.List.{set_at}
 
@@ -17,7 +17,7 @@ pub filled : (in_service : List Bool) (sets : List ℕ) (group : List Member) (r
 unfolding links_of_group
 filled in_service sets group row e each = fill_by_all (λ s. first_serving s in_service sets group) row SELECTIONS None e each
 
--- a row that stands in the table
+-- a row that is in the table
 pub found_row : (f : Facts) (rows : List (List (Option ℕ))) (row : List (Option ℕ)) (destination selection : ℕ) → rows ≡ table_of f
     → destination < length rows → row ≡ slice_index_or rows destination row → selection < SELECTIONS
     → slice_index_or row selection None ≡ chosen_link f destination selection
@@ -28,7 +28,7 @@ found_row f rows row destination selection e within is l =
     ∙ get_or-map (links_among f) f.routes destination [])
     ∙ looked_up f destination selection l
 
--- behind the last row no flow has a link
+-- after the last row no flow has a link
 pub no_row : (f : Facts) (rows : List (List (Option ℕ))) (destination selection : ℕ) → rows ≡ table_of f → false ≡ nat_lt destination (length rows)
     → None ≡ chosen_link f destination selection
 unfolding choice_among link_by

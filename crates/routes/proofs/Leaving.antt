@@ -1,5 +1,4 @@
--- A link that leaves service takes its own flows with it, and no other; and a flow that has a link without it has one
--- with it.
+-- A link that leaves service takes away its own flows alone; and a flow that has a link without it has one with it.
 use Rattle.routes.proofs.Basics.{◌≡◌, ◌≢◌, ◌<◌, ◌≤◌, ◌⊎◌, ℕ, zero, suc, Bool, true, false, ◌||◌, ◌==◌, cond, List, [], ◌∷◌, ◌++◌, find, length, nat_eq, refl, ap, sym, subst, ◌∙◌, inl, inr, arith, Option, Some, None, Contains, is_some, slice_set, unwrap_or, list_any, filter, option_map, ⊎_elim, cases_lt, cases_eq, eqb-true, get_or_past, get_or-set_same, get_or-set_other, length-set, flat_map-cons, Contains-append_right, Contains-append_cases, Contains-permutation, IsPermutation-sym, same_Some, Member, is_in_service, has_link, members_of, preference, serves, Route, RouteStatus, Allowed, Restricted, Facts, set_at, routes_to, with_link, status_number, is_open, groups_of, open_group, Choice, allowed_or, choice_among, taken_by, sets_of, members, link_by, chosen_link, and_from, and_parts, list_any_at, or_right}
 use Rattle.routes.proofs.Preference.{preference_permutes}
 use Rattle.routes.proofs.MembersInService.{some_serves}
@@ -85,7 +84,7 @@ chosen_of_set f destination selection link e =
     let t : IsTaken f c selection link = taken f c selection link e in
     record { set = t.member.set; member = subst (λ (l : ℕ). Contains (set_at f t.member.set) l) t.is (in_group f c selection link t) }
 
--- behind the last destination no flow has a link
+-- after the last destination no flow has a link
 pub none_past : (f : Facts) (destination selection : ℕ) → length f.routes ≤ destination → chosen_link f destination selection ≡ None
 unfolding choice_among link_by
 none_past f destination selection past = ap (λ (routes : List Route). link_by f (choice_among f routes) selection) (get_or_past f.routes destination [] past)

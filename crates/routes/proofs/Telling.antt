@@ -1,4 +1,4 @@
--- What a status that a route gets changes, and what it doesn't.
+-- What changes as a route gets a status, and what doesn't.
 use Rattle.routes.proofs.Basics.{◌≡◌, ◌≢◌, ℕ, zero, suc, true, false, cond, List, [], ◌∷◌, map, find, refl, ap, sym, ◌∙◌, Option, Some, slice_index_or, slice_set, nat_eq, if◌then◌else◌, option_map, get_or-map, get_or-set_other, Route, RouteStatus, Allowed, Facts, routes_to, with_status_over, with_status, choice_among, taken_by, link_by, chosen_routes, chosen_link, leads_by, status_of, with_statuses_reset}
 
 -- ---- another destination

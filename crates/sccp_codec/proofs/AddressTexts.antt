@@ -89,7 +89,7 @@ some-if false n = refl
 
 -- ---- what is read is an address
 
--- the parts behind the indicator octet
+-- the parts after the indicator octet
 record Behind (octets : List ℕ) (point ssn : Option ℕ) (title : List ℕ) : Type 0 where
   pub spare : ℕ
   pub spare_fits : spare < 2 ^ 2

@@ -163,7 +163,7 @@ read_unitdata-is_unitdata text v h =
 
 -- ---- what is written
 
--- a part between what stands before it and what stands behind it
+-- a part between what comes before it and what comes after it
 between : (text front part behind : List ℕ) (pointer : ℕ) → text ≡ front ++ (counted part ++ behind) → length_place text pointer ≡ length front → 5 ≤ length front → IsPart text pointer part
 between text front part behind pointer e place long = record {
   behind = rw place long;
@@ -202,7 +202,7 @@ spelled-is_unitdata v h = laid_out-is_unitdata v h (address_octets 0 (parts_of v
 pub read_unitdata-spelled : (v : UnitdataValue) → IsUnitdataValue v → read_unitdata (spelled v) ≡ Ok v
 read_unitdata-spelled v h = read_unitdata-is_unitdata (spelled v) v (spelled-is_unitdata v h)
 
--- behind a label
+-- after a label
 pub read_unitdata-field : (label : List ℕ) (v : UnitdataValue) → length label ≡ 4 → IsUnitdataValue v → read_unitdata (drop 4 (label ++ spelled v)) ≡ Ok v
 read_unitdata-field label v four h =
     let behind : drop 4 (label ++ spelled v) ≡ spelled v = ap (λ (n : ℕ). drop n (label ++ spelled v)) (sym four) ∙ drop-append_seam label (spelled v) in

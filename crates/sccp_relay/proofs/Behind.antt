@@ -1,4 +1,4 @@
--- What is after digits is what is from the node that they lead to.
+-- What is stored after some digits is what is stored from the node that they lead to.
 use Rattle.sccp_relay.proofs.Basics.{◌≡◌, ℕ, zero, suc, Bool, true, false, cond, List, [], ◌∷◌, ◌++◌, Option, Some, None, length, refl, sym, ap, ◌∙◌, arith, ne_eqb, Node, DigitMap, behind, found_at, longest, longest_within, child, node_of, reached, root, stored, stored_from, value, value_there}
 use Rattle.sccp_relay.proofs.Walking.{further, reached-append}
 
@@ -35,7 +35,7 @@ pub from-node : (nodes : List Node) (front : List ℕ) (at : ℕ) → reached (c
 from-node nodes front at e = λ i. λ digits.
     (sym (ap (value_there (value nodes)) (reached-append (child nodes) root front digits ∙ ap (λ (o : Option ℕ). further (child nodes) o digits) e))) i
 
--- ---- where nothing stands nothing is the longest
+-- ---- if nothing is stored, nothing is the longest
 
 none-within : (map : DigitMap) (digits : List ℕ) (n : ℕ) → ((ds : List ℕ) → map ds ≡ None) → longest_within map digits n ≡ None
 none-within map digits zero h = ap (λ (o : Option ℕ). found_at zero o None) (h _)

@@ -1,4 +1,4 @@
--- The first row that doesn't come before a key is of that key, or none is.
+-- The first row that doesn't come before a key is of that key, or there is none.
 use Rattle.sccp_relay.proofs.Basics.{both_ways, false_from_ne_true, ◌≡◌, ℕ, zero, suc, ◌<◌, ◌≤◌, Bool, true, false, List, [], ◌∷◌, length, get_or, refl, sym, ap, subst, ◌∙◌, inl, inr, arith, and_parts, cases_eq, cases_lt, eqb-true, eq-eqb, get_or_default, list_any_at, list_any_none, list_any, is_lt, nat_cmp, ordering_then, slice_cmp, Ordering, Less, Equal, TitleKey, TitleEntry, IsOrdered, place_of, row_place, place_order, is_before, has_key}
 use Rattle.sccp_relay.proofs.RowOrder.{Splits, each-at}
 

@@ -1,4 +1,4 @@
--- A node more, to which one digit leads from one node.
+-- One more node, which one digit of one node leads to.
 use Rattle.sccp_relay.proofs.Basics.{◌≡◌, ◌≢◌, ℕ, Bool, true, false, cond, List, [], ◌∷◌, Option, Some, None, refl, sym, ap, ◌∙◌, inl, inr, cases_eq, eqb-false, eq-eqb, nat_eq, reached, value_there}
 
 -- the digit d leads from p to f, and led nowhere; nothing stands at f, nor does any digit lead on
@@ -36,7 +36,7 @@ kept old new value p d f l at (x ∷ digits) to e =
     (λ n g. ap (λ (m : ℕ). reached new m digits) (stays old new value p d f l at x n) ∙ kept old new value p d f l (old at x) digits to g)
     e
 
--- ---- nothing else stands anywhere
+-- ---- nothing else is stored anywhere
 
 none-if : (value : ℕ → Option ℕ) (t : Bool) (x : Option ℕ) → t ≡ true → value_there value (cond t None x) ≡ None
 none-if value true x e = refl

@@ -1,8 +1,8 @@
--- The longest digits at which something is, as a walk finds them.
+-- The longest digits at which something is stored, as a walk finds them.
 use Rattle.sccp_relay.proofs.Basics.{◌≡◌, ℕ, zero, suc, ◌<◌, ◌≤◌, ◌+◌, ◌-◌, true, List, ◌∷◌, ◌++◌, length, take, drop, Option, Some, None, refl, sym, ap, ◌∙◌, inl, inr, [], arith, cases_eq, length-take-le, take-take, get_or-take, nat_eq, Node, DigitMap, found_at, longest, longest_within, child, reached, stored_from, value, value_there}
 use Rattle.sccp_relay.proofs.Walking.{digit_at, no-more, split}
 
--- nothing stands at more of these digits than at so many
+-- nothing is stored at more than n of these digits
 abbrev pub NoneLonger : DigitMap → List ℕ → ℕ → Type 0
 NoneLonger map digits i = (k : ℕ) → i < k → k ≤ length digits → map (take k digits) ≡ None
 
@@ -48,7 +48,7 @@ longest-step nodes start at digits i best new o way e b f =
 
 -- ---- what the longest is
 
--- so many digits begin these, this stands there, and nothing at more of them
+-- n digits begin these, this is stored there, and nothing at more of them
 pub record IsLongest (map : DigitMap) (digits : List ℕ) (count value : ℕ) : Type 0 where
   pub within : count ≤ length digits
   pub stands : map (take count digits) ≡ Some value
@@ -119,6 +119,6 @@ none-within-most map digits (suc most) k e le =
       | inr other ↦ none-within-most map digits most k both.1 (omega (arith, le, other))
     ]
 
--- where there is none, nothing stands at any digits that begin these
+-- if there is none, nothing is stored at any digits that begin these
 pub is-none-longest : (map : DigitMap) (digits : List ℕ) (k : ℕ) → longest map digits ≡ None → k ≤ length digits → map (take k digits) ≡ None
 is-none-longest map digits k e le = none-within-most map digits (length digits) k e le

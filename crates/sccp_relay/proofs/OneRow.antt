@@ -1,4 +1,4 @@
--- A table in its order has one translation of an address at most, and translating answers it.
+-- A sorted table has at most one translation of an address, and translating returns it.
 use Rattle.sccp_relay.proofs.Basics.{◌≡◌, ℕ, zero, suc, ◌<◌, ◌≤◌, Bool, true, false, cond, List, [], ◌∷◌, length, get_or, take, Option, Some, Ok, refl, sym, ap, subst, ◌∙◌, arith, and_parts, eqb-true, tied_itself, nat_list_cmp_total, bytes_decides, AllByRecursion, filter, starts_with, nat_eq, TitleEntry, TitleKey, IsOrdered, row_place, place_order, longest_from, leads, has_key, IsTranslation, translation, translation_refusal, or_refusal}
 use Rattle.std.proofs.Common.{Less}
 use Rattle.sccp_relay.specs.Relay.{longest}
@@ -46,7 +46,7 @@ same-row (first ∷ rows) h zero (suc k) x y lt lt' e f same = absurd (later-apa
 same-row (first ∷ rows) h (suc j) zero x y lt lt' e f same = absurd (later-apart first rows j x h.0 (omega (arith, lt)) e (ap row_place f ∙ sym same))
 same-row (first ∷ rows) h (suc j) (suc k) x y lt lt' e f same = same-row rows h.1 j k x y (omega (arith, lt)) (omega (arith, lt')) e f same
 
--- ---- a row that leads stands at the place of the key and of as many digits
+-- ---- a row that leads is at the index of the key and of as many digits
 
 pub place-leading : (key : TitleKey) (digits : List ℕ) (row : TitleEntry) → leads key digits row ≡ true
     → row_place row ≡ key.translation ∷ key.plan ∷ key.nature ∷ take (length row.digits) digits

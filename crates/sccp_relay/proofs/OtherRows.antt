@@ -1,4 +1,4 @@
--- What a row more or less leaves of the rows at a place.
+-- What remains of the rows at an index, with one row more or less.
 use Rattle.sccp_relay.proofs.Basics.{◌≡◌, ◌≢◌, Bool, true, false, List, [], ◌∷◌, ◌++◌, refl, sym, ap, ◌∙◌, cond, append-nil, filter-append, filter, ℕ, not, is_lt, is_eq, is_gt, ordering_reverse, Ordering, Less, Equal, Greater, TitleEntry, row_place, place_order, is_before, is_at, is_behind, rows_at, added_stands, added_leaves, removed_is_gone, removed_leaves}
 use Rattle.sccp_relay.proofs.RowOrder.{total, reversed, equal-is_eq}
 
@@ -21,7 +21,7 @@ both at kept true f [] = refl
 both at kept false f [] = refl
 both at kept b f (x ∷ rows) = one at x (kept x) (at x) b (filter kept rows) (filter at rows) refl (f x) (both at kept b f rows)
 
--- ---- rows at a place, before another place and behind it
+-- ---- rows at an index, before another index and after it
 
 -- all rows at a place stand to another place as the place itself
 as_place : (place other : List ℕ) (x : TitleEntry) → is_at place x ≡ true → place_order (row_place x) other ≡ place_order place other

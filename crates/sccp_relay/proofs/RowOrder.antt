@@ -1,4 +1,4 @@
--- Rows in their order, before a place, at it and after it.
+-- Sorted rows, before an index, at it and after it.
 use Rattle.sccp_relay.proofs.Basics.{◌≡◌, ℕ, zero, suc, ◌<◌, ◌≤◌, Bool, true, false, not, List, [], ◌∷◌, ◌++◌, length, get_or, take, drop, refl, sym, ap, subst, ◌∙◌, ◌⊎◌, inl, inr, cond, drop-cons, arith, take-append-drop, append-nil, drop_all, filter-append, list_any-append, nat_list_cmp_total, IsTotalOrder, AllByRecursion, AllWithin, filter, insert, remove, IsPartitionedBy, IsPartitionPoint, is_lt, is_eq, is_gt, ordering_reverse, Ordering, Less, Equal, Greater, TitleEntry, row_place, place_order, is_before, is_at, is_behind, IsOrdered, has_row, with_row, StandsAt, FitsAt}
 
 -- ---- the order of places
@@ -13,7 +13,7 @@ less-is_lt : (o : Ordering) → is_lt o ≡ true → o ≡ Less
 less-is_lt Less e = refl
 less-is_lt o e = absurd cc
 
--- what comes behind a place that stands at another or behind it, comes behind that
+-- what comes after an index that is another or after it, comes after that
 less-then : (a b c : List ℕ) → place_order a b ≡ Less → place_order b c ≡ Less → place_order a c ≡ Less
 less-then a b c e f = total.trans a b c e f
 
@@ -36,7 +36,7 @@ partitioned place (row ∷ rows) h zero (suc j) d le lt e =
 partitioned place (row ∷ rows) h (suc i) zero d le lt e = absurd (omega (arith, le))
 partitioned place (row ∷ rows) h (suc i) (suc j) d le lt e = partitioned place rows h.1 i j d (omega (arith, le)) (omega (arith, lt)) e
 
--- ---- the rows before a place, and those behind it
+-- ---- the rows before an index, and those after it
 
 abbrev pub AreBefore : List ℕ → List TitleEntry → Type 0
 AreBefore place rows = AllByRecursion (λ row. place_order (row_place row) place ≡ Less) rows
@@ -44,7 +44,7 @@ AreBefore place rows = AllByRecursion (λ row. place_order (row_place row) place
 abbrev pub AreBehind : List ℕ → List TitleEntry → Type 0
 AreBehind place rows = AllByRecursion (λ row. place_order (row_place row) place ≡ Greater) rows
 
--- which of the rows come before the place, which behind it, which elsewhere, and whether one stands at it
+-- which of the rows come before the index, which after it, which elsewhere, and whether one is at it
 pub record Tells (place : List ℕ) (rows front back elsewhere : List TitleEntry) (there : Bool) : Type 0 where
   pub before : filter (is_before place) rows ≡ front
   pub behind : filter (is_behind place) rows ≡ back
@@ -103,7 +103,7 @@ ordered-drop rows zero h = h
 ordered-drop [] (suc i) h = tt
 ordered-drop (row ∷ rows) (suc i) h = ordered-drop rows i h.1
 
--- a row that stands at the place
+-- a row at the index
 pub tells-found : (place : List ℕ) (rows : List TitleEntry) (i : ℕ) (row : TitleEntry) → IsOrdered rows → AllWithin (λ row. is_before place row ≡ true) rows 0 i → i < length rows
     → row ≡ get_or rows i row → place_order (row_place row) place ≡ Equal → Tells place rows (take i rows ++ []) ([] ++ drop (suc i) rows) (remove rows i) true
 tells-found place rows i row h within lt e at =
@@ -119,7 +119,7 @@ from-first : (place : List ℕ) (rows : List TitleEntry) → IsOrdered rows → 
 from-first place [] h first = tt
 from-first place (row ∷ rows) h first = (first row rows refl, all-behind place row rows (inr (first row rows refl)) h.0)
 
--- no row stands at the place
+-- no row is at the index
 pub tells-free : (place : List ℕ) (rows : List TitleEntry) (i : ℕ) → IsOrdered rows → AllWithin (λ row. is_before place row ≡ true) rows 0 i → i ≤ length rows
     → ((row : TitleEntry) (rest : List TitleEntry) → drop i rows ≡ row ∷ rest → place_order (row_place row) place ≡ Greater)
     → Tells place rows (take i rows ++ []) ([] ++ drop i rows) (take i rows ++ drop i rows) false

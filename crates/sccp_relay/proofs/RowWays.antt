@@ -1,4 +1,4 @@
--- The ways to rows: which digits they have, which row each leads to, and what a row more or less leaves.
+-- The ways to rows: which digits they have, which row each leads to, and what remains with one row more or less.
 use Rattle.sccp_relay.proofs.Basics.{false_from_ne_true, ◌≡◌, ℕ, zero, suc, ◌+◌, ◌<◌, ◌^◌, ◌/◌, ◌%◌, Bool, true, false, cond, List, [], ◌∷◌, ◌++◌, length, get_or, take, drop, Option, Some, None, refl, sym, ap, subst, ◌∙◌, arith, append-nil, take-append-drop, take_more, All-append, All-cons, All-drop, All-from_recursion, All-more, All-take, bytes_decides, AllByRecursion, insert, remove, All, Result, Ok, Err, OnOk, is_err, is_ok, bytes_eq, DigitMap, with_value, without, TitleKey, TitleEntry, IsOrdered, key_of, row_place, place_order, IsRow, key_digits, way_of, lead_of, leads_of}
 use Rattle.std.proofs.Common.{Less}
 use Rattle.sccp_relay.proofs.RowOrder.{each-at}
@@ -145,7 +145,7 @@ leads-removed (first ∷ rows) (suc i) row h lt e = λ j. λ way.
     (λ yes. unequal way (way_of row) (λ same. ways-apart first row less (sym ((bytes_decides way (way_of first)).0 yes) ∙ same)))
     (λ no. ap (λ (map : List ℕ → Option ℕ). map way) (leads-removed rows i row h.1 (omega (arith, lt)) e)) j
 
--- ---- a row behind the others
+-- ---- a row after the others
 
 pub on_ok : {T E P : Type 0} (r : Result T E) → is_err r ≡ false → OnOk r P → P
 on_ok (Ok x) e h = h

@@ -115,7 +115,7 @@ flips row other = sym (at-same row other) ∙ is_eq-slice_cmp (row_place other) 
 
 -- ---- rows that were put in one by one
 
--- a row that stands at another place comes before or behind
+-- a row at another index comes before or after
 beside : (place : List ℕ) (row : TitleEntry) (front back : List TitleEntry) (mid : TitleEntry) (o : Ordering) → is_eq o ≡ false → (is_lt o ≡ true → Has row front) → (is_gt o ≡ true → Has row back) → Has row (front ++ mid ∷ back)
 beside place row front back mid Less e f g = has-left row front (mid ∷ back) (f refl)
 beside place row front back mid Equal e f g = absurd cc

@@ -1,4 +1,4 @@
--- What a row more or less leaves of a table.
+-- What remains of a table with one row more or less.
 use Rattle.sccp_relay.proofs.Basics.{◌≡◌, ℕ, suc, ◌<◌, ◌≤◌, Bool, true, false, cond, List, ◌∷◌, length, take, drop, sym, subst, arith, length-append, length-take, length-drop, insert, remove, TITLES, TitleEntry, row_place, IsOrdered, with_row, without_row, StandsAt, FitsAt}
 use Rattle.sccp_relay.proofs.RowOrder.{ordered-with_row, ordered-filter}
 

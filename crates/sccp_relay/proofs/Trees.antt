@@ -1,4 +1,4 @@
--- Nodes stay a tree: with one more, and if something else is at one.
+-- Nodes stay a tree with one more, and with another value stored at one.
 use Rattle.sccp_relay.proofs.Basics.{◌≡◌, ◌≢◌, ℕ, ◌<◌, ◌+◌, Bool, true, false, cond, List, [], ◌∷◌, ◌++◌, length, Option, Some, None, refl, sym, ap, ◌∙◌, inl, inr, arith, cases_eq, eq-eqb, ne_eqb, get_or-set_same, get_or-set_other, bytes_decides, nat_eq, bytes_eq, without, Node, IsTree, child, value, reached, root, stored, with_value_at, value_there}
 use Rattle.sccp_relay.proofs.Walking.{same-digits}
 use Rattle.sccp_relay.proofs.Linking.{IsLinked}
@@ -77,7 +77,7 @@ grown-tree nodes p d t lt digit free =
       leads = λ k e there. (grows-at nodes t p d lt l k e there).leads;
     }
 
--- ---- something else stands at a node
+-- ---- another value is stored at a node
 
 put-child : (nodes : List Node) (at : ℕ) (v : Option ℕ) (k e : ℕ) → at < length nodes → child (with_value_at nodes at v) k e ≡ child nodes k e
 put-child nodes at v k e lt =
@@ -86,7 +86,7 @@ put-child nodes at v k e lt =
       | inr other ↦ ap (λ (n : Node). child_in n e) (get_or-set_other nodes at k _ _ other)
     ]
 
--- what stands at digits, where something else stands at these
+-- what is stored at digits, once another value is stored at these
 abbrev pub but_at : (List ℕ → Option ℕ) → List ℕ → Option ℕ → List ℕ → Option ℕ
 but_at map digits v other = cond (bytes_eq other digits) v (map other)
 

@@ -11,7 +11,7 @@ pub appends-first : (w0 w1 w2 : Option (List ℕ)) (xs ys : List ℕ) → Append
 appends-first w0 w1 w2 xs ys h k =
     (length xs + k.0, rw (take-append-add xs ys k.0) (appends-appends w0 w1 w2 xs (take k.0 ys) h k.1))
 
--- the first of them, and at least as many as those in front and so many more
+-- the first of them, and at least as many as those before and n more
 pub appends-least : (n : ℕ) (w0 w1 w2 : Option (List ℕ)) (xs ys : List ℕ) → Appends w0 w1 xs → AppendsAtLeast n w1 w2 ys → AppendsAtLeast (length xs + n) w0 w2 (xs ++ ys)
 appends-least n w0 w1 w2 xs ys h k =
     let least = k.1 in (length xs + k.0, omega (arith, least), rw (take-append-add xs ys k.0) (appends-appends w0 w1 w2 xs (take k.0 ys) h k.2))

@@ -114,7 +114,7 @@ ended-first : (most number : ℕ) (lacking : Bool) (later : List Bool) (line : L
 ended-first most number lacking later line [] s some = absurd (omega (arith, some))
 ended-first most number lacking later line (part ∷ parts) s some = refl
 
--- the line behind one
+-- the line after one
 abbrev next_line : LineSoFar → LineSoFar
 next_line line = record { octets = []; number = line.number + 1 }
 
@@ -140,7 +140,7 @@ feed-done lacking line s after x w0 w1 short h =
           ∙ ap (λ (t : Kept). onto r.text (rest_run most later (next_line line) more t)) h.1;
     }
 
--- what the last octets print, where nothing is behind them
+-- what the last octets print, if nothing comes after them
 behind-nothing : (r : Reached KeptQueues) (b : Option ℕ) (next : Kept → Reached KeptQueues) → r.fault ≡ b
     → ((t : Kept) → next t ≡ silent t) → ((behind r next).state ≡ r.state) × ((behind r next).text ≡ r.text)
 behind-nothing r None next h e =

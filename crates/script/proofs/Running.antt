@@ -23,7 +23,7 @@ pub consumes-nothing : (a : Option (List ℕ)) → Consumes a a []
 consumes-nothing None = tt
 consumes-nothing (Some a) = refl
 
--- the octets so far, at least so many, were taken, and led to the open line and the state
+-- the octets so far, at least n, were taken, and led to the open line and the state
 pub record Progress (least : ℕ) (before : Kept) (left left_new written written_new : Option (List ℕ)) (line : LineSoFar) (s : Kept) : Type 0 where
   pub octets : List ℕ
   pub many : least ≤ length octets
@@ -86,7 +86,7 @@ pub at-last-read : (least : ℕ) (before s : Kept) (left left_new w0 w1 : Option
 at-last-read least before s left left_new w0 w1 line short all p =
     let some = p.many in (p.taken.refused, (p.octets, omega (arith, all, some), p.consumed, does-so-far least before s left left_new w0 w1 line short p))
 
--- the end of the input: at least so many octets were written, also where a write failed
+-- the end of the input: at least n octets were written, even if a write failed
 abbrev DoesAtLeast : (least : ℕ) → Reached KeptQueues → Result Unit ScriptFault → Kept → (w0 w1 : Option (List ℕ)) → Type 0
 DoesAtLeast least r (Ok x) after w0 w1 = Does r (Ok x) after w0 w1
 DoesAtLeast least r (Err (Line number)) after w0 w1 = Does r (Err (Line number)) after w0 w1

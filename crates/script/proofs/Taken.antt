@@ -3,12 +3,12 @@ use Rattle.script.proofs.Basics.{◌≡◌, ℕ, Bool, ◌+◌, ◌≤◌, ◌<�
 use Rattle.script.proofs.Appending.{appends-appends, appends-least, appends-nothing}
 use Rattle.script.proofs.OneOctet.{line-first}
 
--- ---- octets behind octets
+-- ---- octets after octets
 
 pub taken-nothing : (line : LineSoFar) (s : Kept) (w : Option (List ℕ)) → HasTaken [] (Ok tt) line line s s w w
 taken-nothing line s w = record { text = []; refused = []; wrote = appends-nothing w; rest = λ most later more k. refl }
 
--- what was written behind a text, where both runs print that text first
+-- what was written after a text, if both runs print that text first
 least-behind : (text : List ℕ) (r t front whole : Reached KeptQueues) (w0 w1 w2 : Option (List ℕ)) → front ≡ onto text r → whole ≡ onto text t
     → Appends w0 w1 text → AppendsAtLeast (length r.text) w1 w2 t.text → AppendsAtLeast (length front.text) w0 w2 whole.text
 least-behind text r t front whole w0 w1 w2 e f h k =

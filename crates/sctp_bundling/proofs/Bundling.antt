@@ -50,7 +50,7 @@ drafted w text end = record { way = w; text = text; end = end }
 pub draft-is : (w : Way) (text chunks : List ℕ) (end : ℕ) → text ≡ chunks → end ≡ 12 → drafted w text end ≡ drafted w chunks 12
 draft-is w text chunks end e f = ap (λ (t : List ℕ). drafted w t end) e ∙ ap (drafted w chunks) f
 
--- chunks behind the header
+-- chunks after the header
 pub draft-front : (w : Way) (chunks : List ChunkValue) (t u front : List ℕ) → t ≡ draft_of w [] → u ≡ t ++ front → front ≡ row_of chunks → u ≡ draft_of w chunks
 unfolding draft_of
 draft-front w chunks t u front e m f =
@@ -129,7 +129,7 @@ bundle-one : (waiting : List ChunkValue) (chunk : ChunkValue) → bundle waiting
 unfolding bundle
 bundle-one waiting chunk = one-by (is_full_for waiting chunk) waiting chunk
 
--- a chunk that is written behind the room for it
+-- a chunk that is written after the room for it
 pub chunk-added : {W : Type 0} (has : W → List Sent → List Told → Type 0) (before after : W) (was mid here is : Draft) (octets : ℕ) (chunk : ChunkValue)
     → here ≡ mid → mid.way ≡ was.way → is.way ≡ here.way → HasMadeRoom has was.way before after was.text mid.text octets → octets ≡ size_of chunk
     → is.text ≡ here.text ++ chunk_octets chunk → Adds has before after was is (chunk ∷ [])
@@ -145,7 +145,7 @@ chunk-added has before after was mid here is octets chunk opened way kept h same
       subst (λ (b : Bundle). IsBundled has was.way before after is.text b) (sym (bundle-one waiting chunk)) whole;
 }
 
--- ---- chunks behind others
+-- ---- chunks after others
 
 abbrev joined : Bundle → Bundle → Bundle
 joined b c = record { full = b.full ++ c.full; waiting = c.waiting }

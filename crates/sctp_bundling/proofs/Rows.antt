@@ -107,7 +107,7 @@ init-said tag first t f = record {
   fits = omega arith;
 }
 
--- one chunk in front
+-- one chunk first
 row-first : (chunk : ChunkValue) (chunks : List ChunkValue) → row_of (chunk ∷ chunks) ≡ chunk_octets chunk ++ row_of chunks
 unfolding row_of
 row-first chunk chunks = refl

@@ -1,4 +1,4 @@
--- The chunk that a packet has by itself.
+-- The one chunk of a packet that has no other.
 use Rattle.std.proofs.Common.{◌≡◌, List, [], ◌∷◌, map, Option, Some, None, refl}
 use Rattle.std.specs.Option.{option_map}
 use Rattle.sctp_codec.specs.declared.item.Item.{Item}

@@ -62,7 +62,7 @@ none_left (octet ∷ octets) whole broken =
     let bad : false ≡ true = sym (ap is_some none) ∙ whole in
     absurd cc
 
--- the first item, and those behind it
+-- the first item, and those after it
 pub record Step (octets : List ℕ) : Type 0 where
   pub here : items_in octets ≡ first_item octets ∷ items_in (behind_first octets)
   pub rest : IsSome (read_items (behind_first octets))
@@ -94,7 +94,7 @@ nil_of : (octets : List ℕ) → length octets ≡ 0 → octets ≡ []
 nil_of [] none = refl
 nil_of (octet ∷ octets) none = absurd (omega (arith, none))
 
--- an item with nothing behind it is the only one
+-- an item with nothing after it is the only one
 pub read_items-one : (octets : List ℕ) → begins_whole octets ≡ true → length (behind_first octets) ≡ 0 → read_items octets ≡ Some (first_item octets ∷ [])
 read_items-one octets whole none =
     read_items-whole octets whole ∙ ap (λ (rest : List ℕ). with_first (first_item octets) (read_items rest)) (nil_of (behind_first octets) none)
@@ -116,7 +116,7 @@ some-read octets e = some_of (read_items octets) e
 
 -- ---- what is written reads back
 
--- an item with something behind it
+-- an item with something after it
 pub record BeginsWith (text : List ℕ) (item : ItemValue) : Type 0 where
   pub announced : length_field text ≡ 4 + length item.value
   pub whole : begins_whole text ≡ true

@@ -20,7 +20,7 @@ length-body c = refl
 pub length-signed : (key : List ℕ) (c : Cookie) → length (signed key c) ≡ 88
 length-signed key c = omega (arith, length-append (hmac key (body_of c)) (body_of c), length-hmac key (body_of c), length-body c)
 
--- what stands behind the code
+-- what comes after the code
 behind : (mac body : List ℕ) (at : ℕ) → length mac ≡ 32 → drop (32 + at) (mac ++ body) ≡ drop at body
 behind mac body at e = sym (drop-drop at 32 (mac ++ body)) ∙ ap (drop at) (drop_at mac body 32 e)
 

@@ -96,7 +96,7 @@ count_behind p (suc n) h b m =
 
 -- ---- a draw
 
--- the next number passes, and the one behind it gives a tag
+-- the next number passes, and the one after it gives a tag
 next_behind : (d : Drawing) → d.used < numbers → permutation d.key d.used ≡ 0 → IfSome (next_tag d) (λ tag. drawn (after_draw d) ≡ drawn d ++ tag ∷ [])
 next_behind d b void =
     let p = permutation d.key in

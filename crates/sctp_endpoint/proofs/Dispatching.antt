@@ -44,7 +44,7 @@ goes-on c k now tag (packets.CookieEchoChunk cookie) s = refl
 goes-on c k now tag packets.CookieAckChunk s = refl
 goes-on c k now tag (packets.MalformedChunk kind) s = refl
 
--- ---- the first chunk of a packet with the right tag, and those behind it
+-- ---- the first chunk of a packet with the right tag, and those after it
 
 pub chunk-goes : {W : Type 0} (has : W → List Sent → List Told → Type 0) (w v u : W) (e here f g : Endpoint) (now : ℕ) (source : Address) (tag : ℕ) (first : ChunkValue) (more : List ChunkValue)
     → here ≡ record e { state = from_source source e.state }
@@ -62,7 +62,7 @@ chunk-goes has w v u e here f g now source tag first more is d goes own h =
     let all : Does has w u (record e { state = s }) g (and_on handled (λ left. heard_chunks e.settings k now tag more left)) = rw (if-on handled (λ left. heard_chunks e.settings k now tag more left) true on) both in
     rw (if-false (has_peer_tag first) [] more own) (record { gives = all.gives; left_is = all.left_is })
 
--- ---- a cookie at the front, and the chunks behind it
+-- ---- a cookie at the front, and the chunks after it
 
 pub echo-goes : {W : Type 0} (has : W → List Sent → List Told → Type 0) (w v u : W) (e f g : Endpoint) (now : ℕ) (source : Address) (tag : ℕ) (cookie : List ℕ) (more : List ChunkValue)
     → Does has w v e f (heard_cookie_echo e.settings (secrets_of e) now tag source cookie e.state).does
@@ -109,7 +109,7 @@ established-open ShutdownSent e = refl
 established-open ShutdownReceived e = refl
 established-open ShutdownAckSent e = refl
 
--- nothing stands behind it
+-- nothing comes after it
 only-does : (handled : Handled) → (if handled.goes_on then followed_by handled.does (λ left. silent left) else handled.does) ≡ handled.does
 only-does handled = either handled.goes_on handled.does
   where

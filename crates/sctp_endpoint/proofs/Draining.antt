@@ -1,4 +1,5 @@
--- What chunks tell, one after another: all are consumed first, or what each tells goes out before the next is consumed.
+-- What chunks tell, one after another: whether all are consumed first, or each one's news goes out before the next is
+-- consumed.
 use Rattle.std.proofs.Common.{◌≡◌, ◌<◌, ◌≤◌, ◌+◌, ◌-◌, arith, ℕ, zero, suc, Bool, true, false, List, [], ◌∷◌, ◌++◌, map, Option, Some, None, refl, sym, ap, subst, ◌∙◌}
 use Rattle.std.specs.Prelude.{not, if◌then◌else◌}
 use Rattle.std.proofs.lemmas.List.{append_assoc, append-nil}
@@ -78,7 +79,7 @@ not-false : (b : Bool) → b ≡ false → not b ≡ true
 not-false true e = absurd (cc)
 not-false false e = refl
 
--- one chunk, and what is consumed behind it
+-- one chunk, and what is consumed after it
 step-told : (c : Settings) (rest : Receiver → Steps) (step : Step) (s : State) (violates : Bool) → is_violation step.told ≡ violates
     → told_steps c (and_then rest step) s ≡ and_on (told_step c step s) (λ left. told_steps c (rest left.association.receiver) left)
 step-told c rest step s true e =
@@ -174,7 +175,7 @@ nothing-next has w e f none is =
       left_is = is ∙ ap (λ (r : Receiver). record e { state = with_receiver r e.state }) (none-left (next_held e.state.association.receiver) e.state.association.receiver none);
     })
 
--- ---- of so many turns, one more
+-- ---- of n turns, one more
 
 pub held-more : (c : Settings) (i : ℕ) (s : State) → i < 256 → told_held c (256 - i) s ≡ and_on (told_next c s) (λ left. told_held c (256 - (i + 1)) left)
 unfolding told_held

@@ -71,7 +71,7 @@ from-none-left : (n now : ℕ) (s : Sending) (o : Option ℕ) → is_some o ≡ 
 from-none-left n now s None e = refl
 from-none-left n now s (Some place) e = absurd (cc)
 
--- so many turns are left
+-- n turns are left
 turns : (i : ℕ) → i < 257 → 257 - i ≡ suc (257 - (i + 1))
 turns i l = omega (arith, l)
 

@@ -41,7 +41,7 @@ if-left : (b : Bool) (x y : Done) (s : State) → x.left ≡ s → y.left ≡ s 
 if-left true x y s p q = p
 if-left false x y s p q = q
 
--- a try that begins anew, and the answer to INIT behind it
+-- a try that restarts, and the answer to INIT after it
 pub begun-answered : {W : Type 0} (has : W → List Sent → List Told → Type 0) (w v u : W) (e f : Endpoint) (to source : Address) (now : ℕ) (init : InitValue)
     → to ≡ e.state.association.address → nat_eq init.tag e.state.association.far_tag ≡ false
     → Does has w v e f (begun_anew e.settings (secrets_of e) now 0 to e.state)

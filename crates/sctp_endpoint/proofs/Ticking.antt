@@ -1,4 +1,4 @@
--- Timers that run out, one after another.
+-- Timers that expire, one after another.
 use Rattle.std.proofs.Common.{◌≡◌, ℕ, ◌+◌, ◌≤◌, Bool, true, false, List, [], ◌∷◌, ◌++◌, Option, Some, None, refl, sym, ap, subst, ◌∙◌, arith}
 use Rattle.std.specs.Prelude.{nat_lt, nat_le, sum_by, if◌then◌else◌}
 use Rattle.std.proofs.lemmas.Bool.{le-leb}

@@ -1,4 +1,4 @@
--- The rules of messages, as moves: one is given, DATA comes, an acknowledgement comes.
+-- The rules of messages, as moves: one is given, DATA arrives, an acknowledgement arrives.
 use Rattle.std.proofs.Common.{◌≡◌, ℕ, ◌+◌, ◌-◌, ◌<◌, ◌≤◌, arith, Bool, true, false, List, [], ◌∷◌, ◌++◌, Some, length, map, take, refl, ap, sym, ◌∙◌, subst}
 use Rattle.std.proofs.Common.{nat_lt, nat_le, length-append, append_assoc}
 use Rattle.std.specs.Prelude.{◌&&◌, slice_get}

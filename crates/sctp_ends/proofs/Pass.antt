@@ -564,7 +564,7 @@ module _ (own far : Secrets) (mark : ℕ) (other : End) (good : AreGood own) whe
   answered : (chunk : ChunkValue) (s : State) → IsPlain chunk → Can s (silent (ending.answered chunk s))
   answered chunk s p = plainly s (ending.answered chunk s) (answer-alike chunk s (plain-stands (stage_of s.association.phase) s.association.receiver.cumulative chunk p))
 
-  -- what a cookie does, and that the chunks behind it have the association's tag
+  -- what a cookie does, and that the chunks after it have the association's tag
   record Echoes (tag : ℕ) (s : State) (x : opening.Echo) : Type 0 where
     result : Does own far mark other s x.does
     tag_is : x.goes_on ≡ true → x.does.left.association.own_tag ≡ tag
@@ -996,7 +996,7 @@ module _ (own far : Secrets) (mark : ℕ) (other : End) (good : AreGood own) whe
   heard-chunk c now wire tag (packets.UnknownChunk kind flags value) s h t = hearing tag s _ t (heard-unknown kind flags value s)
   heard-chunk c now wire tag (packets.MalformedChunk kind) s h t = hearing tag s _ t (stays s)
 
-  -- a chunk that stands behind another
+  -- a chunk that comes after another
   comes-bundled : (tag : ℕ) (s : State) (chunk : ChunkValue) → Bundles (young other) other tag chunk → Comes tag s chunk
   comes-bundled tag s (packets.InitChunk init) b = absurd b
   comes-bundled tag s (packets.InitAckChunk init) b = absurd b

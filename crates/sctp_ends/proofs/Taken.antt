@@ -1,4 +1,4 @@
--- DATA that comes, as moves.
+-- DATA that arrives, as moves.
 use Rattle.std.proofs.Common.{◌≡◌, inl, inr, ℕ, zero, suc, ◌+◌, ◌-◌, ◌%◌, ◌^◌, ◌<◌, ◌≤◌, arith, Bool, true, false, List, [], ◌∷◌, ◌++◌, Option, Some, None, length, set, get_or, refl, ap, sym, ◌∙◌, subst}
 use Rattle.std.proofs.Common.{nat_lt, length-append, append_assoc}
 use Rattle.std.specs.Prelude.{is_some, if◌then◌else◌}
@@ -368,7 +368,7 @@ module _ (other : End) (past : List Epoch) where
         quiet = ((λ n. (refl, n)), ((λ n. (refl, n)), tt));
       }
 
-  -- ---- what is held behind
+  -- ---- what is held after it
 
   taken-is : (r : Receiver) (p : Piece) → r.streams ≡ STREAMS → r.partial ≡ None → IsWhole p →
       taken r p ≡ record { left = record r { cumulative = next_tsn r.cumulative; partial = None }; told = consuming.Tells (consuming.message_of (consuming.begun p)) }

@@ -48,7 +48,7 @@ all-done at octets g s h =
 abbrev pub LeadsTo : {W : Type 0} (has : W → List Sent → List Sight → Type 0) (start here : W) (all rest : Did KeptQueues) → Type 0
 LeadsTo {W = W} has start here all rest = (w : W) (g : Gate) (s : Kept) → Makes has here w g s rest → Makes has start w g s all
 
--- and frames of so many octets were given
+-- and frames of n octets were given
 pub record IsFilling {W : Type 0} (has : W → List Sent → List Sight → Type 0) (start here : W) (all rest : Did KeptQueues) (octets at : ℕ) : Type 0 where
   pub leads : LeadsTo has start here all rest
   pub most : octets ≤ 290 * at

@@ -28,7 +28,7 @@ use Rattle.sctp_gate.specs.declared.gate.filling.TheConstants.{MOST_FRAMES}
 use Rattle.sctp_gate.specs.Gates.{Gate, Did, nothing, followed_by, is_lasting, text_to_take, message_of, with_given, taken_by, taken_all, filled, flushed}
 use Rattle.sctp_gate.specs.Laws.{IsAllOut, taken_frames_go_out, taken_frames_are_given}
 
--- a gate that may still take frames: all that was given may go out, and no more than so many octets wait
+-- a gate that may still take frames: all that was given may go out, and at most n octets wait
 record IsOpen (now octets : ℕ) (g : Gate) : Type 0 where
   lasting : is_lasting now g.endpoint ≡ true
   there : sending.is_established g.endpoint.state.association.phase ≡ true

@@ -1,4 +1,4 @@
--- One call after another, and what a bridge has as its endpoint tells more.
+-- One call after another, and what a bridge has as its endpoint tells it more.
 use Rattle.std.proofs.Common.{◌≡◌, ◌∙◌, Bool, true, false, List, [], ◌∷◌, ◌++◌, refl, sym, ap, subst, append_assoc, append-nil}
 use Rattle.std.proofs.lemmas.List.{map-append}
 use Rattle.std.specs.Prelude.{map, if◌then◌else◌}

@@ -1,5 +1,5 @@
--- No AssociationUp of a gate is refused: its endpoint tells Up only while its standing is that it seeks one, and then,
--- once it is settled, the link wants to open.
+-- No AssociationUp of a gate is refused: its endpoint tells Up only while it is seeking an association, and then, once
+-- it is settled, the link wants to open.
 use Rattle.std.proofs.Common.{◌≡◌, ◌∙◌, ℕ, zero, suc, Bool, true, false, List, [], ◌∷◌, ◌++◌, Option, Some, None, refl, sym, ap, subst}
 use Rattle.std.specs.Prelude.{◌+◌, ◌&&◌, length, if◌then◌else◌}
 use Rattle.sctp_receiving.specs.Pieces.{Message}
@@ -125,7 +125,7 @@ module _ {Q : Type 0} (q : QueueKind Q) (link : ℕ) where
   told-up all false true left s wants f = seeking-up all left s (wants refl) f
   told-up all false false left s wants f = idle-quiet all left s f
 
-  -- one list behind another
+  -- one list after another
   each-then : (xs ys : List Sight) (s : State Q) → ComesUpEach q link xs s → ComesUpEach q link ys (after_seen q link xs s) → ComesUpEach q link (xs ++ ys) s
   each-then [] ys s f g = g
   each-then (x ∷ xs) ys s f g = (f.0, each-then xs ys (after_sight q link x s) f.1 g)
@@ -301,7 +301,7 @@ module _ {Q : Type 0} (q : QueueKind Q) where
     settled_by-stays Nothing g s over =
         either-stays g.standing.is_seeking _ _ g.endpoint (stays-if (is_lasting now g.endpoint) _ _ g.endpoint over refl) refl
 
-    -- behind a settling a link that seeks one wants one
+    -- after a settling a link that seeks one wants one
     seeks-by : (b : Bool) (g : Gate) (s : State Q) → is_lasting now g.endpoint ≡ b → let d : Did Q = settled q now g s in
         is_lasting now d.gate.endpoint ≡ true → d.gate.standing.is_seeking ≡ true → wants_of d.exchange d.gate.link ≡ Open
     seeks-by true g s e l seeks = (agrees q now g s e).seeking seeks

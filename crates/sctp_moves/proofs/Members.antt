@@ -1,4 +1,4 @@
--- Membership by recursion: a case for each element that is put in front.
+-- Membership by recursion: a case for each element that is prepended.
 use Rattle.std.proofs.Common.{◌≡◌, ◌⊎◌, inl, inr, ℕ, zero, suc, List, [], ◌∷◌, map, slice_get, refl, ap, sym, subst, arith, Option, Some, None}
 use Rattle.std.specs.List.{All, Contains}
 use Rattle.std.proofs.lemmas.Grind.{common_steps}

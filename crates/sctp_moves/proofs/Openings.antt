@@ -1,4 +1,4 @@
--- The openings of every list of moves, in the words of epochs.
+-- The openings of every list of moves, by epochs.
 use Rattle.std.proofs.Common.{◌≡◌, inl, List, [], ◌∷◌, length, map, refl, ap, sym, ◌∙◌, subst}
 use Rattle.std.specs.List.{Contains}
 use Rattle.sctp_moves.specs.Ends.{Name, Epoch, Established, End, Ends, new_ends, turned}

@@ -135,7 +135,7 @@ module _ (x y : Side) (h : AreSides x y) where
     lives b (inl e) g = subst (λ (c : Answer). IsLive x c.cookie.own.tag) (sym e) live
     lives b (inr i) g = h.near.live b i g
 
-  -- ---- a try begins, or begins anew
+  -- ---- a try begins, or restarts
 
   module _ (own : Name) (generation : ℕ) (fresh : (n : Name) → In n x.drawn → n.tag ≢ own.tag) where
     abbrev begun : Side

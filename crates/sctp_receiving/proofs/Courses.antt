@@ -46,7 +46,7 @@ counted-on first n = omega arith
 counted : (first n : ℕ) → ((first + 2 ^ 32 - 1 + n) % 2 ^ 32 + 1) % 2 ^ 32 ≡ (first + n) % 2 ^ 32
 counted first n = omega arith
 
--- ---- where a chunk stands
+-- ---- where a chunk is
 
 next-only : (a b e : Bool) → (if a then Again else (if b then Next else (if e then Early else Beyond))) ≡ Next →
     (a ≡ false) × (b ≡ true)

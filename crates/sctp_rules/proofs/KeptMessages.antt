@@ -23,7 +23,7 @@ use Rattle.sctp_rules.proofs.Halves.{count-is, data_by, IsDataOf, Goes}
 abbrev pub number : List Message → Message → Numbered
 number before m = record { message = m; sequence = count_on m.stream before % 2 ^ 16 }
 
--- behind others
+-- after others
 abbrev pub numbered_from : (before given : List Message) → List Numbered
 numbered_from before [] = []
 numbered_from before (m ∷ more) = number before m ∷ numbered_from (before ++ m ∷ []) more

@@ -326,7 +326,7 @@ same-both x y z f g = record {
   there = λ e. f.there (g.there e);
 }
 
--- one change behind another
+-- one change after another
 behind : (s middle left : State) → Follows s middle → Follows middle left → Follows s left
 behind s middle left f g = record {
   same = same-both (seen s) (seen middle) (seen left) f.same g.same;
@@ -751,7 +751,7 @@ module _ {A : Arrivals} {R : State → Done → Type 0} (steps : AreSteps A R) w
   answered : (chunk : ChunkValue) (s : State) → IsBare chunk → Right s → Passes R s (silent (ending.answered chunk s))
   answered chunk s bare r = then-silent s (ending.answered chunk s) (answer-follows chunk s bare r)
 
-  -- a packet that begins with COOKIE ECHO: behind it the packet's tag is that of the association
+  -- a packet that begins with COOKIE ECHO: after it the packet's tag is that of the association
   record Echoes (tag : ℕ) (s : State) (x : opening.Echo) : Type 0 where
     passes : Passes R s x.does
     tag_is : x.goes_on ≡ true → x.does.left.association.own_tag ≡ tag
@@ -1149,7 +1149,7 @@ module _ {A : Arrivals} {R : State → Done → Type 0} (steps : AreSteps A R) w
   tagged (packets.UnknownChunk kind flags value) tag s e = tt
   tagged (packets.MalformedChunk kind) tag s e = tt
 
-  -- where the chunks behind one count, the tag is still that of this end
+  -- if the chunks after one count, the tag is still that of this end
   abbrev IsStill : (tag : ℕ) → arriving.Handled → Type 0
   IsStill tag x = x.goes_on ≡ true → x.does.left.association.own_tag ≡ tag
 

@@ -90,12 +90,12 @@ message-in (consuming.Tells m) more = refl
 message-in (consuming.NoStream stream) more = refl
 message-in (consuming.Violates v) more = refl
 
--- ---- all that is held behind a chunk
+-- ---- all that is held after a chunk
 
 abbrev steps-of : Bool → receiving.Step → receiving.Steps → receiving.Steps
 steps-of b step rest = if b then record { left = step.left; told = step.told ∷ [] } else receiving.followed_by step.told rest
 
--- a step, and those behind it unless it is a violation
+-- a step, and those after it unless it is a violation
 behind-step : (b : Bool) (step : receiving.Step) (rest : receiving.Receiver → receiving.Steps) (base : List pieces.Message) (c d : Course) →
     d.receiver ≡ step.left → messages_in d.told ≡ base ++ messages_in (step.told ∷ []) → Reaches d (rest d.receiver) →
     (calls : List Call) × AreCalls calls × ((after_calls calls d).came ≡ d.came)
@@ -173,7 +173,7 @@ came-hearing Early c chunk = refl
 came-hearing Again c chunk = refl
 came-hearing Beyond c chunk = refl
 
--- a chunk that comes, and all that is held behind it
+-- a chunk that comes, and all that is held after it
 pub record Takes (c : Course) (chunk : Chunk) : Type 0 where
   pub calls : List Call
   pub are : chunk.tsn < 2 ^ 32 → AreCalls calls

@@ -25,7 +25,7 @@ use Rattle.sctp_rules.specs.Data as data_rules
 use Rattle.sctp_rules.specs.Sending as sending
 use Rattle.sctp_rules.specs.WrittenPackets.{HasPorts, IsBeginning}
 
--- ---- a chunk that stands beside others
+-- ---- a chunk that is next to others
 
 pub record IsBundled (chunk : ChunkValue) : Type 0 where
   pub can : IsChunk chunk

@@ -9,7 +9,7 @@ use Rattle.sctp_sending.specs.Outgoing.{Message, Outgoing, new_outgoing, outgoin
 use Rattle.sctp_sending.specs.Sending.{Sending, most_messages, most_octets, under_way, given, finds_window, has_credit, has_room, may_begin, next_of, next_place}
 use Rattle.sctp_sending.proofs.Windows.{blank}
 
--- behind a new one the others are as lost as before
+-- after a new one the others are as lost as before
 pub lost-same : (out : List Outgoing) (o : Outgoing) (place left : ℕ) → place + left ≤ length out → lost_from (out ++ o ∷ []) place left ≡ lost_from out place left
 unfolding lost_from
 lost-same out o place zero b = refl

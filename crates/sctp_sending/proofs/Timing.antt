@@ -1,4 +1,4 @@
--- T3 runs out for one message after another.
+-- T3 expires for one message after another.
 use Rattle.std.proofs.Common.{◌≡◌, ℕ, ◌+◌, ◌<◌, List, ◌++◌, length, take, drop, map, refl, ap, ◌∙◌, length-append, length-drop, arith}
 use Rattle.std.proofs.lemmas.List.{length-map, length-take-le, get_or_default}
 use Rattle.std.proofs.lemmas.List.Edits.{map_over_more}

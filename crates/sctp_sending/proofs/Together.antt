@@ -1,4 +1,4 @@
--- Messages that are given while there is room after those before them go out with them.
+-- Messages that are given while there is room for them and those before them all go out together.
 use Rattle.std.proofs.Common.{◌≡◌, ◌≤◌, ◌<◌, ℕ, zero, suc, ◌+◌, ◌-◌, Bool, true, false, cond, not, nat_lt, nat_le, eqb, ◌&&◌, ◌||◌, List, [], ◌∷◌, ◌++◌, length, take, drop, set, length-append, Option, Some, None, refl, sym, ap, subst, ◌∙◌, inl, inr, arith}
 use Rattle.std.specs.Prelude.{◌⊎◌, is_some, slice_index, sum_by}
 use Rattle.std.proofs.Math.Seq.{drop-cons}
@@ -12,7 +12,7 @@ use Rattle.sctp_sending.specs.Waiting.{waiting_octets, has_room_behind, after_go
 use Rattle.sctp_sending.proofs.Windows.{blank}
 use Rattle.sctp_sending.proofs.Rooms.{lost-same, both, none-of}
 
--- these go out one after another, while so many octets are under way, within both windows
+-- these go out one after another, while n octets are under way, within both windows
 abbrev pub Goes : (ahead window congestion : ℕ) → List Outgoing → Type 0
 Goes ahead window congestion [] = Unit {0}
 Goes ahead window congestion (o ∷ os) =

@@ -16,7 +16,7 @@ drop-whole : {A : Type 0} → (xs ys : List A) → drop (length xs) (xs ++ ys) �
 drop-whole [] ys = refl
 drop-whole (x ∷ xs) ys = drop-whole xs ys
 
--- a log that may be whole behind a call has all that was given to it, and was whole before
+-- a log that may be whole after a call has all that was given to it, and was whole before
 whole-told : {was new : KeptLog} {d : Done} → (more : List Told) → was.is_whole ≡ false → Gives HasAll was new d → new.is_whole ≡ true → new.told ≡ more ++ d.told
 whole-told {was = was} more lost g w =
     let all = g.more [] more (record { sent_is = λ k. absurd (cc (k, lost)); told_is = λ k. absurd (cc (k, lost)) }) in
@@ -38,7 +38,7 @@ log-so was new d g w =
     ∙ ap (λ (x : List Told). record { sent = was.sent ++ map sent_as d.sent; told = x; is_whole = new.is_whole }) (all.told_is w)
     ∙ ap (λ (b : Bool). record { sent = was.sent ++ map sent_as d.sent; told = was.told ++ d.told; is_whole = b }) (w ∙ sym (was-whole was new d g w))
 
--- a call, and the lists that are begun behind it
+-- a call, and the lists that are begun after it
 site-so : (d : Done) (was : KeptSite) (log : KeptLog) (e : Endpoint) → Does HasAll was.log log was.endpoint e d → log.is_whole ≡ true →
     record { endpoint = e; log = log; given = opened_by was.given (drop (length was.log.told) log.told) } ≡ with_done d was.given was
 site-so d was log e h w =
@@ -47,7 +47,7 @@ site-so d was log e h w =
     ∙ ap (λ (x : KeptLog). record { endpoint = record was.endpoint { state = d.left }; log = x; given = opened_by was.given (drop (length was.log.told) x.told) }) (log-so was.log log d h.gives w)
     ∙ ap (λ (x : List Told). record { endpoint = record was.endpoint { state = d.left }; log = all; given = opened_by was.given x }) (drop-whole was.log.told d.told)
 
--- the same, of what is known behind a call
+-- the same, of what is known after a call
 pub settled : (d : KeptSite → Done) (was inside new : KeptSite) (log : KeptLog) (e : Endpoint) (from : ℕ) → inside ≡ was →
     Keeps (record { endpoint = e; log = log; given = inside.given }) (record { endpoint = e; log = log; given = opened_by inside.given (drop from log.told) }) new →
     from ≡ length inside.log.told → Does HasAll inside.log log inside.endpoint e (d inside) → Keeps was (with_done (d was) was.given was) new

@@ -8,7 +8,7 @@ use Rattle.std.proofs.NetLemmas.Options.{same_parts}
 use Rattle.std.proofs.NetLemmas.Sockets.{read_socket_v4_sound, read_socket_v4_complete, read_socket_v6_sound, read_socket_v6_complete}
 use Rattle.std.proofs.NetLemmas.Theorems.{IsSocketText_unique}
 
--- what stands in a text that spells an address of either version
+-- what is in a text that spells an address of either version
 abbrev Parts4 : Type 0
 Parts4 = List ℕ × ℕ
 

@@ -1,4 +1,4 @@
--- Texts that are handed in, a few and then some more.
+-- Texts that are handed in, some first and then more.
 use Rattle.served_link.proofs.Basics.{◌≡◌, ℕ, ◌<◌, ◌≤◌, ◌-◌, ◌∙◌, Bool, false, List, [], ◌∷◌, ◌++◌, length, take, drop, if◌then◌else◌, Err, refl, sym, ap, subst, arith, append_assoc, append-nil, length-append, length-take, length-drop, take_all, drop_at, take-append-drop, All-nil, All-push, All-append, concat-append, nat_tests, concat, FRAME_OCTETS, IsText, next_in, is_broken, room_for, taken_of, Stops as NoText, Wait, length_field-append, QueueKind, State, FrameCame, outcome_of, after, Sight, CameIn, SeesEach, after_texts, sights_of, Reads, Feeds, HandsIn, Broken}
 use Rattle.m2pa_codec.specs.declared.framer.Next.TheVariants.{Broken as BreaksOff}
 
@@ -113,7 +113,7 @@ module _ {W Q : Type 0} (sees : W → Sight → W → Type 0) (q : QueueKind Q) 
         (subst (λ (ys : List ℕ). HandsIn sees q link ys left t u x y) f.held a));
   }
 
-  -- what was read, with the rest behind it
+  -- what was read, with the rest after it
   behind-parts : (octets rest held now : List ℕ) (s t : State Q) (w x : W) (h : HasRead sees q link octets rest held now s t w x) → held ++ octets ≡ concat h.handed_in.texts ++ (now ++ rest)
   behind-parts octets rest held now s t w x h =
       ap (λ (ys : List ℕ). held ++ ys) h.parts ∙ sym (append_assoc held h.read rest) ∙ ap (λ (ys : List ℕ). ys ++ rest) h.handed_in.parts

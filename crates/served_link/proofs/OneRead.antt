@@ -4,7 +4,7 @@ use Rattle.m2pa_codec.specs.declared.framer.Next.TheVariants.{Broken as BreaksOf
 use Rattle.served_link.specs.ManyReads.{unbroken, ReadsEach, reads_are_one, last_reads_are_one, cuts_do_not_matter, broken_stays_broken}
 use Rattle.served_link.proofs.Handing.{after_texts-append, sights-append, sees-append, broken-append}
 
--- more octets behind a stream: its rest and these are a stream again
+-- more octets after a stream: its rest and these are a stream again
 pub stream-append : (octets more : List ℕ) (ts us : List (List ℕ)) (r s : List ℕ) → IsStream octets ts r → IsStream (r ++ more) us s → IsStream (octets ++ more) (ts ++ us) s
 stream-append octets more ts us r s a b = record {
   parts =
@@ -15,7 +15,7 @@ stream-append octets more ts us r s a b = record {
 }
 
 module _ {W Q : Type 0} (sees : W → Sight → W → Type 0) (q : QueueKind Q) (link : ℕ) where
-  -- a read, and another behind it
+  -- a read, and another after it
   read-both : {A : Type 0} (octets more : List ℕ) (answer : Result A Broken) (held next new : List ℕ) (s t u : State Q) (w x y : W) → Reads sees q link octets unbroken held next s t w x
       → Reads sees q link more answer next new t u x y → Reads sees q link (octets ++ more) answer held new s u w y
   read-both octets more answer held next new s t u w x y a b = record {
@@ -71,7 +71,7 @@ module _ {W Q : Type 0} (sees : W → Sight → W → Type 0) (q : QueueKind Q) 
 
   -- ---- a stream that is broken
 
-  -- no text is in front
+  -- no text comes first
   no-texts : (octets : List ℕ) (texts : List (List ℕ)) (rest : List ℕ) → next_in octets ≡ BreaksOff → IsStream octets texts rest → texts ≡ []
   no-texts octets [] rest broken a = refl
   no-texts octets (text ∷ texts) rest broken a =

@@ -1,4 +1,4 @@
--- Frames that are taken, a few and then one more.
+-- Frames that are taken, some first and then one more.
 use Rattle.served_link.proofs.Basics.{◌≡◌, ℕ, ◌∙◌, Bool, true, false, if◌then◌else◌, List, [], ◌∷◌, ◌++◌, length, take, Option, Some, None, refl, sym, ap, subst, append_assoc, append-nil, concat, option_map, FrameValue, spelled, QueueKind, State, taken, Sight, WentOut, SeesEach, text_to_take, has_room, TakesEach, sights_of_frames, Takes, after_last}
 use Rattle.exchange.specs.Taking.{Writes}
 use Rattle.served_link.proofs.Handing.{sees-append}
@@ -46,7 +46,7 @@ takes-more {W = W} {Q = Q} sees q link frame pending next new s t u w x y h room
       (sees-append sees (sights_of_frames link h.frames) (WentOut link frame ∷ []) w x y h.seen (y, seen, refl));
 }
 
--- their octets stand behind those before
+-- their octets come after those before
 pub go-behind : {Q : Type 0} (q : QueueKind Q) (link : ℕ) (frames : List (List ℕ)) (pending next : List ℕ) (s t : State Q) → TakesEach q link frames pending next s t → next ≡ pending ++ concat frames
 go-behind q link [] pending next s t h = h.0 ∙ sym (append-nil pending)
 go-behind q link (f ∷ frames) pending next s t h =

@@ -2,7 +2,7 @@
 use Rattle.std.proofs.Common.{◌≡◌, ◌∙◌, List, [], ◌∷◌, ap}
 use Rattle.served_link.specs.Watching.{Sight, SeesEach}
 
--- what each sight leaves as it was is as it was behind all of them
+-- what each sight leaves as it was is as it was after all of them
 pub kept :
     {W X : Type 0} (part : W → X) (sees : W → Sight → W → Type 0) →
     ((old new : W) (sight : Sight) → sees old sight new → part new ≡ part old) →

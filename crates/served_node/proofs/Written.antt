@@ -1,4 +1,4 @@
--- What a write of a line leaves written.
+-- What is written once a line has been written.
 use Rattle.std.proofs.Common.{◌≡◌, ◌++◌, ℕ, List, [], ◌∷◌, inl, inr, refl}
 use Rattle.std.specs.Prelude.{Result, Ok, Err, OnOk, OnErr}
 use Rattle.std.specs.Io.KnownBytes.{Appends}
@@ -13,7 +13,7 @@ pub written :
 written (Ok x) octets old new all first failures = inl (failures, all)
 written (Err e) octets old new all first failures = inr (failures, first)
 
--- a text in an empty buffer, and a line feed behind it
+-- a text in an empty buffer, and a line feed after it
 pub ended :
     (text empty front line octets : List ℕ) →
     empty ≡ [] → front ≡ empty ++ text → line ≡ front ++ 10 ∷ [] → octets ≡ line → octets ≡ text ++ 10 ∷ []

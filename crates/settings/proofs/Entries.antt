@@ -13,7 +13,7 @@ past_entry f xs i x d l e h = grind (arith, common_steps, first_of-one)
 pub at_entry : {A : Type 0} (f : List A → A → Option DraftFault) (xs : List A) (i : ℕ) (x d : A) (fault : DraftFault) → i < length xs → x ≡ get_or xs i d → f (take i xs) x ≡ Some fault → entries_fault f (take i xs) (drop i xs) ≡ Some fault
 at_entry f xs i x d fault l e h = grind (arith, common_steps)
 
--- behind the last entry there is no fault
+-- after the last entry there is no fault
 pub past_all : {A : Type 0} (f : List A → A → Option DraftFault) (xs : List A) (i : ℕ) → length xs ≤ i → entries_fault f (take i xs) (drop i xs) ≡ None
 past_all f xs i l = grind (arith, common_steps)
 

@@ -1,4 +1,4 @@
--- One point more among those that are found by their codes.
+-- One more point among those found by their codes.
 use Rattle.settings.proofs.Basics.{Bool, List, None, Option, Some, [], ap, arith, cond, eqb, false, get_or, length, nat_eq, nat_lt, not, position, refl, replicate, slice_get, slice_set, suc, sym, true, zero, ℕ, ◌+◌, ◌++◌, ◌<◌, ◌^◌, ◌∙◌, ◌∷◌, ◌≡◌, ◌≢◌, ◌≤◌, common_steps, nat_tests, prefix_len-le-length, slice_get-get_or, list_any, position_or_len, is_some}
 use Rattle.std.proofs.lemmas.List.Folds.{position_or_len_push}
 use Rattle.settings.specs.Indexed.{Finds}
@@ -11,21 +11,21 @@ before-end : (l n m : ℕ) → l ≤ n → m ≡ cond (eqb l n) (n + 1) l → co
 before-end l n m le e = grind (arith, nat_tests)
 
 module _ {A : Type 0} (p : A → Bool) (xs : List A) (y : A) where
-  -- one that passes, behind others that don't
+  -- one that passes, after others that don't
   pub found-behind : list_any p xs ≡ false → p y ≡ true → position p (xs ++ y ∷ []) ≡ Some (length xs)
   found-behind none it =
       let longer : length (xs ++ y ∷ []) ≡ length xs + 1 = grind (arith, common_steps) in
       rw longer (at-end (position_or_len p xs) (length xs) (position_or_len p (xs ++ y ∷ [])) (prefix_len-le-length (λ x. not (p x)) xs)
       (some_place p xs ∙ none) (position_or_len_push p xs y ∙ ap (λ b. cond (eqb (position_or_len p xs) (length xs)) (length xs + cond b 0 1) (position_or_len p xs)) it))
 
-  -- one that doesn't pass, behind others
+  -- one that doesn't pass, after others
   pub same-behind : p y ≡ false → position p (xs ++ y ∷ []) ≡ position p xs
   same-behind it =
       let longer : length (xs ++ y ∷ []) ≡ length xs + 1 = grind (arith, common_steps) in
       rw longer (before-end (position_or_len p xs) (length xs) (position_or_len p (xs ++ y ∷ [])) (prefix_len-le-length (λ x. not (p x)) xs)
       (position_or_len_push p xs y ∙ ap (λ b. cond (eqb (position_or_len p xs) (length xs)) (length xs + cond b 0 1) (position_or_len p xs)) it))
 
--- a new point has the place behind the others, and each other point has its own still
+-- a new point has the index after the others, and each other point keeps its own
 pub finds-more : (places : List (Option ℕ)) (points : List ℕ) (point place : ℕ) → place ≡ length points → length places ≡ 2 ^ 14 → point < 2 ^ 14
     → list_any (nat_eq point) points ≡ false → Finds places points → Finds (slice_set places point (Some place)) (points ++ point ∷ [])
 finds-more places points point place last long fits none finds code within = by (nat_eq code point) refl

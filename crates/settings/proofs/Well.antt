@@ -1,4 +1,4 @@
--- Settings without a fault keep every limit and name.
+-- Settings without a fault satisfy every limit, and every name is known.
 use Rattle.settings.proofs.Basics.{◌≡◌, [], All, arith, None, All-from_recursion, natural, range_fault, numbers_fault, settings_of, ticks_of, first_fault, scalars_fault, timers_fault, tables_fault, arrays_fault, ticks_fault, timers_written, ticks_in, timer_in, sets_fault, links_fault, destinations_fault, titles_fault, unreached_fault, Own, Network, Window, Pool, Users, Subsystems, Timer, WINDOW, POOL, TICKS, IsWithin, IsWell, all_ticks}
 use Rattle.settings_rows.specs.declared.draft.Draft.{Draft}
 use Rattle.settings_rows.specs.declared.draft.TimersDraft.{TimersDraft}

@@ -1,4 +1,4 @@
--- Destinations without a fault keep what is asked of them.
+-- Destinations without a fault satisfy what is asked of them.
 use Rattle.settings.proofs.Basics.{refl, sym, ap, subst, ◌∙◌, ◌≡◌, ◌<◌, ◌≤◌, ℕ, Bool, true, false, not, ◌&&◌, ◌||◌, nat_eq, nat_le, nat_lt, List, [], ◌∷◌, map, length, get_or, All, IsTrue, arith, Option, None, Some, ℤ, String, string_eq, unwrap_or, slice_get, string_bytes, IsDistinct, AllByRecursion, list_any, list_all, position_or_len, option_map, bytes_eq, int_eq, length-map, All-from_recursion, position_or_len_is, slice_get-map, get_or_from_slice_get, bytes_eq-Decides, nat_tests, Decides-eqb, Decides-int_eq, natural, far_point_fault, fault_unless, entries_fault, has_repeat, count_fault, set_of, destination_of, set_place, set_number, destinations_fault, destination_fault, destination_point_fault, set_list_fault, joined_fault, has_destination, is_set_name, unreached_fault, reached_fault, is_reached, is_first_name, sets_fault, SetEntry, is_name, SetDraft, DestinationDraft, Key, Destination, DestinationPoint, DestinationSets, DestinationJoined, SetAdjacent, Range, Duplicate, UnknownName, DESTINATIONS, SETS_PER_DESTINATION, IsWithin, IsDestination, is_same_point, is_led_first, is_first, and_from, not-true, and_parts}
 use Rattle.std.specs.declared.alloc.Global.{Global}
 use Rattle.std.proofs.lemmas.Map.Keys.{apart_from_distinct}

@@ -1,4 +1,4 @@
--- Link sets without a fault keep what is asked of them.
+-- Link sets without a fault satisfy what is asked of them.
 use Rattle.settings.proofs.Basics.{ap, ◌≡◌, ℕ, Bool, true, false, not, nat_eq, List, [], map, length, All, None, ℤ, pos, negsuc, string_bytes, IsDistinct, AllByRecursion, bytes_eq, int_eq, length-map, All-from_recursion, Decides-eqb, Decides-int_eq, natural, is_within, far_point_fault, fault_unless, entries_fault, count_fault, set_of, sets_fault, set_fault, set_name_fault, set_adjacent_fault, has_set_named, has_adjacent, is_name, SetDraft, Set, SetName, SetAdjacent, Range, Duplicate, SETS, IsWithin, IsSet, is_set_of_same_name, is_set_to_same_point, not-true}
 use Rattle.settings.proofs.Rows.{two_none, passes, two_pass, each_entry, each_made, entries_differ, differ_made, none_of_any, none_differ, every}
 use Rattle.settings.proofs.WellNumbers.{count_within, far_point_within, far_point_well}

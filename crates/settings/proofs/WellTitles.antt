@@ -1,4 +1,4 @@
--- Translation rows without a fault keep what is asked of them.
+-- Translation rows without a fault satisfy what is asked of them.
 use Rattle.settings.proofs.Basics.{refl, sym, ◌≡◌, ◌≤◌, ◌<◌, ◌^◌, ℕ, Bool, true, false, not, ◌&&◌, nat_eq, nat_lt, nat_le, List, [], ◌∷◌, map, length, All, arith, Option, None, Some, ℤ, string_bytes, IsDistinct, AllByRecursion, list_all, list_any, option_map, bytes_eq, int_eq, length-map, All-from_recursion, bytes_eq-Decides, nat_tests, natural, is_within, is_digit, fault_unless, range_fault, entries_fault, ssn_fault, route_fault, digits_fault, title_of, digit_of, route_of, is_by_title, titles_fault, title_fault, title_numbers_fault, title_digits_fault, title_target_fault, is_same_title, TitleDraft, Key, Title, TitleTranslation, TitlePlan, TitleNature, TitleDigits, TitlePoint, TitleRoute, TitleSsn, Range, Duplicate, TooMany, TITLES, TITLE_DIGITS, IsWithin, IsTitle, HasSubsystem, is_same_row, and_from, not-true, and_parts}
 use Rattle.settings.proofs.Rows.{two_none, three_none, passes, two_pass, within_from_test, each_entry, each_made, each_of_all, entries_differ, differ_made, none_of_any, none_differ}
 use Rattle.settings.proofs.WellNumbers.{in_range}

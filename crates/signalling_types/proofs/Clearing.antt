@@ -2,7 +2,7 @@
 use Rattle.std.proofs.Common.{arith, ◌≡◌, ℕ, ◌+◌, ◌-◌, ◌<◌, ◌≤◌, ◌++◌, List, length, take, drop, replicate}
 use Rattle.std.proofs.lemmas.List.{length-take-le, length-drop, drop_at, drop-drop, drop-replicate, replicate-append-replicate}
 
--- where the octets from `count` to `used` become zeros, zeros are all behind `count`
+-- if the octets from `count` to `used` become zeros, all after `count` are zeros
 pub zeros_from_fewer : (xs ys : List ℕ) (count used total : ℕ) → count < used → used ≤ total → length xs ≡ total →
     drop used xs ≡ replicate (total - used) 0 → ys ≡ replicate (length (take (used - count) (drop count xs))) 0 →
     drop count (take count xs ++ (ys ++ drop (used - count) (drop count xs))) ≡ replicate (total - count) 0
@@ -23,7 +23,7 @@ zeros_from_fewer xs ys count used total fewer fits all zeros cleared =
       sum,
     )
 
--- zeros behind the first `used` are zeros behind any more
+-- zeros after the first `used` are zeros after any more
 pub zeros_from_more : (xs : List ℕ) (count used total : ℕ) → used ≤ count →
     drop used xs ≡ replicate (total - used) 0 → drop count xs ≡ replicate (total - count) 0
 zeros_from_more xs count used total more zeros =

@@ -1,4 +1,4 @@
--- What is put one after the other.
+-- What is put one piece after another.
 use Rattle.std.proofs.Common.{◌≡◌, ◌∙◌, ℕ, List, [], ◌∷◌, ◌++◌, ap, append_assoc, Result, Ok, Err, OnOk}
 use Rattle.json.specs.Token.{Token}
 use Rattle.json.specs.Written.{Written, Writes}
@@ -9,7 +9,7 @@ pub one : {E : Type 0} (r : Result (Unit {0}) E) (old new : Written) (t : Token)
 one (Ok u) old new t w = (w.ok, w.room.0)
 one (Err e) old new t w = tt
 
--- some tokens, and behind them others
+-- some tokens, and others after them
 pub behind : {E : Type 0} (r : Result (Unit {0}) E) (old mid new : Written) (first second : List Token)
     → (mid.tokens ≡ old.tokens ++ first) × (mid.before ≡ old.before) → Adds r mid new second → Adds r old new (first ++ second)
 behind (Ok u) old mid new first second p q =
@@ -23,7 +23,7 @@ pub both : (old mid new : Written) (first second : List Token)
 both old mid new first second p q =
     (q.0 ∙ ap (λ (ts : List Token). ts ++ second) p.0 ∙ append_assoc old.tokens first second, q.1 ∙ p.1)
 
--- a text, and behind it another, which is the same as a third
+-- a text, and after it another, which is the same as a third
 pub text_behind : {E : Type 0} (r : Result (Unit {0}) E) (old mid new first second third : List ℕ)
     → mid ≡ old ++ first → OnOk r (new ≡ mid ++ second) → second ≡ third → OnOk r (new ≡ old ++ (first ++ third))
 text_behind (Ok u) old mid new first second third p q e =

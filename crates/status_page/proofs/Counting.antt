@@ -18,14 +18,14 @@ confirms : (count : Option ℕ) → unwrap_or count 0 ≡ count_confirmed (confi
 confirms None = refl
 confirms (Some n) = refl
 
--- behind a number there are the messages that it doesn't confirm
+-- after a number there are the messages that it doesn't confirm
 left_behind : (k : Counts) (lane : List Message) (n : ℕ)
     → kept_behind_number k lane n ≡ drop (count_confirmed (kept_accept_answer k (kept_last_accepted k) n false)) lane
 left_behind k lane n =
     rw (eq-eqb (previous_number k.expected) (previous_number k.expected) refl)
     (ap (λ (count : ℕ). drop count lane) (confirms (kept_newly_confirmed k n)))
 
--- the user messages behind the number of a link's next message
+-- the user messages after the number of a link's next message
 pub users_left : (s : State KeptQueues) (link : ℕ) (shown : Option LinkView) (v : LinkView) (number n : ℕ)
     → shown ≡ link_view kept s link → shown ≡ Some v → number ≡ next_number v.last_sent
     → n ≡ count_user_messages (kept_behind_number (counts_at s.node.queues.counts link) (link_lane s.node.queues link) number)

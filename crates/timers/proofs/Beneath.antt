@@ -71,7 +71,7 @@ pub ruleset below = (row-first, row-second, bounded-first, bounded-second)
 
 -- ---- each node holds a bound
 
--- a node so many levels above the leaves
+-- a node n levels above the leaves
 pub record IsOver (leaves k node : ℕ) : Type 0 where
   pub some : 1 ≤ node
   pub fits : (node + 1) * 2 ^ k ≤ 2 * leaves

@@ -3,7 +3,7 @@ use Rattle.timers.proofs.Basics.{◌≡◌, ℕ, zero, suc, ◌==◌, nat_lt, �
 use Rattle.timers.specs.declared.name.RouteTimer.TheVariants as route
 use Rattle.timers.proofs.Maps.{left-clear, left-clear_other, counts-clear, left-clear_set, left-clear_set_other, counts-clear_set}
 
--- stopped for so many destinations
+-- stopped for n destinations
 abbrev pub cleared_below : RouteTimer → (set destinations : ℕ) → Running → Running
 cleared_below timer set zero r = r
 cleared_below timer set (suc destinations) r = clear_timer (name_of_route timer set destinations) (cleared_below timer set destinations r)

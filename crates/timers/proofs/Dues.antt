@@ -1,4 +1,4 @@
--- Which timer is due first, and how many are.
+-- Which timer is due first, and how many are due.
 use Rattle.timers.proofs.Basics.{◌≡◌, ◌≢◌, ℕ, suc, ◌+◌, ◌≤◌, ◌||◌, Bool, true, false, cond, List, [], ◌∷◌, length, refl, sym, ap, subst, ◌∙◌, arith, false≢true, nat_tests, Option, Some, None, max, filter, find, option_map_or, AllByRecursion, list_any, TimerName, RouteTimer, has_name, is_same, is_before, is_of_set, names_of, AreInOrder, Running, set_timer, clear_timer, clear_set, no_tick_left, is_due, due_name, after_due, due_count, same_Some, Key, key_of, is_key_before}
 use Rattle.timers.proofs.Same.{same_is, is_itself, other_is_not}
 use Rattle.timers.proofs.NamesOf.{IsIn, holds_of, is_in}
@@ -21,7 +21,7 @@ before-itself x =
 
 -- ---- a test in a list of names
 
--- a name among those behind another is another
+-- a name among those after another is another
 behind_differs : (x name : TimerName) (names : List TimerName) → AllByRecursion (λ y. is_before x y ≡ true) names → IsIn name names → x ≢ name
 behind_differs x name names h e same =
     false≢true (sym (before-itself x) ∙ ap (is_before x) same ∙ holds_of (λ y. is_before x y ≡ true) name names h e)
@@ -95,7 +95,7 @@ module _ (p : TimerName → Bool) where
 
 -- ---- two tests
 
--- a list in which one test or another is asked
+-- a list, by one test or another
 abbrev passed : Bool → ℕ → ℕ
 passed b n = cond b 1 0 + n
 

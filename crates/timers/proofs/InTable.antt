@@ -1,4 +1,4 @@
--- What is left to the timers, by their places.
+-- The ticks left to each timer, by its index.
 use Rattle.timers.proofs.Basics.{◌≡◌, ◌≢◌, ℕ, suc, nat_lt, ◌+◌, ◌<◌, ◌≤◌, true, false, cond, List, [], ◌∷◌, length, map, get_or, slice_set, refl, sym, ap, subst, ◌∙◌, arith, get_or-set_same, get_or-set_other, length-set, length-map, get_or-replicate, sum_by-set, length-filter, passes_at_first, fails_before_first, true≢false, nat_tests, Option, Some, None, MatchOption, filter, position_or_len, option_map, TimerName, NodeCounts, has_name, is_before, count_of, named_sets, place_in, name_at, one_less, no_tick_left, Table, has_place, left_to, IsWhole, same_Some}
 use Rattle.std.proofs.Math.ListN.{get_or-map}
 use Rattle.timers.proofs.Dues.{no_ticks}

@@ -1,4 +1,4 @@
--- What each call leaves to each name.
+-- What each call leaves for each name.
 use Rattle.timers.proofs.Basics.{◌≡◌, ◌≢◌, ℕ, ◌==◌, true, false, cond, refl, sym, ap, ◌∙◌, arith, nat_tests, Option, Some, None, max, TimerName, RouteTimer, NodeCounts, has_name, is_same, is_of_set, Running, running_with, none_running, is_running, set_timer, start_unless_running, clear_timer, clear_set, one_less, ticked, one_map}
 use Rattle.timers.specs.declared.name.TimerName.TheVariants as name
 use Rattle.timers.specs.declared.name.RouteTimer.TheVariants as route

@@ -4,7 +4,7 @@ use Rattle.std.proofs.lemmas.List.Folds.{list_any-append}
 use Rattle.timers.proofs.Elements.{all-append, two_below, two_under}
 use Rattle.timers.proofs.Same.{same_is, is_itself}
 
--- one fact and those behind it
+-- one fact and those after it
 infixr 20 ◌&◌
 pub ◌&◌ : {A B : Type 0} → A → B → A × B
 a & b = (a, b)
@@ -35,7 +35,7 @@ pub all-joined : (P : TimerName → Type 0) (pieces : List (List TimerName)) →
 all-joined P [] h = tt
 all-joined P (names ∷ pieces) h = all-append P names (joined pieces) h.0 (all-joined P pieces h.1)
 
--- ---- each that exists stands there
+-- ---- each that exists occurs there
 
 abbrev pub IsIn : TimerName → List TimerName → Type 0
 IsIn name names = list_any (λ x. is_same x name) names ≡ true
@@ -134,7 +134,7 @@ names-exist n = all-joined (λ x. has_name n x ≡ true) (names_by_kind n) all
         & all_rows_exist n (λ set destination. T10 set destination) n.sets n.destinations (λ i j. refl)
         & tt
 
--- what holds of each holds of one that stands there
+-- what holds of each holds of one that occurs there
 pub holds_of : (P : TimerName → Type 0) (name : TimerName) (names : List TimerName) → AllByRecursion P names → IsIn name names → P name
 holds_of P name [] h e = absurd cc
 holds_of P name (x ∷ names) h e =

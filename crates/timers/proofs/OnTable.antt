@@ -4,7 +4,7 @@ use Rattle.timers.proofs.Basics.{ℕ, length, map, filter, position, replicate, 
 abbrev pub none_in : NodeCounts → Table
 none_in n = record { counts = n; left = replicate (count_of (named_sets n)) None }
 
--- a place has so many ticks left, or its timer doesn't run
+-- an index has n ticks left, or its timer doesn't run
 abbrev pub put : ℕ → Option ℕ → Table → Table
 put place left t = record t { left = slice_set t.left place left }
 
@@ -12,11 +12,11 @@ abbrev pub put_at : Option ℕ → Option ℕ → Table → Table
 put_at (Some place) left t = put place left t
 put_at None left t = t
 
--- a timer has so many ticks left, or doesn't run; one that has no place is left aside
+-- a timer has n ticks left, or doesn't run; one that has no index is ignored
 abbrev pub put_in : TimerName → Option ℕ → Table → Table
 put_in name left t = put_at (place_of (named_sets t.counts) name) left t
 
--- a place has so many ticks left, unless its timer runs
+-- an index has n ticks left, unless its timer runs
 abbrev pub start_at : Option ℕ → ℕ → Table → Table
 start_at (Some place) left t = if is_some (get_or t.left place None) then t else put place (Some left) t
 start_at None left t = t

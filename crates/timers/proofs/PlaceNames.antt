@@ -78,7 +78,7 @@ name-place n (T10 set destination) h =
     let b = two_below set n.sets destination n.destinations h in
     at_t10 n (place_in n (T10 set destination)) (omega arith) ∙ row-named (λ s d. T10 s d) n.destinations (t10_from n) set destination b.1
 
--- ---- the name at a place exists, and stands there
+-- ---- the name at an index exists, and is there
 
 pub record IsNamed (n : NodeCounts) (p : ℕ) (name : TimerName) : Type 0 where
   pub has : has_name n name ≡ true

@@ -1,4 +1,4 @@
--- The places of the timers that a node has: they rise in name order, and are as many as its names.
+-- The indices of a node's timers rise in the order of names, and there are as many as names.
 use Rattle.timers.proofs.Basics.{◌≡◌, ℕ, zero, suc, ◌+◌, ◌*◌, ◌<◌, ◌≤◌, true, List, [], ◌∷◌, take, get_or, inl, inr, refl, ap, ◌∙◌, arith, mul-le-mul_right, cases_order, nat_tests, TimerName, L1, L2, L3, L4, L6, L7, T1, T2, T3, T4, T6, T8, T10, NodeCounts, Key, key, key_of, is_key_before, is_before, has_name, count_of, place_in, ltb-true}
 use Rattle.timers.proofs.Elements.{two_below, in_table}
 

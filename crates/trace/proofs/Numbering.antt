@@ -65,7 +65,7 @@ passed-elsewhere seen other direction its apart way =
     ap (λ (d : Direction). (seen.link == other) && is_same d direction) way
     ∙ ap (λ (t : Bool). (seen.link == other) && t) apart ∙ and_right (seen.link == other) false refl
 
--- the number behind one frame more
+-- the number after one more frame
 numbered : (other : ℕ) (direction : Direction) (frames : List Passed) (seen : Passed) (b : Bool) →
     passed_on other direction seen ≡ b →
     next_number other direction (frames ++ seen ∷ [])

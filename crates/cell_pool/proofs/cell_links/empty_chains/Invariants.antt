@@ -1,4 +1,4 @@
--- the lists so far, and room for all
+-- the lists so far, with room for all
 use Rattle.cell_pool.proofs.Basics.{◌≡◌, ◌≤◌, replicate, vec_capacity, no_cells}
 use Rattle.cell_pool.proofs.cell_links.empty_chains.Given as goal
 

@@ -1,4 +1,4 @@
--- Those counted so far, and those among the messages that are left, are all that are to be counted.
+-- Those counted so far, with those among the remaining messages, are all that there are to count.
 use Rattle.std.proofs.Common.{◌≡◌, ◌+◌, ◌<◌, ◌≤◌, drop, slice_get, count_by}
 use Rattle.std.specs.Prelude.{IfSome}
 use Rattle.cell_pool.specs.Lanes.{is_user_picked}

@@ -1,4 +1,4 @@
--- As many sets as the loop has gone round.
+-- As many sets as the loop has visited.
 use Rattle.changeback.proofs.Basics.{◌≡◌, no_codes}
 use Rattle.changeback.proofs.changeback.free_sets.Given as goal
 

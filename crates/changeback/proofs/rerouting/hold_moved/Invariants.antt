@@ -1,4 +1,4 @@
--- As many flows were looked at as the loop has gone round.
+-- As many flows were looked at as the loop has visited.
 use Rattle.changeback.proofs.Basics.{◌≡◌, length, nat_lt, facts_of, moved_from, held_for}
 use Rattle.changeback.proofs.rerouting.hold_moved.Given as goal
 

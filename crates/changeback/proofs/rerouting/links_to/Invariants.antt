@@ -1,4 +1,4 @@
--- The links of as many flows are there as the loop has gone round.
+-- The links of as many flows are there as the loop has visited.
 use Rattle.changeback.proofs.Basics.{◌≡◌, ℕ, ◌<◌, None, length, slice_index_or, chosen_link, facts_of, SELECTIONS}
 use Rattle.changeback.proofs.rerouting.links_to.Given as goal
 

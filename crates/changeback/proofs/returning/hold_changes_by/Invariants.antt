@@ -1,4 +1,4 @@
--- The flows to as many destinations are held as the loop has gone round.
+-- The flows to as many destinations are held as the loop has visited.
 use Rattle.changeback.proofs.Basics.{◌≡◌, false, with_link, facts_of, changes, held_by}
 use Rattle.changeback.proofs.returning.hold_changes_by.Given as goal
 

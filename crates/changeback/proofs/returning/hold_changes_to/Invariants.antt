@@ -1,4 +1,4 @@
--- The flows of as many selections are held as the loop has gone round.
+-- The flows of as many selections are held as the loop has visited.
 use Rattle.changeback.proofs.Basics.{◌≡◌, false, with_link, facts_of, changes_of, held_by}
 use Rattle.changeback.proofs.returning.hold_changes_to.Given as goal
 

@@ -1,4 +1,4 @@
--- The flows to as many destinations are marked as the loop has gone round.
+-- The flows to as many destinations are marked as the loop has visited.
 use Rattle.changeback.proofs.Basics.{◌≡◌, ℕ, false, slice_index_or, with_link, facts_of, changes, gives_up, IsSeen}
 use Rattle.changeback.proofs.returning.losing_by.Given as goal
 

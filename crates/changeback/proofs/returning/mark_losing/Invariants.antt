@@ -1,4 +1,4 @@
--- The flows of as many selections are marked as the loop has gone round.
+-- The flows of as many selections are marked as the loop has visited.
 use Rattle.changeback.proofs.Basics.{◌≡◌, ℕ, ◌||◌, false, slice_index_or, with_link, facts_of, changes_of, gives_up}
 use Rattle.changeback.proofs.returning.mark_losing.Given as goal
 

@@ -1,4 +1,4 @@
--- The digits so far with those that are left are all of them.
+-- The digits so far with the remaining ones are all of them.
 use Rattle.std.proofs.Common.{◌≡◌, ◌≤◌, drop}
 use Rattle.console.specs.Numbers.{with_digits}
 use Rattle.console.proofs.numbers.number.Given as goal

@@ -1,4 +1,4 @@
--- The digits so far were read, and whether all are digits is told by those that are left.
+-- The digits so far were read; whether all are digits depends on the remaining ones.
 use Rattle.std.proofs.Common.{◌≡◌, ◌<◌, ◌^◌, All, map, take, drop}
 use Rattle.std.specs.List.{list_all}
 use Rattle.settings.specs.Checks.{is_digit}

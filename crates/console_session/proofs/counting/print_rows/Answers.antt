@@ -1,4 +1,4 @@
--- The counters of one link more.
+-- The counters of one more link.
 use Rattle.std.proofs.Common.{◌≡◌, ◌<◌, List, ℕ, length, ◌∙◌, Option, ap, slice_get, subst, arith}
 use Rattle.std.specs.Io.KnownBytes.{Appends}
 use Rattle.served_link.specs.declared.row.LinkCounters.{LinkCounters}

@@ -1,4 +1,4 @@
--- One mark more is gone.
+-- One more mark is gone.
 use Rattle.flow_hold.proofs.Basics.{◌≡◌, ℕ, ◌<◌, Bool, false, List, length, get_or, arith, ap, ◌∙◌, set, common_steps, as_count}
 use Rattle.flow_hold.proofs.Clearing.{gone-more, next-mark, taken-more}
 use Rattle.flow_hold.proofs.row.take_marks.Goals as goal

@@ -1,4 +1,4 @@
--- the rows so far, in which nothing is marked, and room for all
+-- the rows so far, in which nothing is marked, with room for all
 use Rattle.flow_hold.proofs.Basics.{◌≡◌, ℕ, ◌+◌, ◌*◌, ◌≤◌, length, map, vec_capacity, All, range_with_len, Marks, first_row, marked_as_held, SELECTIONS}
 use Rattle.flow_hold.proofs.table.first_rows.Given as goal
 

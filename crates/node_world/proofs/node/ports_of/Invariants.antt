@@ -1,4 +1,4 @@
--- The gates so far, and then those that are still to be made.
+-- The gates so far, and then those still to be made.
 use Rattle.std.proofs.Common.{◌≡◌, ◌<◌, ℕ, drop, ◌++◌}
 use Rattle.std.specs.Prelude.{slice_get}
 use Rattle.sctp_rules.specs.WrittenPackets.{HasPorts}

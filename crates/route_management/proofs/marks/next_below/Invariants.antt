@@ -1,4 +1,4 @@
--- None of those that were looked at is marked.
+-- None of the numbers looked at is marked.
 use Rattle.route_management.specs.Marks.{NoneBetween}
 use Rattle.route_management.proofs.marks.next_below.Given as goal
 

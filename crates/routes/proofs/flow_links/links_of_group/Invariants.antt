@@ -1,4 +1,4 @@
--- The links of as many selections are there as the loop has gone round.
+-- The links of as many selections are there as the loop has visited.
 use Rattle.routes.proofs.Basics.{◌≡◌, ℕ, ◌<◌, None, length, slice_index_or, first_serving, SELECTIONS}
 use Rattle.routes.proofs.flow_links.links_of_group.Given as goal
 

@@ -1,4 +1,4 @@
--- The ticks that passed and those that are left are all of them.
+-- The ticks that passed and the remaining ones are all of them.
 use Rattle.script.proofs.Basics.{◌≡◌, ◌-◌, kept, after_ticks}
 use Rattle.script.proofs.performing.pass.Given as goal
 

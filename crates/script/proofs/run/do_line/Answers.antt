@@ -1,4 +1,4 @@
--- What was printed tells whether memory was refused for the line.
+-- Whether memory was refused for the line shows in what was printed.
 use Rattle.script.proofs.Basics.{◌≡◌, ◌∙◌, ap, Err, err_from_is_err_and, kept, Plain, asked_line, parsed_line, ScriptFault, Write, ℕ, Bool, List, Option, Ok, sym, subst, refl, Appends, Kept, Asked, Reading, Asks, printed, done, AppendsFirst, DoesLine}
 use Rattle.script.specs.Replies.{reply_text, lacks_memory}
 use Rattle.script.proofs.run.do_line.Goals as goal

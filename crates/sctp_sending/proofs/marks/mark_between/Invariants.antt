@@ -1,4 +1,4 @@
--- the distances before one are marked
+-- the distances below this one are marked
 use Rattle.std.proofs.Common.{◌≡◌, ◌≤◌, ◌+◌, ℕ, ◌||◌, ◌&&◌, leb, ltb}
 use Rattle.sctp_sending.specs.Gaps.{marked}
 use Rattle.sctp_sending.proofs.marks.mark_between.Given as goal

@@ -1,4 +1,4 @@
--- the marks so far, and what the blocks that are left name
+-- the marks so far, and what the remaining blocks name
 use Rattle.std.proofs.Common.{◌≡◌, ℕ, ◌||◌}
 use Rattle.sctp_codec.specs.Values.{blocks_of}
 use Rattle.sctp_sending.specs.Gaps.{marked, names_in}

@@ -1,4 +1,4 @@
--- the cells so far, and room for all
+-- the cells so far, with room for all
 use Rattle.std.proofs.Common.{◌≡◌, ◌≤◌, length, vec_capacity}
 use Rattle.sctp_sending.proofs.ring.empty_cells.Given as goal
 

@@ -1,4 +1,4 @@
--- What was held at first is the texts that were handed in so far, and what is held now.
+-- What was held at first is the texts that were handed in so far, with what is held now.
 use Rattle.served_link.proofs.Basics.{length, kept, HandsIn}
 use Rattle.served_link.proofs.reading.hand_in_held.Given as goal
 

@@ -3,7 +3,7 @@ use Rattle.settings_file.proofs.Basics.{IfOk-weaker, ◌≡◌, ◌++◌, ◌∙
 use Rattle.settings_file.specs.Sentences.{IsAboutPlace, place_of, behind_dot, behind_colon, colon_for_dot}
 use Rattle.settings_file.proofs.places.about.Goals as goal
 
--- a key behind a colon, by the key with its dot
+-- a key after a colon, by the key with its dot
 colon-for-dot : (name : List ℕ) → behind_colon name ≡ colon_for_dot (behind_dot name)
 colon-for-dot [] = refl
 colon-for-dot (octet ∷ rest) = refl

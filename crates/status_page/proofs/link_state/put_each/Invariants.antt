@@ -1,4 +1,4 @@
--- With the counters that are left, there is what all give.
+-- With the remaining counters, it gives what all of them give.
 use Rattle.std.proofs.Common.{◌≡◌, ◌++◌, drop}
 use Rattle.status_page.specs.States.{counter_members}
 use Rattle.status_page.proofs.link_state.put_each.Given as goal

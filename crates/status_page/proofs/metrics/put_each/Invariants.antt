@@ -1,4 +1,4 @@
--- With the metrics that are left, there is what all give.
+-- With the remaining metrics, it gives what all of them give.
 use Rattle.std.proofs.Common.{◌≡◌, ◌++◌, drop, flat_map}
 use Rattle.exchange.specs.KeptQueues.{kept}
 use Rattle.status_page.specs.Metrics.{metric_text}

@@ -1,4 +1,4 @@
--- With the families that are left, there is what all give.
+-- With the remaining families, it gives what all of them give.
 use Rattle.std.proofs.Common.{◌≡◌, ◌++◌, drop}
 use Rattle.exchange.specs.KeptQueues.{kept}
 use Rattle.status_page.specs.Metrics.{families_text}

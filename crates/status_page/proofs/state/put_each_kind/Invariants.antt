@@ -1,4 +1,4 @@
--- With the kinds that are left, there is what all give.
+-- With the remaining kinds, it gives what all of them give.
 use Rattle.std.proofs.Common.{◌≡◌, ◌++◌, drop}
 use Rattle.status_page.specs.States.{kind_members}
 use Rattle.status_page.proofs.state.put_each_kind.Given as goal

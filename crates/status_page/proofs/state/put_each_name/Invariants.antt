@@ -1,4 +1,4 @@
--- With the sets that are left, there is what all give.
+-- With the remaining sets, it gives what all of them give.
 use Rattle.std.proofs.Common.{◌≡◌, ◌++◌, drop}
 use Rattle.status_page.specs.States.{set_names}
 use Rattle.status_page.proofs.state.put_each_name.Given as goal

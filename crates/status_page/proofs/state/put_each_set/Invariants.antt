@@ -1,4 +1,4 @@
--- With the sets that are left, there is what all give.
+-- With the remaining sets, it gives what all of them give.
 use Rattle.std.proofs.Common.{◌≡◌, ◌++◌, drop, flat_map}
 use Rattle.status_page.specs.States.{set_tokens}
 use Rattle.status_page.proofs.state.put_each_set.Given as goal

@@ -1,4 +1,4 @@
--- The first cell is known.
+-- The first cell of a list is stored with its chain.
 use Rattle.cell_pool.proofs.Basics.{◌≡◌, ℕ, ◌<◌, ◌≤◌, List, length, get_or, arith, ap, sym, ◌∙◌, Chained, no_cells, chain_at, Linked}
 use Rattle.cell_pool.proofs.Walks.{read-is, walk-first}
 use Rattle.cell_pool.proofs.Linking.{within_chains, value-cells, value-count, value-within}

@@ -1,4 +1,4 @@
--- the cell at the place that was reached
+-- the cell at the index reached
 use Rattle.cell_pool.proofs.Basics.{◌≡◌, get_or, ring_at}
 use Rattle.cell_pool.proofs.cell_links.CellLinks.walked.Given as goal
 

@@ -1,4 +1,4 @@
--- All cells of a list pass to another.
+-- All cells of a list move to another list.
 use Rattle.cell_pool.proofs.Basics.{◌<◌, List, length, ap, Message}
 use Rattle.cell_pool.proofs.LinkedReading.{all-lists}
 use Rattle.cell_pool.proofs.LinkedReading.{within_linked}

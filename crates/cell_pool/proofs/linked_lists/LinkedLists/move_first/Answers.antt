@@ -1,4 +1,4 @@
--- The first cell of a list passes to one.
+-- The first cell of a list moves to another list.
 use Rattle.cell_pool.proofs.Basics.{◌<◌, List, length, ap, Message}
 use Rattle.cell_pool.proofs.Reading.{first-lists}
 use Rattle.cell_pool.proofs.LinkedReading.{within_linked}

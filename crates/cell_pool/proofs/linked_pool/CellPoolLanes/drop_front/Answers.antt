@@ -1,4 +1,4 @@
--- One message more is dropped.
+-- One more message is dropped.
 use Rattle.cell_pool.proofs.Basics.{List, ap, Message}
 use Rattle.cell_pool.proofs.Counting.{dropped-next}
 use Rattle.cell_pool.proofs.linked_pool.CellPoolLanes.drop_front.Goals as goal

@@ -1,4 +1,4 @@
--- One message more was gone through.
+-- One more message has been examined.
 use Rattle.cell_pool.proofs.Basics.{◌<◌, Bool, length, arith, ap, ◌∙◌, Message, Stored, list_at, turned}
 use Rattle.cell_pool.proofs.Moving.{turned-more, stored, blank}
 use Rattle.cell_pool.proofs.linked_pool.CellPoolLanes.move_where.Goals as goal

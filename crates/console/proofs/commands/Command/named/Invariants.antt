@@ -1,4 +1,4 @@
--- Of those that are left, the same one is the first of the word.
+-- The first remaining command that has the word is the first of all commands that has it.
 use Rattle.std.proofs.Common.{◌≡◌, drop}
 use Rattle.console.specs.Commands.{commands, first_named}
 use Rattle.console.proofs.commands.Command.named.Given as goal

@@ -1,4 +1,4 @@
--- None of the octets so far ended the line, and they are part of it, which isn't too long.
+-- None of the octets so far ended the line; they are part of it, and it isn't too long.
 use Rattle.std.proofs.Common.{◌≡◌, ◌<◌, ◌≤◌, ◌++◌, take, length}
 use Rattle.console_session.specs.Clients.{EndsNoLine}
 use Rattle.console_session.specs.declared.client.TheConstants.{LINE_OCTETS}

@@ -1,4 +1,4 @@
--- The table's answer and the rule's are the same, by the answer.
+-- The table and the rule return the same, by cases of what they return.
 use Rattle.exchange.proofs.Basics.{add_refusal, kept_in}
 use Rattle.exchange.proofs.Relaying.{adding}
 use Rattle.exchange.proofs.exchange.Exchange.add_title.Goals as goal

@@ -1,4 +1,4 @@
--- An event is handled, then what is held no longer goes on, and adjacent points are told what they are owed.
+-- An event is handled, then held messages that may go on do, and adjacent points are told what they are owed.
 use Rattle.exchange.proofs.Basics.{ap, ◌∙◌, State, with_node, KeptQueues, kept, release, tell_owed, apply}
 use Rattle.exchange.proofs.exchange.Exchange.apply.Goals as goal
 

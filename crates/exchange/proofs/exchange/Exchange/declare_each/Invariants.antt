@@ -1,4 +1,4 @@
--- As many links are looked at as the loop has gone round.
+-- As many links are looked at as the loop has visited.
 use Rattle.exchange.proofs.Basics.{◌≡◌, false, slice_index_or, with_node, kept, declare_each, holders}
 use Rattle.exchange.proofs.exchange.Exchange.declare_each.Given as goal
 

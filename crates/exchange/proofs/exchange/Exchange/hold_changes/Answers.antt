@@ -1,4 +1,4 @@
--- Each link, set and destination has its places still.
+-- Each link, set and destination keeps its index.
 use Rattle.exchange.proofs.Basics.{false, refl, sym, subst, with_link, facts_of, returned, HasHoldsFor}
 use Rattle.exchange.proofs.Rooms.{held_by-fits, held_room}
 use Rattle.exchange.proofs.exchange.Exchange.hold_changes.Goals as goal

@@ -1,4 +1,4 @@
--- As many flows are held as the loop has gone round.
+-- As many flows are held as the loop has visited.
 use Rattle.exchange.proofs.Basics.{◌≡◌, facts, with_holds, with_selections}
 use Rattle.exchange.proofs.exchange.Exchange.hold_destination.Given as goal
 

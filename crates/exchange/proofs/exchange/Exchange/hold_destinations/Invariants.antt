@@ -1,4 +1,4 @@
--- The flows to as many destinations are held as the loop has gone round.
+-- The flows to as many destinations are held as the loop has visited.
 use Rattle.exchange.proofs.Basics.{◌≡◌, facts, with_holds, with_destinations}
 use Rattle.exchange.proofs.exchange.Exchange.hold_destinations.Given as goal
 

@@ -1,4 +1,4 @@
--- Each link, set and destination has its places still.
+-- Each link, set and destination keeps its index.
 use Rattle.exchange.proofs.Basics.{refl, sym, subst, Changeover, HasHoldsFor, with_hold-fits}
 use Rattle.exchange.proofs.Rooms.{held_room}
 use Rattle.exchange.proofs.exchange.Exchange.hold_flow.Goals as goal

@@ -1,4 +1,4 @@
--- What is held so far, and the flows of the messages that are left, are all that are to be held.
+-- What is held so far, with the flows of the remaining messages, is all that is to be held.
 use Rattle.exchange.proofs.Basics.{◌≡◌, drop, link_lane, with_holds, with_messages}
 use Rattle.exchange.proofs.exchange.Exchange.hold_messages.Given as goal
 

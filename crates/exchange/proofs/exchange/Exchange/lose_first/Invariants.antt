@@ -1,4 +1,4 @@
--- What is lost so far, and what is to be lost of the messages that are left, are all that is lost.
+-- What is lost so far, and what is to be lost of the remaining messages, is all that is lost.
 use Rattle.exchange.proofs.Basics.{◌≡◌, drop, take, with_node, with_parts, link_lane, lose_users}
 use Rattle.exchange.proofs.exchange.Exchange.lose_first.Given as goal
 

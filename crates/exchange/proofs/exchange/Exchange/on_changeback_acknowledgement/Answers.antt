@@ -1,4 +1,4 @@
--- Each link, set and destination has its places still.
+-- Each link, set and destination keeps its index.
 use Rattle.exchange.proofs.Basics.{Bool, length, refl, sym, subst, is_outstanding, HasHoldsFor, HasCodes, freed_codes-fits, freed_holds-fits}
 use Rattle.exchange.proofs.Rooms.{held_room}
 use Rattle.exchange.proofs.exchange.Exchange.on_changeback_acknowledgement.Goals as goal

@@ -1,4 +1,4 @@
--- What is to be told was told: no more is owed than before.
+-- What is to be told was told, so no more is owed than before.
 use Rattle.exchange.proofs.Rooms.{answered_room}
 use Rattle.exchange.proofs.exchange.Exchange.record_told.Goals as goal
 

@@ -1,4 +1,4 @@
--- The answers are those on what is kept, and these are those of the whole.
+-- The answers are those on what is kept, which are those of the abstract exchange.
 use Rattle.exchange.proofs.Basics.{◌∙◌, arith, asked_each}
 use Rattle.exchange.proofs.Calls.{answered_at, all_answered, stands-answers, stands-calls}
 use Rattle.exchange.proofs.exchange.Exchange.run.Goals as goal

@@ -1,4 +1,4 @@
--- The calls so far were answered as they were to be.
+-- The calls so far were answered as they should be.
 use Rattle.std.proofs.Common.{◌≤◌, take, length, vec_capacity}
 use Rattle.exchange.proofs.Calls.{IsAnswered}
 use Rattle.exchange.proofs.exchange.Exchange.run.Given as goal

@@ -1,4 +1,5 @@
--- What a handler leaves is what the rule leaves of what is kept, and so stands for what it leaves of the whole.
+-- What a handler leaves is what the rule leaves of what is kept, and so stands for what it leaves of the abstract
+-- exchange.
 use Rattle.exchange.proofs.Basics.{◌∙◌, happened}
 use Rattle.exchange.proofs.Standing.{stands-outcome, stands-after}
 use Rattle.exchange.proofs.exchange.Exchange.step.Goals as goal

@@ -1,4 +1,4 @@
--- Nothing is owed before the place where the walk stopped.
+-- Nothing is owed before the index where the walk stopped.
 use Rattle.exchange.proofs.Basics.{length, sym, subst, Updates, State, KeptQueues, OwesNoneBut, known}
 use Rattle.exchange.proofs.Pending.{left_from}
 use Rattle.exchange.proofs.Rooms.{pending_room, view_pending}

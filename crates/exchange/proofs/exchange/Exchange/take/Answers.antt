@@ -1,4 +1,4 @@
--- The frame that goes out is that of the whole state too.
+-- The frame that goes out is that of the abstract state, too.
 use Rattle.exchange.proofs.Standing.{stands-taken, stands-frame}
 use Rattle.exchange.proofs.exchange.Exchange.take.Goals as goal
 

@@ -1,4 +1,4 @@
--- One destination that may be pending after the other, while there is room.
+-- One destination that may be pending after another, while there is room.
 use Rattle.exchange.proofs.Basics.{◌≡◌, ◌<◌, ◌≤◌, ◌+◌, ◌-◌, ℕ, true, false, length, arith, refl, ap, sym, subst, ◌∙◌, row_of, shape_of, owed_at, owed_from, row_by_shape, State, Node, with_node, may_tell, none_told, KeptQueues, kept, OwesNoneBefore, known}
 use Rattle.exchange.proofs.Pending.{row_from, row_done, next_places, place_done, place_shape}
 use Rattle.exchange.proofs.Telling.{row_rest, row_step, row_end, row_whole}

@@ -1,4 +1,4 @@
--- One set after the other, until there is no room.
+-- One set after another, until there is no room.
 use Rattle.exchange.proofs.Basics.{◌≡◌, ◌<◌, ◌≤◌, ◌+◌, ◌-◌, ℕ, length, arith, refl, ap, sym, subst, ◌∙◌, shape_of, owed_to, owed_by_sets, rows_by_shape, State, Node, with_node, none_told, KeptQueues, kept, OwesNoneBefore, known, told_set}
 use Rattle.exchange.proofs.Pending.{before_all, sets_done, each_shape}
 use Rattle.exchange.proofs.Telling.{sets_rest, set_step, sets_end, sets_whole}

@@ -1,4 +1,4 @@
--- What is left to tell, and what was told, is all that is owed; nothing is owed of what the walk has passed.
+-- What is left to tell, and what was told, is all that is owed. Nothing that the walk has passed is owed.
 use Rattle.exchange.proofs.Basics.{◌≡◌, ◌-◌, length, shape_of, OwesNoneBefore, known}
 use Rattle.exchange.proofs.Telling.{sets_rest}
 use Rattle.exchange.proofs.exchange.Exchange.tell_sets.Given as goal

@@ -1,4 +1,4 @@
--- When to call a gate is told by the abstract one.
+-- When to call a gate is what the abstract one tells.
 use Rattle.std.proofs.Common.{ap, ◌∙◌}
 use Rattle.node_world.specs.Kept.{KeptNode, due_on}
 use Rattle.node_world.proofs.Promised.{due-so}

@@ -1,4 +1,4 @@
--- None of the blocks that were looked at has a marked number, from that one on.
+-- None of the blocks looked at has a marked number, from this one on.
 use Rattle.route_management.proofs.Basics.{◌*◌, NoneBetween}
 use Rattle.route_management.proofs.marks.Marks.next.Given as goal
 

@@ -1,4 +1,4 @@
--- the messages before a place were named or not
+-- the messages before this index were named or not
 use Rattle.std.proofs.Common.{◌≡◌, ◌*◌, ◌≤◌}
 use Rattle.sctp_sending.specs.Gaps.{marked}
 use Rattle.sctp_sending.specs.Sending.{named_below}

@@ -1,4 +1,4 @@
--- the messages before a place were passed over
+-- the messages before this index were passed over
 use Rattle.std.proofs.Common.{◌≡◌}
 use Rattle.sctp_sending.specs.Sending.{passed_below}
 use Rattle.sctp_sending.proofs.outbox.Outbox.pass_over_first.Given as goal

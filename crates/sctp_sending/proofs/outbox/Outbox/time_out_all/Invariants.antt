@@ -1,4 +1,4 @@
--- the messages before a place ran out
+-- the messages before this index timed out
 use Rattle.std.proofs.Common.{◌≡◌, ◌++◌, take, drop, map}
 use Rattle.sctp_sending.specs.Outgoing.{timed_out}
 use Rattle.sctp_sending.proofs.outbox.Outbox.time_out_all.Given as goal

@@ -1,4 +1,4 @@
--- what sockets give changes nothing that is known of a page
+-- what sockets return changes nothing that is known of a page
 use Rattle.std.proofs.Common.{◌≡◌}
 use Rattle.served_page.proofs.page.ServedPage.accept.Given as goal
 

@@ -1,4 +1,4 @@
--- One warning more.
+-- One more warning.
 use Rattle.settings_file.proofs.Basics.{arith, refl, ◌≡◌, ◌≤◌, ◌++◌, ◌+◌, ◌∙◌, ℕ, List, [], ◌∷◌, ap, sym, append_assoc, append-nil, length-append, string_bytes, Result, Ok, Err, Ignored, warning, warnings_of, HasWarned, IsSoFar, GoesOn}
 use Rattle.std.specs.Prelude.{OnOk, is_ok, if◌then◌else◌}
 use Rattle.settings_file.specs.declared.unknown.WarningText.{WarningText}
@@ -19,7 +19,7 @@ one-more file text text_new line count i l t h = record {
   is = t ∙ rw (l, h.is) (sym (warnings-more file h.ignored i));
 }
 
--- a line was put behind a text, or memory ran out
+-- a line was put after a text, or memory ran out
 more-pushed : {X E : Type 0} (r : Result X E) (old new : WarningText) (line : List ℕ) (i : Ignored)
     → new.file.now ≡ old.file.now → new.count ≡ old.count + 1 → old.count + 1 ≤ 20 → line ≡ warning old.file.now i
     → string_bytes new.text ≡ (if is_ok r then string_bytes old.text ++ line else string_bytes old.text)

@@ -1,4 +1,4 @@
--- With the notices that are left, there is what all give.
+-- With the remaining notices, it gives what all of them give.
 use Rattle.std.proofs.Common.{◌≡◌, drop}
 use Rattle.status_page.specs.Noticed.{seen_all}
 use Rattle.status_page.proofs.noticed.NoticeLog.see_from.Given as goal
