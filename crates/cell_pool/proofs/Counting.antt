@@ -44,7 +44,7 @@ dropped-next lists lane count h =
     ∙ ap (λ (ms : List Message). set lists lane (drop 1 ms)) (get_or-set_same lists lane (drop count list) [] h)
     ∙ ap (set lists lane) (drop-drop 1 count list)
 
--- where a message isn't refused, not as many stand as there are cells
+-- if a message isn't refused, there are fewer messages than cells
 not_full : (full : Bool) (cause : Cause) → (if full then Some cause else None) ≡ None → full ≡ false
 not_full true cause e = cc
 not_full false cause e = refl

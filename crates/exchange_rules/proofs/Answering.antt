@@ -58,7 +58,7 @@ managements-more ms m e =
     let none : counted m ≡ 0 = ap (λ (b : Bool). cond {A = ℕ} b 1 0) e in
     omega (arith, sum_by-append counted ms (m ∷ []), sum_by-cons counted m [], none)
 
--- wherever a count of what came before stands
+-- wherever a count of what came before is
 managements-behind : (k : ℕ) (ms : List Message) (m : Message) → is_management m ≡ false → managements_in (drop k (ms ++ m ∷ [])) ≡ managements_in (drop k ms)
 managements-behind zero ms m e = managements-more ms m e
 managements-behind (suc zero) [] m e = refl

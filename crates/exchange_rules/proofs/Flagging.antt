@@ -22,7 +22,7 @@ one-counted p x e = ap (λ (b : Bool). 0 + cond b 1 0) e
 most-once : (times : ℕ) → once_more times ≤ times + 1
 most-once times = (let l : min times (2 ^ 64 - 2) ≤ times = min-le_left times (2 ^ 64 - 2) in omega (arith, l))
 
--- ---- from one node to another some notices were made, and as many losses and latenesses counted, but for so many
+-- ---- from one node to another some notices were made, and as many losses and latenesses counted, except for some
 -- losses
 
 pub record Told (unnamed : ℕ) (n m : Node WholeQueues) : Type 0 where

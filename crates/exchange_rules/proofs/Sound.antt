@@ -11,7 +11,7 @@ use Rattle.route_management.proofs.Settled.{nothing_is_listed, owes_nothing_from
 use Rattle.exchange_rules.proofs.Settling.{release-waits, tell_owed-waits}
 use Rattle.exchange_rules.proofs.Telling.{all_is_told}
 
--- a message that goes out stands in its queue until it is confirmed
+-- a message that goes out stays in its queue until it is confirmed
 pub managements-sent_one : (w : ℕ) (qs : WholeQueues) (l : ℕ) → whole.managements (whole.sent_one qs l w) ≡ whole.managements qs
 managements-sent_one w qs l =
     let q : Queue = queue.sent_one (queue_at qs l) w in

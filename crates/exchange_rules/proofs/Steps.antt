@@ -76,8 +76,8 @@ confirming c link d confirmed n = record {
   parts = timed_parts c link confirmed (whole.outstanding (whole.accepted n.queues link d.fsn d.bsn (carries d)) link) n.parts;
 }
 
--- R holds of each step. Own are the links that may enter service by it, and send; Counts are those whose counts may
--- begin anew, or rise as User Data is accepted
+-- R holds of each step. Own are the links that may enter service by it, and send; Counts are those whose counts may be
+-- reset, or rise as User Data is accepted
 pub record IsOfSteps (c : Configuration) (Own Counts : ℕ → Type 0) (R : Node WholeQueues → Node WholeQueues → Type 0) : Type 0 where
   pub none : (n : Node WholeQueues) → R n n
   pub both : (n m o : Node WholeQueues) → R n m → R m o → R n o

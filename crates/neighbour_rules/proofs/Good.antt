@@ -40,8 +40,8 @@ pub record IsAccepted (z : Configuration) (m : Message) : Type 0 where
   pub label : Label
   pub here : whither_goes z m ≡ whither.Here label
 
--- whatever stands on a link between the two, or in Held, or goes from one to the other; what passes by is short, so
--- that a frame that carries it reads back
+-- whatever is on a link between the two, or in Held, or goes from one to the other; what passes by is short, so that a
+-- frame that carries it reads back
 pub data IsSent (c z : Configuration) (set : ℕ) (m : Message) : Type 0 where
   made : IsMade c z set m → IsSent c z set m
   accepted : IsAccepted z m → IsSent c z set m

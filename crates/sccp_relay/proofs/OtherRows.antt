@@ -50,7 +50,7 @@ alone o e = absurd cc
 itself : (place : List ℕ) → place_order place place ≡ Equal
 itself place = alone (place_order place place) (sym (total.antisymm place place))
 
--- the place of a row stands to another as that to it
+-- if one place differs from another, the other differs from it
 apart : (place other : List ℕ) → place_order other place ≢ Equal → place_order place other ≢ Equal
 apart place other f e = f (reversed place other Equal e)
 

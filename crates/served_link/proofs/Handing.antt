@@ -59,7 +59,7 @@ module _ {W Q : Type 0} (sees : W → Sight → W → Type 0) (q : QueueKind Q) 
 
 -- ---- octets that are read, a few at a time
 
--- of these octets some were read behind those that were held, and a rest is left
+-- of these octets some were read after those that were held, and a rest is left
 pub record HasRead {W Q : Type 0} (sees : W → Sight → W → Type 0) (q : QueueKind Q) (link : ℕ) (octets rest held held_now : List ℕ) (s s_now : State Q) (w w_now : W) : Type 0 where
   pub read : List ℕ
   pub parts : octets ≡ read ++ rest
