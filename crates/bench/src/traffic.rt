@@ -48,7 +48,7 @@ pub(crate) fn carry(peer: &mut Peer, arguments: &Arguments)
     }
 }
 
-/// Brings into service what is to be in service beside the link that carries the messages. If the settings are larger
+/// Brings into service what is to be in service besides the link that carries the messages. If the settings are larger
 /// than usual, that is all links, except the other one of the first set if that set is to fail and return. Nothing is
 /// owed then, and no timer runs.
 fn bring_in(peer: &mut Peer, arguments: &Arguments) {

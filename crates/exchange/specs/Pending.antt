@@ -22,7 +22,7 @@ pub record OwesNoneBut (destinations : ℕ) (u : Updates) (f : Facts) (t : ToldT
   pub marks : length u.marks ≡ destinations
   pub none : (set destination : ℕ) → may_be_pending u set destination ≡ false → owed_at f t set destination ≡ None
 
--- nothing is owed before the place where a walk over the destinations of a set stopped, or before the next set if it
+-- nothing is owed before the index where a walk over the destinations of a set stopped, or before the next set if it
 -- didn't stop
 abbrev pub OwesNoneUpTo : Option ℕ → Facts → ToldTable → ℕ → Type 0
 OwesNoneUpTo (Some destination) f t set = OwesNoneBefore f t set destination

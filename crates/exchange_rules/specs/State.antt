@@ -81,7 +81,7 @@ pub record Node (Q : Type 0) : Type 0 where
   pub queues : Q
   pub parts : Parts
 
--- A node beside the settings that it was booted with.
+-- A node with the settings that it was booted with.
 pub record State (Q : Type 0) : Type 0 where
   pub settings : Configuration
   pub node : Node Q
@@ -125,7 +125,7 @@ with_node s node = record s { node = node }
 abbrev pub with_parts : {Q : Type 0} → Node Q → Parts → Node Q
 with_parts node parts = record node { parts = parts }
 
--- another kind of queues beside the same parts
+-- another kind of queues with the same parts
 abbrev pub keep : {P Q : Type 0} → (P → Q) → Node P → Node Q
 keep h node = record { queues = h node.queues; parts = node.parts }
 

@@ -1,4 +1,4 @@
--- One hold beside another: a definition that ends the other makes the laws of holds false here.
+-- One hold next to another: a definition that ends the other makes the laws of holds false here.
 use Rattle.std.specs.Prelude.{◌≡◌, true}
 use Rattle.flow_hold.specs.declared.procedure.Procedure.TheVariants.{Changeover}
 use Rattle.flow_hold.specs.Holds.{HoldSet, no_holds, holds, with_hold}

@@ -1,4 +1,4 @@
--- How a table of marks is kept: beside the rows, for each flow how many procedures hold it.
+-- How a table of marks is kept: the rows, and for each flow how many procedures hold it.
 use Rattle.std.specs.Prelude.{◌≡◌, ℕ, ◌+◌, ◌*◌, ◌≤◌, length, slice_index_or, All}
 use Rattle.signalling_types.specs.declared.limits.TheConstants.Limits.{CHANGEBACK_CODES, LINKS, SETS, DESTINATIONS}
 use Rattle.flow_hold.specs.Rows.{Marks}

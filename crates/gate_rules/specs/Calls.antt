@@ -16,7 +16,7 @@ use Rattle.sctp_gate.specs.Calling.{Call, Hears, Ticks, Settles, Fills, Closes, 
 use Rattle.node_rules.specs.Worlds.{Books, happened, Make, Node, new_node, Doing, did, IsBetween, MayDo, World}
 use Rattle.node_rules.specs.Promises.{Always}
 
--- ---- a gate beside a node
+-- ---- a gate and a node
 
 abbrev pub is_served : Wish → Bool
 is_served Idle = false

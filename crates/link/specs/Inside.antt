@@ -1,4 +1,4 @@
--- How the counts of a link lie in its sequence: the number of the next message is kept beside them.
+-- How the counts of a link are stored in its sequence, with the number of the next message.
 use Rattle.std.specs.Prelude.{◌≡◌, ◌+◌, ◌%◌}
 use Rattle.signalling_types.specs.Numbers.{modulus}
 use Rattle.link.specs.Counts.{Counts}

@@ -1,5 +1,5 @@
--- A run of two nodes that share a link set, where the near one has a link to a third node too. A message comes from
--- there for the far point, and goes on to it, once.
+-- A run of two nodes that share a link set; the near one also has a link to a third node. A message comes from there
+-- for the far point, and goes on to it, once.
 use Rattle.std.specs.Prelude.{◌≡◌, ℕ, true, false, Some, List, [], ◌∷◌, ◌++◌}
 use Rattle.signalling_types.specs.Message.{Message}
 use Rattle.settings_rows.specs.Configuration.{Configuration}

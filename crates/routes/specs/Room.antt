@@ -1,4 +1,4 @@
--- How routing facts are kept and lent, and the links of all flows beside them.
+-- How routing facts are kept and lent, with the links of all flows.
 use Rattle.std.specs.Prelude.{◌≡◌, ℕ, ◌≤◌, List, Option, length}
 use Rattle.routes.specs.Routes.{Facts}
 use Rattle.signalling_types.specs.declared.limits.TheConstants.Limits.{LINKS, SELECTIONS}

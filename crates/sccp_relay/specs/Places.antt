@@ -1,4 +1,4 @@
--- Where the row of a place is among rows in their order, or where it would.
+-- The index of a place's row among sorted rows, or the one that it would have.
 use Rattle.std.specs.Prelude.{◌≡◌, ℕ, ◌<◌, ◌≤◌, true, false, List, length, insert, remove}
 use Rattle.settings_rows.specs.Configuration.{TitleEntry}
 use Rattle.sccp_relay.specs.Rows.{row_place, has_row, with_row, without_row}

@@ -213,7 +213,7 @@ return_to own label point udts = if nat_eq point own then None else written poin
 abbrev pub sent_back : PartsValue → PartsValue
 sent_back parts = record parts { called = parts.calling; calling = parts.called }
 
--- the same, where a row leads the address that called; that which was called is kept
+-- the same, sent to the calling address as a row translates it; the called address stays
 abbrev pub led_back : TitleEntry → PartsValue → PartsValue
 led_back row parts = record parts { called = translated row parts.calling; calling = parts.called }
 

@@ -131,7 +131,7 @@ fn sent_back<'a>(parts: &Parts<'a>) -> Parts<'a>
     }
 }
 
-/// The same, where a row leads the address that called.
+/// The same, sent to the calling address as a row translates it.
 fn led_back<'a>(row: &TitleRow, parts: &Parts<'a>) -> Parts<'a>
     ensures { parts_value result ≡ rule.led_back row.now (parts_value parts.now) }
 {

@@ -119,7 +119,7 @@ impl SctpLink {
     }
 }
 
-/// Makes a call of a gate beside an exchange. What passes is told, and counted.
+/// Makes a call of a gate, with its exchange. What passes is told, and counted.
 fn call_beside<D: Datagrams, W: Sink, U: Watch>(
     gate: &mut Gate,
     address: SocketAddr,

@@ -59,7 +59,7 @@ abbrev pub held_count : Option Piece → ℕ
 held_count None = 0
 held_count (Some p) = 1
 
--- there is a place for each chunk; how many are held, and with how many octets, is kept beside them
+-- there is a place for each chunk, and a count of the chunks held and of their octets
 pub record HasPlaces (r : ReceiverInside) : Type 0 where
   pub places : length r.held.items ≡ CHUNKS
   pub count : r.count ≡ sum_by held_count r.held.items

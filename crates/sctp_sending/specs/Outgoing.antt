@@ -15,7 +15,7 @@ pub record Outgoing : Type 0 where
   pub sequence : ℕ
   -- whether it went out more than once
   pub again : Bool
-  -- how often it was passed over since it went out last; 3 stands for more
+  -- how often it was passed over since it went out last; 3 means more
   pub missing : ℕ
   -- whether the peer's last SACK named it as received
   pub named : Bool

@@ -54,7 +54,7 @@ listening_in s own before i d =
     and_then (address_in s (key.LinkListen i) d) (λ a.
     if is_taken own before a then Err (Duplicate (key.LinkListen i)) else Ok a)
 
--- a key that a link may not have beside its others
+-- a key that a link may not have together with its other keys
 abbrev pub without : List ℕ → ServeKey → Members → Result Unit ServeFault
 without name key t = if is_some (get_member name t) then Err (Duplicate key) else Ok tt
 

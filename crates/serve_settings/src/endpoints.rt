@@ -21,7 +21,7 @@ use std::alloc::Global;
 use std::net::SocketAddr;
 use toml::{Table, Value};
 
-/// The SCTP port of an end where its key is left out: the registered one of M2PA.
+/// The SCTP port of an end if its key is left out: the registered one of M2PA.
 const M2PA_PORT: u16 = 3565;
 
 /// Whether one of these links listens on an address.
@@ -59,7 +59,7 @@ fn listening_in(
     Ok(address)
 }
 
-/// Refuses a key that a link may not have beside its others.
+/// Refuses a key that a link may not have together with its other keys.
 fn without(link: &Table, name: &str, key: ServeKey) -> Result<(), ServeFault>
     ensures { result ≡ without name.now key (table_view link.now) }
 {

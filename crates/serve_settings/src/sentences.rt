@@ -34,10 +34,10 @@ const TAKEN: &str = "where the console, the page or another link listens too";
 /// What is wrong with a page at the console's address.
 const TAKEN_BY_CONSOLE: &str = "where the console listens too";
 
-/// What is wrong with a key that a link may not have beside `listen`.
+/// What is wrong with a key that a link may not have together with `listen`.
 const LISTENS: &str = "but the link has listen too";
 
-/// What is wrong with a key that a link may not have beside `connect`.
+/// What is wrong with a key that a link may not have together with `connect`.
 const CONNECTS: &str = "but the link has connect too";
 
 /// What is wrong with a peer that another link has.
@@ -134,7 +134,7 @@ fn demand(key: ServeKey, row: &KeyRow) -> &'static str {
     }
 }
 
-/// What is wrong with a key that may not be there, or not with its value, beside another.
+/// What is wrong with a key that may not be there, or not with its value, because of another.
 fn twice(document: &Table, key: ServeKey) -> &'static str {
     match key {
         ServeKey::LinkListen(_) => TAKEN,
