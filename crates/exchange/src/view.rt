@@ -74,7 +74,7 @@ pub struct LinkView {
 pub struct NewNotices {
     /// How many of them are kept: the last ones of all that are.
     pub kept: usize,
-    /// How many aren't kept any more.
+    /// How many are no longer kept.
     pub missed: u64,
 }
 

@@ -36,7 +36,7 @@ code_in_use c set code p =
 abbrev pub time_in_use : Configuration → (link : ℕ) → Parts → Parts
 time_in_use c link p = record p { timers = set_timer (T3 link) c.timers.t3 p.timers }
 
--- the answer came: the code is free and holds nothing any more, and T4 stops
+-- the answer came: the code is free and no longer holds anything, and T4 stops
 abbrev pub freed : (set code : ℕ) → Parts → Parts
 freed set code p = record p {
   codes = with_code p.codes set code false;

@@ -236,7 +236,7 @@ gone_by (FrameCame link text) a =
 gone_by Ticked a = gone_by_tick a.settings a.node
 gone_by what a = nothing_gone
 
--- by the release: the messages of Held that have neither a hold nor a link any more; they are named as lost, too
+-- by the release: the messages of Held that no longer have a hold or a link; they are named as lost, too
 abbrev pub is_stranded : Configuration → Parts → Message → Bool
 is_stranded c p m = not (waits c p.holds m) && not (is_some (link_of c p (flow_of m)))
 

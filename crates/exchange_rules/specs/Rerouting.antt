@@ -61,7 +61,7 @@ with_status_heard c set destination status p =
     rerouted_by status c set destination
     (record p { timers = timed_status c set destination status p.timers })
 
--- T6 of a destination ran out: its rerouting holds nothing any more
+-- T6 of a destination ran out: its rerouting no longer holds anything
 abbrev pub rerouting_ended : (destination : ℕ) → Parts → Parts
 rerouting_ended destination p = record p { holds = lifted p.holds (Reroute destination) }
 

@@ -134,7 +134,7 @@ message_goes_on =
 
 -- ---- a failure
 
--- a message on the link was never sent, and its flow has no link any more: the changeover holds it
+-- a message on the link was never sent, and its flow no longer has a link: the changeover holds it
 abbrev pub failure_holds_the_flow : Type 0
 failure_holds_the_flow =
     holds (fail whole settings 0 reasons.Association (node_with nothing_held [] [] (message ∷ []))).parts.holds

@@ -49,7 +49,7 @@ frame_from last_accepted last_sent SendsNothing = None
 abbrev pub without_status : ℕ → Parts → Parts
 without_status link p = with_link p link (record (link_at p link) { waiting = drop 1 (link_at p link).waiting })
 
--- no acknowledgement is owed any more
+-- an acknowledgement is no longer owed
 abbrev pub without_owed : Link → Link
 without_owed l = record l { acknowledgement_owed = false }
 

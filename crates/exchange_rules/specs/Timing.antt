@@ -71,7 +71,7 @@ timed_confirming c link busy confirmed outstanding r =
 abbrev pub timed_busy : Configuration → ℕ → Running → Running
 timed_busy c link r = r ▷ without_timer link L7 ▷ with_timer c link L6
 
--- the peer isn't busy any more
+-- the peer is no longer busy
 abbrev pub timed_busy_ended : Configuration → ℕ → (outstanding : ℕ) → Running → Running
 timed_busy_ended c link outstanding r =
     if nat_eq outstanding 0 then without_timer link L6 r else r ▷ without_timer link L6 ▷ with_timer c link L7

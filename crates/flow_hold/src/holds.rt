@@ -64,7 +64,7 @@ impl Holds {
         self.table.mark(procedure, destination, sls.number());
     }
 
-    /// A procedure holds nothing any more. What others hold stays.
+    /// A procedure no longer holds anything. What others hold stays.
     pub fn lift(&mut self, procedure: Procedure)
         ensures { self.new ≡ lifted self.old procedure }
     {

@@ -67,7 +67,7 @@ impl HoldRow {
         before
     }
 
-    /// No flow is marked any more, and each that was is counted once less.
+    /// No flow is marked now, and each that was is counted once less.
     pub(crate) fn clear(&mut self, counts: &mut [u16])
         requires fits { self.old.first + length self.old.marks ≤ length counts.old }
         requires counted { (flow : ℕ) → as_count (has_mark flow self.old) ≤ slice_index_or counts.old flow 0 }

@@ -77,7 +77,7 @@ impl Table {
         }
     }
 
-    /// No pair of a procedure is marked any more.
+    /// The pairs of a procedure are no longer marked.
     pub(crate) fn unmark(&mut self, procedure: Procedure)
         ensures { self.new ≡ without_pairs self.old procedure }
     {

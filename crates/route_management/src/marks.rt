@@ -59,7 +59,7 @@ impl Marks {
         }
     }
 
-    /// No number is marked any more.
+    /// No number is marked now.
     pub(crate) fn clear(&mut self)
         ensures { self.new ≡ replicate (length self.old) false }
     {

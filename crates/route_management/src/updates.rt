@@ -89,14 +89,14 @@ impl PendingUpdates {
         self.marks.mark(destination);
     }
 
-    /// No update is pending any more.
+    /// No update is pending now.
     pub fn clear(&mut self)
         ensures { self.new ≡ with_none self.old }
     {
         self.extent = Extent::Nothing;
     }
 
-    /// No update before this one is pending any more. What is left is recorded by its index if that is no more than
+    /// No update before this one is pending now. What is left is recorded by its index if that is no more than
     /// what was to be looked for; else all stays as it is.
     pub fn clear_before(&mut self, set: SetId, destination: usize)
         ensures { self.new ≡ without_before set destination self.old }

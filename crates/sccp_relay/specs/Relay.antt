@@ -110,7 +110,7 @@ abbrev pub ssn_by : TitleRoute → Option ℕ → Option ℕ
 ssn_by (route.Title number) ssn = number_or number ssn
 ssn_by (route.Ssn number) ssn = Some number
 
--- the called address, as a row leads it on: its title is kept, and it names no point any more
+-- the called address, as a row leads it on: its title is kept, and it no longer names a point
 abbrev pub translated : TitleEntry → AddressValue → AddressValue
 translated row address = record address {
   routing = routing_by row.route;

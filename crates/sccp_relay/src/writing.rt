@@ -89,7 +89,7 @@ fn routing_by(route: TitleRoute) -> Routing
     }
 }
 
-/// The called address, as a row leads it on: its title is kept, and it names no point any more.
+/// The called address, as a row leads it on: its title is kept, and it no longer names a point.
 pub(crate) fn translated<'a>(row: &TitleRow, address: &Address<'a>) -> Address<'a>
     ensures { address_of result ≡ rule.translated row.now (address_of address.now) }
 {

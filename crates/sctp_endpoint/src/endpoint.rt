@@ -198,7 +198,7 @@ impl Endpoint {
         })
     }
 
-    /// There is no association any more, nor the try of one.
+    /// There is no longer an association, nor the try of one.
     fn forget(&mut self)
         ensures { self.new ≡ record self.old {
           state = with_association self.old.state (no_association self.old.settings);

@@ -51,7 +51,7 @@ impl Standing {
         }
     }
 
-    /// None is up or wanted any more.
+    /// None is up or wanted now.
     pub fn idle(self) -> Standing
         ensures { result ≡ idle self }
     {

@@ -340,7 +340,7 @@ acknowledged_again s = record {
   goes_on = true;
 }
 
--- ERROR: the cookie opens nothing any more, and the peer is to send a new INIT (§5.2.6)
+-- ERROR: the cookie no longer opens anything, and the peer is to send a new INIT (§5.2.6)
 abbrev pub stale : Settings → Address → (microseconds : ℕ) → Cookie → State → Done
 stale c source microseconds cookie s =
     put c source cookie.peer_tag (ErrorChunk (cause_item (StaleCookie microseconds) ∷ []) ∷ []) s

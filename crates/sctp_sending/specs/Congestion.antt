@@ -68,6 +68,6 @@ after_loss c under_way =
 abbrev pub after_timeout : Congestion → Congestion
 after_timeout c = record { window = packet_octets; threshold = halved c; summed = 0; recovering = 0 }
 
--- nothing is under way any more (§7.2.2)
+-- nothing is under way now (§7.2.2)
 abbrev pub after_all : Congestion → Congestion
 after_all c = record c { summed = 0 }

@@ -112,7 +112,7 @@ next_place s = next_of s (lost_from s.out 0 s.went)
 abbrev pub burst_left : (burst octets : ℕ) → ℕ
 burst_left burst octets = if nat_le octets burst then burst - octets else burst
 
--- one message at a time is timed, that goes out for the first time; one that goes out again isn't timed any more
+-- one message at a time is timed, that goes out for the first time; one that goes out again is no longer timed
 abbrev pub timed_from : Option Timed → (place now : ℕ) → Option Timed
 timed_from None place now = Some (record { place = place; since = now })
 timed_from (Some t) place now = Some t
@@ -183,7 +183,7 @@ confirmed s count now = record s {
   timed = timed_behind s.timed count;
 }
 
--- T3 stops if nothing is out any more, and restarts if something was confirmed (RFC 9260 §6.3.2, R2 and R3)
+-- T3 stops if nothing is out now, and restarts if something was confirmed (RFC 9260 §6.3.2, R2 and R3)
 unfoldable pub settled : Sending → (count now : ℕ) → Sending
 settled s count now =
     if s.went == 0 then record s { t3 = None; congestion = after_all s.congestion }

@@ -141,7 +141,7 @@ impl Congestion {
         self.recovering = 0;
     }
 
-    /// Nothing is under way any more.
+    /// Nothing is under way now.
     pub fn finish(&mut self)
         ensures { self.new ≡ after_all self.old }
     {

@@ -74,7 +74,7 @@ impl Model for Kept {
 }
 
 /// All datagrams that an endpoint ever put out, and all that its user was told, in order. Once memory ran out for one
-/// of them, it isn't whole any more.
+/// of them, it is no longer whole.
 #[derive(Drop)]
 pub struct Log {
     alloc: Global,

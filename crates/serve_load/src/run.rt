@@ -155,7 +155,7 @@ impl<'a> Run<'a> {
         Ok(now.saturating_sub(first.unwrap_or(now)))
     }
 
-    /// Round after round, until no link is in service any more.
+    /// Round after round, until no link is in service.
     fn await_end(&mut self, station: &mut Station) -> io::Result<()> {
         for _ in 0..u64::MAX {
             if station.is_cut_off() || self.is_late()? {

@@ -76,7 +76,7 @@ pub record Takes {W Q : Type 0} (sees : W → Sight → W → Type 0) (q : Queue
   pub each : TakesEach q link frames pending pending_new s s_new
   pub seen : SeesEach sees (sights_of_frames link frames) w w_new
 
--- a take that gives nothing ends it, unless there is no room any more
+-- a take that gives nothing ends it, unless there is no more room
 abbrev pub after_last : {Q : Type 0} → QueueKind Q → (link : ℕ) → (pending : List ℕ) → State Q → State Q
 after_last q link pending s = if has_room pending then taken q s link else s
 

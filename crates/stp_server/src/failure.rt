@@ -1,9 +1,9 @@
-//! Why a node isn't served any more.
+//! Why a node is no longer served.
 
 use served_node::OpenFault;
 use std::io;
 
-/// Why a node isn't served any more, although nobody stopped it.
+/// Why a node is no longer served, although nobody stopped it.
 pub enum ServeFailure {
     /// The server couldn't be opened.
     Open(OpenFault),

@@ -157,7 +157,7 @@ impl LinkSocket {
         self.connection = Some(connection);
     }
 
-    /// The link has no connection any more.
+    /// The link no longer has a connection.
     fn leave(&mut self) {
         self.connection = None;
     }

@@ -157,7 +157,7 @@ impl Exchange {
         self.flag_loss();
     }
 
-    /// The changeover of a link holds nothing any more, and T1 stops.
+    /// The changeover of a link no longer holds anything, and T1 stops.
     fn lift(&mut self, link: LinkId)
         ensures { self.new ≡ with_node self.old
             (with_parts self.old.node (failing.lifted_parts link self.old.node.parts)) }

@@ -65,7 +65,7 @@ impl Sender {
         octets
     }
 
-    /// T3 stops if nothing is out any more, and restarts if something was confirmed.
+    /// T3 stops if nothing is out now, and restarts if something was confirmed.
     #[tactic(auto, unfolding(crate::specs::Sending::settled))]
     pub(super) fn settle(&mut self, count: usize, now: u64)
         requires { now ≤ 2 ^ 63 }

@@ -22,7 +22,7 @@ const COOKIE_ECHO: u8 = 10;
 /// A phase into which the near end is brought.
 #[derive(Clone, Copy, Debug, PartialEq, Eq)]
 pub enum Stage {
-    /// There is no association any more.
+    /// There is no longer an association.
     Closed,
     /// Its INIT isn't answered.
     CookieWait,
