@@ -237,7 +237,7 @@ def go_on(setting: Setting) -> str:
     end = setting.end(stays=True)
     traffic = first = Traffic(node, 0, ends=True)
     wait_until(setting.in_service, "the link is in service")
-    # the end that ends it does so once a third has reached it; else it is ended here, before the end has sent
+    # the end that ends it does so once a third has reached it; otherwise it is ended here, before the end has sent
     # everything
     traffic.submit(run.count // 2 if run.ending in ("abort", "shutdown") else BURST)
     traffic.hear_until(lambda: traffic.judge.received >= run.count // 3)

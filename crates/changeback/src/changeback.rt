@@ -60,8 +60,8 @@ impl Changeback {
         self.put(set, code, true);
     }
 
-    /// Takes an acknowledgement, and says whether it was awaited. If it was, the code is free from now on, and holds
-    /// nothing any more; else nothing changes (Q.704 §6.3).
+    /// Takes an acknowledgement, and says whether it was awaited. If it was, the code is free from now on, and no
+    /// longer holds anything; otherwise nothing changes (Q.704 §6.3).
     pub fn acknowledge(&mut self, set: SetId, code: u8, holds: &mut Holds) -> bool
         ensures awaited { result ≡ is_outstanding self.old set code }
         ensures codes { self.new

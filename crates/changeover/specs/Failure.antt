@@ -6,7 +6,7 @@ use Rattle.changeover.specs.declared.beginning.Beginning.{Beginning}
 use Rattle.changeover.specs.declared.beginning.Beginning.TheVariants.{Orders, Waits}
 
 -- if a link to the adjacent point is left, an order goes there with the number of the last message that was accepted,
--- T2 runs, and the answer is awaited; else T1 runs
+-- T2 runs, and the answer is awaited; otherwise T1 runs
 abbrev pub begins_with : (link_left : Bool) → (number : ℕ) → Beginning
 begins_with link_left number = if link_left then Orders number else Waits
 

@@ -75,9 +75,9 @@ impl Changeover {
         standing.is_incomplete()
     }
 
-    /// Takes an answer about a link, with or without a number. None, and nothing changes, if no answer is awaited. Else
-    /// it is no longer awaited, and the call says whether an incomplete changeover is to be completed now; it counts as
-    /// complete from then on.
+    /// Takes an answer about a link, with or without a number. None, and nothing changes, if no answer is awaited.
+    /// Otherwise it is no longer awaited, and the call says whether an incomplete changeover is to be completed now; it
+    /// counts as complete from then on.
     pub fn acknowledge(&mut self, link: LinkId) -> Option<bool>
         requires { link < length self.old }
         ensures completes { result ≡ completed_by_acknowledgement (standing_at self.old link) }

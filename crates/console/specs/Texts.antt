@@ -23,7 +23,7 @@ use Rattle.exchange_rules.specs.State.{QueueKind, State}
 use Rattle.exchange.specs.Views.{link_view, route_view, standing_name}
 use Rattle.console.specs.Names.{name_in, set_name_in}
 
--- a line that is shown, if there is one; else nothing is written
+-- a line that is shown, if there is one; otherwise nothing is written
 abbrev pub Shows : Option (List ℕ) → Bool → (text text_new : List ℕ) → Type 0
 Shows (Some line) shown text text_new = (shown ≡ true) × (text_new ≡ line)
 Shows None shown text text_new = (shown ≡ false) × (text_new ≡ text)

@@ -66,8 +66,8 @@ module _ {Q : Type 0} (q : QueueKind Q) (c : Configuration) where
   next_message link node =
       if may_send (link_at node.parts link) then q.to_send node.queues link c.window else None
 
-  -- what goes out next: a status that waits, the one that waited longest first; else the next message; else the
-  -- acknowledgement that is owed
+  -- what goes out next: a status that waits, the one that waited longest first; otherwise the next message; otherwise
+  -- the acknowledgement that is owed
   abbrev pub goes_out : ℕ → Node Q → Outgoing
   goes_out link node =
       status_first (slice_get (link_at node.parts link).waiting 0)

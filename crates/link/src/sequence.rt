@@ -113,8 +113,8 @@ impl Sequence {
     /// queue, and a message that it carries counts as received. Returns how many messages it confirmed.
     ///
     /// Refused BadFsn if the forward number isn't the next one or, without a message, isn't that of the last accepted
-    /// message; else BadBsn if the backward number names no count from what is confirmed to what was sent. Then nothing
-    /// changes.
+    /// message; otherwise BadBsn if the backward number names no count from what is confirmed to what was sent. Then
+    /// nothing changes.
     #[inline(always)]
     pub fn accept<L: Lanes>(
         &mut self,

@@ -12,8 +12,8 @@ const KEY: TitleKey = TitleKey {
 
 const DIGIT: u8 = 7;
 
-/// The step in which the operator of an end removes the row if it is there, and else adds it, leading to this point.
-/// None if there is no such point.
+/// The step in which the operator of an end removes the row if it is there, and otherwise adds it, leading to this
+/// point. None if there is no such point.
 pub fn title_step(end: End, is_there: bool, point: u16) -> Option<Step> {
     if is_there {
         Some(Step::RemoveTitle(end, KEY, digits()))

@@ -62,9 +62,9 @@ impl Framer {
         count
     }
 
-    /// The first text once it is whole, put at the front of the buffer and held no longer. Else what is held stays.
-    /// Nothing else in the buffer changes. Broken, from then on, if the length field in a frame's place is under 8 or
-    /// above 4,096.
+    /// The first text once it is whole, put at the front of the buffer and held no longer. Otherwise what is held
+    /// stays. Nothing else in the buffer changes. Broken, from then on, if the length field in a frame's place is under
+    /// 8 or above 4,096.
     pub fn next(&mut self, out: &mut [u8; Limits::FRAME_OCTETS]) -> Next
         ensures answer { result ≡ next_in self.old }
         ensures held { self.new ≡ left_by result self.old }

@@ -62,9 +62,9 @@ pub struct LinkTest<'a> {
 impl<'a> LinkTest<'a> {
     /// The link test or answer of a signalling information field. Its pattern is a slice of it.
     ///
-    /// Short if there is no heading after the label; else NotInProfile if the heading is neither of the two; else Short
-    /// if there is no length octet, or fewer octets after it than it says. The length octet's low half and the octets
-    /// after the pattern are ignored.
+    /// Short if there is no heading after the label; otherwise NotInProfile if the heading is neither of the two;
+    /// otherwise Short if there is no length octet, or fewer octets after it than it says. The length octet's low half
+    /// and the octets after the pattern are ignored.
     pub fn read(sif: &'a [u8]) -> Result<LinkTest<'a>, MgmtFault>
         ensures exact { Gives result (read_link_test sif.now) }
         ensures fits { IfOk result (λ test. length test.pattern.now ≤ 15) }

@@ -74,10 +74,10 @@ pub enum Management {
 impl Management {
     /// The message of a signalling information field.
     ///
-    /// Short if there is no heading after the label; else NotInProfile if the node leaves out messages of this heading;
-    /// else Short if too few octets follow: a number has three, a point code two, a changeback code one. What follows
-    /// the fields of a message is ignored, and so are the two top bits of a point code and the label's selection in a
-    /// message without a link code.
+    /// Short if there is no heading after the label; otherwise NotInProfile if the node leaves out messages of this
+    /// heading; otherwise Short if too few octets follow: a number has three, a point code two, a changeback code one.
+    /// What follows the fields of a message is ignored, and so are the two top bits of a point code and the label's
+    /// selection in a message without a link code.
     pub fn read(sif: &[u8]) -> Result<Management, MgmtFault>
         ensures { result ≡ read_management sif.now }
     {

@@ -35,7 +35,7 @@ is_awaited p None code = is_outstanding p.near.exchange.node.parts.codes 0 code
 
 -- while the near end awaits the answer to its order, exactly one message is under way: its order about this link, or
 -- the far end's answer about it. While one of its codes awaits its answer, exactly one declaration or answer with that
--- code is. Else none is
+-- code is. Otherwise none is
 pub record AwaitsNothingInVain (p : PairState) : Type 0 where
   pub answers : OfEachLink p
       (λ link other.

@@ -48,7 +48,7 @@ pub fn links_open_with_no_word_left()
 /// change over from a link between the two, exactly one message about that is in Held or not received on a link: its
 /// order, or the other end's answer (Q.704 §5.4). While a code of the set between them awaits its acknowledgement,
 /// exactly one message has that code: a changeback declaration of this end, or an acknowledgement of the other (Q.704
-/// §6.3). Else there is none. This holds while neither exchange may have lost a message.
+/// §6.3). Otherwise there is none. This holds while neither exchange may have lost a message.
 pub fn nothing_is_awaited_in_vain()
     ensures { nothing_is_awaited_in_vain }
 {}

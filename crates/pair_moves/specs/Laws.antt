@@ -25,8 +25,8 @@ module _ (read : Message → Saying) where
   abbrev pub saying : (Saying → Bool) → Message → Bool
   saying test m = test (read m)
 
-  -- law (ii): of the near node's orders about a link and the far node's answers about it, exactly
-  -- one is under way while the near node awaits the answer, and else none
+  -- law (ii): of the near node's orders about a link and the far node's answers about it, exactly one is under way
+  -- while the near node awaits the answer, and otherwise none
   abbrev pub OrdersAreAwaited : Pair → Type 0
   OrdersAreAwaited p =
       (link : ℕ) →
@@ -40,8 +40,8 @@ module _ (read : Message → Saying) where
       (link : ℕ) →
       under_way (saying (is_untrue link (p.line link).near.up (last_accepted (p.line link).near.queue))) p ≡ 0
 
-  -- the law of codes: of the near node's declarations with a code and the far node's confirmations
-  -- of it, exactly one is under way while the code is outstanding, and else none
+  -- the law of codes: of the near node's declarations with a code and the far node's confirmations of it, exactly one
+  -- is under way while the code is outstanding, and otherwise none
   abbrev pub CodesAreOutstanding : Pair → Type 0
   CodesAreOutstanding p =
       (code : ℕ) →

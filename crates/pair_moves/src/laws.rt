@@ -29,8 +29,8 @@ pub fn frames_carry_what_was_not_received()
 {}
 
 /// Law (ii). Of a node's changeover orders about a link and the peer's answers about it, exactly one is under way while
-/// the node awaits that answer, and else none (Q.704 §5.4). So no node awaits in vain. None is from either node when
-/// the link may open at both ends, nor when an end may follow the other.
+/// the node awaits that answer, and otherwise none (Q.704 §5.4). So no node awaits in vain. None is from either node
+/// when the link may open at both ends, nor when an end may follow the other.
 pub fn orders_and_answers_are_awaited()
     ensures awaited { orders_are_awaited }
     ensures opening { opens_with_nothing_under_way }
@@ -55,8 +55,8 @@ pub fn completions_move_what_the_peer_lacks()
     ensures answers { answers_move_what_is_lacked }
 {}
 
-/// Of a node's changeback declarations with a code and the peer's confirmations of it, exactly one
-/// is under way while the code is outstanding, and else none (Q.704 §6.3).
+/// Of a node's changeback declarations with a code and the peer's confirmations of it, exactly one is under way while
+/// the code is outstanding, and otherwise none (Q.704 §6.3).
 pub fn codes_are_outstanding_until_they_are_confirmed()
     ensures { codes_are_outstanding }
 {}

@@ -115,7 +115,7 @@ RunsFile file (Err (file_fault.Unread why)) old new ended =
     × IsToldOf (λ text. text ≡ unread_sentence file why) old.errors new.errors
 RunsFile file (Err file_fault.NoMemory) old new ended = HasNoMemory old new ended
 
--- for a file whose settings of a server have no fault, or that has none, `ok` is printed; else their fault, which
+-- for a file whose settings of a server have no fault, or that has none, `ok` is printed; otherwise their fault, which
 -- standard error explains
 abbrev pub ChecksServer : (file octets : List ℕ) → (output output_new errors errors_new : Output) → Status → Type 0
 ChecksServer file octets output output_new errors errors_new ended =
@@ -123,8 +123,8 @@ ChecksServer file octets output output_new errors errors_new ended =
     ⊎ ((why : ServeFault) × IsServerFault octets why × EndsWith status.Start (told_server why) output output_new ended
     × IsToldOf (server_sentences.Explains file why) errors errors_new)
 
--- if a file has settings of a node, those of its server are checked; else the fault is printed, which standard error
--- explains; warnings come before
+-- if a file has settings of a node, those of its server are checked; otherwise the fault is printed, which standard
+-- error explains; warnings come before
 abbrev pub ChecksFile : (file : List ℕ) → FileRead → (output output_new errors errors_new : Output) → Status → Type 0
 ChecksFile file (Ok octets) output output_new errors errors_new ended =
     (warned : Output) × IsWarned file errors warned

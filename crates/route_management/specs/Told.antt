@@ -68,7 +68,7 @@ abbrev pub is_same : RouteStatus → RouteStatus → Bool
 is_same a b = status_number a == status_number b
 
 -- what the adjacent point of a set is to be told of a destination, by the routes that messages take there: not to send
--- them if there is no route, or if they may come back; else the status of those routes, allowed or restricted
+-- them if there is no route, or if they may come back; otherwise the status of those routes, allowed or restricted
 abbrev pub said_by : ℕ → List Route → RouteStatus
 said_by set [] = Prohibited
 said_by set (first ∷ rest) = if list_any (leads_by set) (first ∷ rest) then Prohibited else first.status

@@ -77,7 +77,7 @@ has_all_from set destination Nothing = false
 has_all_from set destination Marked = false
 has_all_from set destination (From first about) = is_from first about set destination
 
--- none before this one is pending: if all from an earlier one on might be, all from this one on may; else nothing
+-- none before this one is pending: if all from an earlier one on might be, all from this one on may; otherwise nothing
 -- changes
 abbrev pub without_before : (set destination : ℕ) → Updates → Updates
 without_before set destination u =

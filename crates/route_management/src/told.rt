@@ -153,7 +153,7 @@ impl Told {
 }
 
 /// What the adjacent point of a set is to be told of a destination: prohibited if no route leads there, or if some
-/// messages go by that very set; else the status of their routes (Q.704 §13.2 to §13.4).
+/// messages go by that very set; otherwise the status of their routes (Q.704 §13.2 to §13.4).
 pub fn status_to_advertise(facts: &RouteFacts<'_>, set: SetId, destination: usize) -> RouteStatus
     ensures { result ≡ status_to_advertise facts.now set destination }
 {

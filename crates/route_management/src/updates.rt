@@ -96,8 +96,8 @@ impl PendingUpdates {
         self.extent = Extent::Nothing;
     }
 
-    /// No update before this one is pending now. What is left is recorded by its index if that is no more than
-    /// what was to be looked for; else all stays as it is.
+    /// No update before this one is pending now. What is left is recorded by its index if that is no more than what was
+    /// to be looked for; otherwise all stays as it is.
     pub fn clear_before(&mut self, set: SetId, destination: usize)
         ensures { self.new ≡ without_before set destination self.old }
     {

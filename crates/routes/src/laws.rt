@@ -10,8 +10,8 @@ ghost use Rattle.routes.specs.declared.route.Route.{Route};
 ghost use Rattle.routes.specs.declared.route.RouteStatus.{RouteStatus};
 ghost use Rattle.routes.specs.declared.route.RouteStatus.TheVariants.{Allowed, Prohibited};
 
-/// Without links there is no order; else a flow tries the link at its selection modulo their count, and then the others
-/// as a flow of the quotient does.
+/// Without links there is no order; otherwise a flow tries the link at its selection modulo their count, and then the
+/// others as a flow of the quotient does.
 pub fn preference_by_selection()
     ensures none { (selection : ℕ) → preference {A = Member} selection [] ≡ [] }
     ensures some { (selection : ℕ) (links : List Member) (other : Member) → 0 < length links

@@ -50,8 +50,9 @@ pub struct GlobalTitle<'a> {
 impl<'a> Address<'a> {
     /// The global title of the address. Its digits are a slice of the address.
     ///
-    /// Refused NoNature if its indicator isn't 4; else BadSccp if the title has under three octets; else NoNature if
-    /// its encoding scheme is neither 1 (odd) nor 2 (even) (Q.713 §3.4.2.3.4; the order of refusals is this node's).
+    /// Refused NoNature if its indicator isn't 4; otherwise BadSccp if the title has under three octets; otherwise
+    /// NoNature if its encoding scheme is neither 1 (odd) nor 2 (even) (Q.713 §3.4.2.3.4; the order of refusals is this
+    /// node's).
     pub fn global_title(&self) -> Result<GlobalTitle<'a>, Cause>
         ensures { GivesTitle result (read_title (address_of self.now).title_indicator (address_of self.now).title) }
     {

@@ -64,7 +64,7 @@ table_of (row ∷ rows) = with_row row (table_of rows)
 abbrev pub without_row : List ℕ → List TitleEntry → List TitleEntry
 without_row place rows = filter (λ row. not (is_at place row)) rows
 
--- why a row is refused: there is one at its place already; else there are as many as there may be
+-- why a row is refused: there is one at its place already; otherwise there are as many as there may be
 abbrev pub add_refusal : List TitleEntry → TitleEntry → Option Cause
 add_refusal rows row =
     if has_row rows (row_place row) then Some DuplicateRow

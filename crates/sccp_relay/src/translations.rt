@@ -82,8 +82,8 @@ impl Translations {
     /// Adds a row at its place: by translation type, plan, nature, then digit by digit, a prefix before what it begins.
     /// It finds the place by binary search, and moves the rows after it.
     ///
-    /// Refused DuplicateRow if there is a row of its key and digits; else TableFull if there are 65,535 rows; else
-    /// NoMemory if an allocation is refused. A refusal leaves the table as it was.
+    /// Refused DuplicateRow if there is a row of its key and digits; otherwise TableFull if there are 65,535 rows;
+    /// otherwise NoMemory if an allocation is refused. A refusal leaves the table as it was.
     pub fn add(&mut self, row: TitleRow) -> Result<(), Cause>
         ensures added { OnOk result (self.new ≡ with_row row self.old) }
         ensures unchanged { OnErr result (self.new ≡ self.old) }
@@ -131,7 +131,8 @@ impl Translations {
     /// these, the one with the most. It takes a step for each digit, however many rows there are. If none begins them,
     /// it looks for a row of the key by binary search.
     ///
-    /// Refused NoNature if there is no row of the key; else NoDigits if none of these begins the digits (Q.714 §2.6).
+    /// Refused NoNature if there is no row of the key; otherwise NoDigits if none of these begins the digits (Q.714
+    /// §2.6).
     pub fn translate(&self, key: TitleKey, digits: &[u8]) -> Result<TitleRow, Cause>
         // What the rows say.
         ensures exact { result ≡ translation self.now key digits.now }

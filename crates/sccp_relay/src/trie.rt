@@ -50,8 +50,8 @@ impl Trie {
 
     /// Stores a value at digits.
     ///
-    /// Refused Present if a value is stored there; else NoMemory if room for its nodes is refused. There are at most
-    /// 2^32 nodes. A refusal leaves all as it was.
+    /// Refused Present if a value is stored there; otherwise NoMemory if room for its nodes is refused. There are at
+    /// most 2^32 nodes. A refusal leaves all as it was.
     pub fn insert(&mut self, digits: &[u8], value: u32) -> Result<(), TrieFault>
         requires { All (λ digit. digit < 16) digits.now }
         ensures added { OnOk result (stored self.new ≡ with_value (stored self.old) digits.now value) }

@@ -117,8 +117,8 @@ pub(crate) fn row_led(key: TitleKey, digits: &[u8], lead: u32) -> TitleRow
     .unwrap()
 }
 
-/// Makes a trie lead to a row. Refused Present if it leads to one of this way; else NoMemory if there is no room for
-/// its way. A refusal leaves it as it was.
+/// Makes a trie lead to a row. Refused Present if it leads to one of this way; otherwise NoMemory if there is no room
+/// for its way. A refusal leaves it as it was.
 pub(crate) fn enter(trie: &mut Trie, row: &TitleRow) -> Result<(), TrieFault>
     ensures entered { OnOk result (stored trie.new ≡ with_value (stored trie.old) (way_of row.now) (lead_of row.now)) }
     ensures free { OnOk result (stored trie.old (way_of row.now) ≡ None) }

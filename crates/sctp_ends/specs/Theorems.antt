@@ -138,8 +138,8 @@ told_messages_were_given = (near far : Make) → Always near far DeliverBoth
 
 -- ---- the laws of associations
 
--- an endpoint has just opened an association, and this is the other endpoint. If it has one, that is the same. Else, if
--- it tries with the tag of that one, it waits for COOKIE ACK of it, and its user wants it
+-- an endpoint has just opened an association, and this is the other endpoint. If it has one, that is the same.
+-- Otherwise, if it tries with the tag of that one, it waits for COOKIE ACK of it, and its user wants it
 pub record AreTogether (opened other : State) : Type 0 where
   pub there :
       stage_of other.association.phase ≡ There →

@@ -46,7 +46,7 @@ is_same false b = not b
 abbrev pub belongs : Partial → Piece → Bool
 belongs m p = nat_eq m.stream p.stream && nat_eq m.sequence p.sequence && is_same m.unordered p.unordered
 
--- a message of more octets than are put together is a violation; else it is told if it ends, or waits for the rest
+-- a message of more octets than are put together is a violation; otherwise it is told if it ends, or waits for the rest
 abbrev pub carried_on : (before : Option Partial) → Bool → Partial → Consumed
 carried_on before ends m =
     if nat_lt MESSAGE_OCTETS (length m.octets)

@@ -23,7 +23,7 @@ chunk_size chunk = length (chunk_octets chunk)
 abbrev pub has_place : List ChunkValue → ChunkValue → Bool
 has_place control chunk = nat_le (sum_by chunk_size control + chunk_size chunk) CONTROL_OCTETS
 
--- one more answer, if there is a place; else it is dropped, as if it had been lost
+-- one more answer, if there is a place; otherwise it is dropped, as if it had been lost
 abbrev pub with_answer : ChunkValue → Association → Association
 with_answer chunk a =
     if has_place a.control chunk then record a { control = a.control ++ chunk ∷ [] } else a

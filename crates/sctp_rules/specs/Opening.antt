@@ -264,7 +264,7 @@ echoed_if c now init (Some t) (Some cookie) s =
 echoed_if c now init None cookie s = silent s
 echoed_if c now init (Some t) None s = refused c init s
 
--- only in COOKIE-WAIT: else it is dropped (§5.2.3)
+-- only in COOKIE-WAIT: otherwise it is dropped (§5.2.3)
 abbrev pub heard_init_ack : Settings → (now : ℕ) → InitValue → State → Done
 heard_init_ack c now init s =
     if is_waiting s.association.phase

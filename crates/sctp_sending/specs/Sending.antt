@@ -101,7 +101,7 @@ abbrev pub may_begin : Sending → Bool
 may_begin s =
     nat_lt s.went (length s.out) && has_credit s && finds_window s (octets_of (outgoing_at s.out s.went))
 
--- the index of the message that goes out next: the first lost one, and else the first new one, if it may
+-- the index of the message that goes out next: the first lost one, and otherwise the first new one, if it may
 abbrev pub next_of : Sending → Option ℕ → Option ℕ
 next_of s (Some place) = if may_repeat s place then Some place else None
 next_of s None = if may_begin s then Some s.went else None

@@ -93,7 +93,7 @@ impl Association {
     }
 
     /// These octets came: the association comes up, if it isn't up, and if the link wants that. Returns whether it is
-    /// up. If it isn't, close the connection; else go on with `read`.
+    /// up. If it isn't, close the connection; otherwise go on with `read`.
     pub fn hear(&mut self, octets: &[u8], exchange: &mut Exchange) -> bool
         requires some { 0 < length octets.now }
         ensures up { (a : Abstract) → StandsFor exchange.old a → self.new ≡ risen whole self.old a }

@@ -128,7 +128,7 @@ impl Observers {
         }
     }
 
-    /// The capture has a frame, if there is one and it has room for it. Else the frame is counted as missed.
+    /// The capture has a frame, if there is one and it has room for it. Otherwise the frame is counted as missed.
     fn capture_frame(&mut self, link: LinkId, direction: Direction, frame: &ObservedFrame<'_>)
         ensures { self.new.counters ≡ self.old.counters }
     {

@@ -54,7 +54,7 @@ impl Observers {
         }
     }
 
-    /// The capture has a packet, if there is one and it has room for it. Else the packet is counted as missed.
+    /// The capture has a packet, if there is one and it has room for it. Otherwise the packet is counted as missed.
     fn capture_packet(&mut self, octets: &[u8])
         ensures { self.new.counters ≡ self.old.counters }
     {

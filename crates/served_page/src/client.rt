@@ -163,7 +163,7 @@ impl PageClient {
         }
     }
 
-    /// Whether its connection must be closed: it failed, its time is over, or nothing comes either way any more.
+    /// Whether its connection must be closed: it failed, its time is over, or nothing more comes either way.
     pub(crate) fn is_over(&mut self, now_ms: u64) -> bool
         ensures time { IsTrue (is_over now_ms self.old.patience) → IsTrue result }
         ensures patience { self.new.patience ≡ self.old.patience }

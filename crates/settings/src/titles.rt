@@ -131,7 +131,7 @@ fn title_digits(
     Ok(digits)
 }
 
-/// Whether a route is by title; else it is by subsystem number.
+/// Whether a route is by title; otherwise it is by subsystem number.
 fn is_by_title(route: &str, key: Key) -> Result<bool, DraftFault>
     ensures value { IfOk result (λ by_title. by_title ≡ bytes_eq route.now (codes "title")) }
     ensures well { OnOk result (route_fault key route.now ≡ None) }

@@ -124,8 +124,7 @@ impl Connection {
         }
     }
 
-    /// Octets came. They are handed in, unless the association comes up only now and the link doesn't want that any
-    /// more.
+    /// Octets came. They are handed in, unless the association comes up only now and the link no longer wants it.
     fn take_in<W: Sink, U: Watch>(
         &mut self,
         octets: &[u8],

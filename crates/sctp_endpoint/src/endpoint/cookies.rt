@@ -70,7 +70,7 @@ impl Endpoint {
     }
 
     /// A cookie that this end signed came. One of the association is acknowledged again; any other opens within its
-    /// life, and only in its generation. Else the peer is told that it is stale.
+    /// life, and only in its generation. Otherwise the peer is told that it is stale.
     fn hear_cookie<W: Watch>(
         &mut self,
         source: &Address,

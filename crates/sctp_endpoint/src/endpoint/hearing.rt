@@ -177,7 +177,7 @@ impl Endpoint {
         }
     }
 
-    /// Another packet came: out of the blue, if there is no association nor the try of one; else by its tag.
+    /// Another packet came: out of the blue, if there is no association nor the try of one; otherwise by its tag.
     fn hear_otherwise<W: Watch>(
         &mut self,
         source: &Address,

@@ -19,7 +19,7 @@ use sctp_rules::limits::COOKIE_OCTETS;
 use sctp_rules::{Loss, Phase};
 
 impl Endpoint {
-    /// INIT ACK came: in COOKIE-WAIT its cookie is echoed, or the try ends; else it is dropped.
+    /// INIT ACK came: in COOKIE-WAIT its cookie is echoed, or the try ends; otherwise it is dropped.
     pub(super) fn hear_init_ack<W: Watch>(&mut self, init: &Init<'_>, now: u64, watch: &mut W)
         requires generation { self.old.state.generation < 2 ^ 64 - 1 }
         requires now { now ≤ 2 ^ 63 }

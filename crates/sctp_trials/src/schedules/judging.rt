@@ -48,7 +48,7 @@ pub fn judge(world: &World, end: End, other: End, counts: &mut Counts) {
     }
 }
 
-/// The place after an association, if there is one; else the place as it was.
+/// The place after an association, if there is one; otherwise the place as it was.
 fn behind(list: Option<usize>, later: usize) -> usize {
     match list {
         Some(place) => place.saturating_add(1),
