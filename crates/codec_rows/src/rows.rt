@@ -44,7 +44,7 @@ fn put_once(text: &str, buffer: &mut [u8; OCTETS], at: usize) -> usize {
     }
 }
 
-/// The digits of a word, in a buffer; `-` is none. A character that is no digit gives 255.
+/// The digits of a word, in a buffer; `-` is none. A character that isn't a digit gives 255.
 pub fn digits<'a>(word: &str, buffer: &'a mut [u8; 64]) -> &'a [u8] {
     let word = if word == "-" { "" } else { word };
     for (place, octet) in buffer.iter_mut().zip(word.bytes()) {

@@ -24,9 +24,9 @@ pub(crate) enum Received {
 
 /// The associations of a node's links, and its clock: sockets and a timer, or fakes in a test.
 pub(crate) trait Network {
-    /// Has the association of a link come about. At the end that accepts: true if the peer's was accepted, so it is up.
-    /// At the end that connects: begins to connect, unless it has begun, and returns false, even if the system is
-    /// connected already; the association comes up with the first frame of it. If this is false it is called again.
+    /// Brings up the association of a link. At the end that accepts it returns true if the peer's was accepted, so it
+    /// is up. At the end that connects it begins to connect, unless it has begun, and returns false even if the system
+    /// is already connected: the association comes up with its first frame. If this is false it is called again.
     fn open(&mut self, link: LinkId) -> bool;
 
     /// Closes the association of a link. Nothing of it comes after this.

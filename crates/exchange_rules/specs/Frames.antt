@@ -62,7 +62,7 @@ abbrev pub begun_anew_if : (is_first : Bool) → Configuration → ℕ → Parts
 begun_anew_if true c link p = with_set_reset c (set_of c link) p
 begun_anew_if false c link p = p
 
--- a link takes a step of its alignment, and may be the first of its set to enter service by that
+-- a link takes a step of its alignment, and may be the first of its set to enter service by this
 abbrev pub moved_on : Configuration → ℕ → Transition → Parts → Parts
 moved_on c link step p =
     begun_anew_if (enters link step p && not (has_other c link p)) c link (step_on c link step p)
@@ -171,7 +171,7 @@ module _ {Q : Type 0} (q : QueueKind Q) (c : Configuration) where
   carry link None node = answer Handled node
   carry link (Some m) node = deliver q c link m node
 
-  -- User Data whose numbers were checked; a wrong one fails the link, which is no refusal
+  -- User Data whose numbers were checked; a wrong one fails the link, which isn't a refusal
   abbrev pub handle_by : Result ℕ SeqFault → ℕ → Carrying → Node Q → Done Q
   handle_by (Ok confirmed) link d node = carry link d.message (accept link d confirmed node)
   handle_by (Err fault) link d node = answer Handled (fail q c link reasons.Sequence node)

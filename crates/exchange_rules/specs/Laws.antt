@@ -45,7 +45,7 @@ accept_frame None link c node = node
 accept_frame (Some d) link c node =
     accept_data (action_at (link_at node.parts link).alignment UserData) link d c node
 
--- the node after the frame of this text was accepted; a text that is no User Data is not
+-- the node after the frame of this text was accepted; a text that isn't User Data isn't
 abbrev pub accept_text : ℕ → Result FrameValue FrameFault → Abstract → Node WholeQueues
 accept_text link (Ok frame) a = accept_frame (data_of frame) link a.settings a.node
 accept_text link (Err fault) a = a.node

@@ -44,7 +44,7 @@ held_by_rerouting c destination (sls ∷ others) p = record p {
   timers = set_timer (name.T6 destination) c.timers.t6 p.timers;
 }
 
--- controlled rerouting: the flows that change their link by that are held
+-- controlled rerouting: the flows that change their link by this are held
 abbrev pub controlled : Configuration → (set destination : ℕ) → RouteStatus → Parts → Parts
 controlled c set destination status p =
     let next : Parts = forced c set destination status p in

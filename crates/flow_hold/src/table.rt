@@ -14,8 +14,8 @@ use signalling_types::Limits;
 use std::alloc::{AllocError, Global};
 use std::marker::Model;
 
-/// A row of marks for each procedure: whether it holds each of the flows that it may hold. Beside the rows is, for each
-/// flow, how many procedures hold it.
+/// A row of marks for each procedure: whether it holds each of the flows that it may hold. For each flow, also how many
+/// procedures hold it.
 #[derive(Drop)]
 pub(crate) struct Table {
     links: usize,

@@ -41,10 +41,10 @@ use std::io;
 use test_nodes::Dice;
 use world::World;
 
-/// This many frames are tried on links in service, and as many on links that align.
+/// How many frames are tried on links in service, and on links that align.
 const FRAMES: u64 = 12_000;
 
-/// This many streams are tried on links in service, and as many on links that align.
+/// How many streams are tried on links in service, and on links that align.
 const STREAMS: u64 = 2_000;
 
 /// What is handed in.

@@ -4,7 +4,7 @@ use arrayvec::ArrayVec;
 use std::marker::Model;
 use test_nodes::Dice;
 
-/// This many octets there are at most.
+/// How many octets there are at most.
 const MOST_OCTETS: usize = 8192;
 
 /// Where the length field of a frame is (RFC 4165 §2.1.5).

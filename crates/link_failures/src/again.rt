@@ -8,7 +8,7 @@ use link_trials::stopping::{Stop, Stopped, round_with};
 use link_trials::{Clock, Total, Trial, World};
 use std::alloc::Global;
 
-/// This many links there are.
+/// How many links there are.
 const LINKS: u8 = 3;
 
 /// The link that stopped before, at both ends and at the first place.

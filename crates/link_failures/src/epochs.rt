@@ -9,10 +9,10 @@ use link_trials::{Clock, Total, Trial, World};
 use pair_world::End;
 use std::alloc::Global;
 
-/// This many links there are.
+/// How many links there are.
 const LINKS: u8 = 3;
 
-/// This many messages at most go out before the link stops, less one, and as many after that.
+/// The most messages that go out after the link stops; before that, one fewer at most.
 const MOST: u8 = 4;
 
 /// What tells a run from the others.
@@ -23,9 +23,9 @@ struct Case {
     far: End,
     /// The link that stops.
     link: u8,
-    /// This many messages arrive on it before.
+    /// How many messages arrive on it before.
     before: u8,
-    /// This many go out on it after, and are lost with it.
+    /// How many go out on it after, and are lost with it.
     behind: u8,
 }
 

@@ -9,7 +9,7 @@ use link_trials::{Clock, Total, Trial, World};
 use pair_world::End;
 use std::alloc::Global;
 
-/// This many links there are.
+/// How many links there are.
 const LINKS: u8 = 3;
 
 /// How a link opens at both ends.

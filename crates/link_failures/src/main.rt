@@ -82,7 +82,7 @@ use random::schedules;
 use std::io;
 use stops::Group;
 
-/// This many schedules there are over each number of links.
+/// How many schedules there are over each number of links.
 const SCHEDULES: u64 = 1250;
 
 /// One tick at both ends between two rounds.

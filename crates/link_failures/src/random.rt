@@ -8,13 +8,13 @@ use pair_world::End;
 use std::alloc::Global;
 use test_nodes::Dice;
 
-/// This many steps each schedule has.
+/// How many steps a schedule has.
 const STEPS: usize = 400;
 
-/// This many times the links come back after it, so that all that is waiting arrives.
+/// How many times the links come back after it, so that all that is waiting arrives.
 const RETURNS: usize = 3;
 
-/// This many schedules over this many links.
+/// Runs n schedules over some links.
 pub(crate) fn schedules(alloc: Global, links: u8, count: u64) -> Total {
     let mut total = Total::NOTHING;
     for run in 0..count {

@@ -5,17 +5,17 @@ use crate::world::World;
 use exchange::LinkId;
 use pair_world::End;
 
-/// This many rounds at most carry what is left.
+/// The most rounds that carry what is left.
 pub const MOST_ROUNDS: usize = 200;
 
-/// This many ticks pass while a link is proved.
+/// How many ticks pass while a link is proved.
 pub const PROVING_TICKS: u8 = 3;
 
-/// This many times the ticks between two rounds pass until T1 has run out; a link that is the only one may not open
+/// How many times the ticks between two rounds pass until T1 has run out. A link that is the only one may not open
 /// before that.
 const T1_PASSES: usize = 4;
 
-/// This many exchanges of frames carry the statuses of a link.
+/// How many exchanges of frames carry the statuses of a link.
 const STATUSES: usize = 4;
 
 /// How many ticks pass at each end between two rounds.

@@ -7,7 +7,7 @@ use exchange::LinkId;
 use pair_world::End;
 use std::alloc::Global;
 
-/// This many rounds pass in which a link may stop.
+/// How many rounds pass in which a link may stop.
 pub const ROUNDS: u8 = 8;
 
 /// At which end a link stops.

@@ -74,7 +74,7 @@ pub(crate) fn tell_no_memory<W: Sink>(writer: &mut W) -> Status
     end_with(Status::Start, b"fault NoMemory\n", writer)
 }
 
-/// Prints that a file is no document, and explains that with this sentence.
+/// Prints that a file isn't a document, and explains that with this sentence.
 pub(crate) fn tell_no_document<W: Sink, E: Sink>(
     sentence: &str,
     writer: &mut W,

@@ -79,7 +79,7 @@ pub(crate) fn warn<E: Sink>(alloc: Global, file: &str, document: &Table, errors:
     tell_made(settings_file::warnings(alloc, file, document), errors);
 }
 
-/// Writes the sentence that says why a settings file is no document.
+/// Writes the sentence that says why a settings file isn't a document.
 pub(crate) fn explain_no_document<E: Sink>(sentence: &str, errors: &mut E)
     ensures { IsTold sentence.now (E.output errors.old) (E.output errors.new) }
 {

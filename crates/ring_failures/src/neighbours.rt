@@ -10,7 +10,7 @@ use std::alloc::Global;
 use std::marker::Model;
 use test_nodes::Node;
 
-/// This many links are between the two ends, and this many lead from each to its third neighbour.
+/// How many links there are between the two ends, and from each to its third neighbour.
 pub(crate) const LINKS_EACH: u8 = 2;
 
 /// The link of a third neighbour to the other one.

@@ -19,7 +19,7 @@ const LOST_ACROSS: u8 = 2;
 /// and before this one each end loses a link to its neighbour.
 const LOST_BESIDE: u8 = 4;
 
-/// This many ticks pass until T1, and with it T6, has run out.
+/// How many ticks pass until T1, and with it T6, has run out.
 const OUTLASTING_TICKS: u8 = 4;
 
 /// The links between the ends, after those to its neighbour at end 2.

@@ -7,7 +7,7 @@ ghost use Rattle.route_management.specs.Marks.{NoneFrom, IsFirstFrom, is_marked,
 use std::alloc::{AllocError, Global};
 use std::marker::Model;
 
-/// This many numbers make a block.
+/// How many numbers make a block.
 const BLOCK: usize = 64;
 
 /// Whether each number below a bound is marked.

@@ -68,7 +68,7 @@ asked_behind points (Some command) (first ∷ second ∷ third ∷ more) =
     option_map (λ order. AskOrder order) (instructed_by points command (first ∷ second ∷ third ∷ more))
 asked_behind points None behind = None
 
--- what the words of a line ask for: nothing if they are no line of a script
+-- what the words of a line ask for: nothing if they aren't a line of a script
 abbrev pub asked_by : PointFormat → List (List ℕ) → Option Asked
 asked_by points [] = None
 asked_by points (word ∷ behind) = asked_behind points (command_named word) behind

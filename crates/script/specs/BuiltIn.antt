@@ -35,7 +35,7 @@ abbrev pub IsLinks : List LinkDraft → Type 0
 IsLinks (l ∷ []) = (string_bytes l.name ≡ codes "e0") × (string_bytes l.set ≡ codes "east") × (l.slc ≡ pos 0)
 IsLinks _ = ⊥
 
--- a destination only by that set
+-- a destination only by this set
 abbrev pub IsDestination : ℤ → DestinationDraft → Type 0
 IsDestination point d =
     (d.point ≡ point) × (map (λ name. string_bytes name) d.sets.items ≡ codes "east" ∷ []) × (d.joined ≡ false)

@@ -46,7 +46,7 @@ impl ScriptFault {
 /// What is wrong with a line that ends a script.
 #[derive(Clone, Copy, Debug, PartialEq, Eq)]
 pub enum LineFault {
-    /// It is no line of a script.
+    /// It isn't a line of a script.
     Malformed,
     /// It has more than this many octets.
     TooLong(usize),

@@ -62,7 +62,7 @@ fn first_counting(parameters: Items<'_>, kind: u16) -> Option<&[u8]>
     None
 }
 
-/// Whether a parameter of this type is known, and is no host name.
+/// Whether a parameter of this type is known, and isn't a host name.
 fn is_known(kind: u16) -> bool
     ensures { result ≡ is_known kind }
 {

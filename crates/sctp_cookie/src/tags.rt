@@ -54,7 +54,7 @@ impl Tags {
         self.next_tag()
     }
 
-    /// The next tag, if one is left; it isn't drawn by that.
+    /// The next tag, if one is left; it isn't drawn by this.
     pub fn peek(&self) -> Option<u32>
         ensures { result ≡ next_tag self.now }
     {

@@ -127,7 +127,7 @@ module _ {Q : Type 0} (q : QueueKind Q) (now : ℕ) where
   between rule g s =
       followed_by (followed_by (settled g s) (λ h t. does rule h t)) (λ h t. settled h t)
 
-  -- a datagram comes; one that is no packet is as if the network had lost it
+  -- a datagram comes; one that isn't a packet is as if the network had lost it
   abbrev pub heard : Option PacketValue → (source : Address) → Gate → State Q → Did Q
   heard packet source g s =
       between (λ e. heard_datagram packet e.settings (secrets_of e) now source e.state) g s

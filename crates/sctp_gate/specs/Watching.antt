@@ -10,7 +10,7 @@ pub data Sight : Type 0 where
   Rose : Sight
   -- this frame came in and was handed in, with this outcome
   CameIn : (frame : List ℕ) (outcome : Outcome) → Sight
-  -- this message came in, and is no frame
+  -- this message came in, and isn't a frame
   Dropped : (message : Message) → Sight
   -- the association went down
   Fell : (why : Loss) → Sight

@@ -66,7 +66,7 @@ impl SctpLinks {
         Ok(())
     }
 
-    /// A datagram came. The gate of its link hears it; one that is no link's changes nothing, and is counted.
+    /// A datagram came. The gate of its link hears it; one that belongs to no link changes nothing, and is counted.
     pub fn hear<D: Datagrams, W: Sink, U: Watch>(
         &mut self,
         octets: &[u8],

@@ -1,4 +1,4 @@
--- The messages on their way with what is counted along, as the struct keeps them.
+-- The messages on their way with running counts, as the struct keeps them.
 use Rattle.std.specs.Prelude.{◌≡◌, ◌≤◌, length, take, All}
 use Rattle.sctp_sending.specs.declared.outbox.Outbox.TheInside.{Inside}
 use Rattle.sctp_sending.specs.Outgoing.{octets_of}

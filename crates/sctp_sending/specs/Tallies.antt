@@ -1,4 +1,4 @@
--- What is counted along of the messages that went out.
+-- Running counts of the messages that went out.
 use Rattle.std.specs.Prelude.{ℕ, ◌+◌, ◌-◌, Bool, List, sum_by, if◌then◌else◌}
 use Rattle.sctp_sending.specs.declared.tally.Tally.{Tally}
 use Rattle.sctp_sending.specs.Outgoing.{Outgoing, under_way_of}

@@ -1,4 +1,4 @@
-//! The messages on their way, with what is counted along.
+//! The messages on their way, with running counts.
 
 ghost use Rattle.std.specs.Prelude.{◌≡◌, ◌↔◌, ◌+◌, ◌-◌, ◌*◌, ◌<◌, ◌≤◌, [], ◌∷◌, ◌++◌, length, take, drop, map, sum_by, true, IfOk, IfSome, IsTrue, None};
 ghost use Rattle.sctp_sending.specs.Outgoing.{

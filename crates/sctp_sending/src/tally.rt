@@ -1,4 +1,4 @@
-//! What is counted along of the messages that went out.
+//! Running counts of the messages that went out.
 
 ghost use Rattle.std.specs.Prelude.{◌≡◌, ◌≤◌, ◌^◌, false};
 ghost use Rattle.sctp_sending.specs.Outgoing.{under_way_of, gone_out};
@@ -6,7 +6,7 @@ ghost use Rattle.sctp_sending.specs.Tallies.{lost_of, named_of, tally_with, tall
 
 use crate::cell::Cell;
 
-/// What is counted along of the messages that went out.
+/// Running counts of the messages that went out.
 #[derive(Clone, Copy)]
 pub struct Tally {
     /// The octets under way.

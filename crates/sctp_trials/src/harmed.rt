@@ -8,7 +8,7 @@
 //! order; a length or a count is at its limit; or a chunk of random octets follows a good header. Some stay as they
 //! are. Seven of eight get the right checksum again.
 //!
-//! Each returns. One that is no packet does nothing. One whose ports or whose tag aren't those that its first chunk
+//! Each returns. One that isn't a packet does nothing. One whose ports or whose tag aren't those that its first chunk
 //! needs is `foreign`: nothing is told, `deadline` and `has_room` stay, and at most ABORT or SHUTDOWN COMPLETE goes
 //! out, with the tag that came. The tag of COOKIE ECHO is the one in its cookie. INIT tells nothing. `opened or ended
 //! without its tags` counts those that did more. This and `in another phase` are 0; all other numbers follow from the

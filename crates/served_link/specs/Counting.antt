@@ -134,7 +134,7 @@ pub data CountedDatagram : Type 0 where
   -- one of a link came, or went out
   DatagramCame : CountedDatagram
   DatagramWent : CountedDatagram
-  -- one came that is no link's
+  -- one came that belongs to no link
   StrangerCame : CountedDatagram
 
 abbrev pub datagrams_after : CountedDatagram → DatagramCounters → DatagramCounters

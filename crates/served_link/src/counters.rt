@@ -104,7 +104,7 @@ impl Counters {
         self.datagrams.outgoing = self.datagrams.outgoing.saturating_add(1);
     }
 
-    /// A datagram came that is no link's.
+    /// A datagram came that belongs to no link.
     pub fn count_stranger(&mut self)
         ensures { self.new ≡ counted_datagram StrangerCame self.old }
     {

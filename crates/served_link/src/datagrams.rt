@@ -17,7 +17,7 @@ pub struct DatagramCounters {
     pub incoming: u64,
     /// Datagrams of links that went out.
     pub outgoing: u64,
-    /// Datagrams that came and are no link's.
+    /// Datagrams that came and belong to no link.
     pub strangers: u64,
 }
 

@@ -25,7 +25,7 @@ impl Observers {
         self.capture_packet(octets);
     }
 
-    /// A datagram came that is no link's: it is counted.
+    /// A datagram came that belongs to no link: it is counted.
     pub fn stranger_came(&mut self)
         ensures { self.new.counters ≡ counted_datagram StrangerCame self.old.counters }
     {

@@ -120,7 +120,7 @@ impl PageClient {
     }
 
     /// The connection looks at what was read and written. True if something waits to be written since: an answer, the
-    /// refusal of what is no request, or a 100.
+    /// refusal of what isn't a request, or a 100.
     pub(crate) fn advance<S: Service>(&mut self, service: &mut S) -> bool
         ensures waits { IsTrue result → 0 < length (history self.new.connection).pending }
         ensures due { IsTrue result → IsTrue self.old.is_due }

@@ -9,6 +9,6 @@ pub record AreDocument (octets : List ℕ) (document : Members) : Type 0 where
   pub text : IsUtf8 octets
   pub parsed : parse_document octets ≡ Some document
 
--- octets are no document: they aren't UTF-8, or else not TOML
+-- octets aren't a document: they aren't UTF-8, or else not TOML
 abbrev pub AreNoDocument : List ℕ → Type 0
 AreNoDocument octets = ¬ (IsUtf8 octets) ⊎ (IsUtf8 octets × (parse_document octets ≡ None))

@@ -61,7 +61,7 @@ fn read_given(rest: &str) -> Line<'_> {
     }
 }
 
-/// How often a line of the script is given, and the line. Without a number it is no line of a script.
+/// How often a line of the script is given, and the line. Without a number it isn't a line of a script.
 fn read_repeated(repeated: &str) -> Line<'_> {
     let (times, line) = repeated.split_once(" ").unwrap_or(("", repeated));
     Line::Repeated(times.parse().unwrap_or(0), line)

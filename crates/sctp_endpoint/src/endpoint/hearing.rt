@@ -26,7 +26,7 @@ use sctp_codec::{Chunk, Chunks, Packet};
 use sctp_rules::Phase;
 
 impl Endpoint {
-    /// A datagram came from an address. It does what the packet that it is does (RFC 9260 §5 to §9); one that is no
+    /// A datagram came from an address. It does what the packet that it is does (RFC 9260 §5 to §9); one that isn't a
     /// packet changes nothing, as if the network had lost it.
     pub fn hear<W: Watch>(&mut self, octets: &[u8], source: &Address, now: u64, watch: &mut W)
         requires generation { self.old.state.generation < 2 ^ 63 }

@@ -85,7 +85,7 @@ impl Outbox {
         any
     }
 
-    /// The message at an index is passed over; returns whether one was lost before, or it was by that.
+    /// The message at an index is passed over; returns whether one was lost before, or was by this.
     fn pass_over_one(&mut self, place: usize, before: bool) -> bool
         requires { place < self.old.went }
         ensures any { result ≡ (before || ((passed_over (outgoing_at self.old.out place)).lost
