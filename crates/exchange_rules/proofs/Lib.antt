@@ -106,3 +106,5 @@ pub mod MadeManagement
 pub mod HeardManagement
 pub mod CarriedMessages
 pub mod RuleExamples
+pub mod ProvedFirst
+pub mod ProvedAll

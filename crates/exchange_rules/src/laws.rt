@@ -24,7 +24,7 @@ ghost use Rattle.exchange_rules.specs.Lasting.{notices_made_are_counted, new_not
 ghost use Rattle.exchange_rules.specs.Lasting.{notices_keep_their_limits};
 ghost use Rattle.exchange_rules.specs.TimerSettings.{events_set_timers_to_their_settings, timers_keep_their_settings};
 ghost use Rattle.exchange_rules.specs.TimerSettings.{takes_set_timers_to_their_settings};
-ghost use Rattle.exchange_rules.specs.Aligning.{links_have_their_timers};
+ghost use Rattle.exchange_rules.specs.Aligning.{links_are_proved_first, links_have_their_timers};
 ghost use Rattle.exchange_rules.specs.Testing.{unsure_routes_are_tested, tests_are_repeated};
 ghost use Rattle.exchange_rules.specs.LawsOfFailures.{failures_hold_their_flows, failures_by_peer_hold_their_flows};
 ghost use Rattle.exchange_rules.specs.LawsOfFailures.{idle_failures_hold_nothing, idle_failures_by_peer_hold_nothing};
@@ -173,6 +173,13 @@ pub fn links_stay_steady()
 /// state.
 pub fn links_have_the_timers_of_their_states()
     ensures { links_have_their_timers }
+{}
+
+/// A link is proved before it enters service (Q.703 §7). By an event it enters service only at a tick, as its proving
+/// ends and its peer is ready; or, once its proving has ended, by a frame that comes by it. Its proving ends only at a
+/// tick.
+pub fn links_are_proved_before_they_enter_service()
+    ensures { links_are_proved_first }
 {}
 
 /// Every hold has its timer or its word, whatever happens and whatever is taken. The changeover that holds a flow isn't
