@@ -31,7 +31,7 @@ PATIENCE = 40.0
 HOST = "127.0.0.1"
 MALFORMED = "malformed: help lists the lines"
 
-# Ticks of each timer where none is to run out: at 50 ms a tick, longer than any test waits.
+# Ticks of each timer if none is to run out: at 50 ms a tick, longer than any test waits.
 LONG = 2000
 TIMERS = ("l1", "l2", "l3", "l4", "l6", "l7", "t1", "t2", "t3", "t4", "t6", "t8", "t10")
 
@@ -45,7 +45,7 @@ def wait_until(condition: Callable[[], object], what: str) -> None:
         time.sleep(0.005)
 
 
-# The processes that were started. However this one ends, but by SIGKILL, it ends them.
+# The processes that were started. However this one ends, except by SIGKILL, it ends them.
 _started: list[subprocess.Popen] = []
 
 
@@ -55,7 +55,7 @@ def _end_all() -> None:
         process.kill()
 
 
-# The last port that was handed out. They lie below those that the system gives to connections.
+# The last port that was handed out. They are below those that the system gives to connections.
 _last_port = 10_000 + os.getpid() * 37 % 20_000
 
 

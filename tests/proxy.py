@@ -15,7 +15,7 @@ from harness import HOST, PATIENCE
 
 PIECE_OCTETS = 4096
 
-# How many seconds the far node may say something on a connection that is then closed.
+# For how many seconds the far node may say something on a connection that is then closed.
 SILENCE = 0.3
 
 
@@ -25,9 +25,9 @@ class Cut:
 
     # Whether octets to the near node are counted, or those to the far one.
     to_near: bool
-    # So many of them still pass.
+    # This many of them still pass.
     octets: int
-    # Whether the connection to an end is reset, and not only closed.
+    # Whether the connection to an end is reset, and not just closed.
     resets_near: bool
     resets_far: bool
 

@@ -15,13 +15,13 @@ QUESTIONS = 6000
 HELP_LINES = 17
 ROUTE = f"route {FAR} to-{FAR} allowed"
 
-# What a web page may have a browser write to any port, but for the body.
+# What a web page may have a browser write to any port, without the body.
 POST = "POST / HTTP/1.1\r\nHost: localhost\r\n\r\n"
 
 # Points and how they are written in three parts, of 3, 8 and 3 bits (Q.708): 4237 is 2 * 2048 + 17 * 8 + 5.
 IN_PARTS = {0: "0-000-0", 9: "0-001-1", 4237: "2-017-5", 16383: "7-255-7"}
 
-# Lines that add no row: no point is written so, or it isn't where a point is read.
+# Lines that add no row: a point is in the wrong format, or no point is read there.
 NO_POINTS = (
     "title add 0 1 4 4917 8-000-0 ssn 6",
     "title add 0 1 4 4917 2-256-5 ssn 6",

@@ -18,7 +18,7 @@ POOL = 1000
 BEYOND = 200
 CONNECTIONS = 1000
 
-# Ticks of 50 ms of a timer that is to run out, and of one within which the other steps of a test are long done.
+# Ticks of 50 ms of a timer that is to run out, and of one that outlasts the other steps of a test.
 SHORT, LONGER = 40, 200
 
 # Seconds between the octets of a slow peer: its first frame takes longer than SHORT.

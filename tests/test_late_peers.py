@@ -10,10 +10,10 @@ from traffic import Pair
 
 MESSAGES = 160
 
-# So often the end that connects meets nobody, and then so often somebody who closes its connection before an octet.
+# How often the end that connects meets nobody, and then how often somebody who closes its connection before an octet.
 NOBODY, CLOSERS = 2, 2
 
-# The tries come 1, 2, 4, 8 and 16 seconds one after another.
+# The tries come after 1, 2, 4, 8 and 16 seconds.
 HELD, LATE = 0, 1
 
 

@@ -331,7 +331,7 @@ class Page(PageTest):
             response = connection.getresponse()
             response.read()
             self.assertEqual(response.status, 200)
-        # They are answered in four seconds of the node's clock, of which the two in the middle are whole.
+        # They are answered in four seconds of the node's clock, the middle two of which are whole.
         self.assertGreater(time.monotonic() - start, 2)
 
 

@@ -8,10 +8,10 @@ from traffic import Flowing, Pair
 
 MESSAGES = 200
 
-# In ticks of 50 ms: a changeover ends soon where no link is left, as nobody answers it.
+# In ticks of 50 ms: a changeover ends soon if no link is left, as nobody answers it.
 SOON = {"t1": 4, "t2": 6}
 
-# L7 of a node that is paused, in ticks, and the pause in seconds, which is longer. Behind a pause ticks pass at most
+# L7 of a node that is paused, in ticks, and the pause in seconds, which is longer. After a pause ticks pass at most
 # twice as fast.
 L7_TICKS, PAUSE_SECONDS = 60, 4
 

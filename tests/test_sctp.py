@@ -15,7 +15,7 @@ MESSAGES = 200
 # Another address of this machine.
 OTHER_HOST = "127.0.0.2"
 
-# In ticks of 50 ms: a changeover ends soon where no link is left, as nobody answers it.
+# In ticks of 50 ms: a changeover ends soon if no link is left, as nobody answers it.
 SOON = {"t1": 4, "t2": 6}
 
 # An end that isn't answered says so soon.

@@ -12,16 +12,17 @@ from traffic import Pair
 
 MESSAGES = 200
 
-# A message of the longest kind, and as many as may be unconfirmed on a link: more octets than a socket takes.
+# The longest message, and how many may be unconfirmed on a link: more octets than a socket takes.
 LONGEST_OCTETS, MANY, BURST = 272, 16_000, 1000
 
 # The octets of the smallest pipe, and callers whose lines in the log are more.
 PIPE_OCTETS, CALLERS = 4096, 200
 
-# Messages whose frames have more octets than a capture keeps for a slow reader, which are 1,048,576.
+# Messages whose frames have more octets than the 1,048,576 that a capture keeps for a slow reader.
 CAPTURED = 6000
 
-# The headers of a pcap file and of its records, and the longest packet: a frame of 290 octets behind 28, and its padding.
+# The headers of a pcap file and of its records, and the longest packet: a frame of 290 octets after 28, and its
+# padding.
 FILE_HEADER_OCTETS, RECORD_HEADER_OCTETS, LONGEST_PACKET = 24, 16, 320
 
 

@@ -16,7 +16,7 @@ FAULTS = (
     ("listen =", "remote =", "fault 2 serve.udp", "serve.udp is missing, and a link has remote"),
 )
 
-# Scripts whose octets no transcript holds, and what is printed of them. A line feed alone ends a line.
+# Scripts whose octets no transcript holds, and what is printed for them. Only a line feed ends a line.
 OCTETS = (
     ("\0\n", "fault 1\n"),
     ("\r\n", "fault 1\n"),
@@ -30,8 +30,8 @@ OCTETS = (
     ("up e9\n# \xff\nup\nup e0\n", "refused 22 NoSuchName\nfault 3\n"),
 )
 
-# The start of a line, what follows it how often, and what is printed of the line and of `up e0` after it. Nothing is
-# done after a line that is too long.
+# The start of a line, what follows it and how often, and what is printed for the line and for `up e0` after it. Nothing
+# is done after a line that is too long.
 LONG_LINES = (
     ("# ", "x", 8298, "handled\n"),
     ("# ", "x", 8299, "fault 1\n"),
@@ -46,7 +46,7 @@ LONG_LINES = (
     ("submit 852c410050", "a5", 269, "refused 13 TooLong\nhandled\n"),
 )
 
-# Words that are none of the program's.
+# Arguments that aren't the program's.
 OTHER_WORDS = (
     [],
     ["serve"],

@@ -24,7 +24,7 @@ from traffic import Flowing  # noqa: E402
 NEAR, FAR = 1, 2
 NEAR_SCTP, FAR_SCTP = 3565, 3575
 LINKS = ("e0", "e1", "e2")
-# ticks of 20 ms; LONG runs out nowhere here. L7 fails a link that is cut; T2 and T4 leave room for what is sent again
+# ticks of 20 ms; LONG never runs out here. L7 fails a link that is cut; T2 and T4 leave room for what is sent again
 TICK_MS, LONG = 20, 20_000
 TICKS = {**dict.fromkeys(TIMERS, LONG), "l4": 5, "l1": 500, "l2": 500, "l3": 500, "l7": 100, "t2": 1000, "t4": 1000}
 # messages each way that may wait in a node, and that are submitted at once

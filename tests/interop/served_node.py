@@ -24,9 +24,9 @@ from two_ends import build  # noqa: E402
 
 NODE, END = 1, 2
 NODE_SCTP, END_SCTP = 3565, 3566
-# ticks of 20 ms; so many make a timer that runs out nowhere here
+# ticks of 20 ms; a timer of this many never runs out here
 TICK_MS, LONG = 20, 20_000
-# T1, after which messages of a link that is gone are let go; proving; and how long a link may take to align
+# T1, after which messages of a link that is gone are released; proving; and how long a link may take to align
 T1, L4, L1 = 20, 5, 500
 SIO, USER_PART = 0x8F, 15  # national, a spare user part: no reader knows its fields
 MOST_FIELD = 272
@@ -144,7 +144,7 @@ class End:
     """The M2PA end over usrsctp, as a process."""
 
     def __init__(self, program, run: Run, udp: int, relay: int, stays: bool, first: int = 0) -> None:
-        # one that stays sends more, so that it hasn't sent all when the association ends
+        # one that stays sends more, so that it hasn't sent everything when the association ends
         count = 2 * run.count if stays else run.count
         words = [program, udp, relay, END_SCTP, NODE_SCTP, run.end_mode, END, NODE, count]
         words += ["stay", first] if stays else []
@@ -237,7 +237,8 @@ def go_on(setting: Setting) -> str:
     end = setting.end(stays=True)
     traffic = first = Traffic(node, 0, ends=True)
     wait_until(setting.in_service, "the link is in service")
-    # the end that ends it does so once a third came to it; else it is ended here, before the end has sent all
+    # the end that ends it does so once a third has reached it; else it is ended here, before the end has sent
+    # everything
     traffic.submit(run.count // 2 if run.ending in ("abort", "shutdown") else BURST)
     traffic.hear_until(lambda: traffic.judge.received >= run.count // 3)
     end, traffic = end_it(setting, end, traffic)

@@ -1,4 +1,4 @@
-//! What the words behind the program's name ask for.
+//! What the program's arguments ask for.
 
 ghost use Rattle.std.specs.Prelude.{◌≡◌, ◌≤◌, IfSome};
 
@@ -22,8 +22,8 @@ const WORDS: usize = 5;
 /// How large the settings are beside their destinations and links.
 #[derive(Clone, Copy)]
 pub(crate) enum Size {
-    /// One set leads to each destination, the window is 128, and the kind says how many links make a set and how many
-    /// translation rows there are. Links are in service where the kind says so.
+    /// One set leads to each destination, the window is 128, and the kind says how many links a set has, how many
+    /// translation rows there are, and whether links are in service.
     Usual,
     /// Two links make a set, eight sets lead to each destination, and the window is the largest. All links are in
     /// service.
@@ -47,11 +47,11 @@ pub(crate) enum Kind {
     Local,
     /// There is none: an empty frame comes.
     Acknowledgement,
-    /// It is a UDT for this point, and goes on by its title, written anew.
+    /// It is a UDT for this point, and goes on by its title, rewritten.
     Relay(Table),
     /// It is a UDT for this point that no translation row leads on, and goes back as a UDTS.
     Udts(Table),
-    /// It stands on a link, which may fail then and be changed over.
+    /// It is on a link, which may fail then and be changed over.
     Standing(Stage),
     /// It is held, since the link that it takes comes back; that link fails and returns for each.
     Return,
@@ -68,7 +68,7 @@ pub(crate) enum Kind {
 }
 
 impl Kind {
-    /// How the links make sets. Where the settings aren't larger than usual each link is one, if it counts how many
+    /// How the links make sets. If the settings aren't larger than usual each link is one, if it counts how many
     /// adjacent points are told.
     pub(crate) fn sets(self, size: Size) -> Sets {
         match (size, self) {
@@ -115,29 +115,27 @@ impl Size {
         }
     }
 
-    /// Whether it is as usual.
     pub(crate) fn is_usual(self) -> bool {
         matches!(self, Size::Usual)
     }
 }
 
-/// What the words behind the program's name ask for.
+/// What the program's arguments ask for.
 #[derive(Clone, Copy)]
 pub(crate) struct Arguments {
     pub kind: Kind,
     pub octets: usize,
     pub destinations: usize,
-    /// Links in the settings. One of them carries the messages. Where the settings aren't larger than usual the others
-    /// are down, but for those of its set before a changeover or a return, and where each is a set of its own.
+    /// Links in the settings. One of them carries the messages. Unless the settings are larger than usual, the others
+    /// are down, except those of its set before a changeover or a return, and those that are each a set of their own.
     pub links: usize,
     pub count: u32,
     pub size: Size,
 }
 
 impl Arguments {
-    /// Reads the five words, and a sixth where the settings are larger than usual. None where one of them is missing,
-    /// unknown or out of range, where each destination is the adjacent point of a link set, or where there are too
-    /// many sets.
+    /// Reads the five words, and a sixth if the settings are larger than usual. None if one of them is missing, unknown
+    /// or out of range, if each destination is the adjacent point of a link set, or if there are too many sets.
     pub(crate) fn read(words: &[String]) -> Option<Arguments>
         ensures octets { IfSome result (λ arguments. arguments.octets ≤ Limits.SIF_OCTETS) }
         ensures label { IfSome result (λ arguments. LABEL_OCTETS ≤ arguments.octets) }
@@ -191,7 +189,7 @@ impl Arguments {
     }
 }
 
-/// The words that each run has, and the size that one behind them names.
+/// The words that each run has, and the size that one after them names.
 fn sized(words: &[String]) -> Option<(&[String], Size)> {
     if words.len() <= WORDS {
         return Some((words, Size::Usual));
@@ -202,7 +200,6 @@ fn sized(words: &[String]) -> Option<(&[String], Size)> {
     Some((&words[..WORDS], size_of(size.as_str())?))
 }
 
-/// The size of this name.
 fn size_of(name: &str) -> Option<Size> {
     match name {
         "wide" => Some(Size::Wide),
@@ -211,7 +208,6 @@ fn size_of(name: &str) -> Option<Size> {
     }
 }
 
-/// The kind of this name.
 fn kind_of(name: &str) -> Option<Kind> {
     match name {
         "forward" => Some(Kind::Forward),
@@ -240,7 +236,7 @@ fn kind_of(name: &str) -> Option<Kind> {
     }
 }
 
-/// A number in decimal digits, where it is from `least` to `most`.
+/// A number in decimal digits, if it is from `least` to `most`.
 fn within(word: &str, least: usize, most: usize) -> Option<usize>
     ensures above { IfSome result (λ number. least ≤ number) }
     ensures fits { IfSome result (λ number. number ≤ most) }

@@ -27,7 +27,7 @@ pub(crate) fn adjacent() -> PointCode {
 /// The network indicator of the international network (Q.704 §14.2.2).
 pub(crate) const INTERNATIONAL: u8 = 2;
 
-/// How many messages may be unconfirmed, where the settings aren't larger than usual.
+/// How many messages may be unconfirmed, if the settings aren't larger than usual.
 pub(crate) const WINDOW: u16 = 128;
 
 /// The service indicator of the ISDN user part (Q.704 §14.2.1).
@@ -48,7 +48,7 @@ pub(crate) enum Sets {
 }
 
 impl Sets {
-    /// How many sets so many links make.
+    /// How many sets this many links make.
     pub(crate) fn count(self, links: usize) -> usize
         requires { links ≤ Limits.LINKS }
         ensures { result ≤ Limits.LINKS }
@@ -60,7 +60,6 @@ impl Sets {
         }
     }
 
-    /// The set that a link is in.
     fn set_of(self, link: usize) -> usize {
         match self {
             Sets::Full => link / Limits::LINKS_PER_SET,
@@ -69,7 +68,7 @@ impl Sets {
         }
     }
 
-    /// The last link of the first set, where there are so many links.
+    /// The last link of the first set, if there are this many links.
     pub(crate) fn last_of_first(self, links: usize) -> LinkId {
         match self {
             Sets::Full => LinkId::new((links.clamp(1, Limits::LINKS_PER_SET) - 1) as u8),
@@ -84,8 +83,8 @@ impl Sets {
 pub(crate) enum Routes {
     /// One set leads to each destination: to all that aren't adjacent points the first one.
     One,
-    /// As many sets as may be lead to each destination: those from one on, and behind the last the first again. That
-    /// is the first set for the last destination, the second for the one before, and so on.
+    /// As many sets as may be lead to each destination: those from one on, and after the last the first again. That is
+    /// the first set for the last destination, the second for the one before, and so on.
     Most,
 }
 
@@ -100,7 +99,7 @@ impl Routes {
         }
     }
 
-    /// The first set to a destination that isn't an adjacent point and has so many behind it.
+    /// The first set to a destination that isn't an adjacent point and has this many behind it.
     fn first(self, behind: usize, sets: usize) -> usize
         ensures { result ≤ behind }
     {
@@ -179,7 +178,7 @@ fn set_name(alloc: Global, set: usize) -> Result<String, AllocError> {
     format!(in alloc; "s{set}")
 }
 
-/// So many link sets.
+/// This many link sets.
 fn set_drafts(alloc: Global, count: usize) -> Result<Vec<SetDraft>, AllocError>
     requires { count ≤ Limits.LINKS }
 {
@@ -193,7 +192,7 @@ fn set_drafts(alloc: Global, count: usize) -> Result<Vec<SetDraft>, AllocError>
     Ok(sets)
 }
 
-/// So many links, in their sets.
+/// This many links, in their sets.
 fn link_drafts(alloc: Global, count: usize, sets: Sets) -> Result<Vec<LinkDraft>, AllocError> {
     let mut links = Vec::new(alloc);
     for link in 0..count {
@@ -206,7 +205,7 @@ fn link_drafts(alloc: Global, count: usize, sets: Sets) -> Result<Vec<LinkDraft>
     Ok(links)
 }
 
-/// So many destinations, the adjacent point of each set before the others.
+/// This many destinations, the adjacent point of each set before the others.
 fn destination_drafts(
     alloc: Global,
     count: usize,
@@ -228,7 +227,7 @@ fn destination_drafts(
     Ok(destinations)
 }
 
-/// The names of so many sets, from one on, and behind the last of all sets from the first again.
+/// The names of this many sets, from one on, and after the last of all sets from the first again.
 fn set_names(
     alloc: Global,
     first: usize,

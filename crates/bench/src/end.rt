@@ -24,14 +24,13 @@ impl End {
     }
 }
 
-/// Where the end of a link stands.
+/// Where the end of a link is.
 pub(crate) fn place(link: LinkId) -> usize
     ensures { result < Limits.LINKS }
 {
     link.index() % Limits::LINKS
 }
 
-/// The first link.
 pub(crate) fn first() -> LinkId {
     LinkId::new(0)
 }

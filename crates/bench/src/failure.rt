@@ -10,7 +10,7 @@ use signalling_types::Number24;
 /// How far the link's way is followed.
 #[derive(Clone, Copy)]
 pub(crate) enum Stage {
-    /// Messages stand on the link.
+    /// Messages are on the link.
     Queue,
     /// Then its association goes down.
     Failure,
@@ -18,8 +18,8 @@ pub(crate) enum Stage {
     Completion,
 }
 
-/// Messages come by the first link of a set, and stand on the last one; a window of them is sent. Where the stage says
-/// so that link fails then, and its changeover ends. Each link of the set is in service before.
+/// Messages come by the first link of a set, and are on the last one; a window of them is sent. If the stage says so
+/// that link fails then, and its changeover ends. Each link of the set is in service before.
 pub(crate) fn change_over(peer: &mut Peer, stage: Stage, mut message: Incoming, count: u32) {
     for _ in 0..count {
         peer.send(first(), &mut message);

@@ -12,16 +12,16 @@ use mtp3_codec::{MANAGEMENT_OCTETS, Management};
 use settings::Limits;
 use signalling_types::Number24;
 
-/// Where the last octet of a frame's length stands (RFC 4165 §2.1).
+/// Where the last octet of a frame's length is (RFC 4165 §2.1).
 pub(crate) const LENGTH_AT: usize = 7;
 
 /// Octets of a frame without a message (RFC 4165 §2.3.1).
 pub(crate) const EMPTY_OCTETS: u8 = 16;
 
-/// Where the backward sequence number stands (RFC 4165 §2.2).
+/// Where the backward sequence number is (RFC 4165 §2.2).
 const BSN_AT: usize = 9;
 
-/// Where the forward sequence number stands (RFC 4165 §2.2).
+/// Where the forward sequence number is (RFC 4165 §2.2).
 const FSN_AT: usize = 13;
 
 /// Octets of a sequence number.

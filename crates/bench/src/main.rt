@@ -1,9 +1,9 @@
 //! `bench KIND OCTETS DESTINATIONS LINKS COUNT`: what a message costs. A sixth word, `wide` or `largest`, makes the
 //! settings larger.
 //!
-//! Carries COUNT messages, whose signalling information fields have OCTETS octets, through an exchange with
-//! so many destinations and links, and prints how many frames went out with a checksum of their octets. Count the
-//! instructions of two runs: their difference by that of their COUNTs is what a message costs.
+//! Carries COUNT messages, whose signalling information fields have OCTETS octets, through an exchange with this many
+//! destinations and links, and prints how many frames went out with a checksum of their octets. Count the instructions
+//! of two runs: their difference divided by that of their COUNTs is what a message costs.
 #![tactic(auto)]
 
 ghost use Rattle.std.specs.Prelude.{◌≤◌};
@@ -44,13 +44,13 @@ fn main(rt: HostRuntime) -> io::Result<ExitCode> {
     }
 }
 
-/// The words behind the program's name.
+/// The program's arguments.
 fn words(rt: &HostRuntime) -> io::Result<Vec<String>> {
     let words = env::args(rt)?.skip(1).collect(rt.alloc())?;
     Ok(words)
 }
 
-/// Makes the nodes, or carries the messages. None where memory ran out.
+/// Makes the nodes, or carries the messages. None if memory ran out.
 fn total_of(alloc: Global, arguments: &Arguments) -> Option<Total>
     requires octets { arguments.now.octets ≤ Limits.SIF_OCTETS }
     requires destinations { arguments.now.destinations ≤ Limits.DESTINATIONS }

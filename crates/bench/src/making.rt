@@ -19,7 +19,7 @@ pub(crate) enum Making {
     Boot,
 }
 
-/// Nodes of this shape are made so many times, one after another, each only so far. None where memory ran out.
+/// Nodes of this shape are made this many times, one after another, each only so far. None if memory ran out.
 pub(crate) fn make(alloc: Global, making: Making, shape: &Shape, count: u32) -> Option<Total>
     requires destinations { shape.now.destinations ≤ Limits.DESTINATIONS }
     requires links { shape.now.links ≤ Limits.LINKS }
@@ -30,7 +30,7 @@ pub(crate) fn make(alloc: Global, making: Making, shape: &Shape, count: u32) -> 
     Some(Total::NOTHING)
 }
 
-/// A node of this shape is made so far. None where memory ran out.
+/// A node of this shape is made so far. None if memory ran out.
 fn make_one(alloc: Global, making: Making, shape: &Shape) -> Option<()>
     requires destinations { shape.now.destinations ≤ Limits.DESTINATIONS }
     requires links { shape.now.links ≤ Limits.LINKS }
@@ -42,7 +42,7 @@ fn make_one(alloc: Global, making: Making, shape: &Shape) -> Option<()>
     }
 }
 
-/// The checked settings of this shape. None where memory ran out.
+/// The checked settings of this shape. None if memory ran out.
 fn checked(alloc: Global, shape: &Shape) -> Option<Settings>
     requires destinations { shape.now.destinations ≤ Limits.DESTINATIONS }
     requires links { shape.now.links ≤ Limits.LINKS }
@@ -51,7 +51,7 @@ fn checked(alloc: Global, shape: &Shape) -> Option<Settings>
     Settings::check(alloc, draft).ok()
 }
 
-/// The exchange with settings of this shape, before its first event. None where memory ran out.
+/// The exchange with settings of this shape, before its first event. None if memory ran out.
 pub(crate) fn booted(alloc: Global, shape: &Shape) -> Option<Exchange>
     requires destinations { shape.now.destinations ≤ Limits.DESTINATIONS }
     requires links { shape.now.links ≤ Limits.LINKS }

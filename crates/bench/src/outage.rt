@@ -6,9 +6,10 @@ use crate::incoming::Incoming;
 use crate::peer::Peer;
 use settings::{Limits, LinkId};
 
-/// The last link of the first set fails and returns so many times, and the others of its set carry its flows meanwhile.
-/// Each order and each declaration is answered. Each time a message of the link is held until the last answer came. It
-/// is taken and confirmed, with whatever else the return of the link brings: all of that belongs to the round.
+/// The last link of the first set fails and returns this many times, and the others of its set carry its flows
+/// meanwhile. Each order and each declaration is answered. Each time a message of the link is held until the last
+/// answer came. It is taken and confirmed, with whatever else the return of the link brings: all of that belongs to the
+/// round.
 pub(crate) fn come_and_go(peer: &mut Peer, mut message: Incoming, count: u32) {
     for _ in 0..count {
         fail(peer);
@@ -36,7 +37,7 @@ fn fail(peer: &mut Peer) {
 }
 
 /// The link returns, and each declaration is answered. A message of the link comes by the first link before, and goes
-/// out behind the last answer.
+/// out after the last answer.
 fn come_back(peer: &mut Peer, message: &mut Incoming) {
     let link = peer.link();
     peer.open(link);

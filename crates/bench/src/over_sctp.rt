@@ -20,7 +20,7 @@ const OPENING: u32 = 2;
 /// Octets of the chunks of a datagram, at most.
 const CHUNKS_OCTETS: usize = 1_188;
 
-/// Octets of a DATA chunk in front of its message.
+/// Octets of a DATA chunk before its message.
 const DATA_OCTETS: usize = 16;
 
 /// How many messages go in a datagram.
@@ -33,7 +33,7 @@ pub(crate) enum Datagrams {
 }
 
 impl Datagrams {
-    /// How many messages, in frames of so many octets.
+    /// How many messages, in frames of this many octets.
     fn messages(self, octets: usize) -> u32
         requires { octets ≤ 512 }
     {
@@ -45,7 +45,7 @@ impl Datagrams {
 }
 
 /// Forwards messages, whose frames go out by one endpoint and come to another, which confirms two datagrams at a time.
-/// Counts the frames that it tells. None where memory ran out.
+/// Counts the frames that it tells. None if memory ran out.
 pub(crate) fn over_sctp(
     alloc: Global,
     peer: &mut Peer,
@@ -77,7 +77,7 @@ fn open(near: &mut Side, far: &mut Side) {
     }
 }
 
-/// Messages come and go on, in so many datagrams as a SACK confirms.
+/// Messages come and go on, in as many datagrams as a SACK confirms.
 fn carry_round(
     peer: &mut Peer,
     message: &mut Incoming,

@@ -20,13 +20,13 @@ use std::marker::Model;
 /// What a link tells on its way into service: Alignment, Proving Normal, Ready.
 const STATUSES: usize = 3;
 
-/// Where the heading of a management message stands in its frame, behind the label (Q.704 §15.1).
+/// Where the heading of a management message is in its frame, after the label (Q.704 §15.1).
 const HEADING_AT: usize = 22;
 
 /// The heading of a changeback declaration (Q.704 §15.5).
 const DECLARATION: u8 = 0x51;
 
-/// Where its changeback code stands, at the end of its frame.
+/// Where its changeback code is, at the end of its frame.
 const CODE_AT: usize = 23;
 
 /// Octets of its frame.
@@ -71,8 +71,8 @@ impl Model for Peer {
 
 impl Peer {
     /// The peer of an exchange with settings of this shape. The last link of the first set is in service and carries
-    /// all messages, so that the others of its set are looked at in vain. All that is owed was told and confirmed,
-    /// which doesn't count. None where memory ran out.
+    /// all messages, so the others of its set are looked at for nothing. All that is owed was told and confirmed, which
+    /// doesn't count. None if memory ran out.
     pub(crate) fn of_exchange_with(alloc: Global, shape: &Shape) -> Option<Peer>
         requires destinations { shape.now.destinations ≤ Limits.DESTINATIONS }
         requires links { shape.now.links ≤ Limits.LINKS }
@@ -99,8 +99,8 @@ impl Peer {
         self.link
     }
 
-    /// The selection whose flows try the link that carries the messages first, where it is the last one of its set.
-    /// That is its signalling link code, too.
+    /// The selection whose flows try the link that carries the messages first, if it is the last one of its set. That
+    /// is its signalling link code, too.
     pub(crate) fn selection(&self) -> Sls {
         Sls::new((self.link.index() % Limits::SELECTIONS) as u8).unwrap()
     }
@@ -152,8 +152,8 @@ impl Peer {
         }
     }
 
-    /// Brings the links from this number on into service, but for the one that carries the messages. The declarations
-    /// of each are answered, and each point takes and confirms what it is told, which doesn't count.
+    /// Brings the links from this number on into service except the one that carries the messages. The declarations of
+    /// each are answered, and each point takes and confirms what it is told, which doesn't count.
     pub(crate) fn open_from(&mut self, from: u8) {
         let total = self.total;
         for number in from..self.links {
@@ -283,7 +283,7 @@ impl Peer {
         }
     }
 
-    /// Answers the declarations of the return of a link on the first links, so many. One at most stands on each other
+    /// Answers the declarations of the return of a link on the first links, this many. One at most is on each other
     /// link of its set.
     pub(crate) fn answer_each(&mut self, links: u8, returned: LinkId) {
         for number in 0..links {

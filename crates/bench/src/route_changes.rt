@@ -9,7 +9,7 @@ use crate::peer::Peer;
 use mtp3_codec::Management;
 use settings::{Limits, PointCode};
 
-/// Ticks of the clock. With one link the first ten meet T8 of each destination of which its point was told; later ones,
+/// Ticks of the clock. With one link the first ten meet T8 of each destination that its point was told of; later ones,
 /// and all with more links, meet no timer that runs.
 pub(crate) fn tick(peer: &mut Peer, count: u32) {
     for _ in 0..count {
@@ -17,7 +17,8 @@ pub(crate) fn tick(peer: &mut Peer, count: u32) {
     }
 }
 
-/// The adjacent point of the first set tells of a point: transfer-prohibited and then transfer-allowed, so many times.
+/// The adjacent point of the first set tells of a point: transfer-prohibited and then transfer-allowed, this many
+/// times.
 pub(crate) fn change_status(peer: &mut Peer, about: PointCode, count: u32) {
     let mut prohibited = Incoming::with_management(Management::TransferProhibited(about));
     let mut allowed = Incoming::with_management(Management::TransferAllowed(about));
@@ -27,7 +28,7 @@ pub(crate) fn change_status(peer: &mut Peer, about: PointCode, count: u32) {
     }
 }
 
-/// The only link in service of the first set fails and returns so many times. Usually most destinations lie behind it
+/// The only link in service of the first set fails and returns this many times. Usually most destinations lie behind it
 /// alone. Other points are told of both, and its own point, which takes all for allowed at first, is told of the
 /// return.
 pub(crate) fn enter(peer: &mut Peer, count: u32) {
@@ -52,8 +53,8 @@ pub(crate) fn prohibit_each(peer: &mut Peer, destinations: usize)
     }
 }
 
-/// T10 runs out so many times for all routes that are prohibited, in one of the ticks that pass, and each point takes
-/// what it is asked. Each time all of these timers begin again.
+/// T10 runs out this many times for all prohibited routes, in one of the ticks that pass, and each point takes what it
+/// is asked. Each time all of these timers start again.
 pub(crate) fn test_routes(peer: &mut Peer, count: u32) {
     for _ in 0..count {
         peer.outlast_timers();

@@ -104,7 +104,6 @@ impl Side {
         self.now = self.now.wrapping_add(1);
     }
 
-    /// What it told.
     pub(crate) fn told(&self) -> &Told {
         &self.told
     }

@@ -20,7 +20,7 @@ pub(crate) const NATURE: u8 = 4;
 /// The subsystem that they lead to: the home location register (Q.713 §3.4.2.2).
 pub(crate) const SUBSYSTEM: u8 = 6;
 
-/// What stands behind the number of a row that has as many digits as may be.
+/// What is after the number of a row that has as many digits as may be.
 const LONG_END: &str = "4917200000000000000000000000";
 
 /// Which translation rows there are.
@@ -49,9 +49,9 @@ impl Table {
     }
 }
 
-/// These translation rows, whose addresses lead to a point. Each is of the same key; their first four digits are the
-/// numbers from 0 on in hexadecimal, so that no row leads an address that begins with `ffff`, and no two rows share
-/// more than three digits.
+/// These translation rows, whose addresses lead to a point. All have the same key. Their first four digits are the
+/// numbers from 0 on in hexadecimal, so no row leads an address that begins with `ffff`, and no two rows share more
+/// than three digits.
 pub(crate) fn title_drafts(
     alloc: Global,
     table: Table,

@@ -10,7 +10,6 @@ pub(crate) struct Total {
 }
 
 impl Total {
-    /// Nothing.
     pub(crate) const NOTHING: Total = Total {
         frames: 0,
         checksum: 0,

@@ -19,7 +19,7 @@ const CONFIRMED_AT_ONCE: u32 = 64;
 /// The service information octet of the ISDN user part in the international network (Q.704 §14.2).
 const SIO: u8 = INTERNATIONAL << 6 | ISUP;
 
-/// What stands in a message behind its label.
+/// What is in a message after its label.
 const FILLING: u8 = 0xaa;
 
 /// Carries the messages, all to the last destination or to the node's own point, which may lead or send them on.
@@ -48,9 +48,9 @@ pub(crate) fn carry(peer: &mut Peer, arguments: &Arguments)
     }
 }
 
-/// Brings into service what is to be in service beside the link that carries the messages. Where the settings are
-/// larger than usual these are all links, but for the other one of the first set where that set is to fail and return;
-/// and nothing is owed then, and no timer runs.
+/// Brings into service what is to be in service beside the link that carries the messages. If the settings are larger
+/// than usual, that is all links, except the other one of the first set if that set is to fail and return. Nothing is
+/// owed then, and no timer runs.
 fn bring_in(peer: &mut Peer, arguments: &Arguments) {
     match (arguments.size, arguments.kind) {
         (Size::Usual, Kind::Tick | Kind::Status | Kind::Entry | Kind::Expiry) => peer.open_from(1),
@@ -111,7 +111,7 @@ fn last_point(arguments: &Arguments) -> u16
     OWN + arguments.destinations as u16
 }
 
-/// The selection of all messages: one of the link that carries them, where others of its set are in service too.
+/// The selection of all messages: one of the link that carries them, if others of its set are in service too.
 fn selection_of(peer: &Peer, arguments: &Arguments) -> Sls {
     match arguments.kind {
         Kind::Standing(_) | Kind::Return => peer.selection(),
@@ -175,7 +175,7 @@ fn acknowledge(peer: &mut Peer, count: u32) {
     }
 }
 
-/// The longest signalling information field: a label from one point to another, and octets behind it.
+/// The longest signalling information field: a label from one point to another, and octets after it.
 fn longest_field(from: u16, to: u16, sls: Sls) -> [u8; Limits::SIF_OCTETS]
     requires from { from < 2 ^ 14 }
     requires to { to < 2 ^ 14 }

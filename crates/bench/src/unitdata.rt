@@ -26,19 +26,19 @@ const PLAN_AND_SCHEME: u8 = PLAN << 4 | 2;
 /// The subsystem that calls: a visitor location register (Q.713 §3.4.2.2).
 const CALLING_SUBSYSTEM: u8 = 7;
 
-/// What stands in the data.
+/// What is in the data.
 const FILLING: u8 = 0xaa;
 
 /// Octets of a title before its digits.
 const TITLE_HEAD: usize = 3;
 
-/// Digits of a title, where rows don't have as many as may be.
+/// Digits of a title, if rows don't have as many as may be.
 const DIGITS: usize = 12;
 
 /// The octets of a title with as many digits as a row may have. The first twelve are a title, too.
 pub(crate) type Title = [u8; TITLE_HEAD + Limits::TITLE_DIGITS / 2];
 
-/// A title that begins with these two octets: the first row leads that of zeros, and no row that of 0xff. Behind them
+/// A title that begins with these two octets: the first row leads that of zeros, and no row that of 0xff. After them
 /// are the digits 4917 2000, and further zeros.
 pub(crate) fn title_from(first: u8) -> Title {
     let mut title = [0; TITLE_HEAD + Limits::TITLE_DIGITS / 2];
@@ -56,8 +56,8 @@ pub(crate) fn title_from(first: u8) -> Title {
     title
 }
 
-/// Octets of such a message beside its data and its title: the label, the message type, the class, three pointers, and
-/// each behind its length, the called address, the calling one and the data.
+/// Octets of such a message beside its data and its title: the label, the message type, the class, three pointers, and,
+/// each after its length, the called address, the calling one and the data.
 const FRAME_OCTETS: usize = 4 + 5 + (1 + 2) + (1 + 4) + 1;
 
 /// Octets of a title that these rows may lead.
@@ -70,14 +70,14 @@ fn title_octets(table: Table) -> usize
     }
 }
 
-/// Octets of such a message beside its data, where there are these rows.
+/// Octets of such a message beside its data, if there are these rows.
 pub(crate) fn bare_octets(table: Table) -> usize
     ensures { 4 ≤ result }
 {
     FRAME_OCTETS + title_octets(table)
 }
 
-/// A frame with a UDT of the adjacent point to this one, of this selection and so many octets from its label on. Its
+/// A frame with a UDT of the adjacent point to this one, of this selection and this many octets from its label on. Its
 /// title has as many digits as the rows ask for.
 pub(crate) fn unitdata(title: &Title, table: Table, sls: Sls, octets: usize) -> Incoming
     requires { octets ≤ Limits.SIF_OCTETS }
@@ -108,7 +108,6 @@ fn label(sls: Sls) -> Label {
     }
 }
 
-/// An address of this title.
 fn called(title: &[u8]) -> Address<'_>
     ensures { length (address_octets 0 (address_of result)) ≡ 2 + length title.now }
 {

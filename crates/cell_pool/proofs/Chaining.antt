@@ -1,4 +1,4 @@
--- Lists of linked cells: what each list is after a write to one link, and after one list was put behind another.
+-- Lists of linked cells: what each list is after a write to one link, and after one list was put after another.
 use Rattle.cell_pool.proofs.Basics.{◌≡◌, ◌≢◌, ℕ, zero, suc, ◌+◌, ◌-◌, ◌<◌, ◌≤◌, Bool, cond, List, [], ◌∷◌, ◌++◌, length, get_or, refl, ap, sym, ◌∙◌, arith, inl, inr, sum_by, set, cases_eq, eq-eqb, ne_eqb, get_or-map, get_or-set_same, get_or-set_other, get_or_append_left, get_or-append_right, append-nil, length-set, length-map, sum_by-cons, get_or-le-sum_by, uses, ring_at, Chained, no_cells, walk, cells_of, rings_of, chain_at, joined, end_of, IsMarked, AreMarked}
 use Rattle.cell_pool.proofs.Sharing.{uses-get_or}
 use Rattle.cell_pool.proofs.Walks.{length-walk, walk-set, walk-joined}

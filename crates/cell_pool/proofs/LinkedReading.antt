@@ -1,4 +1,4 @@
--- What the lists are after a message was written into a cell of the row or behind it, and after cells were relinked.
+-- What the lists are after a message was written into a cell of the row or after it, and after cells were relinked.
 use Rattle.cell_pool.proofs.Basics.{◌≡◌, ◌≢◌, ℕ, ◌+◌, ◌<◌, ◌≤◌, Bool, true, false, List, [], ◌∷◌, ◌++◌, length, take, drop, refl, ap, sym, ◌∙◌, arith, nat_lt, sum_by, if◌then◌else◌, set, ltb-true, ltb-false, lt-ltb, le-ltb, map-set, map-append, length-map, take-map, drop-map, get_or_push, sum_by-cons, get_or-le-sum_by, Message, uses, ring_at, lane_at, pushed, all_behind, put_behind, cut_at, Occupied, message_at, messages_at, lists_at}
 use Rattle.cell_pool.specs.Row.{occupied_in, written}
 use Rattle.cell_pool.specs.declared.linked_lists.LinkedLists.TheInside.{Inside}

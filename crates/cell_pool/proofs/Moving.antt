@@ -1,4 +1,4 @@
--- A list that is gone through once, element by element, is moved whole, or as a test picks.
+-- A list that is walked once, element by element, is moved whole, or as a test picks.
 use Rattle.cell_pool.proofs.Basics.{◌≡◌, ◌≢◌, ℕ, ◌+◌, ◌<◌, Bool, true, false, not, List, [], ◌∷◌, ◌++◌, length, get_or, take, drop, refl, ap, sym, ◌∙◌, arith, slice_get, filter, if◌then◌else◌, set, set-set, set_comm, get_or-set_same, get_or-set_other, append_assoc, append-nil, drop_more, take_more, length-set, list_at, put_behind, put_before, Message, Stored, is_picked, turned}
 use Rattle.std.proofs.lemmas.List.Elements.{filter-append}
 

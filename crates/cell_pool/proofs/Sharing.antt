@@ -1,5 +1,5 @@
--- Each number stands once: this stays so where a free number goes to the end of a ring, and where the
--- first number of a ring goes to the free ones.
+-- Each number occurs once: this stays so where a free number goes to the end of a ring, and where the first number of a
+-- ring goes to the free ones.
 use Rattle.cell_pool.proofs.Basics.{◌≡◌, ℕ, ◌+◌, ◌<◌, ◌≤◌, Bool, true, false, cond, List, [], ◌∷◌, ◌++◌, length, get_or, refl, ap, arith, nat_lt, nat_eq, sum_by, eq-eqb, ltb-true, nat_tests, sum_by_push, sum_by-cons, get_or-le-sum_by, uses, ring_at, SharesOut}
 
 -- what one number adds to the uses of another

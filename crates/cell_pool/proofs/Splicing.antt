@@ -1,4 +1,4 @@
--- One list of linked cells goes behind another, and a list is turned round.
+-- One list of linked cells goes after another, and a list is turned round.
 use Rattle.cell_pool.proofs.Basics.{◌≡◌, ◌≢◌, ℕ, zero, suc, ◌+◌, ◌-◌, ◌<◌, ◌≤◌, List, [], ◌++◌, length, get_or, take, drop, refl, ap, sym, ◌∙◌, arith, inl, inr, sum_by, set, cases_eq, map-set, set-get_or, get_or-set_other, get_or-drop, get_or-append_right, get_or_append_left, get_or-take, append-nil, length-set, length-map, length-append, length-drop, length-take, drop_all, take_all, sum_by-set, sum_by-append, sum_by-take-drop, get_or-le-sum_by, uses, ring_at, SharesOut, all_behind, Chained, no_cells, walk, cells_of, rings_of, chain_at, joined, end_of, turned_round, IsMarked, AreMarked}
 use Rattle.cell_pool.proofs.Sharing.{use_of, uses-get_or, shared-within}
 use Rattle.cell_pool.proofs.Sums.{sum-all_behind, length-behind}

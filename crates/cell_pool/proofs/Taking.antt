@@ -1,4 +1,5 @@
--- The first free cell goes to the end of a list, the first cell of a list is freed, and a cell is used for the first time.
+-- The first free cell goes to the end of a list, the first cell of a list is freed, and a cell is used for the first
+-- time.
 use Rattle.cell_pool.proofs.Basics.{◌≡◌, ℕ, zero, suc, ◌+◌, ◌-◌, ◌<◌, ◌≤◌, Bool, true, false, cond, List, [], ◌∷◌, ◌++◌, length, get_or, take, drop, refl, ap, sym, ◌∙◌, arith, nat_lt, inl, inr, replicate, sum_by, set, cases_eq, eq-eqb, ne_eqb, nat_tests, get_or-set_same, get_or-replicate, length-replicate, length-map, length_push, sum_by-cons, sum_by-set, get_or-le-sum_by, uses, ring_at, SharesOut, Chained, no_cells, one_cell, walk, cells_of, rings_of, chain_at, joined, end_of, shortened, IsMarked, AreMarked}
 use Rattle.std.proofs.lemmas.List.Folds.{sum_by-replicate}
 use Rattle.cell_pool.proofs.Sharing.{use_of, uses-cons, uses-push, use_of-itself, below, below-next, below-none, shared-within}

@@ -1,4 +1,4 @@
--- A list that is turned round: what stood behind its first messages comes before them, and as many of each kind stand.
+-- A list that is turned round: what was after its first messages comes before them, and there are as many of each kind.
 use Rattle.cell_pool.proofs.Basics.{◌≡◌, ◌≢◌, ℕ, ◌<◌, List, [], ◌++◌, length, take, drop, ap, sym, ◌∙◌, arith, sum_by, set, set-set, get_or-set_same, get_or-set_other, take_at, drop_at, length-set, sum_by-set, sum_by-append, sum_by-take-drop, Message, HasAsMany, list_at, put_behind, put_before, cut_at}
 use Rattle.cell_pool.proofs.Counting.{as_user, as_management}
 

@@ -3,7 +3,7 @@ use Rattle.std.specs.Prelude.{◌≡◌, ℕ, zero, suc, ◌+◌, ◌-◌, ◌<�
 use Rattle.std.specs.Prelude.{slice_index_or, if◌then◌else◌}
 use Rattle.cell_pool.specs.Numbering.{ring_at}
 
--- one list: its first and its last cell, how many it has, and one of them whose place is known
+-- one list: its first and its last cell, how many it has, and one of them whose index is known
 pub record Chained : Type 0 where
   pub first : ℕ
   pub last : ℕ
@@ -11,7 +11,7 @@ pub record Chained : Type 0 where
   pub place : ℕ
   pub noted : ℕ
 
--- so many cells from one on, each named by the one before it
+-- this many cells from one on, each named by the one before it
 abbrev pub walk : List ℕ → ℕ → ℕ → List ℕ
 walk next zero cell = []
 walk next (suc n) cell = cell ∷ walk next n (slice_index_or next cell 0)
@@ -34,15 +34,15 @@ one_cell cell = record { first = cell; last = cell; count = 1; place = 0; noted 
 abbrev pub chain_at : List Chained → ℕ → Chained
 chain_at chains i = slice_index_or chains i no_cells
 
--- one list behind another
+-- one list after another
 abbrev pub joined : Chained → Chained → Chained
 joined front back =
     if nat_eq front.count 0
     then back
     else record front { last = back.last; count = front.count + back.count }
 
--- the cell that names the first one of a list that comes behind: where there is none in front, the last of that list,
--- whose next one is never asked for
+-- the cell that names the first one of a list that comes after. If there is none before it, it is the last of that
+-- list, whose next one is never asked for
 abbrev pub end_of : Chained → Chained → ℕ
 end_of front back = if nat_eq front.count 0 then back.last else front.last
 
@@ -56,12 +56,12 @@ shortened chain second = record {
   noted = (if nat_eq chain.place 0 then second else chain.noted);
 }
 
--- a list that begins behind one of its cells, and ends with it
+-- a list that begins after one of its cells, and ends with it
 abbrev pub turned_round : Chained → (first last : ℕ) → Chained
 turned_round chain first last =
     record { first = first; last = last; count = chain.count; place = 0; noted = first }
 
--- the last cell is known, and so is one whose place is noted
+-- the last cell is known, and so is one whose index is noted
 pub record IsMarked (ring : List ℕ) (chain : Chained) : Type 0 where
   pub last : 1 ≤ chain.count → slice_index_or ring (chain.count - 1) 0 ≡ chain.last
   pub within : 1 ≤ chain.count → chain.place < chain.count

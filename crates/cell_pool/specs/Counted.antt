@@ -8,7 +8,7 @@ use Rattle.cell_pool.specs.declared.linked_pool.CellPool.TheInside.{Inside}
 abbrev pub stored_in : Inside → Stored
 stored_in s = record { lists = s.lists.lists; pool = s.pool }
 
--- the counts are those of all lists, neither is above its limit, and there is a cell for each message that may stand
+-- the counts are those of all lists, neither is above its limit, and there is a cell for each message that may be
 pub record IsCounted (s : Inside) : Type 0 where
   pub users : s.users ≡ users s.lists.lists
   pub managements : s.managements ≡ managements s.lists.lists

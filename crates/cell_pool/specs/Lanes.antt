@@ -17,14 +17,14 @@ users_in ms = count_by (λ m. not (is_management m)) ms
 abbrev pub is_user_picked : (Message → Bool) → Message → Bool
 is_user_picked picks m = not (is_management m) && picks m
 
--- how many of each stand in all lists together
+-- how many of each are in all lists together
 abbrev pub managements : List (List Message) → ℕ
 managements lists = sum_by managements_in lists
 
 abbrev pub users : List (List Message) → ℕ
 users lists = sum_by users_in lists
 
--- why one more message is refused, if it is: as many of its kind stand as may
+-- why one more message is refused, if it is: there are as many of its kind as there may be
 abbrev pub push_refusal : ℕ → List (List Message) → Message → Option Cause
 push_refusal pool lists m =
     if is_management m

@@ -8,7 +8,7 @@ pub record Linked : Type 0 where
   pub used : ℕ
   pub total : ℕ
 
--- where no cell is free again, one that was never used is the free one
+-- if no cell is free again, one that was never used is the free one
 abbrev pub reserved : Linked → Linked
 reserved l =
     if nat_eq (length l.free) 0

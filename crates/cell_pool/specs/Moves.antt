@@ -5,17 +5,17 @@ use Rattle.std.specs.Prelude.{ℕ, Bool, List, [], ◌++◌, take, drop, filter,
 abbrev pub list_at : {A : Type 0} → List (List A) → ℕ → List A
 list_at lists i = slice_index_or lists i []
 
--- one list keeps what is left of it, and what is gone from it stands at the end of another
+-- one list keeps what is left of it, and what is gone from it is at the end of another
 abbrev pub put_behind : {A : Type 0} → List (List A) → (from : ℕ) (left gone : List A) (to : ℕ) → List (List A)
 put_behind lists from left gone to =
     slice_set (slice_set lists from left) to (list_at (slice_set lists from left) to ++ gone)
 
--- the same, but it stands before all of the other
+-- the same, but it is before all of the other
 abbrev pub put_before : {A : Type 0} → List (List A) → (from : ℕ) (left gone : List A) (to : ℕ) → List (List A)
 put_before lists from left gone to =
     slice_set (slice_set lists from left) to (gone ++ list_at (slice_set lists from left) to)
 
--- the first element of a list goes to the end of a list, also of its own
+-- the first element of a list goes to the end of a list, which may be its own
 abbrev pub first_behind : {A : Type 0} → List (List A) → (from to : ℕ) → List (List A)
 first_behind lists from to = put_behind lists from (drop 1 (list_at lists from)) (take 1 (list_at lists from)) to
 

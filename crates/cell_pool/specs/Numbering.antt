@@ -10,7 +10,7 @@ ring_at rings ring = slice_index_or rings ring []
 abbrev pub uses : ℕ → List ℕ → ℕ
 uses n numbers = count_by (λ k. nat_eq k n) numbers
 
--- each number below the total stands once, in a ring or among the free ones, and no other number does
+-- each number below the total occurs once, in a ring or among the free ones, and no other number does
 pub record SharesOut (free : List ℕ) (rings : List (List ℕ)) (total : ℕ) : Type 0 where
   pub once : (n : ℕ) → uses n free + sum_by (uses n) rings ≡ (if nat_lt n total then 1 else 0)
   pub all : length free + sum_by length rings ≡ total

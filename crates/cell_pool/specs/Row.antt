@@ -12,6 +12,6 @@ pub record HasRow (s : Inside) : Type 0 where
   pub row : length s.cells.items ≡ s.links.used
   pub room : s.links.total ≤ vec_capacity s.cells
 
--- a message in a cell of the row, or in the next one behind it
+-- a message in a cell of the row, or in the next one after it
 abbrev pub written : List Message → (cell : ℕ) → Message → List Message
 written cells cell m = if nat_lt cell (length cells) then slice_set cells cell m else cells ++ m ∷ []

@@ -1,4 +1,4 @@
--- A list is gone through once, message by message: each goes to another list or stays. Or a list is turned round.
+-- A list is walked once, message by message: each goes to another list or stays. Or a list is turned round.
 use Rattle.std.specs.Prelude.{ℕ, Bool, List, Option, Some, None, false, ◌++◌, take, drop}
 use Rattle.std.specs.Prelude.{slice_get, slice_set}
 use Rattle.std.specs.Prelude.{if◌then◌else◌}
@@ -9,11 +9,11 @@ abbrev pub is_picked : {A : Type 0} → (A → Bool) → Option A → Bool
 is_picked picks (Some x) = picks x
 is_picked picks None = false
 
--- the first goes to the end of another list where it is picked, else to the end of its own
+-- the first goes to the end of another list if it is picked, else to the end of its own
 abbrev pub turned : {A : Type 0} → (A → Bool) → List (List A) → (from to : ℕ) → List (List A)
 turned picks lists from to =
     first_behind lists from (if is_picked picks (slice_get (list_at lists from) 0) then to else from)
 
--- what comes behind so many first elements of a list is put before these
+-- what comes after this many first elements of a list is put before these
 abbrev pub cut_at : {A : Type 0} → ℕ → List (List A) → (list : ℕ) → List (List A)
 cut_at count lists list = slice_set lists list (drop count (list_at lists list) ++ take count (list_at lists list))

@@ -1,4 +1,4 @@
-//! Which cells each list has, in order, where each cell names the next one of its list.
+//! Which cells each list has, in order: each cell names the next one of its list.
 
 ghost use Rattle.std.specs.Prelude.{◌≡◌, ◌≢◌, ◌+◌, ◌^◌, ◌<◌, ◌≤◌, [], ◌∷◌, ◌++◌, length, take, drop, replicate, sum_by};
 ghost use Rattle.std.specs.Prelude.{slice_set, IfOk};
@@ -14,8 +14,8 @@ use crate::chain::Chain;
 use std::alloc::{AllocError, Global};
 use std::marker::Model;
 
-/// Lists of cell numbers, each cell naming the next one, and the cells that are free again: the last one that was freed
-/// is the first one that is taken. A number that was never taken has no memory that was written.
+/// Lists of cell numbers, each cell naming the next one, and the free cells, of which the last one freed is taken
+/// first. No memory is written for a number that was never taken.
 #[derive(Drop)]
 pub(crate) struct CellLinks {
     next: Vec<CellNumber>,
@@ -67,7 +67,7 @@ impl CellLinks {
         self.chains[ring].count()
     }
 
-    /// A cell that was never used is the free one, where no other is.
+    /// Frees a cell that was never used, if no other is free.
     fn grow(&mut self)
         requires none { self.old.free ≡ [] }
         requires room { self.old.used < self.old.total }
@@ -114,7 +114,7 @@ impl CellLinks {
         self.spare += 1;
     }
 
-    /// Sees to a free cell: where no cell is free again, one that was never used.
+    /// Provides a free cell: one that was never used, if no cell is free again.
     fn reserve(&mut self)
         requires room { sum_by length self.old.rings < self.old.total }
         ensures cells { self.new ≡ reserved self.old }
@@ -126,7 +126,6 @@ impl CellLinks {
         }
     }
 
-    /// The first free cell.
     fn first_free(&self) -> CellNumber
         requires { 1 ≤ length self.now.free }
         ensures cell { take 1 self.now.free ≡ result ∷ [] }
@@ -154,7 +153,7 @@ impl CellLinks {
         cell
     }
 
-    /// Moves the first cell of a list, where there is one, to the end of a list, also of its own: it is freed, and
+    /// Moves the first cell of a list, if there is one, to the end of a list, which may be its own. It is freed, and
     /// taken at once.
     pub(crate) fn move_first(&mut self, from: usize, to: usize)
         requires from { from < length self.old.rings }
@@ -183,7 +182,7 @@ impl CellLinks {
         }
     }
 
-    /// Puts what comes behind so many first cells of a list before these.
+    /// Puts what comes after this many first cells of a list before these.
     pub(crate) fn turn_round(&mut self, ring: usize, count: usize)
         requires { ring < length self.old.rings }
         ensures { self.new ≡ record self.old {
@@ -201,7 +200,7 @@ impl CellLinks {
     }
 }
 
-/// So many lists without cells.
+/// This many lists without cells.
 fn empty_chains(alloc: Global, count: usize) -> Result<Vec<Chain>, AllocError>
     ensures { IfOk result (λ chains. chains.items ≡ replicate count no_cells) }
 {

@@ -6,7 +6,7 @@ ghost use Rattle.cell_pool.specs.Chains.{no_cells, one_cell, joined, end_of, sho
 use crate::cell_number::CellNumber;
 use std::marker::Model;
 
-/// The ends of a list of cells, how many it has, and one of them whose place is noted.
+/// The ends of a list of cells, how many it has, and one of them whose index is noted.
 #[derive(Clone, Copy)]
 pub(crate) struct Chain {
     first: CellNumber,
@@ -66,14 +66,14 @@ impl Chain {
         }
     }
 
-    /// Its first cell, where it has one.
+    /// Its first cell, if it has one.
     pub(crate) fn first(&self) -> CellNumber
         ensures { result ≡ self.now.first }
     {
         self.first
     }
 
-    /// Its last cell, where it has one.
+    /// Its last cell, if it has one.
     pub(crate) fn last(&self) -> CellNumber
         ensures { result ≡ self.now.last }
     {
@@ -87,22 +87,22 @@ impl Chain {
         self.count
     }
 
-    /// The place of the noted cell, where it has cells.
+    /// The index of the noted cell, if it has cells.
     pub(crate) fn place(&self) -> usize
         ensures { result ≡ self.now.place }
     {
         self.place
     }
 
-    /// The noted cell, where it has cells.
+    /// The noted cell, if it has cells.
     pub(crate) fn noted(&self) -> CellNumber
         ensures { result ≡ self.now.noted }
     {
         self.noted
     }
 
-    /// The cell that has to name the first one of a list that comes behind: without cells in front the last one of that
-    /// list, whose next one is never asked for.
+    /// The cell that must name the first one of a list that comes after. Without cells before it, it is the last one of
+    /// that list, whose next one is never asked for.
     pub(crate) fn end(&self, back: &Chain) -> CellNumber
         ensures { result ≡ end_of self.now back.now }
     {
@@ -110,7 +110,7 @@ impl Chain {
         chain.last
     }
 
-    /// Both lists, the other one behind this one.
+    /// Both lists, the other one after this one.
     pub(crate) fn joined(&self, back: &Chain) -> Chain
         requires { self.now.count + back.now.count < 2 ^ 64 }
         ensures { result ≡ joined self.now back.now }
@@ -126,7 +126,7 @@ impl Chain {
         }
     }
 
-    /// The list without its first cell, where the second one is known. A note of the first cell passes to the second.
+    /// The list without its first cell, if the second one is known. A note of the first cell passes to the second.
     pub(crate) fn without_first(&self, second: CellNumber) -> Chain
         ensures { result ≡ shortened self.now second }
     {
@@ -139,7 +139,7 @@ impl Chain {
         }
     }
 
-    /// The same cells, from the one behind another on, which comes last then.
+    /// The same cells, beginning after another one, which then comes last.
     pub(crate) fn turned_round(&self, first: CellNumber, last: CellNumber) -> Chain
         ensures { result ≡ turned_round self.now first last }
     {

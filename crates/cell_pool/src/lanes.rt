@@ -16,19 +16,19 @@ pub trait Lanes {
     /// The lists, in the order of their numbers.
     ghost lists: { Self → List (List Message) };
 
-    /// How many user messages may stand in all lists together.
+    /// How many user messages may be in all lists together.
     ghost pool: { Self → ℕ };
 
     /// How many lists there are.
     fn lanes(&self) -> usize
         ensures { result ≡ length (lists self.now) };
 
-    /// How many management messages stand in all lists together.
+    /// How many management messages are in all lists together.
     fn managements(&self) -> usize
         ensures { result ≡ managements (lists self.now) };
 
-    /// Why this message would be refused now: PoolFull for a user message, ManagementFull for a
-    /// management message, exactly where as many of its kind stand as may.
+    /// Why this message would be refused now: PoolFull for a user message, ManagementFull for a management message,
+    /// exactly when there are already as many of its kind as there may be.
     fn refusal(&self, message: MsuRef<'_>) -> Option<Cause>
         ensures { result ≡ push_refusal (pool self.now) (lists self.now) (lent message.entry) };
 
@@ -51,20 +51,20 @@ pub trait Lanes {
         ensures lists { lists self.new ≡ pushed (lists self.old) lane (lent message.entry) }
         ensures pool { pool self.new ≡ pool self.old };
 
-    /// Takes the first message of a list, where there is one.
+    /// Takes the first message of a list, if there is one.
     fn pop_front(&mut self, lane: usize) -> Option<Msu>
         requires { lane < length (lists self.old) }
         ensures first { result ≡ slice_get (lane_at (lists self.old) lane) 0 }
         ensures lists { lists self.new ≡ dropped (lists self.old) lane 1 }
         ensures pool { pool self.new ≡ pool self.old };
 
-    /// Drops the first `count` messages of a list, or all where it has fewer.
+    /// Drops the first `count` messages of a list, or all if it has fewer.
     fn drop_front(&mut self, lane: usize, count: usize)
         requires { lane < length (lists self.old) }
         ensures lists { lists self.new ≡ dropped (lists self.old) lane count }
         ensures pool { pool self.new ≡ pool self.old };
 
-    /// Moves the first message of a list, where there is one, to the end of a list, also of its own.
+    /// Moves the first message of a list, if there is one, to the end of a list, which may be its own.
     fn move_first(&mut self, from: usize, to: usize)
         requires from { from < length (lists self.old) }
         requires to { to < length (lists self.old) }
@@ -104,20 +104,20 @@ pub trait Lanes {
         ensures lists { lists self.new ≡ picked_before (P.picks pick.now) (lists self.old) from to }
         ensures pool { pool self.new ≡ pool self.old };
 
-    /// Notes a place of a list, so that `get` at that place and at the next one takes a fixed number of steps, also
-    /// after messages were put behind the list or dropped before that place. No message moves.
+    /// Notes an index of a list, so that `get` at that index and at the next one takes a fixed number of steps, even
+    /// after messages were added to the list or dropped before that index. No message moves.
     fn note(&mut self, lane: usize, index: usize)
         requires { lane < length (lists self.old) }
         ensures lists { lists self.new ≡ lists self.old }
         ensures pool { pool self.new ≡ pool self.old };
 
-    /// The message at a place of a list, from 0, where there is one.
+    /// The message at an index of a list, from 0, if there is one.
     fn get(&self, lane: usize, index: usize) -> Option<&Msu>
         requires { lane < length (lists self.now) }
         ensures { option_copied result ≡ slice_get (lane_at (lists self.now) lane) index };
 
-    /// How many user messages of a list a choice takes, from a place on. Each message is looked at once, with a step for
-    /// each before that place.
+    /// How many user messages of a list a choice takes, from an index on. Each message is looked at once, with a step
+    /// for each before that index.
     fn count_users<P: Pick>(&self, lane: usize, first: usize, pick: &P) -> usize
         requires { lane < length (lists self.now) }
         ensures { result ≡

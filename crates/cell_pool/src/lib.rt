@@ -1,5 +1,5 @@
-//! Numbered lists of messages under fixed limits: the trait `Lanes`, and `CellPool`, over a row of cells
-//! of which each names the next one of its list.
+//! Numbered lists of messages under fixed limits: the trait `Lanes`, and `CellPool`, over a row of cells that each name
+//! the next one of their list.
 #![tactic(auto)]
 
 mod cell_links;

@@ -37,7 +37,7 @@ impl Model for LinkedLists {
 }
 
 impl LinkedLists {
-    /// Empty lists, and room for so many cells.
+    /// Empty lists, and room for this many cells.
     pub(crate) fn new(alloc: Global, lists: usize, cells: usize) -> Result<LinkedLists, AllocError>
         requires { cells < 2 ^ 32 }
         ensures { IfOk result (λ s. s ≡ record { lists = replicate lists []; cells = cells }) }
@@ -63,7 +63,7 @@ impl LinkedLists {
         self.links.count(list)
     }
 
-    /// The first message of a list, where there is one.
+    /// The first message of a list, if there is one.
     pub(crate) fn first(&self, list: usize) -> Option<&Msu>
         requires { list < length self.now.lists }
         ensures { option_copied result ≡ slice_get (lane_at self.now.lists list) 0 }
@@ -72,7 +72,7 @@ impl LinkedLists {
         Some(&self.cells[cell.index()])
     }
 
-    /// The message at a place of a list, where there is one.
+    /// The message at an index of a list, if there is one.
     pub(crate) fn get(&self, list: usize, index: usize) -> Option<&Msu>
         requires { list < length self.now.lists }
         ensures { option_copied result ≡ slice_get (lane_at self.now.lists list) index }
@@ -81,7 +81,7 @@ impl LinkedLists {
         Some(&self.cells[cell.index()])
     }
 
-    /// How many user messages of a list a choice takes, from a place on.
+    /// How many user messages of a list a choice takes, from an index on.
     pub(crate) fn count_users<P: Pick>(&self, list: usize, first: usize, pick: &P) -> usize
         requires { list < length self.now.lists }
         ensures { result ≡
@@ -111,7 +111,7 @@ impl LinkedLists {
         self.links.free_first(list);
     }
 
-    /// Moves the first message of a list, where there is one, to the end of a list, also of its own: its cell stays.
+    /// Moves the first message of a list, if there is one, to the end of a list, which may be its own: its cell stays.
     pub(crate) fn move_first(&mut self, from: usize, to: usize)
         requires from { from < length self.old.lists }
         requires to { to < length self.old.lists }
@@ -130,7 +130,7 @@ impl LinkedLists {
         self.links.append(from, to);
     }
 
-    /// Puts what comes behind so many first messages of a list before these: their cells stay.
+    /// Puts what comes after this many first messages of a list before these: their cells stay.
     pub(crate) fn turn_round(&mut self, list: usize, count: usize)
         requires { list < length self.old.lists }
         ensures { self.new ≡ record self.old { lists = cut_at count self.old.lists list } }
@@ -138,7 +138,7 @@ impl LinkedLists {
         self.links.turn_round(list, count);
     }
 
-    /// Notes a place of a list: the way to it, and to the next one, is short from then on.
+    /// Notes an index of a list: the way to it, and to the next one, is short from then on.
     pub(crate) fn note(&mut self, list: usize, index: usize)
         requires { list < length self.old.lists }
         ensures { self.new ≡ self.old }
@@ -147,7 +147,7 @@ impl LinkedLists {
     }
 }
 
-/// How many user messages a choice takes in the cells of a list, from a place on.
+/// How many user messages a choice takes in the cells of a list, from an index on.
 fn count_users<P: Pick>(
     links: &CellLinks,
     cells: &[Msu],
@@ -181,7 +181,7 @@ fn one_if_picked<P: Pick>(message: &Msu, pick: &P) -> usize
     }
 }
 
-/// Copies a message into a cell of a row, or into the next one behind it.
+/// Copies a message into a cell of a row, or into the next one after it.
 #[inline(always)]
 fn write(cells: &mut Vec<Msu>, index: usize, message: MsuRef<'_>)
     requires index { index ≤ length cells.old.items }

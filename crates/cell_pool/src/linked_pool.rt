@@ -13,17 +13,16 @@ use signalling_types::{Cause, Limits, Msu, MsuRef};
 use std::alloc::{AllocError, Global};
 use std::marker::Model;
 
-/// Numbered lists of messages over one row of cells, which has a cell for each user message of the
-/// pool and for each of 256 management messages. A message is copied into its cell once and stays
-/// there; each cell names the next one of its list.
+/// Numbered lists of messages over one row of cells, with a cell for each user message of the pool and for each of 256
+/// management messages. A message is copied into its cell once and stays there. Each cell names the next one of its
+/// list.
 ///
-/// All room is made by `new`: no other call takes memory, and a cell's memory isn't touched before
-/// the cell is first used. The cell that was freed last is taken first, so lists that stay short stay
-/// in the same few cells. `drop_front` takes a step for each message that it drops, `move_where` and
-/// `splice_where` one for each message of the list that they look through. `get` walks from the noted
-/// place, or from the first message; the last one, the noted one and the next one behind it are there
-/// at once. `note` walks as `get` does. Every other call takes a fixed number of steps, however many
-/// lists and messages there are. A move relinks cells, and copies no message.
+/// All room is made by `new`: no other call allocates memory, and a cell's memory isn't touched before the cell is
+/// first used. The cell freed last is taken first, so lists that stay short stay in the same few cells. `drop_front`
+/// takes a step for each message that it drops; `move_where` and `splice_where` one for each message of the list. `get`
+/// walks from the noted message or from the first; the last one, the noted one and the one after that are there at
+/// once. `note` walks as `get` does. Every other call takes a fixed number of steps, however many lists and messages
+/// there are. A move relinks cells, and copies no message.
 #[derive(Drop)]
 pub struct CellPool {
     lists: LinkedLists,
@@ -45,12 +44,11 @@ impl Model for CellPool {
 }
 
 impl CellPool {
-    /// So many empty lists, at most one more than a node has links, and room for a pool of user
-    /// messages, at most 65,535, and for 256 management messages.
+    /// This many empty lists, at most one more than a node has links, with room for a pool of user messages, at most
+    /// 65,535, and for 256 management messages.
     ///
-    /// Each message that there is room for has a cell of 276 octets and a link of four, which take no
-    /// memory before they are used where the system gives pages at their first use; each list takes 32
-    /// octets. The error means that memory ran out.
+    /// Each message has a cell of 276 octets and a link of four, whose memory isn't used before they are, if the system
+    /// gives pages at their first use. Each list takes 32 octets. The error means that memory ran out.
     pub fn new(alloc: Global, lanes: usize, pool: usize) -> Result<CellPool, AllocError>
         requires lanes { lanes ≤ Limits.LINKS + 1 }
         requires pool { pool ≤ Limits.POOL }
@@ -64,7 +62,7 @@ impl CellPool {
         })
     }
 
-    /// Drops the first message of a list, where there is one.
+    /// Drops the first message of a list, if there is one.
     fn drop_first(&mut self, lane: usize)
         requires { lane < length self.old.lists }
         ensures { self.new ≡ record self.old { lists = dropped self.old.lists lane 1 } }
@@ -79,7 +77,7 @@ impl CellPool {
         }
     }
 
-    /// Puts what comes behind so many first messages of a list before these.
+    /// Puts what comes after this many first messages of a list before these.
     fn turn_round(&mut self, lane: usize, count: usize)
         requires { lane < length self.old.lists }
         ensures { self.new ≡ record self.old { lists = cut_at count self.old.lists lane } }
@@ -87,8 +85,8 @@ impl CellPool {
         self.lists.turn_round(lane, count);
     }
 
-    /// Moves the first message of a list, where there is one, to the end of another where a choice takes it, else to
-    /// the end of its own.
+    /// Moves the first message of a list, if there is one, to the end of another if a choice takes it, else to the end
+    /// of its own.
     fn turn<P: Pick>(&mut self, from: usize, to: usize, pick: &P)
         requires from { from < length self.old.lists }
         requires to { to < length self.old.lists }

@@ -1,9 +1,9 @@
--- The changeback codes of the adjacent points (Q.704 §6.3, §15.5).
+-- TCBC, changeback control (Q.704 §6.3, §15.5): the changeback codes of the adjacent points.
 use Rattle.std.specs.Prelude.{◌≡◌, ◌≢◌, ℕ, Bool, true, false, not, List, [], Option, Some}
 use Rattle.std.specs.Prelude.{position, replicate, slice_index_or, slice_set}
 use Rattle.signalling_types.specs.declared.limits.TheConstants.Limits.{CHANGEBACK_CODES}
 
--- of each set, of each code, whether its acknowledgement is awaited
+-- for each code of each set, whether its acknowledgement is awaited
 abbrev pub Codes : Type 0
 Codes = List (List Bool)
 
@@ -23,11 +23,11 @@ free_code t set = position not (codes_of t set)
 abbrev pub is_outstanding : Codes → (set code : ℕ) → Bool
 is_outstanding t set code = slice_index_or (codes_of t set) code false
 
--- one code awaits its acknowledgement from now on, or not; one that isn't there is left aside
+-- one code awaits its acknowledgement from now on, or not; one that isn't there is ignored
 abbrev pub with_code : Codes → (set code : ℕ) → Bool → Codes
 with_code t set code outstanding = slice_set t set (slice_set (codes_of t set) code outstanding)
 
--- no code is used that awaits its acknowledgement
+-- a code whose acknowledgement is awaited is never used
 abbrev pub awaited_codes_are_not_free : Type 0
 awaited_codes_are_not_free =
     (t : Codes) (set code : ℕ) → is_outstanding t set code ≡ true → free_code t set ≢ Some code

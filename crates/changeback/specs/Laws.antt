@@ -16,17 +16,17 @@ pub record IsMoved (to : ℕ) (before after : Facts) (c : FlowChange) : Type 0 w
   pub is : chosen_link after c.destination c.sls ≡ Some to
   pub other : c.from ≢ to
 
--- each flow that is taken over is moved so
+-- this holds for each flow that is taken over
 abbrev pub each_is_moved : Type 0
 each_is_moved = (to : ℕ) (before after : Facts) → All (IsMoved to before after) (returned to before after)
 
--- and each flow that is moved so is taken over
+-- and each flow for which it holds is taken over
 abbrev pub each_moved_is_found : Type 0
 each_moved_is_found =
     (to : ℕ) (before after : Facts) (c : FlowChange) → IsMoved to before after c →
     Contains (returned to before after) c
 
--- a procedure is to hold a flow: some change is one of this flow, and the procedure holds what comes from its link
+-- a procedure is to hold a flow: there is a change of this flow, and the procedure holds what comes from its link
 pub record IsToHold (holders : List (Option Procedure)) (cs : List FlowChange) (procedure : Procedure)
     (destination sls : ℕ) : Type 0 where
   pub change : FlowChange
@@ -67,7 +67,7 @@ each_rerouted_goes_to_another =
     (before after : Facts) (destination sls : ℕ) →
     Contains (rerouted before after destination) sls → GoesToAnother before after destination sls
 
--- and each flow that does so is rerouted
+-- each flow that does so is rerouted
 abbrev pub each_that_goes_to_another_is_rerouted : Type 0
 each_that_goes_to_another_is_rerouted =
     (before after : Facts) (destination sls : ℕ) →
@@ -85,7 +85,7 @@ unlinked_after_are_left =
     (before after : Facts) (destination sls : ℕ) →
     chosen_link after destination sls ≡ None → Contains (rerouted before after destination) sls → ⊥
 
--- each flow that is rerouted is held by the rerouting of its destination, where that is there
+-- each flow that is rerouted is held by the rerouting of its destination, if that is there
 abbrev pub each_rerouted_has_its_hold : Type 0
 each_rerouted_has_its_hold =
     (before after : Facts) (destination sls : ℕ) (h : HoldSet) →

@@ -1,4 +1,5 @@
--- The flows to a destination that change their link as a route to it gets a status, and what holds them (Q.704 §8).
+-- TCRC, controlled rerouting control (Q.704 §8): the flows to a destination that change their link when a route to it
+-- gets another status, and what holds them.
 use Rattle.std.specs.Prelude.{ℕ, Bool, false, not, nat_eq, List, [], ◌∷◌, Option, Some, None, slice_index_or}
 use Rattle.std.specs.List.{filter, range_with_len}
 use Rattle.routes.specs.Routes.{Facts, chosen_link}
@@ -21,7 +22,7 @@ module _ (before after : Facts) (destination : ℕ) where
   unfoldable pub rerouted : List ℕ
   rerouted = filter changes_link (range_with_len 0 SELECTIONS)
 
--- the same among the first so many selections, by the list of the links that their flows took before
+-- the same among the first n selections, by the list of the links that their flows took before
 unfoldable pub moved_from : (before : List (Option ℕ)) → (after : Facts) → (destination count : ℕ) → List ℕ
 moved_from before after destination count =
     filter (λ sls. is_other_link (slice_index_or before sls None) (chosen_link after destination sls))

@@ -1,4 +1,5 @@
--- The flows that a link takes over when it enters service (Q.704 §6.2), and what holds them (Q.704 §6.3, §6.4).
+-- TCBC, changeback control (Q.704 §6.2 to §6.4): the flows that a link takes over when it enters service, and what
+-- holds them.
 use Rattle.std.specs.Prelude.{ℕ, zero, suc, Bool, List, [], ◌∷◌, ◌++◌, false, length, nat_eq, slice_index_or, Option, Some, None}
 use Rattle.std.specs.List.{list_any}
 use Rattle.routes.specs.Routes.{Facts, chosen_link}
@@ -24,13 +25,13 @@ module _ (to : ℕ) (before after : Facts) where
   former_link_of destination sls =
       former_link to (chosen_link before destination sls) (chosen_link after destination sls)
 
-  -- the flows of the first so many selections to a destination that it takes over, in order
+  -- the flows of the first n selections to a destination that it takes over, in order
   unfoldable pub changes_of : (destination count : ℕ) → List FlowChange
   changes_of destination zero = []
   changes_of destination (suc count) =
       changes_of destination count ++ change_from destination count (former_link_of destination count)
 
-  -- and those to the first so many destinations
+  -- and those to the first n destinations
   unfoldable pub changes : (count : ℕ) → List FlowChange
   changes zero = []
   changes (suc count) = changes count ++ changes_of count SELECTIONS
@@ -48,7 +49,7 @@ comes_from None other = false
 abbrev pub gives_up : List FlowChange → (other : ℕ) → Bool
 gives_up cs other = list_any (λ c. nat_eq c.from other) cs
 
--- a flow is held where its former link has a holder
+-- a flow is held if its former link has a holder
 abbrev pub with_change : HoldSet → FlowChange → Option Procedure → HoldSet
 with_change h c (Some procedure) = with_hold h procedure c.destination c.sls
 with_change h c None = h

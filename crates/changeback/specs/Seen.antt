@@ -1,5 +1,5 @@
--- Pairs of link sets that were looked at: the set alone by which messages to a destination went before, and the set
--- alone by which they go now.
+-- Pairs of link sets that were looked at: the one set that messages to a destination took before, and the one set that
+-- they take now.
 use Rattle.std.specs.Prelude.{◌≡◌, ℕ, ◌+◌, ◌*◌, ◌&&◌, Bool, true, false, List, Option, Some, None, length, replicate, nat_lt, if◌then◌else◌, slice_index_or, slice_set}
 use Rattle.signalling_types.specs.declared.limits.TheConstants.Limits.{SETS, SELECTIONS}
 use Rattle.routes.specs.Routes.{with_link, lone_set}
@@ -7,7 +7,6 @@ use Rattle.node_links.specs.NodeLinks.{Network, facts_of}
 use Rattle.changeback.specs.Return.{changes_of, gives_up}
 use Rattle.changeback.specs.declared.set_pairs.SetPairs.TheInside.{Inside}
 
--- the number of a pair
 abbrev pub number_of_pair : (first second : ℕ) → ℕ
 number_of_pair first second = SETS * first + second
 
@@ -35,7 +34,7 @@ with_seen seen (Some first) (Some second) = with_pair seen first second
 with_seen seen (Some first) None = seen
 with_seen seen None after = seen
 
--- each link is marked that loses flows to a destination of such a pair
+-- each link that loses flows to a destination of such a pair is marked
 pub record IsSeen (n : Network) (link : ℕ) (seen losing : List Bool) : Type 0 where
   pub marked : (first second destination other : ℕ) → has_pair seen first second ≡ true →
       lone_set (with_link link false (facts_of n)) destination ≡ Some first →

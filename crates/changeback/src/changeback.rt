@@ -15,7 +15,7 @@ use std::marker::Model;
 /// Which changeback codes of each adjacent point await their acknowledgement (Q.704 §6.3). An adjacent point goes by
 /// the number of its link set.
 ///
-/// All room is made by `new`, 16 octets for each set. Every other call takes at most 16 steps, but for lifting a hold,
+/// All room is made by `new`, 16 octets for each set. Every other call takes at most 16 steps except lifting a hold,
 /// which costs what `Holds::lift` says.
 #[derive(Drop)]
 pub struct Changeback {
@@ -31,7 +31,7 @@ impl Model for Changeback {
 }
 
 impl Changeback {
-    /// For so many sets, of which no code awaits its acknowledgement. The error means that memory ran out.
+    /// For this many sets, of which no code awaits its acknowledgement. The error means that memory ran out.
     pub fn new(alloc: Global, sets: usize) -> Result<Changeback, AllocError>
         ensures { IfOk result (λ changeback. changeback ≡ no_codes sets) }
     {
@@ -40,8 +40,8 @@ impl Changeback {
         })
     }
 
-    /// The least code of an adjacent point that is free, 0 to 15. `None` where all await their acknowledgement, or no
-    /// such set is there. A code whose timer ran out isn't free (own).
+    /// The least code of an adjacent point that is free, 0 to 15. `None` if all await their acknowledgement, or no such
+    /// set is there. A code whose timer ran out isn't free (own).
     pub fn free_code(&self, set: SetId) -> Option<u8>
         ensures code { result ≡ free_code self.now set }
         ensures fits { IfSome result (λ code. code < CHANGEBACK_CODES) }
@@ -53,14 +53,14 @@ impl Changeback {
     }
 
     /// A changeback was declared by a code: its acknowledgement is awaited from now on. A set or a code that isn't
-    /// there is left aside.
+    /// there is ignored.
     pub fn declared(&mut self, set: SetId, code: u8)
         ensures { self.new ≡ with_code self.old set code true }
     {
         self.put(set, code, true);
     }
 
-    /// Takes an acknowledgement, and says whether it was awaited. Where it was, the code is free from now on, and holds
+    /// Takes an acknowledgement, and says whether it was awaited. If it was, the code is free from now on, and holds
     /// nothing any more; else nothing changes (Q.704 §6.3).
     pub fn acknowledge(&mut self, set: SetId, code: u8, holds: &mut Holds) -> bool
         ensures awaited { result ≡ is_outstanding self.old set code }
@@ -97,7 +97,7 @@ impl Changeback {
     }
 }
 
-/// The codes of so many sets, all of them free.
+/// The codes of this many sets, all of them free.
 fn free_sets(alloc: Global, sets: usize) -> Result<Vec<SetCodes>, AllocError>
     ensures { IfOk result (λ made. made.items ≡ no_codes sets) }
 {

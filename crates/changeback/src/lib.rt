@@ -1,6 +1,6 @@
-//! Changeback and controlled rerouting: which flows change their link when a link enters service, or when a route gets
-//! a status, and what holds them until their old link is done; and the codes of the declarations of a changeback
-//! (Q.704 §6, §8).
+//! TCBC and TCRC, changeback and controlled rerouting control (Q.704 §6, §8): which flows change their link when a link
+//! enters service or a route gets another status, what holds them until their old link is done, and the codes of
+//! changeback declarations.
 #![tactic(auto)]
 
 pub mod changeback;

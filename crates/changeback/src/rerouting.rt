@@ -11,9 +11,9 @@ use node_links::NodeLinks;
 use routes::RouteStatus;
 use signalling_types::{Limits, LinkId, SetId, Sls};
 
-/// Gives the route to a destination over a set a status, and holds each flow to that destination that goes from one
-/// link to another for it, by the rerouting of the destination (Q.704 §8). Says whether there is such a flow. A route
-/// that isn't there is left aside.
+/// Gives the route to a destination over a set a status, and holds each flow to that destination that changes its link
+/// by that, for the rerouting of the destination (Q.704 §8). Says whether there is such a flow. A route that isn't
+/// there is ignored.
 ///
 /// It asks for the link of each of the 16 flows to the destination before and after, by `NodeLinks::link_of`.
 pub fn reroute(

@@ -16,8 +16,8 @@ use signalling_types::{Limits, LinkId, SetId, Sls};
 
 /// Which links lose flows to a link, compared with when it is out of service (Q.704 §6.2).
 ///
-/// It looks at the sets of each destination, and at its 16 flows: once for all destinations whose messages went by one
-/// set alone before and go by one set alone now, and for each other destination.
+/// It looks at the sets of each destination, and at its 16 flows: once for all destinations whose messages took one and
+/// the same set before and take one and the same now, and for each other destination.
 pub fn losing(links: &NodeLinks, link: LinkId) -> [bool; Limits::LINKS]
     requires { length links.now.links ≤ Limits.LINKS }
     ensures { (other : ℕ) → slice_index_or result other false
@@ -27,8 +27,8 @@ pub fn losing(links: &NodeLinks, link: LinkId) -> [bool; Limits::LINKS]
     losing_by(links, &links.facts_by(&in_service), link)
 }
 
-/// Holds each flow that a link takes over, compared with when it is out of service, by the procedure that is given for
-/// the link that it comes from (Q.704 §6.3, §6.4). A flow whose former link has none given is left aside.
+/// Holds each flow that a link takes over, compared with when it is out of service, for the procedure given for the
+/// link that it comes from (Q.704 §6.3, §6.4). A flow whose former link has none is ignored.
 ///
 /// It walks each flow of the node once, by one call of `NodeLinks::former_link`.
 pub fn hold_changes(
@@ -78,8 +78,8 @@ fn hold_changes_by(
     }
 }
 
-/// Marks the links that lose flows to one destination, unless messages to another went by the same set alone and go by
-/// the same set alone now: those lose the same links.
+/// Marks the links that lose flows to one destination, unless messages to an earlier one took the same set alone, and
+/// take the same set alone now: those lose the same links.
 fn look_at(
     links: &NodeLinks,
     before: &RouteFacts<'_>,
@@ -139,7 +139,6 @@ fn mark_losing(
     }
 }
 
-/// Marks a link.
 fn mark(losing: &mut [bool; Limits::LINKS], from: Option<LinkId>)
     requires { IfSome from (λ from. from < Limits.LINKS) }
     ensures { (other : ℕ) → slice_index_or losing.new other false
@@ -190,7 +189,7 @@ fn hold_changes_to(
     }
 }
 
-/// Holds one flow, where the link in service takes it over.
+/// Holds one flow, if the link in service takes it over.
 fn hold_change(
     links: &NodeLinks,
     before: &RouteFacts<'_>,

@@ -6,7 +6,7 @@ ghost use Rattle.signalling_types.specs.declared.limits.TheConstants.Limits.{CHA
 use signalling_types::Limits;
 use std::marker::Model;
 
-/// Of each code of an adjacent point, whether its acknowledgement is awaited.
+/// For each code of an adjacent point, whether its acknowledgement is awaited.
 #[derive(Drop)]
 pub(crate) struct SetCodes {
     outstanding: [bool; Limits::CHANGEBACK_CODES],
@@ -57,7 +57,7 @@ impl SetCodes {
         }
     }
 
-    /// The acknowledgement of a code is awaited from now on, or not. A code that isn't there is left aside.
+    /// The acknowledgement of a code is awaited from now on, or not. A code that isn't there is ignored.
     pub(crate) fn put(&mut self, code: u8, outstanding: bool)
         ensures { self.new ≡ slice_set self.old code outstanding }
     {

@@ -44,7 +44,7 @@ impl SetPairs {
         second.index() < Limits::SETS && self.is_seen(number_of_pair(first, second))
     }
 
-    /// A pair is looked at. One that can't be is left aside.
+    /// A pair is looked at. One that can't be is ignored.
     pub(crate) fn add(&mut self, first: SetId, second: SetId)
         ensures { self.new ≡ with_pair self.old first second }
     {
@@ -73,7 +73,6 @@ impl SetPairs {
     }
 }
 
-/// The number of a pair.
 fn number_of_pair(first: SetId, second: SetId) -> usize
     ensures { result ≡ number_of_pair first second }
 {

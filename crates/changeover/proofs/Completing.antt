@@ -1,4 +1,4 @@
--- Nothing is lost between what is confirmed, what is in doubt and what moves, and nothing stands there twice.
+-- Nothing is lost between what is confirmed, what is in doubt and what moves, and nothing is there twice.
 use Rattle.changeover.proofs.Basics.{◌≡◌, ℕ, ◌+◌, ◌-◌, ◌≤◌, not, List, ◌++◌, take, drop, refl, ap, sym, ◌∙◌, arith, Option, Some, None, drop-drop, take-append-drop, filter-append, Message, is_management, Queue, IsQueue, finds_named, users_of, accepted_count, behind, in_doubt, count_in_the_end, lost_then_moved, each_once, none_lost}
 
 users-append : (xs ys : List Message) → users_of (xs ++ ys) ≡ users_of xs ++ users_of ys

@@ -1,4 +1,4 @@
--- One link's changeover: what its completion finds, and how far it is (Q.704 §5).
+-- TCOC, changeover control (Q.704 §5): how far the changeover of a link is, and what its completion finds.
 use Rattle.std.specs.Prelude.{ℕ, ◌-◌, not, List, [], ◌++◌, take, drop, filter, Option, Some, None, Bool, true, false, ◌&&◌, if◌then◌else◌, slice_index_or, slice_set}
 use Rattle.std.specs.Option.{option_and_then}
 use Rattle.signalling_types.specs.Message.{Message, is_management}
@@ -6,8 +6,7 @@ use Rattle.link.specs.Queue.{Queue, named_count}
 use Rattle.signalling_types.specs.declared.notice.ChangeoverTimer.{ChangeoverTimer}
 use Rattle.signalling_types.specs.declared.notice.ChangeoverTimer.TheVariants.{T1, T2}
 
--- ---- Completing a changeover: what becomes of the messages of the link that failed (Q.704 §5.4, with the numbers of
--- Q.2210).
+-- ---- Completing a changeover (Q.704 §5.4, with the numbers of Q.2210): what becomes of the messages of a failed link.
 
 -- the user messages of a list, and its management messages
 abbrev pub users_of : List Message → List Message
@@ -20,7 +19,7 @@ managements_of ms = filter is_management ms
 abbrev pub accepted_count : Queue → Option ℕ → Option ℕ
 accepted_count q number = option_and_then (named_count q) number
 
--- the messages from there on; without a reasonable number, those that weren't sent
+-- the messages after those; without a reasonable number, those that weren't sent
 abbrev pub behind : Queue → Option ℕ → List Message
 behind q (Some n) = drop n q.all
 behind q None = drop q.sent q.all
@@ -29,7 +28,7 @@ behind q None = drop q.sent q.all
 abbrev pub moved : Queue → Option ℕ → List Message
 moved q number = users_of (behind q (accepted_count q number))
 
--- the management messages that are queued anew
+-- the management messages that are queued again
 abbrev pub queued_anew : Queue → Option ℕ → List Message
 queued_anew q number = managements_of (behind q (accepted_count q number))
 
@@ -73,11 +72,11 @@ with_standing links link s = slice_set links link s
 abbrev pub may_restart : Standing → Bool
 may_restart s = not s.incomplete && not s.awaited
 
--- the link failed in service: an order goes out exactly where another link to the adjacent point is left
+-- the link failed in service: an order goes out exactly when another link to the adjacent point is left
 abbrev pub failed : (ordered : Bool) → Standing → Standing
 failed ordered s = record { incomplete = true; awaited = ordered }
 
--- the adjacent point's order made it fail, so none of its own goes out
+-- the adjacent point's order made it fail, so it sends no order of its own
 abbrev pub begun_by_peer : Standing → Standing
 begun_by_peer s = record s { incomplete = true }
 
@@ -89,7 +88,7 @@ completed s = record s { incomplete = false }
 abbrev pub acknowledged : Standing → Standing
 acknowledged s = record s { incomplete = false; awaited = false }
 
--- whether an answer completes a changeover; none where no answer is awaited
+-- whether an answer completes a changeover; none if no answer is awaited
 abbrev pub completed_by_acknowledgement : Standing → Option Bool
 completed_by_acknowledgement s = if s.awaited then Some s.incomplete else None
 

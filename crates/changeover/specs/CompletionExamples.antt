@@ -1,4 +1,4 @@
--- The laws of a completion at one queue, where a wrong definition of what moves or is lost makes them false.
+-- The laws of a completion at one queue: a wrong definition of what moves or is lost makes them false here.
 use Rattle.std.specs.Prelude.{◌≡◌, ℕ, ◌-◌, ◌^◌, [], ◌∷◌, ◌++◌, take, drop, Option, Some, None}
 use Rattle.signalling_types.specs.Message.{Message}
 use Rattle.link.specs.Queue.{Queue, IsQueue}
@@ -9,7 +9,7 @@ use Rattle.changeover.specs.Laws.{confirmed_in_the_end}
 abbrev pub message : ℕ → Message
 message number = record { sio = 5; sif = 0 ∷ 0 ∷ 0 ∷ 0 ∷ number ∷ [] }
 
--- four messages, whose numbers go round behind the first: one is confirmed, three were sent
+-- four messages, whose numbers wrap round after the first: one is confirmed, three were sent
 abbrev pub example : Queue
 example = record {
   base = 2 ^ 24 - 1;

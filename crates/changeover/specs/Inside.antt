@@ -1,4 +1,4 @@
--- How the standing of a changeover is kept.
+-- How the state of a changeover (`Standing`) is kept.
 use Rattle.changeover.specs.Changeover.{Standing}
 use Rattle.changeover.specs.declared.standing.Progress.TheInside.{Inside}
 

@@ -11,7 +11,8 @@ use Rattle.changeover.specs.Changeover.{users_of, managements_of, moved, queued_
 abbrev pub kept_accepted_count : Counts → Option ℕ → Option ℕ
 kept_accepted_count k number = option_and_then (kept_newly_confirmed k) number
 
--- how many of them the changeover is done with: those, or without a reasonable number those that were sent
+-- how many of them the changeover is done with: those that the peer accepted or, without a reasonable number, those
+-- that were sent
 abbrev pub kept_done : Counts → (count : Option ℕ) → ℕ
 kept_done k (Some count) = count
 kept_done k None = k.outstanding
@@ -19,7 +20,7 @@ kept_done k None = k.outstanding
 abbrev pub kept_done_with : Counts → (number : Option ℕ) → ℕ
 kept_done_with k number = kept_done k (kept_accepted_count k number)
 
--- how many of them are in doubt, where the number isn't reasonable: those that were sent
+-- how many of them are in doubt, if the number isn't reasonable: those that were sent
 abbrev pub kept_doubted : Counts → (count : Option ℕ) → Option ℕ
 kept_doubted k (Some count) = None
 kept_doubted k None = Some k.outstanding

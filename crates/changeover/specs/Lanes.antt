@@ -1,15 +1,15 @@
--- A completion by moves between lists of messages: those of the failed link, and those that are held.
+-- A completion as moves between lists of messages: those of the failed link, and those that are held.
 use Rattle.std.specs.Prelude.{◌≡◌, ◌≢◌, ℕ, ◌<◌, List, ◌++◌, length, drop, not}
 use Rattle.signalling_types.specs.Message.{Message, is_management}
 use Rattle.cell_pool.specs.Lanes.{lane_at, dropped}
 use Rattle.cell_pool.specs.Moves.{picked_before}
 use Rattle.changeover.specs.Changeover.{users_of, managements_of}
 
--- the lists when the first messages of one were dropped and its user messages went before all of another
+-- the lists once the first messages of one were dropped and its user messages went before all of another
 abbrev pub spliced : List (List Message) → (lane count held : ℕ) → List (List Message)
 spliced lists lane count held = picked_before (λ m. not (is_management m)) (dropped lists lane count) lane held
 
--- the user messages stand before all that was held, in order, and the management messages are left, in order
+-- the user messages come before all that was held, in order, and the management messages are left, in order
 abbrev pub splicing_completes : Type 0
 splicing_completes =
     (lists : List (List Message)) (lane count held : ℕ) →

@@ -11,7 +11,7 @@ count_in_the_end q None = q.confirmed
 abbrev pub confirmed_in_the_end : Queue → Option ℕ → ℕ
 confirmed_in_the_end q number = count_in_the_end q (accepted_count q number)
 
--- what is named as lost, then what moves: the user messages behind those that are confirmed
+-- what is named as lost, then what moves: the user messages after those that are confirmed
 abbrev pub lost_then_moved : Type 0
 lost_then_moved =
     (window : ℕ) (q : Queue) (number : Option ℕ) → IsQueue window q →

@@ -17,7 +17,7 @@ pub enum Beginning {
 }
 
 impl Beginning {
-    /// That of a link with these numbers, where another link to its adjacent point is left, or not.
+    /// That of a link with these numbers, if another link to its adjacent point is left, or not.
     pub(crate) fn of(link_left: bool, sequence: &Sequence) -> Beginning
         ensures { result ≡ kept_beginning link_left sequence.now }
     {

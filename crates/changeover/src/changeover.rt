@@ -14,8 +14,8 @@ use signalling_types::{ChangeoverTimer, LinkId};
 use std::alloc::{AllocError, Global};
 use std::marker::Model;
 
-/// How far the changeover of each link of a node is: whether it is complete, and whether the answer to its changeover
-/// order is awaited (Q.704 §5).
+/// How far the changeover of each link of a node is (Q.704 §5): whether it is complete, and whether the answer to its
+/// changeover order is awaited.
 ///
 /// All room is made by `new`, two octets for each link. Every other call takes a fixed number of steps.
 #[derive(Drop)]
@@ -33,7 +33,7 @@ impl Model for Changeover {
 }
 
 impl Changeover {
-    /// For so many links, of which none has failed. The error means that memory ran out.
+    /// For this many links, of which none has failed. The error means that memory ran out.
     pub fn new(alloc: Global, links: usize) -> Result<Changeover, AllocError>
         ensures { IfOk result (λ changeover. changeover ≡ replicate links no_changeover) }
     {
@@ -63,7 +63,7 @@ impl Changeover {
         self.links[link.index()] = self.standing(link).begun_by_peer();
     }
 
-    /// Takes an order about a link, with a number or without one, and says whether an incomplete changeover is to be
+    /// Takes an order about a link, with or without a number, and says whether an incomplete changeover is to be
     /// completed now; it counts as complete from then on. An answer that is awaited stays awaited.
     pub fn order(&mut self, link: LinkId) -> bool
         requires { link < length self.old }
@@ -75,9 +75,9 @@ impl Changeover {
         standing.is_incomplete()
     }
 
-    /// Takes an answer about a link, with a number or without one. None, and nothing changes, where no answer is
-    /// awaited. Else it is no longer awaited, and the call says whether an incomplete changeover is to be completed
-    /// now; it counts as complete from then on.
+    /// Takes an answer about a link, with or without a number. None, and nothing changes, if no answer is awaited. Else
+    /// it is no longer awaited, and the call says whether an incomplete changeover is to be completed now; it counts as
+    /// complete from then on.
     pub fn acknowledge(&mut self, link: LinkId) -> Option<bool>
         requires { link < length self.old }
         ensures completes { result ≡ completed_by_acknowledgement (standing_at self.old link) }
@@ -92,7 +92,7 @@ impl Changeover {
         Some(standing.is_incomplete())
     }
 
-    /// A timer of a link's changeover ran out (Q.704 §16.8): says whether an incomplete changeover is to be completed
+    /// A timer of a link's changeover ran out (Q.704 §16.8). Says whether an incomplete changeover is to be completed
     /// now, without a number; it counts as complete from then on. T2 also ends the wait for the answer.
     pub fn expired(&mut self, link: LinkId, timer: ChangeoverTimer) -> bool
         requires { link < length self.old }

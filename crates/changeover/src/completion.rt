@@ -14,9 +14,9 @@ use cell_pool::{Lanes, UserMessages};
 use link::Sequence;
 use signalling_types::Number24;
 
-/// How many messages of a failed link may be lost, since it isn't known whether the peer accepted them: those that
-/// were sent and aren't confirmed. They stand first in its list. None where the peer's number is reasonable: it names
-/// how many the peer accepted (Q.704 §5.4).
+/// How many messages of a failed link may be lost, since it isn't known whether the peer accepted them: those that were
+/// sent and aren't confirmed. They come first in its list. None if the peer's number is reasonable, that is, names how
+/// many the peer accepted (Q.704 §5.4).
 pub fn count_in_doubt(sequence: &Sequence, confirmed: Option<Number24>) -> Option<usize>
     ensures count { result ≡ kept_doubted sequence.now (kept_accepted_count sequence.now confirmed) }
     ensures queue { (w : ℕ) (lane : List Message) (q : Queue) →
@@ -25,7 +25,7 @@ pub fn count_in_doubt(sequence: &Sequence, confirmed: Option<Number24>) -> Optio
     sent_in_doubt(sequence, accepted(sequence, confirmed))
 }
 
-// The same, where it is known how many the peer accepted, or not.
+// The same, if it is known how many the peer accepted, or not.
 fn sent_in_doubt(sequence: &Sequence, accepted: Option<usize>) -> Option<usize>
     ensures { result ≡ kept_doubted sequence.now accepted }
 {
@@ -37,10 +37,9 @@ fn sent_in_doubt(sequence: &Sequence, accepted: Option<usize>) -> Option<usize>
 
 /// Completes the changeover of a failed link with the peer's number, if it gave one (Q.704 §5.4).
 ///
-/// The messages that the number says the peer accepted are dropped from the link's list, or without a reasonable
-/// number those that were sent. The user messages left, sent and unsent, go in order before all of the list of held
-/// messages; the management messages left stay in the link's list, in order. Then the link's numbers begin anew. No
-/// message is copied.
+/// Messages that the number says the peer accepted are dropped from the link's list; without a reasonable number, those
+/// that were sent. The user messages left, sent or unsent, go in order before all held messages; the management
+/// messages left stay in the link's list, in order. Then the link's numbers start over. No message is copied.
 pub fn complete<L: Lanes>(
     lanes: &mut L,
     lane: usize,
@@ -90,7 +89,7 @@ fn done_with(sequence: &Sequence, confirmed: Option<Number24>) -> usize
     }
 }
 
-// How many messages the peer accepted beyond those that are confirmed, where its number says so.
+// How many messages the peer accepted beyond those that are confirmed, if its number says so.
 fn accepted(sequence: &Sequence, confirmed: Option<Number24>) -> Option<usize>
     ensures { result ≡ kept_accepted_count sequence.now confirmed }
 {

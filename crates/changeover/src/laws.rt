@@ -4,13 +4,13 @@ ghost use Rattle.changeover.specs.Kept.{kept_completes_alike};
 ghost use Rattle.changeover.specs.Lanes.{splicing_completes};
 ghost use Rattle.changeover.specs.Laws.{each_once, lost_then_moved, none_lost};
 
-/// The user messages of a failed link from the last confirmed one on are, in order and each once: those that the number
+/// The user messages of a failed link after the last confirmed one are, in order and each once: those that the number
 /// confirms, those named as lost, and those that move.
 pub fn each_user_message_once()
     ensures { each_once }
 {}
 
-/// What is named as lost and what moves are, in order, the user messages behind those that are confirmed.
+/// What is named as lost and what moves are, in order, the user messages after those that are confirmed.
 pub fn lost_and_moved_are_all()
     ensures { lost_then_moved }
 {}

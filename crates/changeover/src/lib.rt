@@ -1,4 +1,4 @@
-//! Extended changeover: what becomes of the messages of a link that failed (Q.704 §5, with the numbers of Q.2210).
+//! TCOC, changeover control (Q.704 §5, with the numbers of Q.2210): what becomes of the messages of a link that failed.
 #![tactic(auto)]
 
 pub mod beginning;

@@ -1,14 +1,14 @@
 //! Reads rows of octets that were written by hand, and prints below each what it read: what the octets say, or their
-//! first fault by number and name, and whether they are the same when written again. What is to be printed, `stdout`,
+//! first fault by number and name, and whether they are the same when written again. The output to expect, `stdout`,
 //! was written by hand too, so a row that fails is the one above the first line that differs.
 //!
-//! It is given the names of files in `data/`. A line that begins with `#` says of which standard the next rows are; in
-//! every other line the first word is the kind of the row. Octets are hexadecimal: `-` is none, `00*272` the same 272
-//! times, and commas part pieces.
+//! It is given the names of files in `data/`. A line that begins with `#` names the standard of the next rows; in every
+//! other line the first word is the kind of the row. Octets are hexadecimal: `-` is none, `00*272` the same 272 times,
+//! and commas part pieces.
 //!
 //! - `frames.rows`: `frame WAY POINTS OCTETS` on link e0 (POINTS: how point 4237 is written); `pieces`, a stream that a
-//!   framer is fed; `point POINTS TEXT`; `capture WAY ROOM TIMES SECONDS LINK OCTETS`, the same frame so many times, at
-//!   6,789 ns behind so many seconds of 1970, into a capture file of so much room.
+//!   framer is fed; `point POINTS TEXT`; `capture WAY ROOM TIMES SECONDS LINK OCTETS`, the same frame this many times,
+//!   at 6,789 ns after this many seconds of 1970, into a capture file of this size.
 //! - `mtp3.rows`: `label`; `route NETWORK OCTETS`, what point 1 does about a SIO and SIF; `management` and `test`, SIFs
 //!   of these kinds; `number`, calls with the numbers of messages.
 //! - `sccp.rows`: `address` with its title, `unitdata`.
@@ -16,9 +16,9 @@
 //!   that comes to point 1, which has subsystem 8, by that table.
 //! - `tries.rows`: `trie`, calls of a trie of digits.
 //! - `sctp.rows`: `packet`.
-//! - `cookies.rows`: `mac KEY MESSAGE`, the code of a message; `tags KEY TIMES`, the first tags under a key;
-//!   `sign KEY NUMBER..`, the octets of a cookie with these fields, in the order of their places; `open KEY OCTETS`, the
-//!   cookie of these octets.
+//! - `cookies.rows`: `mac KEY MESSAGE`, the code of a message; `tags KEY TIMES`, the first tags under a key; `sign KEY
+//!   NUMBER..`, the octets of a cookie with these fields, in the order of their places; `open KEY OCTETS`, the cookie
+//!   of these octets.
 #![tactic(auto)]
 
 mod cookies;
@@ -77,7 +77,6 @@ fn print_row<R: Print + AllocGlobal>(rt: &R, stores: &mut Stores, row: &str) -> 
     println!(rt; " {text}")
 }
 
-/// Says what a row says.
 fn say(said: &mut Said, stores: &mut Stores, row: &str) {
     let mut buffer = [0; OCTETS];
     let octets = octets(last(row), &mut buffer);

@@ -3,7 +3,7 @@
 /// Octets of a row, at most.
 pub const OCTETS: usize = 4_200;
 
-/// The word of a row at a place; nothing where it has fewer.
+/// The word of a row at an index; nothing if it has fewer.
 pub fn word(row: &str, place: usize) -> &str {
     row.split(' ').nth(place).unwrap_or("")
 }
@@ -22,7 +22,7 @@ pub fn octets<'a>(word: &str, buffer: &'a mut [u8; OCTETS]) -> &'a [u8] {
     buffer.get(..count).unwrap_or(&[])
 }
 
-/// Puts the octets of a piece into the buffer from a place on, and answers the place behind them.
+/// Puts the octets of a piece into the buffer at an index, and returns the index after them.
 fn put(piece: &str, buffer: &mut [u8; OCTETS], at: usize) -> usize {
     let (text, times) = piece.split_once('*').unwrap_or((piece, "1"));
     let mut count = at;

@@ -3,7 +3,7 @@
 use std::alloc::Global;
 use std::fmt::{Debug, Display, Write};
 
-/// What is said of a row: words, each behind a space. What finds no memory is left out, so that the row fails.
+/// What is said of a row: words, each after a space. What finds no memory is left out, so that the row fails.
 #[derive(Drop)]
 pub struct Said {
     /// The words.
@@ -23,7 +23,7 @@ impl Said {
         let _ = write!(self.text, " {value}");
     }
 
-    /// Says a word, and a value behind it.
+    /// Says a word, and a value after it.
     pub fn name<T: Display + Drop>(&mut self, name: &str, value: T) {
         let _ = write!(self.text, " {name} {value}");
     }

@@ -15,7 +15,6 @@ fn format(word: &str) -> PointFormat {
     }
 }
 
-/// The direction of a row.
 fn direction(row: &str) -> Direction {
     match word(row, 1) {
         "out" => Direction::Out,
@@ -37,7 +36,7 @@ pub fn point(said: &mut Said, row: &str) {
     said.show(&parse_point(last(row).as_bytes(), format(word(row, 1))));
 }
 
-/// Says whether a capture file of so much room takes a frame so many times, and the octets of the room then.
+/// Says whether a capture file of this size takes a frame this many times, and the octets of the room then.
 pub fn capture(said: &mut Said, row: &str, frame: &[u8]) {
     let mut room = [0; 200];
     let count = word(row, 2).parse().unwrap_or(0);

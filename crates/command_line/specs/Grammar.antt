@@ -32,7 +32,7 @@ serve = with_rule (new_app (codes "serve")) needed_file
 abbrev pub lab_udp : App
 lab_udp = with_rule (with_rule (new_app (codes "lab-udp")) near_rule) far_rule
 
--- one of the five, with no texts of its own and no words for help
+-- one of the five, with no texts of its own and no help command
 abbrev pub bare : App
 bare = on_top (λ s. record s {
   no_binary_name = true;

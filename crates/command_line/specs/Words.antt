@@ -1,4 +1,4 @@
--- The words behind the program's name, and what they ask for.
+-- The program's arguments, and what they ask for.
 use Rattle.std.specs.Prelude.{◌≡◌, ◌⊎◌, ◌&&◌, ◌||◌, ℕ, Bool, true, false, not, nat_eq, List, [], ◌∷◌, Option, None, Some, map}
 use Rattle.std.specs.Prelude.{if◌then◌else◌}
 use Rattle.std.specs.Prelude.{codes, bytes_eq, string_bytes, String}
@@ -9,8 +9,8 @@ use Rattle.command_line.specs.declared.Words.{Words}
 use Rattle.command_line.specs.declared.Words.TheVariants as words
 
 -- run a script, on the built-in settings or on those of a file; check a file; run a lab script on the settings of two
--- files, over streams or over datagrams; serve a node with the settings of a file; tell the words of the program, or
--- its version; anything else
+-- files, over streams or over datagrams; serve a node with the settings of a file; print the program's help, or its
+-- version; anything else
 pub data Task : Type 0 where
   BuiltInRun : Task
   FileRun : List ℕ → Task
@@ -67,21 +67,21 @@ asked words =
     if asks_help (texts words) then Help
     else (if asks_version (texts words) then Version else asked_by (texts words))
 
--- what the command that was parsed asks for, by the file behind it
+-- what the command that was parsed asks for, by the file after it
 abbrev pub asked_by_command : List ℕ → Option (List ℕ) → Task
 asked_by_command command None = if bytes_eq command (codes "run") then BuiltInRun else OtherWords
 asked_by_command command (Some file) = asked_with command file
 
--- the commands with two files behind them
+-- the commands with two files after them
 abbrev pub takes_two : List ℕ → Bool
 takes_two command = bytes_eq command (codes "lab") || bytes_eq command (codes "lab-udp")
 
--- what such a command asks for that was parsed, by the files behind it
+-- what such a command that was parsed asks for, by the files after it
 abbrev pub asked_by_two : List ℕ → (near far : Option (List ℕ)) → Task
 asked_by_two command (Some near) (Some far) = asked_with_two command near far
 asked_by_two command near far = OtherWords
 
--- what a command asks for that was parsed, by the files behind it
+-- what a command that was parsed asks for, by the files after it
 abbrev pub found_by : List ℕ → (file near far : Option (List ℕ)) → Task
 found_by command file near far =
     if takes_two command then asked_by_two command near far else asked_by_command command file
@@ -93,11 +93,11 @@ found (Some p) = found_by p.0 (first_of (codes "file") p.1) (first_of (codes "ne
 abbrev pub are_plain : List (String Global) → Bool
 are_plain words = list_all (λ word. is_plain (string_bytes word)) words
 
--- words that memory is taken for: plain ones that ask neither for help nor for the version
+-- arguments that memory is allocated for: plain ones that ask neither for help nor for the version
 abbrev pub take_memory : List (String Global) → Bool
 take_memory words = are_plain words && not (asks_help (texts words) || asks_version (texts words))
 
--- what words were read as, where memory didn't run out
+-- what arguments were read as, if memory didn't run out
 abbrev pub said : Words → Option Task
 said (words.Run None) = Some BuiltInRun
 said (words.Run (Some file)) = Some (FileRun (string_bytes file))
@@ -110,10 +110,10 @@ said words.Version = Some Version
 said words.Usage = Some OtherWords
 said words.NoMemory = None
 
--- words were read as this task; or memory is taken for them, and ran out
+-- arguments were read as this task; or memory is allocated for them, and ran out
 abbrev pub IsReadAs : (task : Task) (takes_memory : Bool) → Words → Type 0
 IsReadAs task takes_memory read = (said read ≡ Some task) ⊎ ((read ≡ words.NoMemory) × (takes_memory ≡ true))
 
--- words were read as the task that they ask for
+-- arguments were read as the task that they ask for
 abbrev pub AreReadAs : List (String Global) → Words → Type 0
 AreReadAs given read = IsReadAs (asked given) (take_memory given) read

@@ -1,4 +1,4 @@
-//! The words behind the program's name.
+//! The program's arguments.
 #![tactic(auto)]
 
 ghost use Rattle.std.specs.Prelude.{◌≡◌, ◌≢◌, IfOk, IfErr, Some, option_map, true, false};
@@ -14,12 +14,12 @@ use clap::error::ErrorKind;
 use clap::{Arg, ArgMatches, Command, Error};
 use std::alloc::{AllocError, Global};
 
-/// What the words behind the program's name ask for.
+/// What the program's arguments ask for.
 #[derive(Drop)]
 pub enum Words {
     /// `run` or `run FILE`: run the script on standard input, on the settings of this file, or on those built in.
     Run(Option<String>),
-    /// `check FILE`: tell whether the settings of this file have a fault.
+    /// `check FILE`: check whether the settings of this file have a fault.
     Check(String),
     /// `lab NEAR FAR`: run the lab script on standard input, on two nodes with the settings of these files.
     Lab(String, String),
@@ -27,9 +27,9 @@ pub enum Words {
     DatagramLab(String, String),
     /// `serve FILE`: serve a node on the network with the settings of this file.
     Serve(String),
-    /// `help` or `--help`: tell the words of the program, and their meaning.
+    /// `help` or `--help`: print the program's commands, and what they mean.
     Help,
-    /// `version` or `--version`: tell the version of the program.
+    /// `version` or `--version`: print the version of the program.
     Version,
     /// Any other words.
     Usage,
@@ -37,9 +37,9 @@ pub enum Words {
     NoMemory,
 }
 
-/// What the words behind the program's name ask for. Words of which one is empty or begins with `-` are other words,
-/// unless they are `--help` or `--version`. No memory is taken for these, `help` and `version`; for all others it may
-/// run out.
+/// What the program's arguments ask for. If one of them is empty or begins with `-`, they are none of the commands,
+/// unless they are `--help` or `--version`. No memory is allocated for these, `help` and `version`; for all others it
+/// may run out.
 pub fn read_words(alloc: Global, words: &[String]) -> Words
     ensures { AreReadAs words.now result }
 {
@@ -52,7 +52,6 @@ pub fn read_words(alloc: Global, words: &[String]) -> Words
     }
 }
 
-/// Whether the words ask for help.
 fn asks_help(words: &[String]) -> bool
     ensures { result ≡ asks_help (texts words.now) }
 {
@@ -62,7 +61,6 @@ fn asks_help(words: &[String]) -> bool
     }
 }
 
-/// Whether the words ask for the version.
 fn asks_version(words: &[String]) -> bool
     ensures { result ≡ asks_version (texts words.now) }
 {
@@ -72,8 +70,8 @@ fn asks_version(words: &[String]) -> bool
     }
 }
 
-/// Which command the words ask for. Words of which one is empty or begins with `-` ask for none, and no memory is taken
-/// for them; for all others it may run out.
+/// Which command the arguments ask for. If one of them is empty or begins with `-` they ask for none, and no memory is
+/// allocated for them; for all others it may run out.
 fn read_command(alloc: Global, words: &[String]) -> Words
     ensures { IsReadAs (asked_by (texts words.now)) (are_plain words.now) result }
 {
@@ -107,7 +105,7 @@ fn is_plain(word: &str) -> bool
     }
 }
 
-/// Parses plain words. Where they are others than those of the program, or where memory runs out, the parse fails.
+/// Parses plain words. If they aren't the program's, or if memory runs out, the parse fails.
 fn parse<'a>(alloc: Global, words: &'a [String]) -> Result<ArgMatches<'a>, Error>
     requires { are_plain words.now ≡ true }
     ensures taken { IfOk result (λ matches. found (subcommand_rows_of matches) ≡ asked_by (texts words.now)) }
@@ -116,7 +114,7 @@ fn parse<'a>(alloc: Global, words: &'a [String]) -> Result<ArgMatches<'a>, Error
     stp(alloc)?.try_get_matches_from(words)
 }
 
-/// What the words ask for that were parsed so.
+/// What arguments that were parsed like this ask for.
 fn found(alloc: Global, matches: &ArgMatches<'_>) -> Result<Words, AllocError>
     ensures { IfOk result (λ read. said read ≡ Some (found (subcommand_rows_of matches.now))) }
 {
@@ -131,7 +129,7 @@ fn found(alloc: Global, matches: &ArgMatches<'_>) -> Result<Words, AllocError>
     }
 }
 
-/// What a command asks for, by the files behind it.
+/// What a command asks for, by the files after it.
 fn with_files(
     alloc: Global,
     command: &str,
@@ -149,7 +147,7 @@ fn with_files(
     }
 }
 
-/// What a command asks for, by the file behind it.
+/// What a command asks for, by the file after it.
 fn with_file(alloc: Global, command: &str, file: Option<&str>) -> Result<Words, AllocError>
     ensures { IfOk result (λ read.
         said read ≡ Some (asked_by_command command.now (option_map (λ name. name.now) file.entry))) }
@@ -163,7 +161,7 @@ fn with_file(alloc: Global, command: &str, file: Option<&str>) -> Result<Words, 
     }
 }
 
-/// What a command with two files behind it asks for.
+/// What a command with two files after it asks for.
 fn with_two_files(
     alloc: Global,
     command: &str,
@@ -197,7 +195,7 @@ fn stp<'a>(alloc: Global) -> Result<Command<'a>, AllocError>
         .subcommand(serve(alloc)?)
 }
 
-/// A command line of commands, of which one is needed, without words for help.
+/// A command line of commands, one of which is required, without a help command.
 fn bare<'a>(alloc: Global) -> Command<'a>
     ensures app { app_of result ≡ bare }
     ensures local { (fields_of result).has_globals ≡ false }

@@ -1,4 +1,4 @@
--- What the words behind `title` order.
+-- What the words after `title` order.
 use Rattle.std.proofs.Common.{◌≡◌, ℕ, List, [], ◌∷◌, ◌<◌, length, arith, refl}
 use Rattle.std.specs.Prelude.{None, if◌then◌else◌, bytes_eq, codes}
 use Rattle.std.specs.Option.{option_map}

@@ -1,4 +1,4 @@
--- What is no row: four words and more behind the digits.
+-- What is no row: four words and more after the digits.
 use Rattle.std.proofs.Common.{◌≡◌, ℕ, List, [], ◌∷◌, ◌<◌, length, arith, refl}
 use Rattle.std.specs.Prelude.{None}
 use Rattle.point_format.specs.declared.point.PointFormat.{PointFormat}

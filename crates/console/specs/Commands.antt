@@ -4,7 +4,6 @@ use Rattle.console.specs.declared.commands.Command.{Command}
 use Rattle.console.specs.declared.commands.Command.TheVariants.{Up, Down, Frame, Tick, Submit, Take, Wants}
 use Rattle.console.specs.declared.commands.Command.TheVariants.{Activate, Deactivate, Title, Show}
 
--- the word of a command
 abbrev pub command_word : Command → List ℕ
 command_word Up = codes "up"
 command_word Down = codes "down"

@@ -3,10 +3,10 @@ use Rattle.std.specs.Prelude.{ℕ, List, [], slice_get, unwrap_or}
 use Rattle.std.specs.Option.{option_map}
 use Rattle.settings_rows.specs.Configuration.{Configuration}
 
--- the name of a link; nothing where no link has this number
+-- the name of a link; nothing if no link has this number
 abbrev pub name_in : Configuration → ℕ → List ℕ
 name_in c link = unwrap_or (option_map (λ row. row.name) (slice_get c.links link)) []
 
--- the name of a set; nothing where no set has this number
+-- the name of a set; nothing if no set has this number
 abbrev pub set_name_in : Configuration → ℕ → List ℕ
 set_name_in c set = unwrap_or (option_map (λ row. row.name) (slice_get c.sets set)) []

@@ -7,12 +7,12 @@ use Rattle.std.specs.Option.{option_and_then}
 abbrev pub is_digit : ℕ → Bool
 is_digit octet = nat_le 48 octet && nat_le octet 57
 
--- a number with one more digit behind it, where that isn't above the most
+-- a number with one more digit after it, if that isn't above the most
 abbrev pub with_digit : (most : ℕ) → ℕ → ℕ → Option ℕ
 with_digit most number octet =
     if is_digit octet && nat_le (10 * number + (octet - 48)) most then Some (10 * number + (octet - 48)) else None
 
--- with all these digits behind it
+-- with all these digits after it
 abbrev pub with_digits : (most : ℕ) → ℕ → List ℕ → Option ℕ
 with_digits most number [] = Some number
 with_digits most number (octet ∷ rest) =

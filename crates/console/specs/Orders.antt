@@ -22,11 +22,10 @@ pub data Instruction : Type 0 where
   ToAddTitle : (row : TitleEntry) → Instruction
   ToRemoveTitle : (key : TitleKey) (digits : List ℕ) → Instruction
 
--- a word that is there
 abbrev pub is_some_word : List ℕ → Bool
 is_some_word word = not (nat_eq (length word) 0)
 
--- the order about the row of this name: it is removed, or added with the words behind
+-- the order about the row of this name: it is removed, or added with the words after
 abbrev pub title_order_about : PointFormat → RowName → (verb : List ℕ) → List (List ℕ) → Option Instruction
 title_order_about points name verb [] =
     if bytes_eq verb (codes "remove") then Some (ToRemoveTitle name.key name.digits.items) else None
@@ -35,7 +34,7 @@ title_order_about points name verb (point ∷ behind) =
     then option_map (λ row. ToAddTitle row) (row_written points name (point ∷ behind))
     else None
 
--- the order that the words behind `title` give: `add T P N DIGITS POINT ROUTE SSN` or `remove T P N DIGITS`
+-- the order that the words after `title` give: `add T P N DIGITS POINT ROUTE SSN` or `remove T P N DIGITS`
 abbrev pub title_order : PointFormat → List (List ℕ) → Option Instruction
 title_order points (verb ∷ translation ∷ plan ∷ nature ∷ digits ∷ behind) =
     option_and_then (λ name. title_order_about points name verb behind) (name_written translation plan nature digits)
@@ -46,7 +45,6 @@ abbrev pub instructed_by : PointFormat → Command → List (List ℕ) → Optio
 instructed_by points command.Title behind = title_order points behind
 instructed_by points _ behind = None
 
--- the order of a text
 abbrev pub instruction : OrderText → Instruction
 instruction (text.Activate link) = ToActivate link.now
 instruction (text.Deactivate link) = ToDeactivate link.now
@@ -57,7 +55,7 @@ abbrev pub instruction_of : Option OrderText → Option Instruction
 instruction_of None = None
 instruction_of (Some order) = Some (instruction order)
 
--- the order to a node with these settings, where a link has that name
+-- the order to a node with these settings, if a link has that name
 abbrev pub order_named : Configuration → Instruction → Option Order
 order_named c (ToActivate name) = option_map (λ link. Activate link) (link_place c name)
 order_named c (ToDeactivate name) = option_map (λ link. Deactivate link) (link_place c name)

@@ -23,7 +23,7 @@ use Rattle.exchange_rules.specs.State.{QueueKind, State}
 use Rattle.exchange.specs.Views.{link_view, route_view, standing_name}
 use Rattle.console.specs.Names.{name_in, set_name_in}
 
--- a line that is shown, where there is one; else nothing is written
+-- a line that is shown, if there is one; else nothing is written
 abbrev pub Shows : Option (List ℕ) → Bool → (text text_new : List ℕ) → Type 0
 Shows (Some line) shown text text_new = (shown ≡ true) × (text_new ≡ line)
 Shows None shown text text_new = (shown ≡ false) × (text_new ≡ text)
@@ -65,7 +65,7 @@ cause_text cause = decimal (cause_number cause) ++ codes " " ++ cause_name cause
 abbrev pub refused_text : (name : List ℕ) → Cause → List ℕ
 refused_text name cause = codes "refused " ++ cause_text cause ++ codes " " ++ name
 
--- a frame of this link was left aside
+-- a frame of this link was discarded
 abbrev pub frame_text : (name : List ℕ) → FrameFault → List ℕ
 frame_text name fault =
     codes "frame " ++ decimal (frame_fault_number fault) ++ codes " " ++ frame_fault_name fault ++ codes " " ++ name
@@ -128,7 +128,7 @@ flag_line s (suc (suc k)) = None
 abbrev pub digit_octet : ℕ → ℕ
 digit_octet digit = if nat_lt digit 10 then 48 + digit else 87 + digit
 
--- how an address is routed at the point that a row leads to
+-- what the address is routed by at the point that a row leads to
 abbrev pub title_way_text : Option ℕ → List ℕ
 title_way_text (Some ssn) = codes " title " ++ decimal ssn
 title_way_text None = codes " title -"

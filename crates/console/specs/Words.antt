@@ -2,7 +2,7 @@
 use Rattle.std.specs.Prelude.{ℕ, ◌==◌, if◌then◌else◌, List, [], ◌∷◌, ◌++◌, Option, None, Some}
 use Rattle.std.specs.Borrow.{Bor}
 
--- an octet in front of the first of some parts
+-- an octet before the first of some parts
 abbrev pub onto_first : ℕ → List (List ℕ) → List (List ℕ)
 onto_first octet [] = []
 onto_first octet (part ∷ parts) = (octet ∷ part) ∷ parts
@@ -16,12 +16,12 @@ parted mark (octet ∷ rest) = if octet == mark then [] ∷ parted mark rest els
 abbrev pub words : List ℕ → List (List ℕ)
 words line = parted 32 line
 
--- a text in front of the first of some parts
+-- a text before the first of some parts
 abbrev pub begun : List ℕ → List (List ℕ) → List (List ℕ)
 begun front [] = []
 begun front (part ∷ more) = (front ++ part) ∷ more
 
--- the words that are left behind one
+-- the words that are left after one
 abbrev pub words_left : Option (Bor (List ℕ)) → List (List ℕ)
 words_left None = []
 words_left (Some rest) = words rest.now

@@ -12,7 +12,7 @@ pub enum Command {
     Down,
     /// `frame LINK HEX`: these octets arrive on the link.
     Frame,
-    /// `tick N`: so many ticks pass.
+    /// `tick N`: this many ticks pass.
     Tick,
     /// `submit HEX`: a user part submits a message.
     Submit,

@@ -32,7 +32,6 @@ pub fn show_flags(exchange: &Exchange, k: usize, out: &mut ArrayString<LINE_OCTE
     true
 }
 
-/// The line of a flag.
 fn write_flag(word: &str, times: u64, out: &mut ArrayString<LINE_OCTETS>)
     requires { length word.now + 20 ≤ LINE_OCTETS }
     ensures { out.new.bytes ≡ flag_text word.now times }

@@ -23,7 +23,7 @@ pub(crate) fn push_number(line: &mut ArrayString<LINE_OCTETS>, word: &str, numbe
     line.push_str(buffer.format(number));
 }
 
-/// Puts a word and a number of at most five decimal digits behind what is there.
+/// Appends a word and a number of at most five decimal digits.
 pub(crate) fn push_small(line: &mut ArrayString<LINE_OCTETS>, word: &str, number: u16)
     requires { length line.old.bytes + length word.now + 5 ≤ LINE_OCTETS }
     ensures text { line.new.bytes ≡ line.old.bytes ++ word.now ++ decimal number }
@@ -34,7 +34,7 @@ pub(crate) fn push_small(line: &mut ArrayString<LINE_OCTETS>, word: &str, number
     line.push_str(buffer.format(number));
 }
 
-/// Puts a word and a point in this format behind what is there.
+/// Appends a word and a point in this format.
 pub(crate) fn push_point(
     line: &mut ArrayString<LINE_OCTETS>,
     word: &str,
@@ -49,7 +49,7 @@ pub(crate) fn push_point(
     line.push_str(point_text(point, points).as_str());
 }
 
-/// Puts a word and a cause, by number and by name, behind what is there.
+/// Appends a word and a cause, by number and by name.
 pub(crate) fn push_cause(line: &mut ArrayString<LINE_OCTETS>, word: &str, cause: Cause)
     requires { length line.old.bytes + length word.now + 40 ≤ LINE_OCTETS }
     ensures text { line.new.bytes ≡ line.old.bytes ++ word.now ++ cause_text cause }

@@ -13,8 +13,8 @@ use exchange::{Exchange, LinkView};
 use settings::{Limits, LinkId};
 
 /// Writes line `k`, from 0, of the text of the links: `link NAME STATE waiting Q fsn F bsn B`, one line for each link
-/// in the order of the settings. Q counts the messages that aren't confirmed, F and B are the numbers of the last
-/// message that was sent and of the last that was accepted.
+/// in the order of the settings. Q counts the messages that aren't confirmed; F and B are the numbers of the last
+/// message sent and of the last accepted.
 ///
 /// Returns false, and writes nothing, past the last line.
 pub fn show_links(exchange: &Exchange, k: usize, out: &mut ArrayString<LINE_OCTETS>) -> bool
@@ -35,7 +35,6 @@ pub fn show_links(exchange: &Exchange, k: usize, out: &mut ArrayString<LINE_OCTE
     true
 }
 
-/// The line of a link of this name.
 fn write_link(name: &str, view: LinkView, out: &mut ArrayString<LINE_OCTETS>)
     requires { length name.now ≤ Limits.NAME_OCTETS }
     ensures { out.new.bytes ≡ link_text name.now view }

@@ -74,7 +74,7 @@ fn write_refused(name: &str, cause: Cause, out: &mut ArrayString<LINE_OCTETS>)
     out.push_str(name);
 }
 
-/// A frame on the link of this name couldn't be read, and was ignored.
+/// A frame on the link of this name couldn't be read, and was discarded.
 fn write_frame(name: &str, fault: FrameFault, out: &mut ArrayString<LINE_OCTETS>)
     requires { length name.now ≤ Limits.NAME_OCTETS }
     ensures { out.new.bytes ≡ frame_text name.now fault }

@@ -39,7 +39,7 @@ fn number(digits: &[u8], most: u16) -> Option<u16>
     Some(number)
 }
 
-/// A number with one more digit behind it, up to the most.
+/// A number with one more digit after it, up to the most.
 fn with_digit(number: u16, digit: u8, most: u16) -> Option<u16>
     ensures number { result ≡ with_digit most number digit }
     ensures below { IfSome result (λ number. number ≤ most) }

@@ -48,7 +48,7 @@ pub fn order_by(command: Command, behind: &[u8], points: PointFormat) -> Option<
     }
 }
 
-/// The order that the words behind `title` give.
+/// The order that the words after `title` give.
 #[tactic(auto, using(crate::proofs::Ordered::about_some))]
 fn title_order(text: &[u8], points: PointFormat) -> Option<OrderText<'_>>
     ensures { instruction_of result ≡ title_order points (words text.now) }
@@ -73,7 +73,7 @@ fn title_order(text: &[u8], points: PointFormat) -> Option<OrderText<'_>>
 }
 
 impl OrderText<'_> {
-    /// The order to a node with these settings; `None` where no link has that name. It looks through all links.
+    /// The order to a node with these settings; `None` if no link has that name. It looks through all links.
     pub fn named(self, settings: &Settings) -> Option<Order>
         ensures { result ≡ order_named settings.now (instruction self.entry) }
     {

@@ -14,8 +14,8 @@ use settings::{SetId, Settings};
 
 /// Writes line `k`, from 0, of the text of the routes: `route POINT SET STATUS`, one line for each destination in the
 /// order of the settings. SET is the name of the set that messages take, or those of two joined sets, as `east+west`;
-/// STATUS is `allowed` or `restricted`. Where messages take no set, these are `none` and `prohibited`. Points are shown
-/// in this format.
+/// STATUS is `allowed` or `restricted`. If messages take no set, these are `none` and `prohibited`. Points are shown in
+/// this format.
 ///
 /// False past the last line, and then nothing is written.
 pub fn show_routes(
@@ -55,7 +55,7 @@ fn write_route(
     out.push_str(view.status.name());
 }
 
-/// Puts the names of the sets that messages take behind what is there.
+/// Appends the names of the sets that messages take.
 fn push_sets(line: &mut ArrayString<LINE_OCTETS>, settings: &Settings, sets: &[SetId])
     requires { length line.old.bytes + 33 ≤ LINE_OCTETS }
     ensures text { line.new.bytes ≡ line.old.bytes ++ sets_text settings.now sets.now }

@@ -128,7 +128,6 @@ fn read_digits(text: &[u8]) -> Option<TitleDigits>
     digit_values(text)
 }
 
-/// The values of digits.
 fn digit_values(text: &[u8]) -> Option<TitleDigits>
     requires { length text.now ≤ Limits.TITLE_DIGITS }
     ensures value { option_map (λ digits. digits.items) result
@@ -166,7 +165,7 @@ fn route_named(way: &[u8], ssn: Option<Ssn>) -> Option<TitleRoute>
     }
 }
 
-/// A subsystem number, or none where it is written `-`.
+/// A subsystem number, or none if it is written `-`.
 fn read_ssn(text: &[u8]) -> Option<Option<Ssn>>
     ensures { result ≡ ssn_written text.now }
 {

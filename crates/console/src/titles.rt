@@ -13,7 +13,7 @@ use settings::{Limits, Ssn, TitleRoute, TitleRow};
 
 /// Writes line `k`, from 0, of the text of the translation rows: `title T P N DIGITS POINT ROUTE SSN`, one line for
 /// each row, by translation type, plan, nature, then digits, a prefix before the longer ones. ROUTE is `title` or
-/// `ssn`, and SSN `-` where the row has none. Points are shown in this format.
+/// `ssn`, and SSN `-` if the row has none. Points are shown in this format.
 ///
 /// False past the last line, and then nothing is written.
 pub fn show_titles(
@@ -36,7 +36,6 @@ pub fn show_titles(
     true
 }
 
-/// The line of a row.
 fn write_title(row: &TitleRow, points: PointFormat, out: &mut ArrayString<LINE_OCTETS>)
     ensures { out.new.bytes ≡ title_text points row.now }
 {
@@ -50,7 +49,7 @@ fn write_title(row: &TitleRow, points: PointFormat, out: &mut ArrayString<LINE_O
     push_way(out, row.route());
 }
 
-/// Puts digits behind what is there, `0` to `9` and `a` to `f`.
+/// Appends digits, `0` to `9` and `a` to `f`.
 fn push_digits(line: &mut ArrayString<LINE_OCTETS>, digits: &[u8])
     requires digits { All (λ digit. digit < 2 ^ 4) digits.now }
     requires few { length digits.now ≤ Limits.TITLE_DIGITS }
@@ -63,7 +62,7 @@ fn push_digits(line: &mut ArrayString<LINE_OCTETS>, digits: &[u8])
     }
 }
 
-/// Puts a digit behind what is there.
+/// Appends a digit.
 fn push_digit(line: &mut ArrayString<LINE_OCTETS>, digit: u8)
     requires digit { digit < 2 ^ 4 }
     requires room { length line.old.bytes + 1 ≤ LINE_OCTETS }
@@ -84,7 +83,7 @@ fn digit_char(digit: u8) -> char
     })
 }
 
-/// Puts behind what is there how addresses are routed: ` title SSN` or ` ssn SSN`.
+/// Appends how addresses are routed: ` title SSN` or ` ssn SSN`.
 fn push_way(line: &mut ArrayString<LINE_OCTETS>, route: TitleRoute)
     requires { length line.old.bytes + 12 ≤ LINE_OCTETS }
     ensures { line.new.bytes ≡ line.old.bytes ++ way_text route }
@@ -95,7 +94,7 @@ fn push_way(line: &mut ArrayString<LINE_OCTETS>, route: TitleRoute)
     }
 }
 
-/// Puts ` title ` behind what is there, and a subsystem number, or `-` where there is none.
+/// Appends ` title `, and a subsystem number, or `-` if there is none.
 fn push_ssn(line: &mut ArrayString<LINE_OCTETS>, ssn: Option<Ssn>)
     requires { length line.old.bytes + 12 ≤ LINE_OCTETS }
     ensures { line.new.bytes ≡ line.old.bytes ++ title_way_text ssn }

@@ -6,7 +6,7 @@ ghost use Rattle.console.specs.Words.{words, words_left};
 /// What separates the words of a line.
 const SPACE: u8 = b' ';
 
-/// The first word, and what stands behind the space after it, where there is one.
+/// The first word, and what is after the space after it, if there is one.
 #[tactic(auto, using(crate::proofs::Parting::word_steps))]
 pub fn cut(text: &[u8]) -> (&[u8], Option<&[u8]>)
     ensures { words text.now ≡ result.0.now ∷ words_left result.1 }

@@ -18,7 +18,7 @@ abbrev pub Answers : List ℕ → Result Unit WriteFailed → (output output_new
 Answers text (Ok x) output output_new = Appends output.written output_new.written text
 Answers text (Err failed) output output_new = AppendsFirst output.written output_new.written text
 
--- a line of a script was done, whether memory was refused for it or not: the state after it and the text are those of a
+-- a line of a script was done, whether memory was refused for it or not; the state after it and the text are those of a
 -- script
 abbrev pub IsAnswered : Asked → Kept → Result Unit WriteFailed → Kept → (output output_new : Output) → Type 0
 IsAnswered asked s result after output output_new =

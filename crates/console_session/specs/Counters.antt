@@ -17,7 +17,7 @@ first_texts text (suc k) = first_texts text k ++ text k
 abbrev pub shown_counter : (name : List ℕ) → LinkCounters → Counter → List ℕ
 shown_counter name row counter = counter_line counter name (value_of counter row) ++ codes "\n"
 
--- the same by the counter's place among all
+-- the same by the counter's index among all
 abbrev pub counter_at : (name : List ℕ) → LinkCounters → Option Counter → List ℕ
 counter_at name row (Some counter) = shown_counter name row counter
 counter_at name row None = []
@@ -30,7 +30,7 @@ each_counter name row counters = first_texts (λ k. counter_at name row (slice_g
 unfoldable pub link_text : (name : List ℕ) → LinkCounters → List ℕ
 link_text name row = each_counter name row ALL
 
--- nothing is shown of a link that has no counters
+-- nothing is shown for a link that has no counters
 abbrev pub row_text : (name : List ℕ) → Option LinkCounters → List ℕ
 row_text name (Some row) = link_text name row
 row_text name None = []
@@ -40,6 +40,6 @@ abbrev pub rows_text : Kept → List LinkCounters → List ℕ
 rows_text s rows =
     first_texts (λ k. row_text (name_in s.settings k) (slice_get rows k)) (length s.settings.links)
 
--- and behind them those of datagrams
+-- and after them those of datagrams
 abbrev pub counters_text : Kept → NodeCounters → List ℕ
 counters_text s counters = rows_text s counters.links ++ datagrams_text counters.datagrams

@@ -16,7 +16,7 @@ use Rattle.console_session.specs.declared.client.Ending.{Ending}
 use Rattle.console_session.specs.declared.client.Ending.TheVariants.{Stays, Closes, Stops}
 use Rattle.console_session.specs.declared.client.News.TheVariants.{Message, Notice, Frame}
 
--- a client's outbox as what is written to
+-- the outbox of a client, as an output
 abbrev pub output_of : Waiting → Output
 output_of w = record { written = Some w.octets; failures = w.failures }
 
@@ -36,7 +36,7 @@ IsDone asked Stops s after old new = ⊥
 abbrev pub answered : ClientState → List ℕ → ClientState
 answered old text = record old { outbox = record old.outbox { octets = old.outbox.octets ++ text } }
 
--- there was no room for a text: nothing waits besides what did
+-- there was no room for a text: only what waited before waits
 abbrev pub unanswered : ClientState → ClientState
 unanswered old = record old { outbox = record old.outbox { failures = counted old.outbox.failures } }
 
@@ -57,7 +57,7 @@ IsShown text Stays old new = new ≡ answered old text
 IsShown text Closes old new = (count : ℕ) × (new ≡ unanswered (answered old (take count text)))
 IsShown text Stops old new = ⊥
 
--- A line that isn't one of a client's has one text for its answer. Then the client stays; if it was its first line, it
+-- A line that a client may not write has one text for its answer. Then the client stays, or, if it was its first line,
 -- is to be closed.
 abbrev pub IsRefused : (is_first : Bool) → Ending → (old new : ClientState) → Type 0
 IsRefused is_first Stays old new = (is_first ≡ false) × (new ≡ answered old MALFORMED.now)
@@ -84,13 +84,13 @@ DoesHeard HearsFrames is_first counters ending s after old new =
 DoesHeard HearsStop is_first counters ending s after old new = (after ≡ s) × IsTold STOPPING.now Stops ending old new
 DoesHeard HearsNoLine is_first counters ending s after old new = (after ≡ s) × IsRefused is_first ending old new
 
--- what a line of a client does that is its first or isn't, with points in this format
+-- what a line of a client does, which is its first or isn't, with points in this format
 abbrev pub DoesLineAt : PointFormat → (is_first : Bool) → List ℕ → NodeCounters → Ending → (s after : Kept)
     → (old new : ClientState) → Type 0
 DoesLineAt points is_first line counters ending s after old new =
     DoesHeard (heard points line) is_first counters ending s after old new
 
--- what a line of a client does. Behind it no line is the client's first
+-- what a line of a client does. No line after it is the client's first
 abbrev pub DoesLine :
     PointFormat → List ℕ → NodeCounters → Ending → (s after : Kept) → (old new : ClientState) → Type 0
 DoesLine points line counters ending s after old new =

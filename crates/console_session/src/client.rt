@@ -25,7 +25,7 @@ use std::mem;
 /// Octets of a line of a client, at most, without the line feed that ends it: as many as in a script.
 pub const LINE_OCTETS: usize = 8300;
 
-/// The answer to a line that isn't one of a client's.
+/// The answer to a line that a client may not write.
 const MALFORMED: &[u8] = b"malformed: help lists the lines\n";
 
 /// The answer to a line that asks to be told something from now on.
@@ -34,7 +34,7 @@ const WATCHING: &[u8] = b"handled\n";
 /// The answer to `stop`.
 const STOPPING: &[u8] = b"stopping\n";
 
-/// What a client is told from the time on at which it asks for it.
+/// What a client is told from when it asks for it.
 #[derive(Clone, Copy, Debug, PartialEq, Eq)]
 pub enum News {
     /// A message for this point.
@@ -56,7 +56,7 @@ pub enum Ending {
     Stops,
 }
 
-/// What the lines of clients are done on.
+/// What the lines of clients act on.
 #[derive(Drop)]
 pub struct ConsoleContext<'a> {
     /// The node.
@@ -111,7 +111,7 @@ impl ConsoleClient {
     }
 
     /// Takes octets that came, up to the end of the first line in them, and does that line. If no line ends in them, it
-    /// takes them all, but for those after the octet that makes the line too long. Returns how many it took, and what
+    /// takes them all except those after the octet that makes the line too long. Returns how many it took, and what
     /// becomes of the client.
     pub fn read(&mut self, octets: &[u8], context: &mut ConsoleContext<'_>) -> (usize, Ending)
         ensures within { result.0 ≤ length octets.now }
@@ -201,7 +201,7 @@ impl ConsoleClient {
         Ok(Ending::Stays)
     }
 
-    /// Does a line of a script, and answers what a script prints for it.
+    /// Does a line of a script, and returns what a script prints for it.
     fn do_script(
         &mut self,
         line: Line<'_>,
@@ -216,7 +216,6 @@ impl ConsoleClient {
         do_script_line(context.exchange, line, &mut self.outbox)
     }
 
-    /// Answers a text.
     fn answer(&mut self, text: &[u8]) -> Result<(), WriteFailed>
         ensures { IsAnsweredBy text.now result self.old self.new }
     {
@@ -274,7 +273,7 @@ impl ConsoleClient {
         self.outbox.pending()
     }
 
-    /// So many of the octets that wait were written, from the first on; no more can have been than wait.
+    /// This many of the octets that wait were written, from the first; no more can have been than wait.
     pub fn written(&mut self, count: usize)
         ensures { self.new ≡ record self.old {
           outbox = record self.old.outbox { octets = drop count self.old.outbox.octets };

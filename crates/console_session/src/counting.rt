@@ -16,7 +16,8 @@ use served_link::{
 };
 use settings::{Limits, LinkId};
 
-/// Prints the counters of each link, in the order of the settings, and then those of datagrams: a line for each counter.
+/// Prints the counters of each link, in the order of the settings, and then those of datagrams: a line for each
+/// counter.
 pub fn print_counters<W: Sink>(
     exchange: &Exchange,
     counters: &Counters,
@@ -32,7 +33,6 @@ pub fn print_counters<W: Sink>(
     print_datagrams(counters.datagrams(), writer)
 }
 
-/// Prints the counters of datagrams.
 fn print_datagrams<W: Sink>(datagrams: &DatagramCounters, writer: &mut W) -> Result<(), WriteFailed>
     ensures all { OnOk result (Appends (W.output writer.old).written (W.output writer.new).written
         (datagrams_text datagrams.now)) }
@@ -85,7 +85,6 @@ fn print_row<W: Sink>(
     }
 }
 
-/// Prints the counters of the link of this name.
 fn print_link<W: Sink>(name: &str, row: &LinkCounters, writer: &mut W) -> Result<(), WriteFailed>
     requires { length name.now ≤ Limits.NAME_OCTETS }
     ensures all { OnOk result (Appends (W.output writer.old).written (W.output writer.new).written

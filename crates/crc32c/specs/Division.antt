@@ -7,7 +7,7 @@ use Rattle.std.specs.List.{flat_map}
 abbrev pub polynomial : ℕ
 polynomial = 0x82F63B78
 
--- one step of the division: the remainder times the variable, less the polynomial where the highest power is reached
+-- one step of the division: the remainder times the variable, less the polynomial if the highest power is reached
 abbrev pub divided : ℕ → ℕ
 divided remainder = if remainder % 2 == 1 then bit_xor (remainder / 2) polynomial else remainder / 2
 
@@ -16,7 +16,7 @@ abbrev pub after_bits : ℕ → List ℕ → ℕ
 after_bits remainder [] = remainder
 after_bits remainder (bit ∷ bits) = after_bits (divided (bit_xor remainder bit)) bits
 
--- so many bits of a number, the lowest first
+-- this many bits of a number, the lowest first
 unfoldable pub lowest_bits : ℕ → ℕ → List ℕ
 lowest_bits zero number = []
 lowest_bits (suc count) number = number % 2 ∷ lowest_bits count (number / 2)
@@ -35,7 +35,7 @@ crc32c_of octets = ones - after_octets ones octets
 
 -- ---- what tables hold
 
--- so many steps of the division
+-- this many steps of the division
 unfoldable pub divided_by : ℕ → ℕ → ℕ
 divided_by zero remainder = remainder
 divided_by (suc steps) remainder = divided_by steps (divided remainder)

@@ -34,7 +34,7 @@ pub fn remainder(before: u32, octets: &[u8]) -> u32
     remainder_below_32(remainder, rest)
 }
 
-/// The same, where there are fewer than 32: 16 octets take two steps.
+/// The same, if there are fewer than 32: 16 octets take two steps.
 #[inline(always)]
 fn remainder_below_32(before: u32, octets: &[u8]) -> u32
     ensures { result ≡ after_octets before octets.now }
@@ -45,7 +45,7 @@ fn remainder_below_32(before: u32, octets: &[u8]) -> u32
     }
 }
 
-/// The same, where there are fewer than 16: eight octets take one step.
+/// The same, if there are fewer than 16: eight octets take one step.
 #[inline(always)]
 fn remainder_below_16(before: u32, octets: &[u8]) -> u32
     ensures { result ≡ after_octets before octets.now }
@@ -56,7 +56,7 @@ fn remainder_below_16(before: u32, octets: &[u8]) -> u32
     }
 }
 
-/// The same, where there are fewer than eight: four octets take one step.
+/// The same, if there are fewer than eight: four octets take one step.
 #[inline(always)]
 fn remainder_below_8(before: u32, octets: &[u8]) -> u32
     ensures { result ≡ after_octets before octets.now }

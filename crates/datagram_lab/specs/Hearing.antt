@@ -12,7 +12,7 @@ pub record Came : Type 0 where
   pub octets : List ℕ
   pub source : Address
 
--- behind what was done, the same call for each of these datagrams, one after another
+-- after what was done, the same call for each of these datagrams, one after another
 abbrev pub one_by_one : {Q : Type 0} → (Came → Gate → State Q → Did Q) → Did Q → List Came → Did Q
 one_by_one call d [] = d
 one_by_one call d (one ∷ more) = one_by_one call (followed_by d (call one)) more
@@ -31,7 +31,8 @@ Loses (Some all) (Some left) came = all ≡ came ++ left
 Loses None None came = Unit {0}
 Loses before after came = ⊥
 
--- a datagram was received, whose octets lie in front of the buffer; or none, and those that are to come are the same
+-- a datagram was received, whose octets lie at the front of the buffer; or none, and those that are to come are the
+-- same
 abbrev pub Receives : Option (ℕ × code.Address) → (buffer : List ℕ) → (before after : Option (List Came)) → Type 0
 Receives None buffer before after = after ≡ before
 Receives (Some r) buffer before after =
@@ -43,7 +44,7 @@ abbrev pub IsDry : Option (List Came) → Type 0
 IsDry (Some left) = left ≡ []
 IsDry None = Unit {0}
 
--- so many datagrams were received, and this was made of them
+-- this many datagrams were received, and this was made of them
 pub record GivesEach (count : ℕ) (before after : Option (List Came)) (IsMade : List Came → Type 0) : Type 0 where
   pub came : List Came
   pub many : count ≡ length came

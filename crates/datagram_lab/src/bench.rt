@@ -72,7 +72,7 @@ impl<N: Net + RandomSource> DatagramBench<'_, N> {
         }
     }
 
-    /// Gives the link of a name its sockets and gates, where both ends want it to open. The near end tries then.
+    /// Gives the link of a name its sockets and gates, if both ends want it to open. The near end tries then.
     fn open(&mut self, name: &[u8]) -> Reply {
         let Some(link) = self.near.settings().link_named(name) else {
             return Reply::Became(Outcome::Refused(Cause::NoSuchName));
@@ -138,7 +138,7 @@ impl<N: Net + RandomSource> DatagramBench<'_, N> {
         }
     }
 
-    /// So many ticks pass at an end.
+    /// This many ticks pass at an end.
     fn tick(&mut self, end: End, ticks: u16) -> Reply {
         for _ in 0..ticks {
             self.tick_once(end);

@@ -17,7 +17,6 @@ pub(crate) struct Times {
 }
 
 impl Times {
-    /// The start.
     pub(crate) const START: Times = Times { near: 0, far: 0 };
 
     /// The time of an end.
@@ -28,7 +27,7 @@ impl Times {
         }
     }
 
-    /// So many milliseconds pass at an end.
+    /// This many milliseconds pass at an end.
     pub(crate) fn pass(&mut self, end: End, millis: u64) {
         match end {
             End::Near => self.near = self.near.saturating_add(millis),
@@ -45,8 +44,7 @@ pub(crate) struct Circuit {
 }
 
 impl Circuit {
-    /// A link without an association, whose near end tries to open one. None where a socket, a key or memory can't be
-    /// had.
+    /// A link without an association, whose near end tries to open one. None if a socket, a key or memory can't be had.
     pub(crate) fn open<N: Net + RandomSource>(
         net: &N,
         alloc: Global,
@@ -114,7 +112,7 @@ impl Circuit {
         }
     }
 
-    /// What there is goes out at an end, and is lost. Answers how many datagrams that were.
+    /// What there is goes out at an end, and is lost. Returns how many datagrams that were.
     pub(crate) fn drop_from(
         &mut self,
         end: End,
@@ -150,7 +148,7 @@ pub(crate) fn tick_all(
     }
 }
 
-/// The link in a place, where it has its ends.
+/// The link at an index, if it has its ends.
 pub(crate) fn circuit_at(circuits: &mut [Option<Circuit>], place: usize) -> Option<&mut Circuit> {
     match circuits.get_mut(place) {
         Some(Some(circuit)) => Some(circuit),
@@ -158,7 +156,7 @@ pub(crate) fn circuit_at(circuits: &mut [Option<Circuit>], place: usize) -> Opti
     }
 }
 
-/// Room for so many links, none of which has its ends yet.
+/// Room for this many links, none of which has its ends yet.
 pub(crate) fn no_circuits(alloc: Global, count: usize) -> Result<Vec<Option<Circuit>>, AllocError> {
     let mut circuits = Vec::with_capacity(alloc, count)?;
     for _ in 0..count {

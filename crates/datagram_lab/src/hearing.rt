@@ -15,7 +15,7 @@ use sctp_gate::{Gate, Watch};
 /// Octets of a datagram, at most.
 const DATAGRAM_OCTETS: usize = 65_535;
 
-/// Hands in the datagrams that come at a gate, one after another, until none comes, but at most so many. Answers how
+/// Hands in the datagrams that come at a gate, one after another, until none comes, but at most this many. Returns how
 /// many came. It allocates no memory.
 pub fn hear_all<I: Incoming, W: Watch>(
     gate: &mut Gate,
@@ -34,7 +34,7 @@ pub fn hear_all<I: Incoming, W: Watch>(
     ensures whole { (a : Abstract) → StandsFor exchange.old a
         → GivesEach result (I.coming incoming.old) (I.coming incoming.new)
         (λ came. MakesWhole W.has watch.old watch.new gate.new exchange.new (heard_all whole now came gate.old a)) }
-    // It stops early only where none comes.
+    // It stops early only if none comes.
     ensures ended { (result ≡ most) ⊎ IsDry (I.coming incoming.new) }
     ensures few { result ≤ most }
 {

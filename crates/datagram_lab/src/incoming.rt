@@ -11,7 +11,7 @@ pub trait Incoming {
     ghost coming: { Self → Option (List Came) };
 
     /// The next datagram, whose octets lie at the front of the buffer then: how many they are, and where they are from.
-    /// None where none comes.
+    /// None if none comes.
     fn receive(&mut self, buffer: &mut [u8]) -> Option<(usize, Address)>
         ensures received { Receives result buffer.new (coming self.old) (coming self.new) }
         ensures dry { IfNone result (IsDry (coming self.new)) };

@@ -1,5 +1,5 @@
-//! A lab over datagrams: two nodes in one process, a script that says what happens to them, and for
-//! each link two gates, whose datagrams go over two UDP sockets of this machine (RFC 6951).
+//! A lab over datagrams: two nodes in one process, a script that says what happens to them, and two gates for each
+//! link, whose datagrams go over two UDP sockets of this machine (RFC 6951).
 #![tactic(auto)]
 
 mod bench;

@@ -12,7 +12,7 @@ pub(crate) struct DropLine<'a> {
     pub(crate) link: &'a [u8],
 }
 
-/// What a line asks to be lost; None where it is another line.
+/// What a line asks to be lost; None if it is another line.
 pub(crate) fn parse_drop(line: &[u8]) -> Option<DropLine<'_>> {
     let (word, rest) = cut(line);
     if word != b"drop".as_slice() {

@@ -19,7 +19,7 @@ const M2PA_PORT: u16 = 3565;
 /// How long a cookie is good, in milliseconds: Valid.Cookie.Life (RFC 9260 §16).
 const COOKIE_LIFE: u32 = 60_000;
 
-/// RTO.Initial, RTO.Min and RTO.Max. These and the numbers below are those of `stp serve` where its settings say none.
+/// RTO.Initial, RTO.Min and RTO.Max. These and the numbers below are those of `stp serve` if its settings give none.
 const BOUNDS: Bounds = Bounds {
     initial: 300,
     least: 100,
@@ -46,7 +46,7 @@ pub(crate) struct Keys {
 }
 
 impl Keys {
-    /// Draws both at random; None where the system gives none.
+    /// Draws both at random; None if the system gives none.
     pub(crate) fn draw<R: RandomSource>(random: &R) -> Option<Keys> {
         let mut keys = Keys {
             tags: [0; KEY_OCTETS],
@@ -146,7 +146,7 @@ impl Port {
         }
     }
 
-    /// Drops the datagrams that are on their way from the other end. Answers how many there were.
+    /// Drops the datagrams that are on their way from the other end. Returns how many there were.
     pub(crate) fn drop_all(&mut self, other: &Port) -> usize {
         let awaited = self.awaited(other);
         let mut buffer = [0; DROPPED_OCTETS];

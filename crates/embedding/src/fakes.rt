@@ -22,9 +22,9 @@ enum Played {
 /// The SIO of ISUP in a network of indicator 2.
 const ISUP: u8 = 0x85;
 
-/// The first link opens at once, and the other one as its first frame comes. Both prove themselves and enter service; a
-/// message for point 300 is forwarded, one for this point delivered; one association is lost; and a message is submitted
-/// for point 300, which lies behind that link.
+/// The first link opens at once, and the other one as its first frame comes. Both prove themselves and enter service. A
+/// message for point 300 is forwarded, and one for this point delivered; one association is lost; and a message is
+/// submitted for point 300, which lies behind that link.
 const PLAYED: [Played; 11] = [
     Played::Status(0, 2),
     Played::Status(1, 2),
@@ -49,7 +49,6 @@ pub(crate) struct PlayedNetwork<'a, R> {
 }
 
 impl<'a, R: Print> PlayedNetwork<'a, R> {
-    /// The network of these links.
     pub(crate) fn new(rt: &'a R, links: [LinkId; 2]) -> PlayedNetwork<'a, R> {
         PlayedNetwork {
             rt,
@@ -59,12 +58,11 @@ impl<'a, R: Print> PlayedNetwork<'a, R> {
         }
     }
 
-    /// The link of this place.
     fn link(&self, place: usize) -> LinkId {
         self.links.get(place).copied().unwrap_or(LinkId::new(0))
     }
 
-    /// What is received where this is played.
+    /// What is received if this is played.
     fn received(&self, played: Played, buffer: &mut [u8]) -> Received {
         match played {
             Played::Status(place, state) => {
@@ -145,7 +143,6 @@ impl<R: Print> UserParts for PrintingUsers<'_, R> {
     }
 }
 
-/// The name of a link.
 fn name_of(link: LinkId) -> &'static str {
     match LINKS.get(link.index()) {
         Some((name, _, _)) => name,
@@ -168,7 +165,7 @@ fn status(state: u8) -> [u8; 20] {
     ]
 }
 
-/// User Data of this number, with a message of ISUP and two octets behind its label.
+/// User Data of this number, with a message of ISUP and two octets after its label.
 fn message(number: u8, label: [u8; 4]) -> [u8; 24] {
     let [a, b, c, d] = label;
     [
@@ -177,7 +174,7 @@ fn message(number: u8, label: [u8; 4]) -> [u8; 24] {
     ]
 }
 
-/// Puts octets at the front of the buffer, as many as there is room for, and answers how many.
+/// Puts octets at the front of the buffer, as many as there is room for, and returns how many.
 fn put(octets: &[u8], buffer: &mut [u8]) -> usize {
     let count = octets.len().min(buffer.len());
     buffer[..count].copy_from_slice(&octets[..count]);

@@ -1,4 +1,4 @@
-//! A node in a program of its own: its settings, its network and its user parts are the program's, and one loop drives
+//! A node in a program of its own: the program has its settings, its network and its user parts, and one loop drives
 //! it.
 #![tactic(auto)]
 
@@ -66,12 +66,11 @@ fn serve<R: Print>(rt: &R, exchange: Exchange, links: [LinkId; 2]) {
     node::serve(&mut exchange, &links, &mut network, &mut users);
 }
 
-/// The link of this name.
 fn link_named(settings: &Settings, name: &str) -> Result<LinkId, NoStart> {
     settings.link_named(name.as_bytes()).ok_or(NoStart::Link)
 }
 
-/// Tells why the node doesn't start.
+/// Prints why the node doesn't start.
 fn tell<R: Print>(rt: &R, why: NoStart) {
     let _told = match why {
         NoStart::Memory => println!(rt; "out of memory"),

@@ -9,10 +9,10 @@ const WAITING_STATUSES: usize = 3;
 
 /// What comes next to a node.
 pub(crate) enum Received {
-    /// A frame of so many octets came on a link. It stands at the front of the buffer; one that is longer fills the
+    /// A frame of this many octets came on a link. It is at the front of the buffer; one that is longer fills the
     /// buffer, and its length then fails the link.
     Frame(LinkId, usize),
-    /// A user part hands over a message: its SIO, and a SIF of so many octets at the front of the buffer.
+    /// A user part hands over a message: its SIO, and a SIF of this many octets at the front of the buffer.
     Submit(u8, usize),
     /// A tick of the clock passed.
     Tick,
@@ -24,15 +24,15 @@ pub(crate) enum Received {
 
 /// The associations of a node's links, and its clock: sockets and a timer, or fakes in a test.
 pub(crate) trait Network {
-    /// Has the association of a link come about. At the end that accepts: true where the peer's was accepted, so it is
-    /// up. At the end that connects: begins to connect, unless it has, and is false, also where the system is connected
-    /// already; the association comes up with the first frame of it. Where this is false it is called again.
+    /// Has the association of a link come about. At the end that accepts: true if the peer's was accepted, so it is up.
+    /// At the end that connects: begins to connect, unless it has begun, and returns false, even if the system is
+    /// connected already; the association comes up with the first frame of it. If this is false it is called again.
     fn open(&mut self, link: LinkId) -> bool;
 
     /// Closes the association of a link. Nothing of it comes after this.
     fn close(&mut self, link: LinkId);
 
-    /// Sends a frame on a link, behind those sent before.
+    /// Sends a frame on a link, after those sent before.
     fn send(&mut self, link: LinkId, frame: &[u8]);
 
     /// Waits for what comes next.
@@ -74,7 +74,7 @@ pub(crate) fn serve<N: Network, U: UserParts>(
     }
 }
 
-/// So many octets at the front of the buffer, or all of it where they are more.
+/// This many octets at the front of the buffer, or all of it if they are more.
 fn front(buffer: &[u8], count: usize) -> &[u8] {
     &buffer[..count.min(buffer.len())]
 }
@@ -119,7 +119,7 @@ fn send_all<N: Network>(exchange: &mut Exchange, link: LinkId, network: &mut N) 
 /// Takes a frame of a link. A message for this point goes to its user parts.
 ///
 /// A link that still wants to open is one whose association this end began. The other end opened first, since it sent
-/// the frame (docs/EXACTLY_ONCE.md says why it has to): so this end follows.
+/// the frame, so this end follows (docs/EXACTLY_ONCE.md says why it must).
 fn receive_frame<U: UserParts>(exchange: &mut Exchange, link: LinkId, frame: &[u8], users: &mut U) {
     if exchange.wants(link) == Wants::Open {
         let _up = exchange.step(&Event::AssociationUp(link));

@@ -39,7 +39,6 @@ pub(crate) fn draft(alloc: Global) -> Result<Draft, AllocError> {
     })
 }
 
-/// A destination by one set.
 fn destination(alloc: Global, point: i64, set: &str) -> Result<DestinationDraft, AllocError> {
     let mut sets = Vec::new(alloc);
     sets.push(String::from_str(alloc, set)?)?;

@@ -1,4 +1,5 @@
--- An exchange that stood for an abstract state stands for the state after any calls, and answers as there. Calls in a row are answered one by one.
+-- An exchange that stood for an abstract state stands for the state after any calls, and answers as there. Calls in a
+-- row are answered one by one.
 use Rattle.exchange.proofs.Basics.{◌≡◌, ℕ, List, [], ◌∷◌, ◌++◌, length, take, get_or, ◌+◌, ◌<◌, ◌≤◌, refl, sym, ap, subst, ◌∙◌, arith, length-append, take_more, take_all, asked, asked_each, Call, Answer, Stepped, Wanted, Wants, Outcome, Asking, Happens, Takes, AsksWants, kept, whole, answer_to_call, after_call, answers_to, after_calls, Abstract, Kept, StandsFor}
 use Rattle.exchange.proofs.Standing.{stands-outcome, stands-after, stands-frame, stands-taken, stands-wants}
 

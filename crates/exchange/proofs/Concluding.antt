@@ -1,4 +1,4 @@
--- What a completion leaves, once the management messages that it left have gone out anew.
+-- What a completion leaves, once the management messages that it left have gone out again.
 use Rattle.exchange.proofs.Basics.{◌≡◌, ◌≢◌, ◌<◌, ℕ, not, List, [], ◌++◌, drop, length, ap, sym, ◌∙◌, arith, Option, filter, set, set-set, get_or-set_same, get_or-set_other, Message, is_management, lane_at, dropped, before-kept, Counts, kept_emptied, users_of, kept_accepted_count, kept_done_with, spliced, behind-done, State, Node, Found, with_node, KeptQueues, kept, lane_of, held_lane, counts_at, link_lane, without_lane, concluded, conclude, anew, drained, placed_each, spliced_queues}
 use Rattle.exchange.proofs.Draining.{all_out, send_each-placed}
 

@@ -1,4 +1,4 @@
--- A list that is gone through message by message: what is done with the first of those that are left.
+-- A list that is walked message by message: what is done with the first of those that are left.
 use Rattle.exchange.proofs.Basics.{add-one, if◌then◌else◌, not, is_some, length, ◌≡◌, ◌<◌, ◌≤◌, ℕ, zero, suc, ◌+◌, Bool, true, false, List, [], ◌∷◌, drop, take, refl, ap, sym, ◌∙◌, arith, Option, Some, None, slice_get, Message, Configuration, HoldSet, Parts, with_messages, with_head, is_management, LostUnconfirmed, Counts, users_of, kept_doubted, kept_accepted_count, kept_in_doubt, kept_queued_anew, flagged, KeptQueues, kept, counts_at, link_lane, lose, lose_each, with_losses, lose_one, lose_users, lose_first}
 
 abbrev get_some : Option ℕ → ℕ

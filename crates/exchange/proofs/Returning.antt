@@ -1,4 +1,5 @@
--- A link that returns: declarations go out one by one and change no link, and it takes its flows back once it enters service.
+-- A link that returns: declarations go out one by one and change no link, and it takes its flows back once it enters
+-- service.
 use Rattle.exchange.proofs.Basics.{add-one, ◌≡◌, ◌<◌, ◌≤◌, ℕ, zero, suc, ◌+◌, arith, replicate, Bool, true, false, ◌&&◌, not, List, length, Option, Some, None, refl, ap, sym, ◌∙◌, if◌then◌else◌, slice_set, set, ⊎_elim, cases_lt, get_or-set_same, get_or_past, length-set, LINKS, Configuration, Action, Transition, Facts, with_link, Link, is_in_service, stepped, down_link, Procedure, returned, gives_up, held_by, alike_before, QueueKind, Parts, Node, State, with_node, with_parts, KeptQueues, kept, link_at, in_service, with_holds, facts, code_for, declare_by, change_back, HasPlacesFor, holder, declare, declare_each, holders, set_of, has_other, begun_anew_if, return_if, act_by, step_on, stepped_by, is_first_in, entered, known_before, known_links}
 use Rattle.link.specs.declared.action.Action.TheVariants as act
 use Rattle.exchange.proofs.TakingOver.{taken_over}

@@ -1,4 +1,5 @@
--- What an exchange keeps has its room still, and nothing is owed but what may be pending, as links and what was told change.
+-- What an exchange keeps has its room still, and nothing is owed but what may be pending, as links and what was told
+-- change.
 use Rattle.exchange.proofs.Basics.{◌≡◌, ◌<◌, ◌+◌, ℕ, Bool, true, false, ◌||◌, not, length, replicate, List, refl, ap, sym, subst, ◌∙◌, map, [], ◌∷◌, slice_index_or, if◌then◌else◌, Option, Some, None, length-set, get_or-set_same, RouteStatus, Facts, with_status_over, Link, is_in_service, down_link, Network, facts_of, link_in, with_state, serving, with_route_status, facts_alike, Running, lane_at, Procedure, HoldSet, Codes, FlowChange, with_change, held_by, ToldTable, shape_of, with_told, status_to_advertise, told_shape, State, KeptQueues, held_lane, all_wait, facts, Updates, with_all, with_destination, OwesNoneBut, HasRoom, kept_in, HasHoldsFor, HasCodes, with_hold-fits, Configuration, Inside}
 use Rattle.exchange.proofs.Pending.{all_may_be, status_owes, told_owes_no_more}
 

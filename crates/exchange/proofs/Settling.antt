@@ -1,4 +1,4 @@
--- What a release leaves of what is kept: each message of Held waits, and where each did before, nothing changed.
+-- What a release leaves of what is kept: each message of Held waits, and if each did before, nothing changed.
 use Rattle.exchange.proofs.Basics.{◌≡◌, ℕ, Bool, true, false, List, [], ◌∷◌, ◌++◌, Option, Some, None, refl, ap, sym, ◌∙◌, ◌||◌, set, lane_at, pushed, append-nil, append_assoc, Message, flow_of, Configuration, HoldSet, Node, KeptQueues, kept, lane_of, held_lane, link_of, waits, all_wait, go_on, go_by, go, go_each, release, one_more, left-true, right-true}
 
 -- Held after a message went to a link

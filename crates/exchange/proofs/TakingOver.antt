@@ -1,5 +1,5 @@
--- A link takes its flows over as it takes them back by the rule: the hold of each other link begins in the same order, and the same flows
--- are held by the same procedures.
+-- A link takes its flows over as it takes them back by the rule: the hold of each other link begins in the same order,
+-- and the same flows are held by the same procedures.
 use Rattle.exchange.proofs.Basics.{◌≡◌, ◌≢◌, ◌<◌, ◌≤◌, ℕ, zero, suc, Bool, true, false, ◌||◌, replicate, List, [], ◌∷◌, length, nat_eq, Option, Some, None, refl, ap, sym, ◌∙◌, subst, arith, if◌then◌else◌, slice_index_or, slice_set, Contains, ⊎_elim, cases_lt, cases_eq, eq-eqb, eqb-true, get_or-set_same, get_or-set_other, length-set, length-replicate, LINKS, SELECTIONS, Configuration, Facts, chosen_link, Procedure, HoldSet, holds, may_hold, IsAnyFlow, may_parts, IsSameNode, same_holds, free_code, FlowChange, returned, gives_up, held_by, IsMoved, IsToHold, moved_of, each_found, came, change_pairs, pairs-stay, changes-same_node, QueueKind, Node, with_parts, facts, set_of, HasPlacesFor, is_taken_back, loses_flows, procedure_by, usable, code_for, declare_by, hold_flows, take_back, take_back_each, change_back, chosen_there, IsTakenFrom, holder_of, take_back_each-alike, pairs_stay, pair_was, pair_added, holder_may, taken-so, loses-so, went, other_loses, some_lost, holder, declare, declare_each, holders, take_over}
 
 same-bool : (a b : Bool) → (a ≡ true → b ≡ true) → (b ≡ true → a ≡ true) → a ≡ b

@@ -1,4 +1,4 @@
--- What is kept behind a number is what waits behind it.
+-- What is kept after a number is what waits after it.
 use Rattle.exchange.proofs.Basics.{◌≡◌, ◌≤◌, ◌+◌, ◌-◌, ℕ, Option, Some, None, drop, refl, ap, ◌∙◌, arith, unwrap_or, option_map, drop-drop, Queue, IsQueue, named_count, unconfirmed, counts_of, kept-newly_confirmed, finds_named, queue_at, Abstract, behind_number, kept_behind_number, counts_at, link_lane, Kept, StandsFor}
 use Rattle.exchange.proofs.KeptQueues.{counts_at-kept, lane_at-kept}
 

@@ -33,7 +33,7 @@ pub record StandsFor (k : Kept) (a : Abstract) : Type 0 where
   pub sound : IsSound a
   pub kept : k ≡ kept_of a
 
--- ---- What the events and the calls of the code tell of, with what was answered: that says whether memory was refused.
+-- ---- What the events and calls of the code say, with what was answered: that tells whether memory was refused.
 
 -- whether memory was refused
 abbrev pub is_memory_refused : Outcome → Bool
@@ -47,7 +47,7 @@ ordered (Deactivate link) lacks_memory = Deactivated link
 ordered (AddTitle row) lacks_memory = TitleAdded row lacks_memory
 ordered (RemoveTitle key digits) lacks_memory = TitleRemoved key digits.items
 
--- what an event tells of that was answered so
+-- what an event says that was answered so
 abbrev pub happened : Event → Outcome → Happening
 happened (event.AssociationUp link) outcome = CameUp link
 happened (event.AssociationDown link) outcome = WentDown link
@@ -62,7 +62,7 @@ outcome_in (answer.Stepped outcome) = outcome
 outcome_in (answer.Taken text) = Handled
 outcome_in (answer.Wanted wants) = Handled
 
--- what a call asks that was answered so
+-- what a call that was answered so asks
 abbrev pub asked : Call → Answer → Asking
 asked (call.Step event) answer = Happens (happened event (outcome_in answer))
 asked (call.Take link) answer = Takes link

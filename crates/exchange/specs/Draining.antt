@@ -23,7 +23,7 @@ abbrev pub fate_on : Option ℕ → (dropped : Parts) → Fate
 fate_on (Some link) dropped = GoesTo (lane_of link)
 fate_on None dropped = IsDropped dropped
 
--- what becomes of a management message that goes out anew
+-- what becomes of a management message that goes out again
 abbrev pub anew : Configuration → Message → Parts → Fate
 anew c m p = fate_on (link_of c p (flow_of m)) (unsent NoRoute m p)
 
@@ -35,7 +35,7 @@ onward_by false c m p = fate_on (link_of c p (flow_of m)) (lose NoRoute m p)
 abbrev pub onward : Configuration → Message → Parts → Fate
 onward c m p = onward_by (waits c p.holds m) c m p
 
--- a message that stands in no list meets its fate
+-- a message that is in no list meets its fate
 abbrev pub placed : Fate → Message → Node KeptQueues → Node KeptQueues
 placed (GoesTo lane) m node = record node { queues = record node.queues { lanes = pushed node.queues.lanes lane m } }
 placed (IsDropped parts) m node = with_parts node parts
@@ -69,14 +69,14 @@ first_gone fate lane node = gone_by fate (slice_get (lane_at node.queues.lanes l
 
 -- ---- a completion
 
--- the queues when the user messages that move stand before all of Held, and the management messages are left
+-- the queues when the user messages that move go before all of Held, and the management messages are left
 abbrev pub spliced_queues : KeptQueues → ℕ → Option ℕ → KeptQueues
 spliced_queues k link number = record {
   lanes = spliced k.lanes (lane_of link) (kept_done_with (counts_at k.counts link) number) held_lane;
   counts = slice_set k.counts link (kept_emptied (counts_at k.counts link));
 }
 
--- a message is lost, where it is a user message
+-- a message is lost, if it is a user message
 abbrev pub lose_one : Option Message → Parts → Parts
 lose_one (Some m) p = if is_management m then p else lose LostUnconfirmed m p
 lose_one None p = p

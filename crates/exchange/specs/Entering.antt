@@ -1,4 +1,4 @@
--- A link that entered service, by what is known then: with the link taken out again, all is as it was before.
+-- A link that entered service, by what is known then: without the link, everything is as it was before.
 use Rattle.std.specs.Prelude.{ℕ, Bool, false, not}
 use Rattle.settings_rows.specs.Configuration.{Configuration}
 use Rattle.routes.specs.Routes.{has_link, Facts, set_at, with_link}
@@ -13,7 +13,7 @@ use Rattle.exchange_rules.specs.ChangingBack.{change_back}
 abbrev pub is_first_in : Facts → (set : ℕ) → Bool
 is_first_in f set = not (has_link f.in_service (set_at f set))
 
--- where the link is the first of its set, all that is known over that set begins anew
+-- if the link is the first of its set, what is known over that set is reset
 abbrev pub begun_anew : Configuration → (link : ℕ) → Parts → Parts
 begun_anew c link p = begun_anew_if (is_first_in (with_link link false (facts c p)) (set_of c link)) c link p
 
@@ -23,7 +23,7 @@ entered q c link node =
     let anew : Parts = begun_anew c link node.parts in
     change_back q c link (with_link link false (facts c anew)) (with_parts node anew)
 
--- what a link's alignment does about an input, before its entry into service is looked at
+-- what a link's alignment does about an input, apart from an entry into service
 abbrev pub stepped_by : {Q : Type 0} → Configuration → Action → ℕ → Node Q → Node Q
 stepped_by c act.Ignored link node = node
 stepped_by c act.Fail link node = node

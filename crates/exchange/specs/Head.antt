@@ -1,4 +1,4 @@
--- What is read of a message that stands in a list, and what is done by it.
+-- What is read of a message in a list, and what is done with it.
 use Rattle.std.specs.Prelude.{ℕ, Option, Some, None, if◌then◌else◌}
 use Rattle.signalling_types.specs.Message.{Message, is_management}
 use Rattle.settings_rows.specs.Configuration.{Configuration}
@@ -23,7 +23,7 @@ with_read c link head holds =
     if head.is_management then holds
     else with_flow_to c link (destination_place c head.label.dpc) head.label.sls holds
 
--- the flow of a message is held, where there is one
+-- the flow of a message is held, if there is one
 abbrev pub with_head : Configuration → ℕ → Option Message → HoldSet → HoldSet
 with_head c link (Some m) holds = with_message c link m holds
 with_head c link None holds = holds

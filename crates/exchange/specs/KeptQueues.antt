@@ -8,7 +8,7 @@ use Rattle.link.specs.Counts.{kept_to_send, kept_sent_one, kept_emptied, kept_la
 use Rattle.changeover.specs.Kept.{kept_accepted_count, kept_moved, kept_lost, kept_queued_anew}
 use Rattle.exchange_rules.specs.State.{QueueKind}
 
--- The messages of Held, then of each link those that aren't confirmed; and of each link three numbers.
+-- The messages of Held, then for each link those that aren't confirmed; and for each link three numbers.
 pub record KeptQueues : Type 0 where
   pub lanes : List (List Message)
   pub counts : List Counts

@@ -17,12 +17,13 @@ pub record OwesNoneBefore (f : Facts) (t : ToldTable) (set destination : ℕ) : 
 abbrev pub OwesNoneBetween : Facts → ToldTable → (set from end : ℕ) → Type 0
 OwesNoneBetween f t set from end = (about : ℕ) → from ≤ about → about < end → owed_at f t set about ≡ None
 
--- nothing is owed but what may be pending, which is told of so many destinations
+-- nothing is owed except what may be pending, for this many destinations
 pub record OwesNoneBut (destinations : ℕ) (u : Updates) (f : Facts) (t : ToldTable) : Type 0 where
   pub marks : length u.marks ≡ destinations
   pub none : (set destination : ℕ) → may_be_pending u set destination ≡ false → owed_at f t set destination ≡ None
 
--- nothing is owed before the place where a walk over the destinations of a set stopped, or else before the next set
+-- nothing is owed before the place where a walk over the destinations of a set stopped, or before the next set if it
+-- didn't stop
 abbrev pub OwesNoneUpTo : Option ℕ → Facts → ToldTable → ℕ → Type 0
 OwesNoneUpTo (Some destination) f t set = OwesNoneBefore f t set destination
 OwesNoneUpTo None f t set = OwesNoneBefore f t (set + 1) 0

@@ -1,4 +1,4 @@
--- What an order about translation rows is answered.
+-- The answer to an order about translation rows.
 use Rattle.std.specs.Prelude.{Result, Ok, Err}
 use Rattle.signalling_types.specs.declared.cause.Cause.{Cause}
 use Rattle.signalling_types.specs.declared.outcome.Outcome.{Outcome}

@@ -10,17 +10,17 @@ use Rattle.flow_hold.specs.Holds.{HoldSet, with_hold}
 use Rattle.exchange_rules.specs.Routing.{goes_by}
 
 module _ (f : Facts) (link : ℕ) where
-  -- a flow is held where it goes by the link
+  -- a flow is held if it goes by the link
   abbrev pub with_flow : (place sls : ℕ) → HoldSet → HoldSet
   with_flow place sls holds =
       if goes_by (chosen_link f place sls) link then with_hold holds (Changeover link) place sls else holds
 
-  -- so are the flows of the first so many selections to a destination
+  -- the same for the flows of the first n selections to a destination
   unfoldable pub with_selections : (place count : ℕ) → HoldSet → HoldSet
   with_selections place zero holds = holds
   with_selections place (suc count) holds = with_flow place count (with_selections place count holds)
 
-  -- and those to the first so many destinations
+  -- and those to the first n destinations
   unfoldable pub with_destinations : (count : ℕ) → HoldSet → HoldSet
   with_destinations zero holds = holds
   with_destinations (suc count) holds = with_selections count SELECTIONS (with_destinations count holds)

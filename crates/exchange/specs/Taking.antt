@@ -5,7 +5,7 @@ use Rattle.exchange_rules.specs.State.{State, with_node, link_at}
 use Rattle.exchange.specs.KeptQueues.{KeptQueues, kept}
 use Rattle.exchange_rules.specs.Sending.{Outgoing, message_first, if_owed, frame_from, next_message, after_sending}
 
--- the text of the frame at the front of the buffer, and its length in octets; nothing where there is no frame
+-- the text of the frame at the front of the buffer, and its length in octets; nothing if there is no frame
 abbrev pub Writes : Option FrameValue → Option ℕ → List ℕ → List ℕ → Type 0
 Writes (Some frame) count old new =
     (count ≡ Some (length (spelled frame))) × (take (length (spelled frame)) new ≡ spelled frame)

@@ -1,5 +1,5 @@
--- How the code takes flows back: it begins the hold of each link that loses some and notes by which procedure, and then
--- walks all flows once.
+-- How the code takes flows back: it begins the hold of each link that loses some, notes which procedure that is, and
+-- then walks all flows once.
 use Rattle.std.specs.Prelude.{ℕ, zero, suc, Bool, List, length, replicate, Option, Some, None, if◌then◌else◌, slice_set}
 use Rattle.settings_rows.specs.Configuration.{Configuration}
 use Rattle.signalling_types.specs.declared.limits.TheConstants.Limits.{LINKS}
@@ -11,7 +11,7 @@ use Rattle.exchange_rules.specs.Routing.{facts}
 use Rattle.exchange_rules.specs.ChangingBack.{procedure_by, code_for, declare_by}
 
 module _ {Q : Type 0} (q : QueueKind Q) (c : Configuration) where
-  -- a link takes over flows from those others that lose some
+  -- a link takes over flows from the others that lose some
   module _ (link : ℕ) (loses : ℕ → Bool) where
     -- what holds the flows that come from another link, if any come
     abbrev pub holder : (other : ℕ) → Node Q → Option Procedure
@@ -21,12 +21,12 @@ module _ {Q : Type 0} (q : QueueKind Q) (c : Configuration) where
     abbrev pub declare : (other : ℕ) → Node Q → Node Q
     declare other node = if loses other then declare_by q c (code_for q c link other node) link other node else node
 
-    -- the first so many links, in order
+    -- the first n links, in order
     unfoldable pub declare_each : ℕ → Node Q → Node Q
     declare_each zero node = node
     declare_each (suc other) node = declare other (declare_each other node)
 
-    -- of each of the first so many links, what holds the flows that come from it
+    -- for each of the first n links, what holds the flows that come from it
     unfoldable pub holders : ℕ → Node Q → List (Option Procedure)
     holders zero node = replicate LINKS None
     holders (suc other) node = slice_set (holders other node) other (holder other (declare_each other node))

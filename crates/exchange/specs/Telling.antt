@@ -10,7 +10,7 @@ use Rattle.exchange_rules.specs.Telling.{tell_if, tell_each}
 use Rattle.exchange.specs.KeptQueues.{KeptQueues, kept}
 
 module _ {Q : Type 0} (q : QueueKind Q) (c : Configuration) where
-  -- what is owed at one place, if anything is
+  -- tells what is owed at one place, if anything is
   abbrev pub tell_at : (set destination : ℕ) → Option RouteStatus → Node Q → Node Q
   tell_at set destination (Some status) node =
       tell_if q c (record { set = set; destination = destination; status = status }) node

@@ -33,7 +33,6 @@ standing_name standing.Proving = codes "Proving"
 standing_name standing.AlignedReady = codes "AlignedReady"
 standing_name standing.InService = codes "InService"
 
--- a link as it is shown
 abbrev pub link_shown : {Q : Type 0} → QueueKind Q → Node Q → ℕ → LinkView
 link_shown q node link = record {
   standing = standing_of (link_at node.parts link).alignment;
@@ -45,8 +44,8 @@ link_shown q node link = record {
 abbrev pub link_view : {Q : Type 0} → QueueKind Q → State Q → ℕ → Option LinkView
 link_view q s link = if is_link s.node.parts link then Some (link_shown q s.node link) else None
 
--- whether a link may open as far as its changeover goes: it is there and down, its changeover is complete, and no answer
--- is awaited
+-- whether a link may open as far as its changeover goes: it is there and down, its changeover is complete, and no
+-- answer to its order is awaited
 abbrev pub may_restart_at : {Q : Type 0} → State Q → ℕ → Bool
 may_restart_at s link =
     is_link s.node.parts link && (down s.node.parts link && may_restart (changeover_of s.node.parts link))

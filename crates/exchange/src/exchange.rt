@@ -74,7 +74,7 @@ pub struct Exchange {
     notice_count: u64,
     times_lost: u64,
     times_late: u64,
-    // whether a hold changed since the messages of Held were last gone through
+    // whether a hold changed since the messages of Held were last walked
     release_due: bool,
     // which updates for adjacent points may be pending
     pending: PendingUpdates,

@@ -6,8 +6,8 @@ use arrayvec::ArrayVec;
 use settings::Limits;
 use std::marker::Model;
 
-/// Octets in front of a message's field in its frame: both headers, the priority octet and the service information
-/// octet (RFC 4165 §2).
+/// Octets before a message's field in its frame: both headers, the priority octet and the service information octet
+/// (RFC 4165 §2).
 const IN_FRONT_OF_FIELD: usize = 18;
 
 /// Octets of the longest frame that goes out: that of a message with the longest field.

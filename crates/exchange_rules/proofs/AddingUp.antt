@@ -1,4 +1,4 @@
--- Over every event and every take, all that came in stands, was accepted by a peer, or is named as lost.
+-- Over every event and every take, all that came in is still there, was accepted by a peer, or is named as lost.
 use Rattle.exchange_rules.proofs.Basics.{Bool, List, [], ap, arith, length, refl, replicate, subst, suc, sum_by, sym, zero, ℕ, ◌+◌, ◌∙◌, ◌∷◌, ◌≡◌, sum_by-cons}
 use Rattle.exchange_rules.proofs.Definitions.{first_queue, unconfirmed, Configuration, Message, gone_that, users_that, all_brought, all_gone, all_that_came_adds_up, brought_by_asking, gone_by_asking, first_state, Asking, AsksWants, Happens, Takes, HasAllPlaces, after_asking, after_each, AreLinksSteady, Abstract}
 use Rattle.exchange_rules.proofs.Asked.{settings-stay}

@@ -1,5 +1,5 @@
--- Whatever an exchange is asked, and however often, is made of rules: a relation that holds of each rule, of a tick and of a timer that is handed out
--- holds between the node before and the node after.
+-- Whatever an exchange is asked, and however often, is made of rules: a relation that holds of each rule, of a tick and
+-- of a timer that is handed out holds between the node before and the node after.
 use Rattle.exchange_rules.proofs.Basics.{◌≡◌, ℕ, List, [], ◌∷◌, refl, sym, subst, ◌∙◌}
 use Rattle.exchange_rules.proofs.Definitions.{Configuration, ticked, after_due, Node, with_timers, run_next, Happening, Asking, Happens, Takes, AsksWants, WholeQueues, whole, apply, after_take, Abstract, after_asking, after_each}
 use Rattle.exchange_rules.proofs.Steps.{IsOfSteps, IsOfRules}

@@ -1,4 +1,5 @@
--- A link that returns to service takes over flows itself, and no flow goes to any other link then: each that changed its link is held.
+-- A link that returns to service takes over flows itself, and no flow goes to any other link then: each that changed
+-- its link is held.
 use Rattle.exchange_rules.proofs.Basics.{◌≡◌, ◌≢◌, ℕ, Bool, true, false, ◌&&◌, length, not, refl, ap, sym, ◌∙◌, ⊎_elim, length-set, length-map}
 use Rattle.exchange_rules.proofs.Definitions.{Allowed, Facts, with_status_over, chosen_link, Configuration, Transition, is_held, reset_shape, Parts, Node, with_parts, in_service, link_at, WholeQueues, whole, facts, change_back, set_of, enters, begun_anew_if, step_on, return_if, advance, HasPlacesFor, entries_hold_changed_flows}
 use Rattle.std.specs.Prelude.{Some, map}

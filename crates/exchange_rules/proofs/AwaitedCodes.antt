@@ -1,4 +1,4 @@
--- One code more is awaited, and one message more stands in a queue.
+-- One code more is awaited, and one message more is in a queue.
 use Rattle.exchange_rules.proofs.Basics.{◌≡◌, ◌≢◌, ◌<◌, ◌≤◌, ℕ, Bool, true, false, not, List, [], length, Some, refl, ap, sym, ◌∙◌, subst, arith, slice_index_or, slice_set, ⊎_elim, cases_lt, cases_eq, get_or_past, get_or-set_same, get_or-set_other, length-set, position-Some}
 use Rattle.exchange_rules.proofs.Definitions.{Codes, codes_of, free_code, is_outstanding, with_code}
 

@@ -1,5 +1,5 @@
--- What was received on a link rises by one at most, exactly where a frame newly carries a message, and that is the one
--- that stands in the frame.
+-- What was received on a link rises by one at most, exactly when a frame newly carries a message, and that is the one
+-- that is in the frame.
 use Rattle.exchange_rules.proofs.Basics.{◌≡◌, ◌&&◌, ℕ, Bool, true, false, not, List, Some, None, Result, Ok, Err, if◌then◌else◌}
 use Rattle.exchange_rules.proofs.Definitions.{Message, FrameFault, Configuration, FrameValue, EmptyFrame, MessageFrame, StatusFrame, read_frame, Action, UserData, action_at, SeqFault, Node, is_link, link_at, down, advance, Carrying, empty_data, message_data, numbers, WholeQueues, whole, carried_message, new_by, new_at, new_of, new_message, Abstract}
 use Rattle.link.specs.declared.action.Action.TheVariants as act

@@ -1,4 +1,5 @@
--- Queues of one kind that are kept as those of another, rules that do the same over both, and how such rules are put together.
+-- Queues of one kind that are kept as those of another, rules that do the same over both, and how such rules are put
+-- together.
 use Rattle.exchange_rules.proofs.Basics.{◌≡◌, ℕ, Bool, true, false, Option, refl, ap, ◌∙◌, if◌then◌else◌}
 use Rattle.exchange_rules.proofs.Definitions.{Message, Outcome, Parts, Node, Done, QueueKind, keep, with_parts, answer}
 

@@ -1,4 +1,5 @@
--- What a tick does to timers where no link enters service or leaves it: they run down and stop, and none is set but L1, L2, L3, T8 and T10.
+-- What a tick does to timers if no link enters service or leaves it: they run down and stop, and none is set but L1,
+-- L2, L3, T8 and T10.
 use Rattle.exchange_rules.proofs.Basics.{◌≡◌, ◌≢◌, ◌⊎◌, inl, inr, ℕ, Bool, true, false, ◌&&◌, List, [], ◌∷◌, length, nat_lt, Option, Some, None, refl, ap, sym, ◌∙◌, ⊎_elim, subst, if◌then◌else◌}
 use Rattle.exchange_rules.proofs.Definitions.{Message, flow_of, Configuration, Cause, FailureReason, ChangeoverTimer, Alignment, Action, Expiry, LinkTimer, action_at, TimerName, Running, L6, L7, set_timer, clear_timer, left-set_other, left-clear, left-clear_other, without_timers, RouteStatus, status_of, Owed, owed, Parts, Node, Found, with_parts, is_link, link_at, in_service, facts, link_of, no_room, fail, fail_link, change_over, make_unavailable, send, send_anew, send_each, lose_each, judged, concluded, complete_if, changeover_of, with_expiry, told_parts, route_message, timed_telling, may_tell, tell, tell_if, tell_each, tell_owed, ask, ask_by, prohibited_test, restricted_test, with_next_test, go_on, go_by, go, go_each, release, waits, run_timer, WholeQueues, whole, Allowed, Restricted, Prohibited, is_in_service}
 use Rattle.exchange_rules.specs.ChangingOver.{with_losses}
@@ -86,7 +87,8 @@ pub judged-timers : (reasonable : Bool) (p : Parts) → (judged reasonable p).ti
 judged-timers true p = refl
 judged-timers false p = refl
 
--- ---- by the table of the alignment: where L1, L2 or L3 runs out nothing happens, or a link fails that isn't in service
+-- ---- by the table of the alignment: where L1, L2 or L3 runs out nothing happens, or a link fails that isn't in
+-- service
 
 abbrev IsIdle : Alignment → LinkTimer → Type 0
 IsIdle a its = (action_at a (Expiry its) ≡ act.Ignored) ⊎ ((action_at a (Expiry its) ≡ act.Fail) × (is_in_service a ≡ false))

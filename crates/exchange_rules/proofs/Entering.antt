@@ -12,8 +12,8 @@ known_before c link step p e =
     ap (λ (serving : List Bool). record { sets = sets_in c; in_service = serving; routes = p.routes })
     (serving_without p.links link (stepped step (link_at p link)) e)
 
--- once the link that entered is taken out again, each flow takes the link that it took before, also where all that is known over its
--- set began anew: then that set had no link
+-- once the link that entered is taken out again, each flow takes the link that it took before, also where all that is
+-- known over its set began anew: then that set had no link
 pub known_links : (c : Configuration) (link : ℕ) (step : Transition) (p : Parts) (first : Bool) → in_service p link ≡ false
     → (first ≡ true → has_other c link p ≡ false) → (destination sls : ℕ)
     → chosen_link (with_link link false (facts c (begun_anew_if first c link (step_on c link step p)))) destination sls ≡ chosen_link (facts c p) destination sls

@@ -1,4 +1,4 @@
--- A failure holds the flows that fail with the link, and nothing behind it touches holds.
+-- A failure holds the flows that fail with the link, and nothing after it touches holds.
 use Rattle.exchange_rules.proofs.Basics.{◌≡◌, ◌<◌, ◌≤◌, ℕ, zero, suc, Bool, true, false, ◌&&◌, ◌||◌, not, List, [], ◌∷◌, length, nat_eq, Option, Some, None, refl, ap, sym, ◌∙◌, arith, inl, inr, if◌then◌else◌, Contains, list_any, option_eq, ⊎_elim, and_parts, cases_lt, eq-eqb, eqb-true, nat_tests, get_or_past, or_left as in-front, or_right as also-behind, and_from as both}
 use Rattle.exchange_rules.proofs.Definitions.{Message, flow_of, is_management, Cause, FailureReason, Configuration, destination_place, Facts, chosen_link, Link, down_link, is_in_service, Changeover, SELECTIONS, HoldSet, holds, may_hold, with_flows, flows_leave, Parts, Node, with_parts, in_service, facts, goes_by, link_of, no_room, send, WholeQueues, whole, is_of_flow, is_failed, suspended, set_of, without_tests, has_other, changeover_order, changing, fail_link, without_tests_if_last, make_unavailable, begin, change_over, fail, begin_by_peer, fail_by_peer, HasPlacesFor}
 use Rattle.signalling_types.specs.declared.notice.FailureReason.TheVariants as reasons

@@ -1,4 +1,4 @@
--- Where a rule puts a message on the queue of a link, that link is in service.
+-- If a rule puts a message on the queue of a link, that link is in service.
 use Rattle.exchange_rules.proofs.Basics.{Bool, List, None, Option, Some, [], ap, false, inl, inr, length, refl, subst, suc, sym, true, zero, ℕ, ◌∙◌, ◌∷◌, ◌≡◌, ◌≢◌, ◌⊎◌, ⊎_elim, cases_eq, get_or-set_other, if◌then◌else◌}
 use Rattle.exchange_rules.proofs.Definitions.{Transition, Queue, appended, emptied, first_queue, Link, is_in_service, Owed, owed, Facts, Configuration, Message, flow_of, Cause, LostUnconfirmed, code_for, declaration, hold_flows, loses_flows, take_back_each, complete_if, concluded, judged, lifted_parts, lose, lose_each, send_each, waits, GivesInService, declared_in_service, queued_anew_in_service, routed_in_service, settled_in_service, in_service, send, send_anew, send_routed, no_room, queue_on, WholeQueues, queue_at, whole, go, go_by, go_each, go_on, release, facts, link_of, Found, Node, Parts, with_parts, advance, enters, moved_on, return_if, may_tell, route_message, tell_each, tell_if, tell_owed, told_parts}
 use Rattle.exchange_rules.proofs.Combining.{changed}

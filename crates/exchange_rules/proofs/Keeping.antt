@@ -1,5 +1,5 @@
--- Frames, whole events and what goes out: what is kept of the node that a rule leaves is what the rule leaves of what was kept, and it stays
--- sound. Over any two kinds of queues P and Q of which h keeps one as the other.
+-- Frames, whole events and what goes out: what is kept of the node that a rule leaves is what the rule leaves of what
+-- was kept, and it stays sound. Over any two kinds of queues P and Q of which h keeps one as the other.
 use Rattle.exchange_rules.proofs.Basics.{◌≡◌, ℕ, Bool, true, false, List, [], ◌∷◌, Option, Some, None, Result, Ok, Err, refl, ap, ◌∙◌, if◌then◌else◌}
 use Rattle.exchange_rules.proofs.Definitions.{Message, flow_of, Configuration, Ignored, FrameFault, FrameValue, EmptyFrame, MessageFrame, StatusFrame, read_frame, Action, UserData, action_at, SeqFault, Parts, Node, Done, QueueKind, keep, answer, refuse, is_link, link_at, down, waits, link_of, tell_owed, whither_goes, go_on, go_by, go, go_each, release, advance, Carrying, carries, owing, timed_parts, numbers, accept, carry, handle_by, handle, act_by_data, receive_data, receive_frame, leave_aside, read, receive, Outgoing, SendsStatus, SendsMessage, Acknowledges, SendsNothing, carried, goes_out, after_sending, frame_taken, after_take, Happening, CameUp, WentDown, FrameCame, Ticked, Submitted, Activated, Deactivated, TitleAdded, TitleRemoved, handle_event, settled, apply}
 use Rattle.signalling_types.specs.declared.cause.Cause.TheVariants as causes

@@ -1,5 +1,5 @@
--- Associations and orders, statuses and timers of links: what is kept of the node that a rule leaves is what the rule leaves of what was kept,
--- and it stays sound. Over any two kinds of queues P and Q of which h keeps one as the other.
+-- Associations and orders, statuses and timers of links: what is kept of the node that a rule leaves is what the rule
+-- leaves of what was kept, and it stays sound. Over any two kinds of queues P and Q of which h keeps one as the other.
 use Rattle.exchange_rules.proofs.Basics.{ℕ, zero, suc, true, false, Option, Some, None, refl, ap, if◌then◌else◌}
 use Rattle.exchange_rules.proofs.Definitions.{Configuration, Handled, Ignored, FailureReason, LinkStatus, Action, Status, Expiry, LinkTimer, Transition, action_at, TimerName, ticked, due_name, due_count, after_due, may_restart, Node, Done, QueueKind, keep, with_parts, answer, refuse, is_link, link_at, down, may_open, begun, open_link, association_up, fail_if_up, end_association, association_down, with_active, set_active, activate, deactivate, without_association, changeover_of, fail, advance, end_busy, serve_status, step_by_status, act_by_status, on_link_status, act_by_timer, run_out, with_timers, run_timer, run_due, run_next, run_times, tick}
 use Rattle.signalling_types.specs.declared.cause.Cause.TheVariants as causes

@@ -1,5 +1,6 @@
--- Messages for this point, and those that are delivered or submitted: what is kept of the node that a rule leaves is what the rule leaves of
--- what was kept, and it stays sound. Over any two kinds of queues P and Q of which h keeps one as the other.
+-- Messages for this point, and those that are delivered or submitted: what is kept of the node that a rule leaves is
+-- what the rule leaves of what was kept, and it stays sound. Over any two kinds of queues P and Q of which h keeps one
+-- as the other.
 use Rattle.exchange_rules.proofs.Basics.{ℕ, Option, Some, None, Result, Ok, Err, ap, if◌then◌else◌}
 use Rattle.exchange_rules.proofs.Definitions.{Message, opc_of, is_management, service_indicator, Configuration, Local, MgmtFault, TestKind, Test, Acknowledgement, Management, TrafficRestartAllowed, TransferProhibited, TransferRestricted, TransferAllowed, RouteSetTestProhibited, RouteSetTestRestricted, ChangebackDeclaration, ChangebackAcknowledgement, ExtendedChangeoverOrder, ExtendedChangeoverAcknowledgement, EmergencyChangeoverOrder, EmergencyChangeoverAcknowledgement, LinkTestValue, read_link_test, read_management, Discrimination, set_place, destination_place, Allowed, Restricted, Prohibited, Node, Done, QueueKind, keep, answer, refuse, note_refusal, route_about, transfer, sccp, is_user, is_adjacent, link_with_code, test_answer, local, do_order, do_acknowledgement, do_management, do_kind, do_test, manage, distribute, on_unitdata, whither_goes, deliver_to, deliver, submit_to, changeback_acknowledgement}
 use Rattle.std.specs.Prelude.{nat_eq}

@@ -1,5 +1,6 @@
--- Messages that are made here or go to other points, and what adjacent points are told and say: what is kept of the node that a rule leaves
--- is what the rule leaves of what was kept, and it stays sound. Over any two kinds of queues P and Q of which h keeps one as the other.
+-- Messages that are made here or go to other points, and what adjacent points are told and say: what is kept of the
+-- node that a rule leaves is what the rule leaves of what was kept, and it stays sound. Over any two kinds of queues P
+-- and Q of which h keeps one as the other.
 use Rattle.exchange_rules.proofs.Basics.{◌≡◌, ℕ, Bool, true, false, List, [], ◌∷◌, Option, Some, None, Result, Ok, Err, refl, ap, ◌∙◌}
 use Rattle.exchange_rules.proofs.Definitions.{Message, dpc_of, flow_of, Configuration, Cause, Outcome, Handled, Ignored, destination_place, RouteStatus, Allowed, Restricted, Prohibited, status_of, Heard, RouteTest, Owed, owed, Node, QueueKind, keep, with_parts, answer, refuse, waits, facts, link_of, set_of, no_room, is_destination, offer, transfer, told_below, route_message, told_parts, answered_parts, inhibited, is_inhibited, may_tell, tell_if, tell_each, tell_owed, prohibit, prohibit_if, answer_no_route, send_route_status, answer_route_test, on_route_test, with_status_heard, with_next_test, prohibited_test, restricted_test, apply_route_status, on_route_status, ask_by, ask_again, send, send_on, send_routed, send_anew, send_each}
 use Rattle.std.specs.Prelude.{nat_lt, length, ◌&&◌, not}

@@ -1,5 +1,5 @@
--- SCCP messages for this point, and translation rows: what is kept of the node that a rule leaves is what the rule leaves of what was kept, and
--- it stays sound. Over any two kinds of queues P and Q of which h keeps one as the other.
+-- SCCP messages for this point, and translation rows: what is kept of the node that a rule leaves is what the rule
+-- leaves of what was kept, and it stays sound. Over any two kinds of queues P and Q of which h keeps one as the other.
 use Rattle.exchange_rules.proofs.Basics.{ℕ, Bool, List, Option, Some, None, refl, ap, ◌∙◌}
 use Rattle.exchange_rules.proofs.Definitions.{Message, Configuration, TitleEntry, Cause, Outcome, Queued, Held, Local, Handled, Ignored, Refused, TitleKey, place_of, has_row, without_row, RelayedValue, relay, returned, Node, Done, QueueKind, keep, with_parts, answer, refuse, transfer, own_of, in_place_of, send_udts, return_outcome, return_refusal, relay_by, on_unitdata, with_titles, title_refusal, add_title_unless, add_title, remove_title}
 use Rattle.signalling_types.specs.declared.cause.Cause.TheVariants as causes

@@ -1,4 +1,4 @@
--- No message for this point stands in Held, or in a queue: so it is at first, and so it stays.
+-- No message for this point is in Held, or in a queue: so it is at first, and so it stays.
 use Rattle.exchange_rules.proofs.Basics.{◌≡◌, ℕ, Bool, true, false, ◌&&◌, not, List, [], ◌∷◌, ◌++◌, zero, suc, Option, Some, None, Result, Ok, Err, refl, ap, sym, subst, ◌∙◌, if◌then◌else◌, filter, drop, slice_set, and_from as pair}
 use Rattle.exchange_rules.proofs.Definitions.{Message, is_management, Configuration, IsWell, Queue, Sending, first_queue, emptied, after_answer, accept_answer, to_send, appended, SeqFault, behind, moved, accepted_count, Node, queue_on, declaration, test_answer, carries, WholeQueues, queue_at, whole}
 use Rattle.std.specs.Prelude.{length}

@@ -1,4 +1,4 @@
--- The routes to adjacent points over their own sets are allowed in each state that comes of the first.
+-- The routes to adjacent points over their own sets are allowed in each state reached from the first.
 use Rattle.exchange_rules.proofs.Basics.{◌≡◌, ℕ, false, List, [], Option, None, refl, ap, subst, sym, ◌∙◌, slice_index_or, get_or-map}
 use Rattle.exchange_rules.proofs.Definitions.{Configuration, DestinationEntry, first_routes, ToldTable, is_number, Node, WholeQueues, first_parts, first_state}
 use Rattle.exchange_rules.specs.LastingRoutes.{own_routes_stay_allowed}

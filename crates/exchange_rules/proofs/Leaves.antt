@@ -1,4 +1,5 @@
--- What a rule leaves where it refuses, by the cause of the refusal, and which link it queues on: said of plain answers, and of tests between two.
+-- What a rule leaves if it refuses, by the cause of the refusal, and which link it queues on: said of plain answers,
+-- and of tests between two.
 use Rattle.exchange_rules.proofs.Basics.{◌≡◌, ℕ, Bool, true, false, Option, Some, None, refl, ap, ◌∙◌, if◌then◌else◌, nat_le}
 use Rattle.exchange_rules.proofs.Definitions.{Message, is_management, Configuration, Cause, MANAGEMENT_MESSAGES, Outcome, Queued, Held, Local, Handled, Ignored, Refused, MgmtFault, Node, Done, answer, refuse, in_service, no_room, cause_of, WholeQueues, whole}
 use Rattle.signalling_types.specs.declared.cause.Cause.TheVariants as causes

@@ -1,4 +1,5 @@
--- A frame whose message is refused leaves the node that had accepted it, with its notice; a message in a frame is queued on a link in service.
+-- A frame whose message is refused leaves the node that had accepted it, with its notice; a message in a frame is
+-- queued on a link in service.
 use Rattle.exchange_rules.proofs.Basics.{◌≡◌, ℕ, Bool, true, false, Option, Some, None, Result, Ok, Err, refl, ap, ◌∙◌, if◌then◌else◌}
 use Rattle.exchange_rules.proofs.Definitions.{Message, Configuration, Cause, Outcome, Queued, Held, Local, Handled, Ignored, Refused, FrameFault, FrameValue, EmptyFrame, MessageFrame, StatusFrame, LinkStatus, Action, Status, UserData, action_at, count_confirmed, SeqFault, Parts, Node, Done, with_parts, answer, link_at, in_service, note_outcome, note_refusal, whither_goes, deliver_to, advance, act_by_status, Carrying, data_of, numbers, accept, carry, handle_by, act_by_data, receive_frame, leave_aside, read, WholeQueues, whole, accept_data, accept_frame, accept_text, carried_message, answered, Abstract}
 use Rattle.signalling_types.specs.declared.notice.FrameFault.TheVariants as faults

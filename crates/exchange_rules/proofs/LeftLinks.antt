@@ -1,4 +1,5 @@
--- A link that an event isn't about: messages go behind its queue while it is in service, a completion empties it, and nothing else touches it.
+-- A link that an event isn't about: messages go after its queue while it is in service, a completion empties it, and
+-- nothing else touches it.
 use Rattle.exchange_rules.proofs.Basics.{◌≡◌, ◌≢◌, ◌<◌, ◌≤◌, ◌⊎◌, inl, inr, ℕ, Bool, true, false, List, [], ◌∷◌, ◌++◌, length, Option, refl, ap, sym, subst, ◌∙◌, arith, slice_set, ⊎_elim, cases_eq, cases_lt, append-nil, append_assoc, get_or_past, get_or-set_same, length-set}
 use Rattle.exchange_rules.proofs.Definitions.{Message, FailureReason, Configuration, Queue, first_queue, emptied, TimerName, is_due, Link, down_link, is_in_service, after_failure, Standing, no_changeover, Node, with_parts, link_at, in_service, with_link, queue_on, changeover_of, with_changeover, fail_link, WholeQueues, queue_at, whole}
 use Rattle.link.specs.Queue as queue

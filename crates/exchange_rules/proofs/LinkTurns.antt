@@ -1,4 +1,5 @@
--- As time runs, L4, L6 and L7 run down, and none is set; in each state they have no more ticks left than they are set to.
+-- As time runs, L4, L6 and L7 run down, and none is set; in each state they have no more ticks left than they are set
+-- to.
 use Rattle.exchange_rules.proofs.Basics.{◌≡◌, ◌⊎◌, inl, inr, ◌≤◌, ℕ, zero, suc, Bool, true, false, nat_eq, Option, Some, None, refl, sym, ◌∙◌, subst, arith, max, ⊎_elim, if◌then◌else◌}
 use Rattle.exchange_rules.proofs.Definitions.{Configuration, Alignment, Action, Expiry, LinkTimer, Transition, action_at, opening, TimerName, Running, timer_name, ticks_of, timed, timed_busy_ended, timed_confirming, timed_sending, without_timer, without_timer_if, with_timer, with_timer_if, is_running, due_name, after_due, Node, link_at, in_service, changeover_of, act_by_timer, run_timer, run_due, run_next, run_times, with_timers, is_link, carries, left-ticked, left-none, first_state, WholeQueues, whole}
 use Rattle.timers.specs.Timers.{start_unless_running}
@@ -31,7 +32,8 @@ taking-link (name.T6 destination) e = absurd cc
 taking-link (name.T8 set destination) e = absurd cc
 taking-link (name.T10 set destination) e = absurd cc
 
--- ---- by the table of the alignment: as L6 or L7 runs out, nothing happens or a link fails; as L4 does, one goes on, and no such timer starts
+-- ---- by the table of the alignment: as L6 or L7 runs out, nothing happens or a link fails; as L4 does, one goes on,
+-- and no such timer starts
 
 abbrev MayFail : Action → Type 0
 MayFail a = (a ≡ act.Ignored) ⊎ (a ≡ act.Fail)

@@ -1,4 +1,5 @@
--- Which timers of a link run as they are set and stopped, and what a step of its alignment does to the one with which it waits.
+-- Which timers of a link run as they are set and stopped, and what a step of its alignment does to the one with which
+-- it waits.
 use Rattle.exchange_rules.proofs.Basics.{◌≡◌, ◌≢◌, ℕ, Bool, true, false, ◌&&◌, ◌||◌, not, ◌==◌, nat_lt, Option, Some, None, refl, ap, sym, subst, ◌∙◌, arith, if◌then◌else◌, is_some, nat_tests}
 use Rattle.exchange_rules.proofs.Definitions.{Configuration, Alignment, Input, Go, Transition, Effect, Fails, Remembers, Enters, EntersServing, Serves, table, timer_of, state_number, effect_in, action_of, action_at, LinkTimer, TimerName, NodeCounts, key_of, has_name, Running, is_running, left-set, left-set_other, left-clear, left-clear_other, counts-clear, timer_name, ticks_of, without_timer, without_timers, with_timer, without_timer_if, with_timer_if}
 use Rattle.link.specs.Table.{timer_number}

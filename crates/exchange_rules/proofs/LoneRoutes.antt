@@ -1,4 +1,4 @@
--- Where one set alone leads to a point, the route there stays allowed, and what is for it stands on links of that set.
+-- If one set alone leads to a point, the route there stays allowed, and what is for it is on links of that set.
 use Rattle.exchange_rules.proofs.Basics.{◌≡◌, ◌≢◌, ◌<◌, ◌≤◌, ◌⊎◌, inl, inr, ℕ, zero, suc, ◌+◌, ◌-◌, Bool, true, false, ◌&&◌, ◌||◌, not, cond, List, [], ◌∷◌, ◌++◌, length, map, nat_eq, get_or, slice_set, refl, ap, sym, subst, ◌∙◌, arith, if◌then◌else◌, find, slice_index_or, Option, Some, None, option_map, option_and_then, Contains, list_any, position, ⊎_elim, cases_eq, cases_lt, eq-eqb, eqb-true, get_or_past, get_or-set_same, get_or-set_other, get_or-map, length-set, append-nil, get_or_append_left, get_or-append_right, Contains-append_right, position-Some}
 use Rattle.exchange_rules.proofs.Definitions.{Message, dpc_of, flow_of, is_management, Configuration, LinkEntry, SetEntry, DestinationEntry, destination_place, Queue, first_queue, emptied, appended, Route, RouteStatus, Allowed, first_route, first_routes, first_sets, Facts, chosen_link, ToldTable, is_number, is_own_point, Parts, Node, facts, link_of, queue_on, declaration, test_answer, entry_of, peer_of, ChangebackDeclaration, set_of, carries, WholeQueues, queue_at, whole, first_state}
 use Rattle.std.proofs.lemmas.List.Folds.{list_any-append}

@@ -1,4 +1,4 @@
--- Rules that take user messages in, let them go for good, or move them: how many stand after each.
+-- Rules that take user messages in, let them go for good, or move them: how many are after each.
 use Rattle.exchange_rules.proofs.Basics.{Bool, List, None, Option, Some, [], ap, arith, cond, false, length, nat_eq, nat_lt, refl, sum_by, sym, true, ℕ, ◌++◌, ◌+◌, ◌-◌, ◌<◌, ◌∙◌, ◌∷◌, ◌≡◌, ◌≤◌, ⊎_elim, cases_lt, nat_tests, get_or_past, sum_by-append, count_by, if◌then◌else◌, slice_set, take}
 use Rattle.exchange_rules.proofs.Definitions.{accepted_count, behind, in_doubt, lost, moved, users_of, unconfirmed-appended, IsQueue, Queue, appended, emptied, first_queue, unconfirmed, Link, down_link, is_in_service, Discrimination, RelayedValue, relay, returned, Configuration, Message, dpc_of, flow_of, is_management, service_indicator, Cause, Outcome, Handled, Held, Ignored, Local, Queued, Refused, destination_place, is_destination, offer, transfer, answered_in, brought_here, brought_to, gone_by_completion, gone_that, relayed_in, returned_in, standing, taken_in, unitdata_in, users_that, waits, in_service, is_user, local, sccp, submit, submit_to, whither_goes, no_room, queue_on, WholeQueues, queue_at, whole, in_place_of, on_unitdata, own_of, relay_by, return_outcome, return_unitdata, send_udts, link_of, Done, Node, Parts, answer, refuse}
 use Rattle.changeover.proofs.Completing.{once}

@@ -1,4 +1,4 @@
--- A frame on a link raises what was received there by one exactly where it newly carries a message; no other event does.
+-- A frame on a link raises what was received there by one exactly when it newly carries a message; no other event does.
 use Rattle.exchange_rules.proofs.Basics.{◌≡◌, ◌≢◌, ◌<◌, ◌+◌, ℕ, Bool, true, false, ◌&&◌, not, List, length, nat_eq, Option, Some, None, Result, Ok, Err, refl, ap, sym, subst, ◌∙◌, arith, if◌then◌else◌, is_some, nat_tests, get_or-set_same}
 use Rattle.exchange_rules.proofs.Definitions.{Message, Ignored, FrameFault, Configuration, FrameValue, EmptyFrame, MessageFrame, StatusFrame, read_frame, LinkStatus, Action, Status, UserData, action_at, Queue, first_queue, after_answer, SeqFault, Node, answer, refuse, is_link, link_at, down, in_service, advance, act_by_status, Carrying, carries, empty_data, message_data, timed_parts, numbers, accept, carry, handle_by, act_by_data, receive_data, leave_aside, read, receive, Happening, CameUp, WentDown, FrameCame, Ticked, Submitted, Activated, Deactivated, TitleAdded, TitleRemoved, apply, WholeQueues, queue_at, whole, Abstract, HasAllPlaces, new_by, new_at, new_in, new_of, new_message, received, received_is_counted, takes_receive_nothing, is_idle, nothing_new_is_delivered}
 use Rattle.signalling_types.specs.declared.cause.Cause.TheVariants as causes

@@ -1,4 +1,5 @@
--- A link takes a step of its alignment, and all that is known over its set begins anew: whichever comes first, the node is the same.
+-- A link takes a step of its alignment, and all that is known over its set begins again: whichever comes first, the
+-- node is the same.
 use Rattle.exchange_rules.proofs.Basics.{◌≡◌, ◌≢◌, ℕ, Bool, true, false, Option, Some, None, refl, ap, sym, subst, ◌∙◌, ⊎_elim}
 use Rattle.exchange_rules.proofs.Definitions.{Configuration, Transition, LinkTimer, TimerName, NodeCounts, Running, has_name, is_of_set, set_timer, clear_timer, clear_set, left-set, left-set_other, left-clear, left-clear_other, left-clear_set_other, counts-set, counts-clear, counts-clear_set, timer_name, ticks_of, without_timer_if, with_timer_if, timed, Parts, step_on, with_set_reset}
 use Rattle.timers.proofs.Maps.{left-clear_set}

@@ -47,11 +47,11 @@ message_goes_on =
 
 -- ---- a message for another point
 
-pub queued_message_stands : examples.queued_message_stands
-queued_message_stands = (refl, refl)
+pub queued_message_is_on_its_link : examples.queued_message_is_on_its_link
+queued_message_is_on_its_link = (refl, refl)
 
-pub refused_message_is_gone : examples.refused_message_is_gone
-refused_message_is_gone = (refl, refl)
+pub refused_message_is_on_none : examples.refused_message_is_on_none
+refused_message_is_on_none = (refl, refl)
 
 -- ---- a failure
 

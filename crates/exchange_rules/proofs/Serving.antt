@@ -1,5 +1,5 @@
--- By the table of the alignment: a step about which the rules of a link in service have something to do leads into service, or stays there; a link in
--- service leaves it by no step; and no step sets or stops L7.
+-- By the table of the alignment: a step about which the rules of a link in service have something to do leads into
+-- service, or stays there; a link in service leaves it by no step; and no step sets or stops L7.
 use Rattle.exchange_rules.proofs.Basics.{◌≡◌, ℕ, Bool, true, false, ◌&&◌, not, List, [], ◌∷◌, Option, Some, None, refl, ap, sym, subst, ◌∙◌, arith, if◌then◌else◌, list_all, nat_tests}
 use Rattle.exchange_rules.proofs.Definitions.{Alignment, Action, Fail, Go, Input, UserData, LinkTimer, Transition, Effect, Fails, Remembers, Enters, EntersServing, Serves, Cell, table, timer_of, state_number, is_same_input, effect_in, action_of, action_at, staying, is_down, is_in_service}
 use Rattle.std.proofs.Common.{◌==◌}

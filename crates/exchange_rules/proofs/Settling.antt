@@ -1,4 +1,5 @@
--- What a release leaves: each message of Held waits, and where each did before, nothing changed. What is told leaves that so.
+-- What a release leaves: each message of Held waits, and if each did before, nothing changed. What is told leaves that
+-- so.
 use Rattle.exchange_rules.proofs.Basics.{◌≡◌, ℕ, Bool, true, false, ◌&&◌, not, List, [], ◌∷◌, ◌++◌, Option, Some, None, refl, ap, sym, ◌∙◌, if◌then◌else◌, append-nil, append_assoc}
 use Rattle.exchange_rules.proofs.Definitions.{Message, flow_of, Cause, Configuration, Prohibited, Owed, owed, HoldSet, Node, with_parts, WholeQueues, whole, facts, link_of, waits, all_wait, go_on, go_by, go, go_each, release, Outgoing, SendsStatus, SendsMessage, Acknowledges, SendsNothing, goes_out, after_sending, after_take, set_of, no_room, send, send_routed, route_message, told_parts, inhibited, is_inhibited, may_tell, tell, tell_if, tell_each, tell_owed, prohibit, prohibit_if, answer_no_route}
 use Rattle.std.proofs.lemmas.List.Folds.{list_all-append}

@@ -1,4 +1,5 @@
--- Whatever an exchange is asked, each link stays steady: a timer L7 that runs out fails its link, so that it is exact again.
+-- Whatever an exchange is asked, each link stays steady: a timer L7 that runs out fails its link, so that it is exact
+-- again.
 use Rattle.exchange_rules.proofs.Basics.{◌≡◌, ◌<◌, ℕ, ◌-◌, Bool, true, false, ◌&&◌, not, List, length, Option, Some, None, Ok, refl, ap, sym, subst, ◌∙◌, if◌then◌else◌, is_some, get_or-set_same}
 use Rattle.exchange_rules.proofs.Definitions.{Configuration, flow_of, Alignment, Action, Expiry, action_at, opening, Queue, Sending, first_queue, NodeCounts, TimerName, L7, is_same, Running, is_running, one_less, ticked, due_name, after_due, left-clear, left-clear_other, left-ticked, counts-after, after-clear, after-none, Link, down_link, is_in_service, opened, after_failure, Standing, Node, link_at, in_service, changeover_of, fail, Carrying, carries, numbers, may_open, open_link, SendsMessage, may_send, next_message, after_sending, act_by_timer, run_out, with_timers, run_due, run_next, WholeQueues, queue_at, whole, is_l7_running}
 use Rattle.signalling_types.specs.declared.notice.FailureReason.TheVariants as reasons

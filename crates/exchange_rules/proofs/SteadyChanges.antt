@@ -1,4 +1,5 @@
--- A link takes a step of its alignment, hears that its peer is busy and that it isn't, accepts User Data and sends: it stays steady.
+-- A link takes a step of its alignment, hears that its peer is busy and that it isn't, accepts User Data and sends: it
+-- stays steady.
 use Rattle.exchange_rules.proofs.Basics.{◌≡◌, ◌≤◌, ℕ, ◌-◌, ◌+◌, Bool, true, false, ◌&&◌, not, [], length, nat_lt, nat_eq, Option, Some, Result, Ok, refl, ap, sym, ◌∙◌, arith, if◌then◌else◌, nat_tests, false_from_ne_true as both-ways}
 use Rattle.exchange_rules.proofs.Definitions.{Alignment, Input, Go, Transition, action_at, Queue, IsQueue, Sending, accept_answer, accepted, after_answer, to_send, sent_one, SeqFault, sound-accepted, sound-sent_one, Link, is_down, is_in_service, stepped, Standing, may_send}
 use Rattle.link.specs.declared.action.Action.TheVariants.{Ignored}

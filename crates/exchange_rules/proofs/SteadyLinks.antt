@@ -3,7 +3,8 @@ use Rattle.exchange_rules.proofs.Basics.{◌≡◌, ℕ, ◌-◌, Bool, true, fa
 use Rattle.exchange_rules.proofs.Definitions.{Message, Alignment, Queue, IsQueue, first_queue, appended, emptied, sound-first, sound-appended, sound-emptied, Link, is_down, is_in_service, opened, after_failure, Standing, may_send, IsSteady}
 use Rattle.exchange_rules.proofs.Serving.{down-is}
 
--- a link is steady, but where its L7 has just run out (then it isn't exact whether that runs): out of service it doesn't run
+-- a link is steady, but where its L7 has just run out (then it isn't exact whether that runs): out of service it
+-- doesn't run
 pub record Stands (exact : Bool) (w : ℕ) (l : Link) (s : Standing) (q : Queue) (b : Bool) : Type 0 where
   pub queue : IsQueue w q
   pub associated : l.association ≡ false → is_down l.alignment ≡ true

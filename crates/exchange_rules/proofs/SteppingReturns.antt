@@ -1,4 +1,5 @@
--- A link that enters service takes its flows back: the rule is made of steps, and each declaration goes out on a link in service.
+-- A link that enters service takes its flows back: the rule is made of steps, and each declaration goes out on a link
+-- in service.
 use Rattle.exchange_rules.proofs.Basics.{◌≡◌, ◌≢◌, ℕ, zero, suc, Bool, true, false, not, length, nat_eq, Option, Some, None, refl, ap, ◌∙◌, arith, if◌then◌else◌, and_parts, eqb-true, nat_tests}
 use Rattle.exchange_rules.proofs.Definitions.{Configuration, Facts, chosen_link, Procedure, Code, any_flow, IsAnyFlow, some_passes, Parts, Node, with_parts, in_service, network_of, facts, goes_by, set_of, is_taken_back, loses_flows, procedure_by, code_in_use, freed, code_for, declare_by, hold_flows, take_back_each, change_back, WholeQueues, whole}
 use Rattle.timers.specs.declared.name.TimerName.TheVariants as name

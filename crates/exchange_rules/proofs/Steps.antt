@@ -1,5 +1,6 @@
--- The steps that rules are made of: each change of a node that a rule makes, with what stands when it makes it. A relation between two nodes that
--- holds of each step, and of one behind another, holds of every rule, every event and every take (`Stepping..`, `Rules`).
+-- The steps that rules are made of: each change of a node that a rule makes, with what holds when it makes it. A
+-- relation between two nodes that holds of each step, and of one after another, holds of every rule, every event and
+-- every take (`Stepping..`, `Rules`).
 use Rattle.exchange_rules.proofs.Basics.{◌≡◌, ◌⊎◌, ◌&&◌, not, ℕ, Bool, true, false, refl, List, [], length, Option, Some, find, if◌then◌else◌, slice_index_or, option_map}
 use Rattle.exchange_rules.proofs.Definitions.{set_timer, enters, has_other, set_of, Message, flow_of, Notice, FailureReason, Configuration, TitleEntry, Input, Go, Transition, action_at, Sending, LinkTestValue, TimerName, L7, Running, is_running, is_due, Route, RouteStatus, Allowed, leads_by, ToldTable, is_own_point, shape_of, Link, Standing, with_code, HoldSet, Parts, Node, Done, with_parts, lost_any, late_any, is_link, link_at, links_with, with_link, down, in_service, note, flagged, flagged_late, link_of, queue_on, waits, hold, is_adjacent, test_answer, changeover_of, with_changeover, fail_link, declaration, with_titles, step_on, timed_busy, timed_busy_ended, may_open, without_association, open_link, Carrying, carries, numbers, timed_parts, SendsMessage, next_message, after_sending, WholeQueues, whole, HasHoldsFor, tells_of_loss, tells_of_lateness, ChangeoverTimer, Facts, Procedure, lifted, fail, on_changeover_order, on_changeover_acknowledgement, on_changeover_timer, hold_flows, freed, held_by_rerouting}
 use Rattle.std.specs.Prelude.{map, Ok}
@@ -75,12 +76,13 @@ confirming c link d confirmed n = record {
   parts = timed_parts c link confirmed (whole.outstanding (whole.accepted n.queues link d.fsn d.bsn (carries d)) link) n.parts;
 }
 
--- R holds of each step. Own are the links that may enter service by it, and send; Counts are those whose counts may begin anew, or rise as User Data
--- is accepted
+-- R holds of each step. Own are the links that may enter service by it, and send; Counts are those whose counts may
+-- begin anew, or rise as User Data is accepted
 pub record IsOfSteps (c : Configuration) (Own Counts : ℕ → Type 0) (R : Node WholeQueues → Node WholeQueues → Type 0) : Type 0 where
   pub none : (n : Node WholeQueues) → R n n
   pub both : (n m o : Node WholeQueues) → R n m → R m o → R n o
-  -- ---- messages: one goes to the end of the queue of its flow's link; a declaration, and the answer to a test, to that of a link in service
+  -- ---- messages: one goes to the end of the queue of its flow's link; a declaration, and the answer to a test, to
+  -- that of a link in service
   pub routed : (link : ℕ) (m : Message) (n : Node WholeQueues) → link_of c n.parts (flow_of m) ≡ Some link → R n (queue_on whole c link m n)
   pub declared : (link other code : ℕ) (n : Node WholeQueues) → in_service n.parts link ≡ true → in_service n.parts other ≡ true
       → R n (queue_on whole c other (declaration c link code) n)
@@ -108,7 +110,8 @@ pub record IsOfSteps (c : Configuration) (Own Counts : ℕ → Type 0) (R : Node
       → R n (record { queues = whole.completed n.queues link number; parts = with_changeover link s n.parts })
   pub answered : (link : ℕ) (s : Standing) (n : Node WholeQueues) → (changeover_of n.parts link).incomplete ≡ false → s.incomplete ≡ false
       → (s.awaited ≡ true → (changeover_of n.parts link).awaited ≡ true) → R n (with_parts n (with_changeover link s n.parts))
-  -- ---- a link loses its association, opens, takes a step of its alignment, hears that its peer is busy and that it isn't, accepts User Data, and sends
+  -- ---- a link loses its association, opens, takes a step of its alignment, hears that its peer is busy and that it
+  -- isn't, accepts User Data, and sends
   pub linked : (link : ℕ) (x : Link) (n : Node WholeQueues) → IsSameLink (link_at n.parts link) x → R n (with_parts n (with_link n.parts link x))
   pub parted : (link : ℕ) (n : Node WholeQueues) → down n.parts link ≡ true → R n (with_parts n (without_association link n.parts))
   pub opened : (link : ℕ) (n : Node WholeQueues) → Counts link → is_link n.parts link ≡ true → may_open (link_at n.parts link) ≡ true
@@ -169,7 +172,8 @@ not-both (notices.Frame fault link) e f = absurd cc
 not-both (notices.Failed link why) e f = absurd cc
 not-both (notices.Late timer number) e f = absurd cc
 
--- R holds of the steps of which it is made that a message goes out or is dropped: what may be lost is noted and counted at once
+-- R holds of the steps of which it is made that a message goes out or is dropped: what may be lost is noted and counted
+-- at once
 pub record IsOfSends (c : Configuration) (R : Node WholeQueues → Node WholeQueues → Type 0) : Type 0 where
   pub none : (n : Node WholeQueues) → R n n
   pub both : (n m o : Node WholeQueues) → R n m → R m o → R n o
@@ -206,8 +210,8 @@ pub record AreTestedAs (p : Parts) (routes : List (List Route)) : Type 0 where
 pub record BeginsClean (c : Configuration) (link : ℕ) (step : Transition) (p : Parts) : Type 0 where
   pub clean : (enters link step p && not (has_other c link p)) ≡ true → (destination : ℕ) → is_unsure (status_over (set_of c link) destination p.routes) ≡ false
 
--- R holds of each step that changes none of these, and of each rule that does. So a law may see a hold and its timer as one, which the steps show one
--- after the other. Where R holds of each step, it holds of each rule (`rules-of`)
+-- R holds of each step that changes none of these, and of each rule that does. So a law may see a hold and its timer as
+-- one, which the steps show one after the other. Where R holds of each step, it holds of each rule (`rules-of`)
 pub record IsOfRules (c : Configuration) (Own Counts : ℕ → Type 0) (R : Node WholeQueues → Node WholeQueues → Type 0) : Type 0 where
   pub sends : IsOfSends c R
   pub tested : (link point : ℕ) (test : LinkTestValue) (n : Node WholeQueues) → in_service n.parts link ≡ true → is_adjacent c point ≡ true

@@ -1,4 +1,4 @@
--- Whatever happens, T10 runs behind each route over a set in service that isn't allowed.
+-- Whatever happens, T10 runs for each route over a set in service that isn't allowed.
 use Rattle.exchange_rules.proofs.Basics.{◌≡◌, ◌≢◌, ◌<◌, ◌≤◌, ◌⊎◌, ◌==◌, inl, inr, ℕ, zero, suc, Bool, true, false, ◌&&◌, ◌||◌, not, length, List, [], ◌∷◌, refl, ap, sym, subst, ◌∙◌, arith, ⊎_elim, cases_eq, cases_lt, if◌then◌else◌, is_some, list_any, slice_index_or, Contains, nat_tests, or_left, or_right, get_or_past, get_or-map, get_or-set_same, get_or-set_other, length-set}
 use Rattle.exchange_rules.proofs.Definitions.{Configuration, FailureReason, Transition, is_in_service, stepped, after_failure, LinkTimer, TimerName, NodeCounts, Running, is_running, set_timer, clear_timer, clear_set, left-clear_other, left-clear_set_other, counts-set, counts-clear_set, timer_name, timed, Link, down_link, Route, Parts, Node, with_parts, link_at, links_with, in_service, set_of, facts, suspended, fail_link, has_other, without_tests, make_unavailable, enters, WholeQueues, whole}
 use Rattle.routes.specs.Routes as routes

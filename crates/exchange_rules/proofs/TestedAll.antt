@@ -1,4 +1,4 @@
--- Through all rules T10 runs behind each route over a set in service that isn't allowed.
+-- Through all rules T10 runs for each route over a set in service that isn't allowed.
 use Rattle.exchange_rules.proofs.Basics.{◌≡◌, ◌≢◌, ◌<◌, ℕ, Bool, true, false, nat_lt, length, List, [], ◌∷◌, Option, Some, None, refl, ap, sym, ◌∙◌, arith, ⊎_elim, if◌then◌else◌, is_some, nat_tests, and_from}
 use Rattle.exchange_rules.proofs.Definitions.{Configuration, Message, FailureReason, ChangeoverTimer, Facts, opening, carries, completed, opened, is_in_service, TimerName, NodeCounts, Running, is_running, set_timer, clear_timer, left-set, counts-set, counts-clear, Route, Parts, Node, with_parts, link_at, in_service, down, is_link, set_of, has_other, make_unavailable, changing, begin, change_over, begin_by_peer, fail_by_peer, fail_by_order, complete_by_order, complete_if, concluded, lose_each, judged, changeover_of, with_changeover, changeover_order, changeover_acknowledgement, on_changeover_order, with_changeover_acknowledged, with_expiry, hold_flows, held_by_rerouting, answer, Handled, Ignored, Found, WholeQueues, whole}
 use Rattle.timers.specs.declared.name.TimerName.TheVariants as name

@@ -1,4 +1,5 @@
--- T10 that runs out asks, and runs again; so through ticks, too, it runs behind each route over a set in service that isn't allowed.
+-- T10 that runs out asks, and runs again; so through ticks, too, it runs for each route over a set in service that
+-- isn't allowed.
 use Rattle.exchange_rules.proofs.Basics.{◌≡◌, ◌≢◌, ◌<◌, ℕ, Bool, true, false, ◌&&◌, nat_lt, length, List, [], Option, Some, None, refl, ap, sym, subst, ◌∙◌, arith, ⊎_elim, if◌then◌else◌, is_some, and_from, slice_index_or, map, length-map, get_or-map}
 use Rattle.exchange_rules.proofs.Definitions.{Configuration, DestinationEntry, Link, Message, TimerName, NodeCounts, Running, is_running, one_less, set_timer, clear_timer, left-clear_other, left-ticked, counts-set, counts-clear, due_name, after_due, after-clear, after-none, ticked, Route, RouteStatus, Allowed, Restricted, Prohibited, status_of, Node, with_parts, facts, with_timers, run_timer, run_due, ask_by, ask, prohibited_test, restricted_test, first_state, first_routes, WholeQueues, whole}
 use Rattle.timers.specs.declared.name.TimerName.TheVariants as name

@@ -1,4 +1,5 @@
--- Where nothing but ticks happens, all holds end: first no timer runs that may take a link into service or out of it, and then none that ends a hold.
+-- If nothing but ticks happens, all holds end: first no timer runs that may take a link into service or out of it, and
+-- then none that ends a hold.
 use Rattle.exchange_rules.proofs.Basics.{◌≡◌, ◌≢◌, ◌≤◌, ◌-◌, ◌+◌, ℕ, zero, suc, Bool, true, false, not, List, [], ◌∷◌, ◌++◌, Option, Some, None, refl, ap, sym, ◌∙◌, subst, arith, ⊎_elim, is_some, and_parts, false_from_ne_true as not-so}
 use Rattle.exchange_rules.proofs.Definitions.{Message, flow_of, is_management, destination_place, Configuration, Procedure, Changeover, Code, Time, Reroute, holds, held_by, TimerName, Running, is_running, ticked, due_name, after_due, due-left, left-ticked, one_less, Node, with_timers, run_due, run_next, run_times, tell_owed, release, waits, is_held_at, is_flow_held, all_wait, Asking, Happens, Ticked, Abstract, apply, after_each, changeover_of, first_state, WholeQueues, whole}
 use Rattle.timers.specs.Timers.{due_count}

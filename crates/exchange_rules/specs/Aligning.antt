@@ -16,8 +16,8 @@ use Rattle.exchange_rules.specs.Exchange.{after}
 use Rattle.exchange_rules.specs.Queues.{whole}
 use Rattle.exchange_rules.specs.First.{Abstract, first_state}
 
--- the timer with which a link waits in a state: L2 for its peer to align, L3 to be proved, L4 while it is, and L1 for
--- its peer to be ready
+-- the timer with which a link waits in a state: L2 for its peer to align, L3 to be proved, L4 while it is proved, and
+-- L1 for its peer to be ready
 abbrev pub waiting_in : Alignment → Option LinkTimer
 waiting_in Down = None
 waiting_in NotAligned = Some L2
@@ -39,14 +39,14 @@ is_of_waits L4 = true
 is_of_waits L6 = false
 is_of_waits L7 = false
 
--- Of the timers with which links wait, just that of a link's state runs; and L6 runs just while the link is in service
--- and its peer is busy.
+-- Of the timers with which links wait, only that of a link's state runs. L6 runs only while the link is in service and
+-- its peer is busy.
 pub record HasItsTimer (link : ℕ) (l : Link) (r : Running) : Type 0 where
   pub waits : (timer : LinkTimer) → is_of_waits timer ≡ true →
       is_running (timer_name link timer) r ≡ is_that (waiting_in l.alignment) timer
   pub busy : is_running (timer_name link L6) r ≡ (is_in_service l.alignment && l.peer_busy)
 
--- so it is in each state that comes of the first
+-- this holds in each state reached from the first
 abbrev pub links_have_their_timers : Type 0
 links_have_their_timers =
     (c : Configuration) (asked : List Asking) (link : ℕ) → length c.links ≤ LINKS →

@@ -1,4 +1,4 @@
--- Changeback (Q.704 §6, block TCBC): a link returns to service, and takes its flows back from the links that carried
+-- TCBC, changeback control (Q.704 §6): a link returns to service, and takes its flows back from the links that carried
 -- them meanwhile.
 use Rattle.std.specs.Prelude.{ℕ, zero, suc, Bool, true, false, not, ◌&&◌, nat_eq, length, Option, Some, None, if◌then◌else◌}
 use Rattle.settings_rows.specs.Configuration.{Configuration}
@@ -32,11 +32,11 @@ abbrev pub code_in_use : Configuration → (set code : ℕ) → Parts → Parts
 code_in_use c set code p =
     record p { codes = with_code p.codes set code true; timers = set_timer (T4 set code) c.timers.t4 p.timers }
 
--- T3 runs, anew where it runs already
+-- T3 starts, or restarts
 abbrev pub time_in_use : Configuration → (link : ℕ) → Parts → Parts
 time_in_use c link p = record p { timers = set_timer (T3 link) c.timers.t3 p.timers }
 
--- the answer came: the code is free, T4 stops, and the code holds nothing any more
+-- the answer came: the code is free and holds nothing any more, and T4 stops
 abbrev pub freed : (set code : ℕ) → Parts → Parts
 freed set code p = record p {
   codes = with_code p.codes set code false;
@@ -61,7 +61,7 @@ abbrev pub if_room : Option Cause → (code : ℕ) → Option ℕ
 if_room None code = Some code
 if_room (Some cause) code = None
 
--- flows that a link takes back are held by a code where there is one, else by time
+-- flows that a link takes back are held by a code if there is one, else by time
 abbrev pub procedure_by : Configuration → (link : ℕ) → Option ℕ → Procedure
 procedure_by c link (Some code) = Code (set_of c link) code
 procedure_by c link None = Time link
@@ -87,8 +87,8 @@ module _ {Q : Type 0} (q : QueueKind Q) (c : Configuration) where
   usable link (Some code) node = if_room (no_room q c (declaration c link code) node.queues) code
   usable link None node = None
 
-  -- the code by which the flows are held that a link takes back from another: the least that is free, where both links
-  -- are of one set
+  -- the code that holds the flows that a link takes back from another: the least that is free, if both links are of one
+  -- set
   abbrev pub code_for : (link other : ℕ) → Node Q → Option ℕ
   code_for link other node =
       if nat_eq (set_of c other) (set_of c link)
@@ -101,7 +101,7 @@ module _ {Q : Type 0} (q : QueueKind Q) (c : Configuration) where
       queue_on q c other (declaration c link code) (with_parts node (code_in_use c (set_of c link) code node.parts))
   declared None link other node = node
 
-  -- flows are to be held: by a code, whose declaration goes out, or without one by time, and T3 runs
+  -- flows are to be held: by a code, whose declaration goes out, or by time, and T3 runs
   abbrev pub declare_by : Option ℕ → (link other : ℕ) → Node Q → Node Q
   declare_by (Some code) link other node = declared (Some code) link other node
   declare_by None link other node = with_parts node (time_in_use c link node.parts)
@@ -118,7 +118,7 @@ module _ {Q : Type 0} (q : QueueKind Q) (c : Configuration) where
       unless loses_flows c before after other link then node
       else hold_flows before after (code_for link other node) link other node
 
-  -- from the first so many links, in order
+  -- from the first n links, in order
   unfoldable pub take_back_each : (before after : Facts) → (link count : ℕ) → Node Q → Node Q
   take_back_each before after link zero node = node
   take_back_each before after link (suc other) node =

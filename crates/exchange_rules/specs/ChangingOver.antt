@@ -1,4 +1,5 @@
--- Changeover (Q.704 §5.3, block TCOC): the flows that it holds.
+-- TCOC, changeover control (Q.704 §5, with the numbers of Q.2210): the flows that a changeover holds, and how it
+-- begins, goes on and ends.
 use Rattle.std.specs.Prelude.{ℕ, Bool, ◌&&◌, ◌||◌, not, nat_eq, List, Some, true, false, if◌then◌else◌, [], ◌∷◌, Option, None}
 use Rattle.std.specs.List.{list_any}
 use Rattle.std.specs.Option.{option_eq}
@@ -28,13 +29,13 @@ use Rattle.signalling_types.specs.declared.notice.ChangeoverTimer.{ChangeoverTim
 use Rattle.signalling_types.specs.declared.notice.ChangeoverTimer.TheVariants as timer
 use Rattle.changeover.specs.Changeover as standing
 
--- whether a message is a user message of a flow: to this destination, by its place in the settings, with this selection
+-- whether a message is a user message of a flow: to this destination, by its index in the settings, with this selection
 abbrev pub is_of_flow : Configuration → (destination sls : ℕ) → Message → Bool
 is_of_flow c destination sls m =
     not (is_management m)
     && (option_eq nat_eq (destination_place c (flow_of m).point) (Some destination) && nat_eq (flow_of m).sls sls)
 
--- whether a flow fails with a link: that was its link, or an unconfirmed message of it stands there
+-- whether a flow fails with a link: its link is that one, or an unconfirmed message of it is there
 abbrev pub is_failed : Configuration → Facts → (link : ℕ) → (unconfirmed : List Message) → (destination sls : ℕ) → Bool
 is_failed c f link unconfirmed destination sls =
     goes_by (chosen_link f destination sls) link || list_any (is_of_flow c destination sls) unconfirmed
@@ -44,7 +45,7 @@ abbrev pub suspended : Configuration → ℕ → (unconfirmed : List Message) �
 suspended c link unconfirmed p =
     record p { holds = with_flows p.holds (Changeover link) (is_failed c (facts c p) link unconfirmed) }
 
--- ---- Changeover begins (Q.704 §5.2, §5.3, block TCOC): a link fails.
+-- ---- TCOC (Q.704 §5.2, §5.3): a link fails, and its changeover begins.
 
 -- whether a link of the same set is in service
 abbrev pub has_other : Configuration → ℕ → Parts → Bool
@@ -67,16 +68,16 @@ fail_link link why p =
     note (notices.Failed link why)
     (record p { links = links_with p link (after_failure (link_at p link)); timers = without_timers link p.timers })
 
--- where it was the last of its set, its point is tested about no route any more
+-- if it was the last of its set, its point is sent no more route set tests
 abbrev pub without_tests_if_last : Configuration → ℕ → Parts → Parts
 without_tests_if_last c link p = if has_other c link p then p else without_tests (set_of c link) p
 
--- T2 runs where an order goes out, else T1
+-- T2 runs if an order goes out, else T1
 abbrev pub timed_changeover : Configuration → (ordered : Bool) → ℕ → Running → Running
 timed_changeover c ordered link r =
     if ordered then set_timer (T2 link) c.timers.t2 r else set_timer (T1 link) c.timers.t1 r
 
--- its changeover isn't complete, and where an order goes out, the answer is awaited
+-- its changeover isn't complete and, if an order goes out, the answer is awaited
 abbrev pub changing : Configuration → (ordered : Bool) → ℕ → Parts → Parts
 changing c ordered link p = record p {
   changeovers = with_standing p.changeovers link (failed ordered (changeover_of p link));
@@ -84,7 +85,7 @@ changing c ordered link p = record p {
 }
 
 module _ {Q : Type 0} (q : QueueKind Q) (c : Configuration) where
-  -- a link goes down. In service, the flows that its changeover is to hold are held first: until then it is their link
+  -- a link goes down. In service, its flows are held first, while it is still their link
   abbrev pub make_unavailable : (serving : Bool) → ℕ → FailureReason → Node Q → Node Q
   make_unavailable true link why node =
       with_parts node
@@ -94,7 +95,7 @@ module _ {Q : Type 0} (q : QueueKind Q) (c : Configuration) where
       ▷ without_tests_if_last c link)
   make_unavailable false link why node = with_parts node (fail_link link why node.parts)
 
-  -- where a link of its set is left, an order goes out
+  -- if a link of its set is left, an order goes out
   abbrev pub begin : (ordered : Bool) → ℕ → Node Q → Node Q
   begin true link node =
       send_routed q c (changeover_order c link (q.last_accepted node.queues link))
@@ -117,16 +118,16 @@ module _ {Q : Type 0} (q : QueueKind Q) (c : Configuration) where
       with_parts node (with_changeover link (begun_by_peer (changeover_of node.parts link)) node.parts)
   begin_by_peer false link node = node
 
-  -- a link fails since its peer tells so
+  -- a link fails because its peer says so
   abbrev pub fail_by_peer : ℕ → Node Q → Node Q
   fail_by_peer link node =
       node ▷ make_unavailable (in_service node.parts link) link reasons.Changeover
       ▷ begin_by_peer (in_service node.parts link) link
 
--- ---- Changeover goes on and ends (Q.704 §5.4 to §5.7, block TCOC, with the numbers of Q.2210): by an order or an
--- acknowledgement of the peer, or by a timer.
+-- ---- TCOC (Q.704 §5.4 to §5.7): a changeover goes on and ends, by an order or an acknowledgement of the peer, or by a
+-- timer.
 
--- a user message is lost: that is noted
+-- a user message is lost, and that is noted
 abbrev pub lose : Cause → Message → Parts → Parts
 lose cause m p = p ▷ note (notices.Lost cause (flow_of m).point (flow_of m).sls) ▷ flagged
 
@@ -134,7 +135,7 @@ abbrev pub lose_each : List Message → Parts → Parts
 lose_each [] p = p
 lose_each (m ∷ ms) p = p ▷ lose LostUnconfirmed m ▷ lose_each ms
 
--- without a reasonable number something may be lost, also where nothing was sent
+-- without a reasonable number something may be lost, even if nothing was sent
 abbrev pub judged : (is_reasonable : Bool) → Parts → Parts
 judged true p = p
 judged false p = flagged p
@@ -147,7 +148,7 @@ lifted_parts link p = record p { holds = lifted p.holds (Changeover link); timer
 abbrev pub with_losses : Found → Parts → Parts
 with_losses found p = p ▷ lose_each found.lost ▷ judged found.is_reasonable
 
--- the parts when a completion has found this
+-- the parts after a completion that found this
 abbrev pub concluded : ℕ → Found → Parts → Parts
 concluded link found p = p ▷ with_losses found ▷ lifted_parts link
 
@@ -156,12 +157,12 @@ abbrev pub changeover_acknowledgement : Configuration → ℕ → ℕ → Messag
 changeover_acknowledgement c link number =
     management_to c (peer_of c link) (ExtendedChangeoverAcknowledgement (entry_of c link).slc number)
 
--- where T2 ran out, something may be lost
+-- if T2 ran out, something may be lost
 abbrev pub flagged_by : ChangeoverTimer → Parts → Parts
 flagged_by timer.T1 p = p
 flagged_by timer.T2 p = flagged p
 
--- a timer of the changeover ran out: that is noted
+-- a timer of the changeover ran out, and that is noted
 abbrev pub with_expiry : ChangeoverTimer → ℕ → Parts → Parts
 with_expiry which link p =
     p ▷ note (notices.Expired which link) ▷ with_changeover link (standing.expired which (changeover_of p link))
@@ -176,7 +177,7 @@ with_changeover_acknowledged link p =
     }
 
 module _ {Q : Type 0} (q : QueueKind Q) (c : Configuration) where
-  -- management messages go out anew, each on the link of its flow
+  -- management messages go out again, each on the link of its flow
   abbrev pub send_each : List Message → Node Q → Node Q
   send_each [] node = node
   send_each (m ∷ ms) node = node ▷ send_anew q c m ▷ send_each ms

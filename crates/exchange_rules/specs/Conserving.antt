@@ -1,4 +1,4 @@
--- What user messages come in by an event, and what goes for good.
+-- Which user messages an event brings in, and which ones are gone for good.
 use Rattle.std.specs.Prelude.{Bool, Err, List, None, Ok, Option, Result, Some, [], count_by, false, filter, if◌then◌else◌, is_some, nat_eq, not, suc, sum_by, take, true, zero, ℕ, ◌&&◌, ◌++◌, ◌+◌, ◌-◌, ◌∷◌}
 use Rattle.changeover.specs.Changeover.{accepted_count, users_of}
 use Rattle.changeover.specs.Laws.{count_in_the_end}
@@ -42,13 +42,13 @@ use Rattle.mtp3_codec.specs.declared.discrimination.Discrimination.TheVariants a
 abbrev pub users_that : (of : Message → Bool) → List Message → ℕ
 users_that of ms = count_by of (users_of ms)
 
--- how many of those that stand in Held, and of those in queues that aren't confirmed
+-- of the messages in Held and the unconfirmed ones in queues, how many satisfy a test
 abbrev pub standing : (of : Message → Bool) → WholeQueues → ℕ
 standing of qs = users_that of qs.held + sum_by (λ q. users_that of (unconfirmed q)) qs.links
 
 -- ---- what comes in
 
--- the message itself, where the outcome is that it is queued or held
+-- the message itself, if the outcome is that it is queued or held
 abbrev pub taken_in : Outcome → Message → List Message
 taken_in (Queued link) m = m ∷ []
 taken_in Held m = m ∷ []
@@ -57,7 +57,7 @@ taken_in Handled m = []
 taken_in Ignored m = []
 taken_in (Refused cause) m = []
 
--- a message written here goes the way of any message for another point, and is taken in where it finds it
+-- a message written here goes the way of any message for another point, and is taken in if it finds its way
 abbrev pub entering : Configuration → Message → Node WholeQueues → List Message
 entering c m node = taken_in (transfer whole c None m node).outcome m
 
@@ -72,7 +72,7 @@ abbrev pub returned_in : Option (List ℕ) → Configuration → Message → Nod
 returned_in (Some sif) c m node = entering c (in_place_of m sif) node
 returned_in None c m node = []
 
--- it is returned where it is refused
+-- it is returned if it is refused
 abbrev pub answered_in : Outcome → Configuration → Message → Node WholeQueues → List Message
 answered_in (Refused cause) c m node = returned_in (returned (own_of c) node.parts.titles m.sif cause) c m node
 answered_in (Queued link) c m node = []
@@ -90,7 +90,7 @@ unitdata_in outcome c m node =
 abbrev pub brought_here : Outcome → Configuration → Message → Node WholeQueues → List Message
 brought_here outcome c m node = if nat_eq (service_indicator m) sccp then unitdata_in outcome c m node else []
 
--- what a message brings, by where it goes: for another point itself, as it came
+-- what a message brings, by where it goes; one for another point brings itself, as it came
 abbrev pub brought_to : Discrimination → Outcome → Configuration → Message → Node WholeQueues → List Message
 brought_to (whither.Refused fault) outcome c m node = []
 brought_to (whither.Here label) outcome c m node = brought_here outcome c m node
@@ -133,11 +133,11 @@ both_gone one other = record {
   doubts = one.doubts + other.doubts;
 }
 
--- as many of a queue as the numbers of User Data confirm, the oldest first
+-- the oldest messages of a queue, as many as the numbers of User Data confirm
 abbrev pub confirmed_by : Result ℕ SeqFault → Queue → List Message
 confirmed_by numbers q = take (count_confirmed numbers) (unconfirmed q)
 
--- none where the link ignores User Data, or fails by it
+-- none if the link ignores User Data, or fails because of it
 abbrev pub confirmed_at : Action → ℕ → Carrying → Configuration → Node WholeQueues → List Message
 confirmed_at act.Ignored link d c node = []
 confirmed_at act.Fail link d c node = []
@@ -161,7 +161,7 @@ confirmed link text a =
     then confirmed_of (read_frame text) link a.settings a.node
     else []
 
--- by a completion, where the changeover isn't complete: what the peer accepted, by the number that it gave, and what is
+-- by a completion, if the changeover isn't complete: what the peer accepted, by the number that it gave, and what is
 -- named as lost
 abbrev pub gone_by_completion : (incomplete : Bool) → ℕ → Option ℕ → WholeQueues → Gone
 gone_by_completion true link number queues =
@@ -182,7 +182,7 @@ gone_by_order (Some link) number c node =
     gone_by_completion (changeover_of fallen.parts link).incomplete link number fallen.queues
 gone_by_order None number c node = nothing_gone
 
--- the peer answers an order: only where that is awaited
+-- the peer answers an order; only an answer that is awaited counts
 abbrev pub gone_by_answer : Option ℕ → Option ℕ → Node WholeQueues → Gone
 gone_by_answer (Some link) number node =
     if (changeover_of node.parts link).awaited
@@ -190,7 +190,7 @@ gone_by_answer (Some link) number node =
     else nothing_gone
 gone_by_answer None number node = nothing_gone
 
--- of all management only these complete changeovers
+-- of all management, only these messages complete changeovers
 abbrev pub gone_by_management : Management → ℕ → Configuration → Node WholeQueues → Gone
 gone_by_management (ExtendedChangeoverOrder slc number) point c node =
     gone_by_order (link_with_code c point slc) (Some number) c node
@@ -251,7 +251,7 @@ gone_by (FrameCame link text) a =
 gone_by Ticked a = gone_by_tick a.settings a.node
 gone_by what a = nothing_gone
 
--- by the release: the messages of Held that have no hold any more, and no link; they are named as lost, too
+-- by the release: the messages of Held that have neither a hold nor a link any more; they are named as lost, too
 abbrev pub is_stranded : Configuration → Parts → Message → Bool
 is_stranded c p m = not (waits c p.holds m) && not (is_some (link_of c p (flow_of m)))
 

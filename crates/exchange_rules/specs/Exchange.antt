@@ -1,5 +1,5 @@
--- Release (Q.704 §5.4, §6.3, blocks TCOC and TCBC): at the end of each event the messages of Held whose flows have no
--- hold any more go on.
+-- Release, of TCOC and TCBC (Q.704 §5.4, §6.3): at the end of each event, those messages of Held go on whose flows are
+-- no longer held.
 use Rattle.std.specs.Prelude.{ℕ, Bool, true, false, List, [], ◌∷◌, Option, Some, None, zero, suc, ◌≡◌}
 use Rattle.signalling_types.specs.Message.{Message, flow_of}
 use Rattle.settings_rows.specs.Configuration.{Configuration}
@@ -25,12 +25,12 @@ use Rattle.exchange_rules.specs.Telling.{tell_owed}
 use Rattle.exchange_rules.specs.Sending.{frame_taken, after_take}
 
 module _ {Q : Type 0} (q : QueueKind Q) (c : Configuration) where
-  -- a message goes to the end of its link's queue; where its flow has no link it is lost
+  -- a message goes to the end of its link's queue, or is lost if its flow has no link
   abbrev pub go_on : Option ℕ → Message → Node Q → Node Q
   go_on (Some link) m node = queue_on q c link m node
   go_on None m node = with_parts node (lose NoRoute m node.parts)
 
-  -- a message that still waits stands in Held again
+  -- a message that still waits goes back to Held
   abbrev pub go_by : (is_waiting : Bool) → Message → Node Q → Node Q
   go_by true m node = hold q m node
   go_by false m node = go_on (link_of c node.parts (flow_of m)) m node
@@ -42,7 +42,7 @@ module _ {Q : Type 0} (q : QueueKind Q) (c : Configuration) where
   go_each [] node = node
   go_each (m ∷ ms) node = node ▷ go m ▷ go_each ms
 
-  -- all messages are taken out of Held, and each goes where it is to go, in order
+  -- all messages are taken out of Held in order, and each goes where it should
   abbrev pub release : Node Q → Node Q
   release node =
       record node { queues = q.without_held node.queues } ▷ go_each (q.held node.queues)
@@ -54,7 +54,7 @@ abbrev pub with_timers : {Q : Type 0} → Node Q → Running → Node Q
 with_timers node timers = with_parts node (record node.parts { timers = timers })
 
 module _ {Q : Type 0} (q : QueueKind Q) (c : Configuration) where
-  -- a timer runs; that T8 did is all that it is for
+  -- a timer that ran out takes effect; T8 has no other effect than that it stopped
   abbrev pub run_timer : TimerName → Node Q → Node Q
   run_timer (L1 link) node = run_out q c link timer.L1 node
   run_timer (L2 link) node = run_out q c link timer.L2 node
@@ -74,24 +74,24 @@ module _ {Q : Type 0} (q : QueueKind Q) (c : Configuration) where
   run_due None node = node
   run_due (Some name) node = run_timer name node
 
-  -- the first timer that is due stops, and runs
+  -- the first timer that is due stops, and takes effect
   abbrev pub run_next : Node Q → Node Q
   run_next node =
       run_due (due_name node.parts.timers) (with_timers node (after_due node.parts.timers))
 
-  -- as many times; once nothing is due, nothing runs
+  -- n times; once nothing is due, nothing happens
   abbrev pub run_times : ℕ → Node Q → Node Q
   run_times zero node = node
   run_times (suc more) node = node ▷ run_next ▷ run_times more
 
-  -- as many run as are due when the tick begins, but for those that an earlier one stopped or set
+  -- as many run as are due when the tick begins, except those that an earlier one stopped or set
   abbrev pub run_all : Node Q → Node Q
   run_all node = run_times (due_count node.parts.timers) node
 
   abbrev pub tick : Node Q → Done Q
   tick node = answer Handled (with_timers node (ticked node.parts.timers) ▷ run_all)
 
--- ---- The step of an exchange: what becomes of all that can happen, and the state after it.
+-- ---- The step of an exchange: what becomes of everything that can happen, and the state after it.
 
 -- each event has its rule
 abbrev pub handle_event : {Q : Type 0} → QueueKind Q → Configuration → Happening → Node Q → Done Q
@@ -105,7 +105,7 @@ handle_event q c (Deactivated link) node = deactivate q c link node
 handle_event q c (TitleAdded row is_memory_refused) node = add_title row is_memory_refused node
 handle_event q c (TitleRemoved key digits) node = remove_title key digits node
 
--- then what is held no longer goes on, and adjacent points are told what they are owed
+-- then messages that are no longer held go on, and adjacent points are told what they are owed
 abbrev pub settled : {Q : Type 0} → QueueKind Q → Configuration → Done Q → Done Q
 settled q c d = record d { left = d.left ▷ release q c ▷ tell_owed q c }
 

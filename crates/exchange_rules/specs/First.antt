@@ -37,8 +37,8 @@ pub record IsSound (a : Abstract) : Type 0 where
 abbrev pub counts_in : Configuration → NodeCounts
 counts_in c = record { links = length c.links; sets = length c.sets; destinations = length c.destinations }
 
--- every link is down, every route is allowed, and each adjacent point takes it for allowed, no code waits for its
--- answer, nothing is held, the translation rows are those of the settings, no timer runs, and nothing was noted
+-- every link is down; every route is allowed, and each adjacent point takes it so; no code waits for its answer, and
+-- nothing is held; the translation rows are those of the settings; no timer runs, and nothing was noted
 abbrev pub first_parts : Configuration → Parts
 first_parts c = record {
   links = replicate (length c.links) down_link;
@@ -54,7 +54,7 @@ first_parts c = record {
   times_late = 0;
 }
 
--- the state that boot gives: nothing stands in any queue
+-- the state that boot gives: all queues are empty
 abbrev pub first_state : Configuration → Abstract
 first_state c = record {
   settings = c;

@@ -1,5 +1,5 @@
--- Link availability control (Q.704 §3.2, block TLAC): Link Status, and the timers of a link that run out, by the table
--- of the alignment.
+-- TLAC, link availability control (Q.704 §3.2), over link alignment (RFC 4165 §4.1.3): Link Status, User Data, and the
+-- timers of a link that run out.
 use Rattle.std.specs.Prelude.{ℕ, Bool, true, false, not, ◌&&◌, if◌then◌else◌, List, Option, Some, None, is_some, Result, Ok, Err}
 use Rattle.settings_rows.specs.Configuration.{Configuration}
 use Rattle.signalling_types.specs.declared.notice.FailureReason.TheVariants as reasons
@@ -34,7 +34,7 @@ abbrev pub step_on : Configuration → ℕ → Transition → Parts → Parts
 step_on c link step p =
     record p { links = links_with p link (stepped step (link_at p link)); timers = timed c link step p.timers }
 
--- the peer takes no messages for now; a second word of it changes nothing
+-- the peer takes no messages for now; if it says so twice, the second changes nothing
 abbrev pub become_busy : Configuration → ℕ → Parts → Parts
 become_busy c link p =
     if (link_at p link).peer_busy then p
@@ -43,7 +43,7 @@ become_busy c link p =
       timers = timed_busy c link p.timers;
     }
 
--- the peer takes messages again, of which so many are unconfirmed; where it wasn't busy nothing changes
+-- the peer takes messages again, and this many are unconfirmed; if it wasn't busy nothing changes
 abbrev pub end_busy : Configuration → ℕ → (outstanding : ℕ) → Parts → Parts
 end_busy c link outstanding p =
     if (link_at p link).peer_busy
@@ -57,12 +57,12 @@ end_busy c link outstanding p =
 abbrev pub enters : ℕ → Transition → Parts → Bool
 enters link step p = is_in_service step.state && not (in_service p link)
 
--- where it is the first of its set, all that is known over that set begins anew
+-- if it is the first of its set, what is known over that set is reset
 abbrev pub begun_anew_if : (is_first : Bool) → Configuration → ℕ → Parts → Parts
 begun_anew_if true c link p = with_set_reset c (set_of c link) p
 begun_anew_if false c link p = p
 
--- a link takes a step of its alignment, and may so be the first of its set to enter service
+-- a link takes a step of its alignment, and may be the first of its set to enter service by that
 abbrev pub moved_on : Configuration → ℕ → Transition → Parts → Parts
 moved_on c link step p =
     begun_anew_if (enters link step p && not (has_other c link p)) c link (step_on c link step p)
@@ -79,7 +79,7 @@ module _ {Q : Type 0} (q : QueueKind Q) (c : Configuration) where
       return_if (enters link step node.parts) link (facts c node.parts)
       (with_parts node (moved_on c link step node.parts))
 
-  -- what a link's alignment does about an input; where the link is to fail, nothing changes here
+  -- what a link's alignment does about an input; if the link must fail, nothing changes here
   abbrev pub act_by : Action → ℕ → Node Q → Node Q
   act_by act.Ignored link node = node
   act_by act.Fail link node = node
@@ -136,7 +136,7 @@ empty_data bsn fsn = record { fsn = fsn; bsn = bsn; message = None }
 abbrev pub message_data : (bsn fsn sio : ℕ) → List ℕ → Carrying
 message_data bsn fsn sio sif = record { fsn = fsn; bsn = bsn; message = Some (record { sio = sio; sif = sif }) }
 
--- the User Data that a frame is; nothing where it is a link status
+-- the User Data that a frame is; nothing if it is a link status
 abbrev pub data_of : FrameValue → Option Carrying
 data_of (EmptyFrame bsn fsn) = Some (empty_data bsn fsn)
 data_of (MessageFrame bsn fsn sio sif) = Some (message_data bsn fsn sio sif)
@@ -147,7 +147,7 @@ abbrev pub owing : ℕ → Option Message → Parts → Parts
 owing link None p = p
 owing link (Some m) p = with_link p link (record (link_at p link) { acknowledgement_owed = true })
 
--- so many of our own messages were confirmed, and so many are left
+-- the peer confirmed this many of our messages, and this many are left
 abbrev pub timed_parts : Configuration → ℕ → (confirmed outstanding : ℕ) → Parts → Parts
 timed_parts c link confirmed outstanding p =
     record p { timers = timed_confirming c link (link_at p link).peer_busy confirmed outstanding p.timers }
@@ -157,7 +157,7 @@ module _ {Q : Type 0} (q : QueueKind Q) (c : Configuration) where
   abbrev pub numbers : ℕ → Carrying → Node Q → Result ℕ SeqFault
   numbers link d node = q.accept_answer node.queues link d.fsn d.bsn (carries d)
 
-  -- User Data is accepted, and confirms so many messages of our own
+  -- User Data is accepted, and confirms this many of our messages
   abbrev pub accept : ℕ → Carrying → (confirmed : ℕ) → Node Q → Node Q
   accept link d confirmed node =
       let queues : Q = q.accepted node.queues link d.fsn d.bsn (carries d) in
@@ -171,7 +171,7 @@ module _ {Q : Type 0} (q : QueueKind Q) (c : Configuration) where
   carry link None node = answer Handled node
   carry link (Some m) node = deliver q c link m node
 
-  -- User Data whose numbers were looked at: a wrong one fails the link, which is no refusal
+  -- User Data whose numbers were checked; a wrong one fails the link, which is no refusal
   abbrev pub handle_by : Result ℕ SeqFault → ℕ → Carrying → Node Q → Done Q
   handle_by (Ok confirmed) link d node = carry link d.message (accept link d confirmed node)
   handle_by (Err fault) link d node = answer Handled (fail q c link reasons.Sequence node)
@@ -180,7 +180,7 @@ module _ {Q : Type 0} (q : QueueKind Q) (c : Configuration) where
   abbrev pub handle : ℕ → Carrying → Node Q → Done Q
   handle link d node = handle_by (numbers link d node) link d node
 
-  -- User Data fails a link that doesn't expect it yet, and takes one that does into service
+  -- User Data fails a link that doesn't expect it yet, and takes one that expects it into service
   abbrev pub act_by_data : Action → ℕ → Carrying → Node Q → Done Q
   act_by_data act.Ignored link d node = answer Ignored node
   act_by_data act.Fail link d node = answer Handled (fail q c link reasons.Sequence node)

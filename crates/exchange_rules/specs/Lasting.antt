@@ -40,7 +40,7 @@ losses_stay =
     (asked : List Asking) (a : Abstract) → lost_any a.node.parts ≡ true →
     lost_any (after_each asked a).node.parts ≡ true
 
--- and so it does once messages may have gone out of order
+-- the same once messages may have gone out of order
 abbrev pub lateness_stays : Type 0
 lateness_stays =
     (asked : List Asking) (a : Abstract) → late_any a.node.parts ≡ true →
@@ -72,7 +72,7 @@ pub record AreFlagsRaised (p : Parts) : Type 0 where
   pub lost : list_any tells_of_loss p.notices.last ≡ true → lost_any p ≡ true
   pub late : list_any tells_of_lateness p.notices.last ≡ true → late_any p ≡ true
 
--- in each state that comes of the first
+-- in each state reached from the first
 abbrev pub notices_raise_flags : Type 0
 notices_raise_flags =
     (c : Configuration) (asked : List Asking) → AreFlagsRaised (after_each asked (first_state c)).node.parts
@@ -96,7 +96,7 @@ pub record IsWithinLimits (n : Noted) : Type 0 where
   pub count : n.count < 2 ^ 64
   pub last : length n.last ≤ NOTICES
 
--- so it is at first, and so it stays, whatever is asked; and then some notices were made
+-- this holds at first, and stays so, whatever is asked; what is asked only makes some notices
 abbrev pub notices_keep_their_limits : Type 0
 notices_keep_their_limits =
     (c : Configuration) (asked : List Asking) →
@@ -107,7 +107,8 @@ notices_made_are_counted =
     (asked : List Asking) (a : Abstract) → IsWithinLimits a.node.parts.notices →
     (made : List Notice) × AreNoted made a.node.parts.notices (after_each asked a).node.parts.notices
 
--- So a reader that kept an earlier count knows how many are new, and which: the last ones, as far as they are kept.
+-- So a reader that kept an earlier count knows how many notices are new, and which: the last ones, as far as they are
+-- kept.
 abbrev pub new_notices_are_the_last : Type 0
 new_notices_are_the_last =
     (made : List Notice) (old new : Noted) → IsWithinLimits old → AreNoted made old new → length made < 2 ^ 64 →
@@ -122,19 +123,19 @@ pub record HasTimersFor (c : Configuration) (r : Running) : Type 0 where
   pub sets : r.counts.sets ≡ length c.sets
   pub destinations : r.counts.destinations ≡ length c.destinations
 
--- a node has a place for all that its settings name: each link, set and destination has its parts and its timers, and
--- each link its queue
+-- a node has a place for everything that its settings name: each link, set and destination has its parts and its
+-- timers, and each link its queue
 pub record HasAllPlaces (c : Configuration) (node : Node WholeQueues) : Type 0 where
   pub parts : HasPlacesFor c node.parts
   pub queues : length node.queues.links ≡ length c.links
   pub timers : HasTimersFor c node.parts.timers
 
--- so it is at first, where there are no more links than there may be
+-- this holds at first, if there are no more links than there may be
 abbrev pub places_at_first : Type 0
 places_at_first =
     (c : Configuration) → length c.links ≤ LINKS → HasAllPlaces c (first_state c).node
 
--- and so it stays, whatever is asked
+-- and stays so, whatever is asked
 abbrev pub places_stay : Type 0
 places_stay =
     (asked : List Asking) (a : Abstract) → HasAllPlaces a.settings a.node →

@@ -1,4 +1,4 @@
--- Every hold has its timer or its word: laws.
+-- Every hold has a timer that runs, or an answer that is awaited: laws.
 use Rattle.std.specs.Prelude.{◌≡◌, ◌≤◌, ◌⊎◌, ℕ, Bool, true, length, List}
 use Rattle.signalling_types.specs.declared.limits.TheConstants.Limits.{LINKS}
 use Rattle.settings_rows.specs.Configuration.{Configuration}
@@ -13,16 +13,16 @@ use Rattle.exchange_rules.specs.ChangingOver.{changeover_of}
 use Rattle.exchange_rules.specs.Lasting.{after_each, HasAllPlaces}
 use Rattle.exchange_rules.specs.First.{Abstract, first_state}
 
--- what ends the holds of a procedure: a changeover that isn't complete yet; T4 of a code, T3 of a link that returned, or
--- T6 of a destination, and that runs
+-- what ends the holds of a procedure: a changeover that isn't complete yet, or a timer that runs: T4 of a code, T3 of a
+-- link that returned, or T6 of a destination
 abbrev pub WillEnd : Procedure → Parts → Type 0
 WillEnd (Changeover link) p = (changeover_of p link).incomplete ≡ true
 WillEnd (Code set code) p = is_running (T4 set code) p.timers ≡ true
 WillEnd (Time link) p = is_running (T3 link) p.timers ≡ true
 WillEnd (Reroute destination) p = is_running (T6 destination) p.timers ≡ true
 
--- what completes a changeover: while it isn't complete T1 runs, or the answer to its order is awaited; and while that is
--- awaited T2 runs
+-- what completes a changeover: while it isn't complete T1 runs, or the answer to its order is awaited; and while that
+-- is awaited T2 runs
 pub record WillComplete (s : Standing) (t1_runs t2_runs : Bool) : Type 0 where
   pub incomplete : s.incomplete ≡ true → (t1_runs ≡ true) ⊎ (s.awaited ≡ true)
   pub awaited : s.awaited ≡ true → t2_runs ≡ true
@@ -34,13 +34,13 @@ pub record AllWillEnd (p : Parts) : Type 0 where
   pub changeovers : (link : ℕ) →
       WillComplete (changeover_of p link) (is_running (T1 link) p.timers) (is_running (T2 link) p.timers)
 
--- so it stays, whatever is asked
+-- this stays so, whatever is asked
 abbrev pub holds_stay_timed : Type 0
 holds_stay_timed =
     (asked : List Asking) (a : Abstract) → HasAllPlaces a.settings a.node → AllWillEnd a.node.parts →
     AllWillEnd (after_each asked a).node.parts
 
--- and so it is in each state that comes of the first
+-- and holds in each state reached from the first
 abbrev pub every_hold_has_its_timer_or_its_word : Type 0
 every_hold_has_its_timer_or_its_word =
     (c : Configuration) (asked : List Asking) → length c.links ≤ LINKS →

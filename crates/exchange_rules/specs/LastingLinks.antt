@@ -22,7 +22,7 @@ pub record IsSteady (window : ℕ) (l : Link) (s : Standing) (q : Queue) (l7_run
   pub associated : l.association ≡ false → is_down l.alignment ≡ true
   -- and while its changeover isn't complete
   pub changing : s.incomplete ≡ true → is_down l.alignment ≡ true
-  -- out of service, messages stand in its queue only until its changeover is complete
+  -- out of service, messages are in its queue only until its changeover is complete
   pub moved : is_in_service l.alignment ≡ false → s.incomplete ≡ false → q.all ≡ []
   -- L7 runs exactly while it is in service, its peer isn't busy, and something that was sent isn't confirmed
   pub watched : l7_runs ≡ (may_send l && nat_lt 0 (q.sent - q.confirmed))
@@ -42,14 +42,14 @@ pub record AreLinksSteady (window : ℕ) (node : Node WholeQueues) : Type 0 wher
 abbrev pub links_first_steady : Type 0
 links_first_steady = (c : Configuration) → c.window ≤ WINDOW → AreLinksSteady c.window (first_state c).node
 
--- and each stays so, whatever is asked
+-- and this stays so for each, whatever is asked
 abbrev pub links_stay_steady : Type 0
 links_stay_steady =
     (asked : List Asking) (a : Abstract) → HasAllPlaces a.settings a.node →
     AreLinksSteady a.settings.window a.node →
     AreLinksSteady a.settings.window (after_each asked a).node
 
--- so L7 watches what was sent, in each state that comes of the first
+-- so L7 watches what was sent, in each state reached from the first
 abbrev pub l7_watches : Type 0
 l7_watches =
     (c : Configuration) (asked : List Asking) (link : ℕ) → length c.links ≤ LINKS → c.window ≤ WINDOW →

@@ -10,7 +10,7 @@ use Rattle.exchange_rules.specs.State.{Asking, Parts}
 use Rattle.exchange_rules.specs.First.{first_state}
 use Rattle.exchange_rules.specs.Lasting.{after_each}
 
--- the parts in each state that comes of the first
+-- the parts in each state reached from the first
 abbrev pub parts_after : Configuration → List Asking → Parts
 parts_after c asked = (after_each asked (first_state c)).node.parts
 

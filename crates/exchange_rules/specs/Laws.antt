@@ -55,8 +55,8 @@ abbrev pub carried_message : Result FrameValue FrameFault → Option Message
 carried_message (Ok frame) = option_and_then (λ d. d.message) (data_of frame)
 carried_message (Err fault) = None
 
--- what answers a message that was refused, by where it goes: one for SCCP here is returned, where it can be; the sender
--- of one for another point is told where it found no route, if it came by a link; nothing answers any other
+-- what answers a message that was refused, by where it goes. One for SCCP here is returned, if it can be. If one for
+-- another point came by a link and found no route, its sender is told. Nothing answers any other
 abbrev pub answered_by : Discrimination → Cause → (from : Option ℕ) → Message → Configuration → Node WholeQueues
     → Node WholeQueues
 answered_by (whither.Refused fault) cause from m c node = node
@@ -74,8 +74,8 @@ answered cause from None c node = node
 abbrev pub noted : Cause → ℕ → Node WholeQueues → Node WholeQueues
 noted cause link node = with_parts node (note (notices.Refused cause link) node.parts)
 
--- the state after a refused event: a message in a frame leaves what accepting its frame did, what answered it, a
--- notice, and what then found room to be told; a submission leaves what answered it; any other event changes nothing
+-- the state after a refused event. A message in a frame leaves what accepting its frame did, what answered it, a
+-- notice, and what there was then room to tell. A submission leaves what answered it. Any other event changes nothing
 abbrev pub after_refusal : Happening → Cause → Abstract → Abstract
 after_refusal (CameUp link) cause a = a
 after_refusal (WentDown link) cause a = a
@@ -120,7 +120,7 @@ abbrev pub queued_in_service : Type 0
 queued_in_service = (what : Happening) (a : Abstract) (link : ℕ) → outcome_of whole what a ≡ Queued link →
     in_service (after whole what a).node.parts link ≡ true
 
--- so is every other: where a rule changes the queue of a link, that link is in service behind it
+-- the same for every other message: if a rule changes the queue of a link, that link is in service afterwards
 abbrev pub GivesInService : (link : ℕ) → (before after : Node WholeQueues) → Type 0
 GivesInService link before after =
     queue_at after.queues link ≢ queue_at before.queues link → in_service after.parts link ≡ true
@@ -137,13 +137,13 @@ declared_in_service =
     (c : Configuration) (its : ℕ) (step : Transition) (node : Node WholeQueues) (link : ℕ) →
     GivesInService link node (advance whole c its step node)
 
--- a completion queues management of its link anew on others
+-- a completion puts management of its link on the queues of others again
 abbrev pub queued_anew_in_service : Type 0
 queued_anew_in_service =
     (c : Configuration) (failed : ℕ) (number : Option ℕ) (node : Node WholeQueues) (link : ℕ) → link ≢ failed →
     GivesInService link node (complete_if whole c true failed number node)
 
--- at the end of each event what is held goes on, and adjacent points are told what they are owed
+-- at the end of each event what is no longer held goes on, and adjacent points are told what they are owed
 abbrev pub settled_in_service : Type 0
 settled_in_service =
     (c : Configuration) (node : Node WholeQueues) (link : ℕ) →
@@ -151,8 +151,8 @@ settled_in_service =
 
 -- ---- changeovers
 
--- the move of a completion touches the queue of no other link, and in Held each flow has its messages that move before
--- those that were held
+-- moving the messages of a completion touches the queue of no other link, and in Held each flow's messages that move
+-- come before those that were held
 abbrev pub completion_leaves_others : Type 0
 completion_leaves_others =
     (qs : WholeQueues) (link : ℕ) (number : Option ℕ) →
@@ -164,8 +164,8 @@ completion_leaves_others =
 abbrev pub goes_on_by : Configuration → Parts → ℕ → Message → Bool
 goes_on_by c p link m = not (waits c p.holds m) && goes_by (link_of c p (flow_of m)) link
 
--- a release leaves in Held what waits, and puts what goes to a link behind what stands there, each in the order of
--- Held; so each flow keeps its order
+-- a release leaves in Held what waits, and puts what goes to a link after what is there, each in the order of Held; so
+-- each flow keeps its order
 abbrev pub release_keeps_order : Type 0
 release_keeps_order =
     (c : Configuration) (node : Node WholeQueues) →
@@ -174,8 +174,8 @@ release_keeps_order =
     (queue_at (release whole c node).queues link).all
     ≡ (queue_at node.queues link).all ++ filter (goes_on_by c node.parts link) node.queues.held)
 
--- a changeover that meets a changeback: when messages of a flow go on by a link, those that a completion moves stand
--- before those that were held
+-- a changeover meets a changeback: when messages of a flow go on by a link, those that a completion moves come before
+-- those that were held
 abbrev pub moved_before_held : Type 0
 moved_before_held =
     (c : Configuration) (p : Parts) (qs : WholeQueues) (failed link : ℕ) (number : Option ℕ)

@@ -17,14 +17,14 @@ use Rattle.exchange_rules.specs.Exchange.{outcome_of, wants_of}
 use Rattle.exchange_rules.specs.First.{first_state}
 use Rattle.exchange_rules.specs.Lasting.{HasAllPlaces, after_each}
 
--- a link wants to open exactly where its association would be taken, in each state that comes of the first
+-- a link wants to open exactly when its association would be accepted, in each state reached from the first
 abbrev pub wanted_links_open : Type 0
 wanted_links_open =
     (c : Configuration) (asked : List Asking) (link : ℕ) → length c.links ≤ LINKS → c.window ≤ WINDOW →
     (wants_of (after_each asked (first_state c)) link ≡ Open)
     ↔ (outcome_of whole (CameUp link) (after_each asked (first_state c)) ≡ Handled)
 
--- Queued names the link of the flow before the message came, and the message goes behind all that stands there
+-- Queued names the link that the flow had before the message came, and the message goes to the end of its queue
 abbrev pub queued_stands_last : Type 0
 queued_stands_last =
     (c : Configuration) (from : Option ℕ) (m : Message) (node : Node WholeQueues) (link : ℕ) →
@@ -33,7 +33,7 @@ queued_stands_last =
     × ((queue_at (transfer whole c from m node).left.queues link).all ≡ (queue_at node.queues link).all ++ m ∷ [])
 
 -- A message that came by a link finds no route. While T8 of the link's set and the destination runs, the point at the
--- other end is told nothing; and where it is told, T8 runs from then on, as long as it is set to.
+-- other end is told nothing; if it is told, T8 runs from then on, for as long as it is set to.
 pub record IsToldOnce (c : Configuration) (set destination : ℕ) (before after : Node WholeQueues) : Type 0 where
   pub inhibited : is_running (T8 set destination) before.parts.timers ≡ true → after ≡ before
   pub told : (after ≡ before) ⊎ (after.parts.timers.left (T8 set destination) ≡ Some (max 1 c.timers.t8))

@@ -15,7 +15,7 @@ use Rattle.exchange_rules.specs.Queues.{WholeQueues, queue_at, whole}
 use Rattle.exchange_rules.specs.ChangingOver.{fail, fail_by_peer}
 use Rattle.exchange_rules.specs.Places.{HasPlacesFor}
 
--- a user message of a flow stands on a link, sent or not, that isn't confirmed
+-- a user message of a flow is on a link, sent or not, and isn't confirmed
 pub record HasUnconfirmed (c : Configuration) (node : Node WholeQueues) (link destination sls : ℕ) : Type 0 where
   pub message : Message
   pub stands : Contains (drop (queue_at node.queues link).confirmed (queue_at node.queues link).all) message
@@ -23,7 +23,7 @@ pub record HasUnconfirmed (c : Configuration) (node : Node WholeQueues) (link de
   pub to : destination_place c (flow_of message).point ≡ Some destination
   pub selection : (flow_of message).sls ≡ sls
 
--- a flow fails with a link: that was its link, or such a message of it stands there
+-- a flow fails with a link: its link is that one, or such a message of it is there
 abbrev pub FailsWith : Configuration → Node WholeQueues → (link destination sls : ℕ) → Type 0
 FailsWith c node link destination sls =
     (chosen_link (facts c node.parts) destination sls ≡ Some link) ⊎ HasUnconfirmed c node link destination sls
@@ -37,7 +37,7 @@ pub record IsFailure (c : Configuration) (link : ℕ) (before after : Node Whole
   pub others : (procedure : Procedure) (destination sls : ℕ) → procedure ≢ Changeover link →
       holds after.parts.holds procedure destination sls ≡ holds before.parts.holds procedure destination sls
 
--- so it is when a link in service fails, for a reason of its own or since its peer tells so
+-- this holds when a link in service fails, for a reason of its own or because its peer says so
 abbrev pub failures_hold_their_flows : Type 0
 failures_hold_their_flows =
     (c : Configuration) (link : ℕ) (why : FailureReason) (node : Node WholeQueues) → HasPlacesFor c node.parts →
@@ -48,7 +48,7 @@ failures_by_peer_hold_their_flows =
     (c : Configuration) (link : ℕ) (node : Node WholeQueues) → HasPlacesFor c node.parts →
     in_service node.parts link ≡ true → IsFailure c link node (fail_by_peer whole c link node)
 
--- where a link wasn't in service, nothing is held
+-- if a link wasn't in service, nothing is held
 abbrev pub idle_failures_hold_nothing : Type 0
 idle_failures_hold_nothing =
     (c : Configuration) (link : ℕ) (why : FailureReason) (node : Node WholeQueues) →

@@ -14,8 +14,8 @@ use Rattle.exchange_rules.specs.Queues.{whole}
 use Rattle.exchange_rules.specs.Receiving.{new_message}
 use Rattle.exchange_rules.specs.Conserving.{Gone, both_gone, brought_in, gone, gone_that, nothing_gone, standing, users_that}
 
--- By any test, as many user messages as stood before an event, and as it brings, stand after it, were accepted by a
--- peer, or are named as lost: none is doubled, and none is gone in another way
+-- By any test: of the user messages that were there before an event or came by it, as many as are there after it, were
+-- accepted by a peer, or are named as lost; none is doubled, and none is gone in any other way
 abbrev pub user_messages_are_conserved : Type 0
 user_messages_are_conserved =
     (what : Happening) (a : Abstract) (of : Message → Bool) → HasAllPlaces a.settings a.node →
@@ -38,7 +38,7 @@ has_fate (Refused cause) = true
 has_fate Handled = false
 has_fate Ignored = false
 
--- so is each user message that a frame newly carries, and each that is submitted
+-- one of these becomes of each user message that a frame newly carries, and of each that is submitted
 abbrev pub carried_messages_have_a_fate : Type 0
 carried_messages_have_a_fate =
     (a : Abstract) (link : ℕ) (text : List ℕ) (m : Message) → new_message link text a ≡ Some m →
@@ -60,7 +60,7 @@ gone_by_asking (Happens what) a = gone what a
 gone_by_asking (Takes link) a = nothing_gone
 gone_by_asking (AsksWants link) a = nothing_gone
 
--- all that came in as an exchange was asked all of this, and all that went
+-- everything that came in and everything that went, as an exchange was asked all of this
 abbrev pub all_brought : List Asking → Abstract → List Message
 all_brought [] a = []
 all_brought (asking ∷ others) a = brought_by_asking asking a ++ all_brought others (after_asking asking a)
@@ -69,7 +69,8 @@ abbrev pub all_gone : List Asking → Abstract → Gone
 all_gone [] a = nothing_gone
 all_gone (asking ∷ others) a = both_gone (gone_by_asking asking a) (all_gone others (after_asking asking a))
 
--- so in each state that comes of the first, all that ever came in stands, was accepted by a peer, or is named as lost
+-- so in each state reached from the first, everything that ever came in is still there, was accepted by a peer, or is
+-- named as lost
 abbrev pub all_that_came_adds_up : Type 0
 all_that_came_adds_up =
     (c : Configuration) (asked : List Asking) (of : Message → Bool) → length c.links ≤ LINKS → c.window ≤ WINDOW →

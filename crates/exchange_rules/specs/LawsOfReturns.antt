@@ -27,7 +27,7 @@ entries_hold_changed_flows =
     chosen_link (facts c (advance whole c link step node).parts) destination sls ≡ Some to → from ≢ to →
     is_held (advance whole c link step node).parts.holds destination sls ≡ true
 
--- and of any two states: a flow that went by another link before, and goes by the link that returned now, is held
+-- for any two states: a flow that went by another link before, and goes by the link that returned now, is held
 abbrev pub changed_flows_are_held : Type 0
 changed_flows_are_held =
     (c : Configuration) (link : ℕ) (before : Parts) (node : Node WholeQueues) (destination sls from : ℕ) →
@@ -52,7 +52,7 @@ pub record HasReturned (before after : Facts) (other link destination sls : ℕ)
   pub is : chosen_link after destination sls ≡ Some link
   pub apart : other ≢ link
 
--- a link lost some flow so
+-- a link lost some flow in this way
 pub record HasLost (before after : Facts) (other link : ℕ) : Type 0 where
   pub destination : ℕ
   pub sls : ℕ
@@ -62,9 +62,8 @@ pub record HasLost (before after : Facts) (other link : ℕ) : Type 0 where
 abbrev pub at_turn : Configuration → (link : ℕ) → (known : Facts) → Node WholeQueues → (other : ℕ) → Node WholeQueues
 at_turn c link known before other = take_back_each whole c known (facts c before.parts) link other before
 
--- a code holds what comes from another link of the set: a declaration with it stands at the end of the queue of that
--- link, the code was free, the least one that was so when the turn of that link came, and its acknowledgement is
--- awaited now
+-- a code holds what comes from another link of the set. A declaration with it is at the end of the queue of that link;
+-- it was the least free code when the turn of that link came; and its acknowledgement is awaited now
 pub record IsByCode (c : Configuration) (link other code : ℕ) (turn before after : Node WholeQueues) : Type 0 where
   pub set : set_of c other ≡ set_of c link
   pub declared : (queue_at after.queues other).all ≡ (queue_at before.queues other).all ++ declaration c link code ∷ []
@@ -72,7 +71,7 @@ pub record IsByCode (c : Configuration) (link other code : ℕ) (turn before aft
   pub least : free_code turn.parts.codes (set_of c link) ≡ Some code
   pub awaited : is_outstanding after.parts.codes (set_of c link) code ≡ true
 
--- it is held by time: no declaration went to the queue of that link, since it is of another set, or since no code was
+-- it is held by time. No declaration went to the queue of that link, since it is of another set, or since no code was
 -- free or management had no room when its turn came
 pub record IsByTime (c : Configuration) (link other : ℕ) (turn before after : Node WholeQueues) : Type 0 where
   pub left : (queue_at after.queues other).all ≡ (queue_at before.queues other).all
@@ -85,10 +84,10 @@ IsChosen c link other turn before after procedure =
     ((code : ℕ) × (procedure ≡ Code (set_of c link) code) × IsByCode c link other code turn before after)
     ⊎ ((procedure ≡ Time link) × IsByTime c link other turn before after)
 
--- A return, of which it was known before which link each flow took, by the procedure of each other link:
+-- A return, given the link that each flow took before, by the procedure of each other link:
 pub record IsReturn (c : Configuration) (link : ℕ) (known : Facts) (before after : Node WholeQueues)
     (by : ℕ → Procedure) : Type 0 where
-  -- it is a code exactly where a declaration with it stands at the end of the queue, else time
+  -- it is a code exactly when a declaration with it is at the end of the queue, else time
   pub chosen : (other : ℕ) → HasLost known (facts c before.parts) other link →
       IsChosen c link other (at_turn c link known before other) before after (by other)
   -- the codes of two links differ
@@ -109,7 +108,7 @@ pub record IsReturn (c : Configuration) (link : ℕ) (known : Facts) (before aft
   pub queues : (other : ℕ) → (HasLost known (facts c before.parts) other link → ⊥) →
       queue_at after.queues other ≡ queue_at before.queues other
 
--- so it is of any two states
+-- this holds for any two states
 abbrev pub flows_return_by_their_procedures : Type 0
 flows_return_by_their_procedures =
     (c : Configuration) (link : ℕ) (before : Parts) (node : Node WholeQueues) → HasAllPlaces c node →

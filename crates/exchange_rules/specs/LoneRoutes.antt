@@ -1,4 +1,4 @@
--- A point to which the links of one set lead, and no other set, over every event and every take: laws.
+-- A point to which the links of one set lead, and of no other, over every event and every take: laws.
 use Rattle.std.specs.Prelude.{◌≡◌, ◌≢◌, ◌&&◌, ℕ, Bool, false, not, nat_eq, List, [], ◌∷◌, Some, slice_index_or}
 use Rattle.std.specs.List.{list_any}
 use Rattle.signalling_types.specs.Message.{Message, dpc_of, is_management}
@@ -12,25 +12,24 @@ use Rattle.exchange_rules.specs.Queues.{WholeQueues, queue_at}
 use Rattle.exchange_rules.specs.Lasting.{after_each}
 use Rattle.exchange_rules.specs.First.{first_state}
 
--- whether a message is a user message for a point
 abbrev pub is_user_to : (point : ℕ) → Message → Bool
 is_user_to point m = not (is_management m) && nat_eq (dpc_of m) point
 
 -- the route to the point is allowed; each flow there that has a link has one of the set; and the user messages for it
--- that stand on links stand on those of the set
+-- that are on links are on links of the set
 pub record GoesBySet (c : Configuration) (set point destination : ℕ) (node : Node WholeQueues) : Type 0 where
   pub route : slice_index_or node.parts.routes destination [] ≡ first_route set ∷ []
   pub links : (sls link : ℕ) → chosen_link (facts c node.parts) destination sls ≡ Some link → set_of c link ≡ set
   pub queues : (link : ℕ) → set_of c link ≢ set → list_any (is_user_to point) (queue_at node.queues link).all ≡ false
 
--- so it is in each state that comes of the first
+-- this holds in each state reached from the first
 abbrev pub flows_stay_on_their_set : Type 0
 flows_stay_on_their_set =
     (c : Configuration) (asked : List Asking) (set point destination : ℕ) → LeadsAlone c point set →
     destination_place c point ≡ Some destination →
     GoesBySet c set point destination (after_each asked (first_state c)).node
 
--- which link of the set a flow takes depends on those of its links that are in service, and on nothing else
+-- which link of the set a flow takes depends only on which of its links are in service
 abbrev pub the_set_decides_its_flows : Type 0
 the_set_decides_its_flows =
     (c : Configuration) (before after : Parts) (set destination sls : ℕ) →

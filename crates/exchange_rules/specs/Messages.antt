@@ -1,5 +1,4 @@
--- Message routing (Q.704 §2.3, block HMRT): room, then Held where the flow has a hold, then a route, then the end of a
--- queue.
+-- HMRT, message routing (Q.704 §2.3): room, then Held if the flow has a hold, then a route, then the end of a queue.
 use Rattle.std.specs.Prelude.{ℕ, Bool, true, false, Option, Some, None, is_some, if◌then◌else◌, List, ◌&&◌, nat_eq, position, Result, Ok, Err, nat_lt, length}
 use Rattle.signalling_types.specs.Message.{Message, flow_of, dpc_of, service_indicator, opc_of, is_management}
 use Rattle.settings_rows.specs.Configuration.{Configuration, TitleEntry}
@@ -39,8 +38,8 @@ abbrev pub is_destination : Configuration → ℕ → Bool
 is_destination c point = is_some (destination_place c point)
 
 module _ {Q : Type 0} (q : QueueKind Q) (c : Configuration) where
-  -- room first; then a message that waits stands at the end of Held; then the route, and the message stands at the end
-  -- of that link's queue. The sender of one that came by a link and finds no route is told so
+  -- room first; then a message that waits goes to the end of Held; then the route, and the message goes to the end of
+  -- that link's queue. The sender of one that came by a link and finds no route is told so
   abbrev pub offer : Option Cause → (is_waiting : Bool) → (link from : Option ℕ) → Message → Node Q → Done Q
   offer (Some cause) is_waiting link from m node = refuse cause node
   offer None true link from m node = record { outcome = Held; left = hold q m node }
@@ -48,14 +47,14 @@ module _ {Q : Type 0} (q : QueueKind Q) (c : Configuration) where
       refuse NoRoute (answer_no_route q c from (destination_place c (dpc_of m)) node)
   offer None false (Some link) from m node = record { outcome = Queued link; left = queue_on q c link m node }
 
-  -- a message for another point, with the link that it came by, if it came by one: a known destination, then room, then
-  -- no hold, then a route
+  -- a message for another point, with the link that it came by, if any: a known destination, then room, then no hold,
+  -- then a route
   abbrev pub transfer : (from : Option ℕ) → Message → Node Q → Done Q
   transfer from m node =
       unless is_destination c (dpc_of m) then refuse UnknownDestination node
       else offer (no_room q c m node.queues) (waits c node.parts.holds m) (link_of c node.parts (flow_of m)) from m node
 
--- ---- Relaying (Q.714 §2.3, §4.2, block SCRC): SCCP messages for this point, and the translation rows that lead them on.
+-- ---- SCRC, SCCP routing control (Q.714 §2.3, §4.2): SCCP messages for this point, and the rows that lead them on.
 
 -- the point that this node is, and its subsystems
 abbrev pub own_of : Configuration → OwnValue
@@ -68,8 +67,8 @@ in_place_of m sif = record m { sif = sif }
 module _ {Q : Type 0} (q : QueueKind Q) (c : Configuration) where
   -- ---- a refused message is returned
 
-  -- the UDTS that returns a message, if one does, goes the way of any message for another point; where it finds none,
-  -- it is dropped
+  -- the UDTS that returns a message, if one does, goes the way of any message for another point; if there is no way, it
+  -- is dropped
   abbrev pub send_udts : (udts : Option (List ℕ)) → Message → Node Q → Node Q
   send_udts (Some sif) m node = (transfer q c None (in_place_of m sif) node).left
   send_udts None m node = node
@@ -90,7 +89,7 @@ module _ {Q : Type 0} (q : QueueKind Q) (c : Configuration) where
 
   -- ---- a message
 
-  -- by what becomes of it: one that goes on goes the way of any message for another point, and nobody is told where it
+  -- by what becomes of it: one that goes on goes the way of any message for another point, and nobody is told if it
   -- finds no route
   abbrev pub relay_by : RelayedValue → Message → Node Q → Done Q
   relay_by relays.Delivered m node = answer Local node
@@ -107,7 +106,7 @@ module _ {Q : Type 0} (q : QueueKind Q) (c : Configuration) where
 abbrev pub with_titles : List TitleEntry → Parts → Parts
 with_titles titles p = record p { titles = titles }
 
--- why a row isn't added: as the table refuses it; else memory for it was refused
+-- why a row isn't added: the table's refusal, else that memory for it was refused
 abbrev pub title_refusal : List TitleEntry → TitleEntry → (is_memory_refused : Bool) → Option Cause
 title_refusal titles row is_memory_refused =
     option_or (add_refusal titles row) (if is_memory_refused then Some NoMemory else None)
@@ -129,7 +128,7 @@ remove_title key digits node =
     else answer Handled
     (with_parts node (with_titles (without_row (place_of key digits) node.parts.titles) node.parts))
 
--- ---- Message distribution (Q.704 §2.4, block HMDT): a message for this point, by its service indicator (§14.2.1).
+-- ---- HMDT, message distribution (Q.704 §2.4): a message for this point, by its service indicator (§14.2.1).
 
 -- the service indicators of tests and of SCCP; that of management is 0
 abbrev pub testing : ℕ
@@ -138,7 +137,7 @@ testing = 1
 abbrev pub sccp : ℕ
 sccp = 3
 
--- whether a user part of this service indicator stands on this node
+-- whether this node has a user part of this service indicator
 abbrev pub is_user : Configuration → ℕ → Bool
 is_user c service_indicator = list_any (λ user. nat_eq user service_indicator) c.users
 
@@ -164,7 +163,7 @@ abbrev pub link_with_code : Configuration → (point slc : ℕ) → Option ℕ
 link_with_code c point slc = option_and_then (link_in_set c slc) (set_place c point)
 
 module _ {Q : Type 0} (q : QueueKind Q) (c : Configuration) where
-  -- a link test is answered on the link that it came by; an answer to one is ignored (Q.707 §2.2)
+  -- a link test is answered on the link that it came by, and an answer to one is ignored (Q.707 §2.2)
   abbrev pub do_kind : TestKind → ℕ → ℕ → LinkTestValue → Node Q → Done Q
   do_kind Test link point test node = answer Handled (send_on q c link (test_answer c point test) node)
   do_kind Acknowledgement link point test node = answer Ignored node
@@ -182,7 +181,7 @@ module _ {Q : Type 0} (q : QueueKind Q) (c : Configuration) where
   do_acknowledgement (Some link) number node = on_changeover_acknowledgement q c link number node
   do_acknowledgement None number node = refuse BadManagement node
 
-  -- a management message from a point; that it has restarted asks nothing of this node
+  -- a management message from a point; this node does nothing about one that says it has restarted
   abbrev pub on_management : Management → ℕ → Node Q → Done Q
   on_management TrafficRestartAllowed point node = answer Ignored node
   on_management (ExtendedChangeoverOrder slc number) point node =
@@ -211,7 +210,7 @@ module _ {Q : Type 0} (q : QueueKind Q) (c : Configuration) where
   do_management (Err fault) point node = refuse (cause_of fault) node
   do_management (Ok message) point node = on_management message point node
 
-  -- management and tests, by the link that they came by: only an adjacent point is heard
+  -- management and tests, by the link that they came by; only those of an adjacent point are accepted
   abbrev pub manage : ℕ → Message → Node Q → Done Q
   manage link m node =
       unless is_adjacent c (opc_of m) then refuse NotFromAdjacent node
@@ -230,7 +229,7 @@ module _ {Q : Type 0} (q : QueueKind Q) (c : Configuration) where
   abbrev pub distribute : ℕ → Message → Node Q → Done Q
   distribute link m node = (if is_management m then manage link m node else local m node)
 
--- ---- Message discrimination (Q.704 §2.4, block HMDC): where a message goes, and what becomes of it.
+-- ---- HMDC, message discrimination (Q.704 §2.4): where a message goes, and what becomes of it.
 
 -- where a message goes, or why it is refused before its destination is looked at: its length, then its label, then its
 -- network
@@ -245,7 +244,7 @@ module _ {Q : Type 0} (q : QueueKind Q) (c : Configuration) where
   deliver_to (whither.Here label) link m node = distribute q c link m node
   deliver_to (whither.Transfer label) link m node = transfer q c (Some link) m node
 
-  -- a message in a frame, with the link that it came by: where it is refused, that is noted
+  -- a message in a frame, with the link that it came by; a refusal is noted
   abbrev pub deliver : ℕ → Message → Node Q → Done Q
   deliver link m node = note_refusal link (deliver_to (whither_goes c m) link m node)
 

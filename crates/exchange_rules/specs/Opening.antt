@@ -1,5 +1,5 @@
--- Link availability control (Q.704 §3.2, block TLAC): associations that come and go, and the operator's word on a link
--- (RFC 4165 §4.1.3).
+-- TLAC, link availability control (Q.704 §3.2): associations that come up and go down, and the operator's orders about
+-- a link (RFC 4165 §4.1.3).
 use Rattle.std.specs.Prelude.{ℕ, Bool, true, false, ◌&&◌, not, if◌then◌else◌}
 use Rattle.settings_rows.specs.Configuration.{Configuration}
 use Rattle.signalling_types.specs.declared.cause.Cause.TheVariants.{NoSuchName, LinkNotReady, ChangeoverPending}
@@ -15,12 +15,12 @@ use Rattle.exchange_rules.specs.Timing.{timed}
 use Rattle.changeover.specs.Changeover.{may_restart}
 use Rattle.exchange_rules.specs.ChangingOver.{changeover_of, fail}
 
--- a link opens where it has no association yet, and the operator lets it
+-- a link may open if it has no association yet, and the operator lets it
 abbrev pub may_open : Link → Bool
 may_open l = not l.association && l.active
 
--- what a link that is down asks of its caller; while its changeover isn't complete, or the answer to its order is
--- awaited, it doesn't open
+-- what a link that is down asks of its caller; it doesn't open while its changeover isn't complete, or while the answer
+-- to its order is awaited
 abbrev pub wanted_down : (restarts : Bool) → Link → Wants
 wanted_down restarts l = if l.association then Close else if l.active && restarts then Open else Nothing
 
@@ -50,8 +50,8 @@ module _ {Q : Type 0} (q : QueueKind Q) (c : Configuration) where
   abbrev pub open_link : ℕ → Node Q → Node Q
   open_link link node = record { queues = q.started node.queues link; parts = begun c link node.parts }
 
-  -- an association comes up; a link that has one, or that the operator keeps from opening, refuses it, and so does one
-  -- whose changeover isn't complete, or whose answer is awaited
+  -- an association comes up. A link refuses it if it has one, if the operator keeps it from opening, if its changeover
+  -- isn't complete, or if the answer to its order is awaited
   abbrev pub association_up : ℕ → Node Q → Done Q
   association_up link node =
       unless is_link node.parts link then refuse NoSuchName node
@@ -74,7 +74,7 @@ module _ {Q : Type 0} (q : QueueKind Q) (c : Configuration) where
       else unless (link_at node.parts link).association then answer Ignored node
       else answer Handled (node ▷ fail_if_up link reasons.Association ▷ end_association link)
 
-  -- the operator lets a link open, or keeps it from it
+  -- the operator lets a link open, or keeps it from opening
   abbrev pub set_active : Bool → ℕ → Node Q → Node Q
   set_active active link node = with_parts node (with_active active link node.parts)
 

@@ -8,20 +8,20 @@ use Rattle.changeback.specs.Codes.{Codes, codes_of}
 use Rattle.route_management.specs.Told.{shape_of}
 use Rattle.exchange_rules.specs.State.{Parts}
 
--- the holds are of these links, sets and destinations: no other procedure holds a flow, and none another flow
+-- the holds are for these links, sets and destinations: no other procedure holds a flow, and none holds any other flow
 pub record HasHoldsFor (c : Configuration) (h : HoldSet) : Type 0 where
   pub links : h.links ≡ length c.links
   pub sets : h.sets ≡ length c.sets
   pub destinations : h.destinations ≡ length c.destinations
   pub pairs : IsOfNode h
 
--- each of so many sets has its codes
+-- each set has its codes
 pub record HasCodes (sets : ℕ) (t : Codes) : Type 0 where
   pub rows : length t ≡ sets
   pub each : (set : ℕ) → set < sets → length (codes_of t set) ≡ CHANGEBACK_CODES
 
 -- there is a place for each link, set and destination of the settings: each link has its state and its changeover, each
--- set its codes, and of each destination it is known which routes lead there and what each adjacent point was told
+-- set its codes, and each destination its routes and what each adjacent point was told of it
 pub record HasPlacesFor (c : Configuration) (p : Parts) : Type 0 where
   pub few_links : length c.links ≤ LINKS
   pub links : length p.links ≡ length c.links

@@ -19,12 +19,12 @@ use Rattle.exchange_rules.specs.Exchange.{outcome_of, after, taken}
 use Rattle.exchange_rules.specs.Lasting.{HasAllPlaces}
 use Rattle.exchange_rules.specs.First.{Abstract}
 
--- the message of User Data, by what its numbers say: none where one of them is wrong
+-- the message of User Data, by what its numbers say: none if one of them is wrong
 abbrev pub new_by : Result ℕ SeqFault → Carrying → Option Message
 new_by (Ok confirmed) d = d.message
 new_by (Err fault) d = None
 
--- by what its link does about User Data: none where it ignores that, or fails
+-- by what its link does about User Data: none if it ignores that, or fails
 abbrev pub new_at : Action → ℕ → Carrying → Configuration → Node WholeQueues → Option Message
 new_at act.Ignored link d c node = None
 new_at act.Fail link d c node = None
@@ -39,8 +39,8 @@ abbrev pub new_of : Result FrameValue FrameFault → ℕ → Configuration → N
 new_of (Ok frame) link c node = new_in (data_of frame) link c node
 new_of (Err fault) link c node = None
 
--- the message that a frame newly carries: none where its link isn't there or is down, where it can't be read, where it
--- isn't User Data or a link doesn't expect that, where one of its numbers is wrong, or where it has none
+-- the message that a frame newly carries: none if its link isn't there or is down, if it can't be read, if it isn't
+-- User Data or the link doesn't expect that, if one of its numbers is wrong, or if it carries none
 abbrev pub new_message : ℕ → List ℕ → Abstract → Option Message
 new_message link text a =
     if is_link a.node.parts link && not (down a.node.parts link)
@@ -57,11 +57,11 @@ abbrev pub is_beginning : Happening → (link : ℕ) → Bool
 is_beginning (CameUp its) link = nat_eq its link
 is_beginning what link = false
 
--- what was received on a link in its epoch
+-- how many messages were received on a link in its epoch
 abbrev pub received : Node WholeQueues → (link : ℕ) → ℕ
 received node link = (queue_at node.queues link).received
 
--- it rises by one exactly where a frame newly carries a message there
+-- it rises by one exactly when a frame newly carries a message there
 abbrev pub received_is_counted : Type 0
 received_is_counted =
     (what : Happening) (a : Abstract) (link : ℕ) → HasAllPlaces a.settings a.node → is_beginning what link ≡ false →
@@ -72,7 +72,7 @@ abbrev pub takes_receive_nothing : Type 0
 takes_receive_nothing =
     (a : Abstract) (link other : ℕ) → received (taken whole a link).node other ≡ received a.node other
 
--- what a frame comes to that delivers nothing
+-- the outcome of a frame that delivers nothing
 abbrev pub is_idle : Outcome → Bool
 is_idle Handled = true
 is_idle Ignored = true

@@ -1,5 +1,5 @@
--- Forced and controlled rerouting (Q.704 §7, §8, blocks TFRC and TCRC), and route set tests of this node (§13.5, block
--- RSRT): what adjacent points say of routes, and what that does to flows.
+-- TFRC and TCRC, forced and controlled rerouting control (Q.704 §7, §8), and RSRT, route set test control (§13.5): what
+-- adjacent points say of routes, what that does to flows, and the tests that this node sends.
 use Rattle.std.specs.Prelude.{ℕ, List, [], ◌∷◌, Option, Some, None, Result, Ok, Err, ◌&&◌, nat_lt, length, if◌then◌else◌}
 use Rattle.settings_rows.specs.Configuration.{Configuration}
 use Rattle.signalling_types.specs.Message.{Message}
@@ -36,7 +36,7 @@ abbrev pub forced : Configuration → (set destination : ℕ) → RouteStatus �
 forced c set destination status p =
     record p { routes = (with_route_status destination set status (network_of c p)).routes }
 
--- flows to a destination are held, and T6 runs anew; where there are none, nothing changes
+-- flows to a destination are held, and T6 starts or restarts; if there are none, nothing changes
 abbrev pub held_by_rerouting : Configuration → (destination : ℕ) → (selections : List ℕ) → Parts → Parts
 held_by_rerouting c destination [] p = p
 held_by_rerouting c destination (sls ∷ others) p = record p {
@@ -44,13 +44,13 @@ held_by_rerouting c destination (sls ∷ others) p = record p {
   timers = set_timer (name.T6 destination) c.timers.t6 p.timers;
 }
 
--- controlled rerouting: the flows that so go from one link to another are held
+-- controlled rerouting: the flows that change their link by that are held
 abbrev pub controlled : Configuration → (set destination : ℕ) → RouteStatus → Parts → Parts
 controlled c set destination status p =
     let next : Parts = forced c set destination status p in
     held_by_rerouting c destination (rerouted (facts c p) (facts c next) destination) next
 
--- which of them, by the status
+-- which of the two, by the status
 abbrev pub rerouted_by : RouteStatus → Configuration → (set destination : ℕ) → Parts → Parts
 rerouted_by Prohibited c set destination p = forced c set destination Prohibited p
 rerouted_by Restricted c set destination p = controlled c set destination Restricted p
@@ -67,8 +67,8 @@ rerouting_ended destination p = record p { holds = lifted p.holds (Reroute desti
 
 -- ---- a set
 
--- when the first link of a set enters service, all that is known over it begins anew: its routes are allowed, and so
--- they were told to its adjacent point, and T8 and T10 of the set stop
+-- when the first link of a set enters service, what is known over it is reset: its routes are allowed, its adjacent
+-- point counts as told so, and T8 and T10 of the set stop
 abbrev pub with_set_reset : Configuration → (set : ℕ) → Parts → Parts
 with_set_reset c set p = record p {
   routes = (with_statuses_reset set (network_of c p)).routes;
@@ -76,7 +76,7 @@ with_set_reset c set p = record p {
   timers = clear_set of_set.T10 set (clear_set of_set.T8 set p.timers);
 }
 
--- when its last link fails, its point is asked no more
+-- when its last link fails, its point is sent no more tests
 abbrev pub without_tests : (set : ℕ) → Parts → Parts
 without_tests set p = record p { timers = clear_set of_set.T10 set p.timers }
 

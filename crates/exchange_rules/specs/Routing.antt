@@ -1,4 +1,5 @@
--- The rows of the settings: links, and the points that sets lead to.
+-- TSRC, signalling routing control (Q.704 §2.3, §4.2): the links, sets and destinations of the settings, which link a
+-- flow takes, and which flows are held.
 use Rattle.std.specs.Prelude.{ℕ, false, [], slice_index_or, Option, Some, None, Result, Ok, Err, Bool, nat_eq, List, length, nat_le, if◌then◌else◌, ◌&&◌, not}
 use Rattle.signalling_types.specs.declared.cause.Cause.TheVariants.{UnknownDestination, PoolFull, ManagementFull}
 use Rattle.signalling_types.specs.declared.outcome.Outcome.{Outcome}
@@ -32,18 +33,17 @@ adjacent_of c set = (slice_index_or c.sets set (record { name = []; adjacent = 0
 abbrev pub peer_of : Configuration → (link : ℕ) → ℕ
 peer_of c link = adjacent_of c (set_of c link)
 
--- the point of a destination
 abbrev pub point_of : Configuration → (destination : ℕ) → ℕ
 point_of c destination =
     (slice_index_or c.destinations destination (record { point = 0; sets = []; joined = false })).point
 
--- what an adjacent point speaks of: the set that leads to it, and the number of the destination
+-- what an adjacent point's message is about: the set that leads to that point, and the number of the destination
 abbrev pub route_about : (set destination : Option ℕ) → Result (ℕ × ℕ) Outcome
 route_about (Some set) (Some destination) = Ok (set, destination)
 route_about None (Some destination) = Err Ignored
 route_about set None = Err (Refused UnknownDestination)
 
--- ---- Signalling routing control (Q.704 §2.3, §4.2, block TSRC): which link a flow takes.
+-- ---- TSRC (Q.704 §2.3, §4.2): which link a flow takes.
 
 -- the links of each set
 abbrev pub sets_in : Configuration → List (List ℕ)
@@ -71,7 +71,7 @@ abbrev pub goes_by : Option ℕ → (link : ℕ) → Bool
 goes_by (Some its) link = nat_eq its link
 goes_by None link = false
 
--- ---- Message routing (Q.704 §2.3, block HMRT): the room that a message needs, and the queue of a link.
+-- ---- HMRT, message routing (Q.704 §2.3): the room that a message needs, and the queue of a link.
 
 module _ {Q : Type 0} (q : QueueKind Q) (c : Configuration) where
   -- why no more message of this kind has room, if none has
@@ -85,14 +85,13 @@ module _ {Q : Type 0} (q : QueueKind Q) (c : Configuration) where
   abbrev pub queue_on : ℕ → Message → Node Q → Node Q
   queue_on link m node = record node { queues = q.appended node.queues link m }
 
--- ---- Flows that are held, and the messages of Held (Q.704 §5.4, block TSRC).
+-- ---- TSRC (Q.704 §5.4): flows that are held, and the messages of Held.
 
--- whether a flow to a destination, by its place in the settings, has a hold
+-- whether a flow to a destination, by its index in the settings, has a hold
 abbrev pub is_held_at : HoldSet → Option ℕ → (sls : ℕ) → Bool
 is_held_at holds (Some place) sls = is_held holds place sls
 is_held_at holds None sls = false
 
--- whether the flow of a message has a hold
 abbrev pub is_flow_held : Configuration → HoldSet → Message → Bool
 is_flow_held c holds m = is_held_at holds (destination_place c (flow_of m).point) (flow_of m).sls
 

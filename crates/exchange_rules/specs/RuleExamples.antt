@@ -1,4 +1,4 @@
--- Laws of the exchange at nodes of one link, where wrong definitions make them false.
+-- Laws of the exchange at nodes of one link: wrong definitions make them false here.
 use Rattle.std.specs.Prelude.{◌≡◌, Bool, true, false, List, [], ◌∷◌, Option, None, Some}
 use Rattle.signalling_types.specs.Message.{Message}
 use Rattle.signalling_types.specs.declared.cause.Cause.{Cause}
@@ -87,7 +87,7 @@ the_routes = record { set = 0; status = Allowed; joined = false } ∷ []
 
 -- ---- flags
 
--- a completion without a number raises the flag, also where the link has no message
+-- a completion without a number raises the flag, even if the link has no message
 abbrev pub no_number_is_reasonable : Type 0
 no_number_is_reasonable = (whole.found booted.node.queues 0 None).is_reasonable ≡ false
 
@@ -101,7 +101,7 @@ with_flag = with_node booted (with_parts booted.node (flagged booted.node.parts)
 abbrev pub opening_leaves_the_flag : Type 0
 opening_leaves_the_flag = lost_any (after_each (Happens (CameUp 0) ∷ []) with_flag).node.parts ≡ true
 
--- after forced rerouting no messages of a flow may have gone out of order
+-- after forced rerouting no message of a flow may have gone out of order
 abbrev pub forced_rerouting_leaves_the_flag : Type 0
 forced_rerouting_leaves_the_flag = late_any (forced settings 0 0 Prohibited booted.node.parts) ≡ false
 
@@ -138,23 +138,23 @@ message_goes_on =
 
 -- ---- a message for another point
 
--- one that is queued stands on its link
+-- if it is queued, it is on its link
 abbrev pub offered : Option Cause → Done WholeQueues
 offered room = offer whole settings room false (Some 0) None message (node_with nothing_held the_routes [] [])
 
-abbrev pub queued_message_stands : Type 0
-queued_message_stands =
+abbrev pub queued_message_is_on_its_link : Type 0
+queued_message_is_on_its_link =
     ((offered None).outcome ≡ Queued 0) × ((queue_at (offered None).left.queues 0).all ≡ message ∷ [])
 
--- one that is refused doesn't
-abbrev pub refused_message_is_gone : Type 0
-refused_message_is_gone =
+-- if it is refused, it is on none
+abbrev pub refused_message_is_on_none : Type 0
+refused_message_is_on_none =
     ((offered (Some PoolFull)).outcome ≡ Refused PoolFull)
     × ((queue_at (offered (Some PoolFull)).left.queues 0).all ≡ [])
 
 -- ---- a failure
 
--- a message stands on the link that was never sent, and its flow has no link any more: the changeover holds it
+-- a message on the link was never sent, and its flow has no link any more: the changeover holds it
 abbrev pub failure_holds_the_flow : Type 0
 failure_holds_the_flow =
     holds (fail whole settings 0 reasons.Association (node_with nothing_held [] [] (message ∷ []))).parts.holds
@@ -185,7 +185,7 @@ return_has_its_timer = is_running (T3 0) returned.parts.timers ≡ true
 
 -- ---- timers
 
--- the peer of a link with nothing unconfirmed is busy, and then isn't any more: L6 stops
+-- the peer of a link with nothing unconfirmed is busy, and then no longer: L6 stops
 abbrev pub busy_ends : Running
 busy_ends = timed_busy_ended settings 0 0 (timed_busy settings 0 booted.node.parts.timers)
 

@@ -17,7 +17,7 @@ pub data Outgoing : Type 0 where
   Acknowledges : Outgoing
   SendsNothing : Outgoing
 
--- the acknowledgement, where one is owed
+-- the acknowledgement, if one is owed
 abbrev pub if_owed : Bool → Outgoing
 if_owed true = Acknowledges
 if_owed false = SendsNothing
@@ -36,7 +36,7 @@ status_first None others = others
 abbrev pub may_send : Link → Bool
 may_send l = is_in_service l.alignment && not l.peer_busy
 
--- the frame that says so: the backward number is that of the last message accepted; what has no number of its own
+-- the frame for that: the backward number is that of the last message accepted, and a frame without a number of its own
 -- repeats the last forward number
 abbrev pub frame_from : (last_accepted last_sent : ℕ) → Outgoing → Option FrameValue
 frame_from last_accepted last_sent (SendsStatus status) = Some (StatusFrame last_accepted last_sent status)
@@ -61,7 +61,7 @@ carried c link p = record p {
 }
 
 module _ {Q : Type 0} (q : QueueKind Q) (c : Configuration) where
-  -- the next message, where the window allows and the peer isn't busy
+  -- the next message, if the window allows and the peer isn't busy
   abbrev pub next_message : ℕ → Node Q → Option Sending
   next_message link node =
       if may_send (link_at node.parts link) then q.to_send node.queues link c.window else None
@@ -73,7 +73,8 @@ module _ {Q : Type 0} (q : QueueKind Q) (c : Configuration) where
       status_first (slice_get (link_at node.parts link).waiting 0)
       (message_first (next_message link node) (link_at node.parts link).acknowledgement_owed)
 
-  -- the node after it went out: a message is sent; it and an empty User Data settle the acknowledgement
+  -- the node after it went out: a message counts as sent, and both a message and an empty User Data settle the
+  -- acknowledgement
   abbrev pub after_sending : ℕ → Node Q → Outgoing → Node Q
   after_sending link node (SendsStatus status) = with_parts node (without_status link node.parts)
   after_sending link node (SendsMessage next) = record {
@@ -84,7 +85,7 @@ module _ {Q : Type 0} (q : QueueKind Q) (c : Configuration) where
       with_parts node (with_link node.parts link (without_owed (link_at node.parts link)))
   after_sending link node SendsNothing = node
 
-  -- the frame that a take gives, and the node that it leaves
+  -- the frame that a take gives, and the node after it
   abbrev pub frame_taken : ℕ → Node Q → Option FrameValue
   frame_taken link node =
       frame_from (q.last_accepted node.queues link) (q.last_sent node.queues link) (goes_out link node)

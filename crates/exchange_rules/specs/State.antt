@@ -25,7 +25,7 @@ infixl 20 ◌▷◌
 abbrev pub ◌▷◌ : {A B : Type 0} → A → (A → B) → B
 x ▷ f = f x
 
--- a guard: unless the test holds this becomes of it, and nothing behind is looked at
+-- a guard: unless the test holds, this is what becomes of it, and nothing after is looked at
 infix 5 unless◌then◌else◌
 abbrev pub unless◌then◌else◌ : {A : Type 0} → Bool → A → A → A
 unless test then otherwise else next = if test then next else otherwise
@@ -38,13 +38,13 @@ pub record Noted : Type 0 where
 -- All that isn't a queue.
 pub record Parts : Type 0 where
   pub links : List Link
-  -- of each destination the sets that lead there, each with its status
+  -- for each destination the sets that lead there, each with its status
   pub routes : List (List Route)
   -- what the adjacent point of each set was told of each destination
   pub told : ToldTable
-  -- of each link, how far its changeover is
+  -- for each link, how far its changeover is
   pub changeovers : List Standing
-  -- of each set, which changeback codes wait for their answer
+  -- for each set, which changeback codes wait for their answer
   pub codes : Codes
   pub holds : HoldSet
   -- the translation rows, in their order
@@ -70,7 +70,7 @@ abbrev pub late_any : Parts → Bool
 late_any p = is_raised p.times_late
 
 -- What a completion finds on a link, by the number that its peer gave: whether that names a count, the user messages
--- that are named as lost, and the management messages that are queued anew.
+-- that are named as lost, and the management messages that are queued again.
 pub record Found : Type 0 where
   pub is_reasonable : Bool
   pub lost : List Message
@@ -86,7 +86,7 @@ pub record State (Q : Type 0) : Type 0 where
   pub settings : Configuration
   pub node : Node Q
 
--- What became of an event, and the node that it left.
+-- What became of an event, and the node after it.
 pub record Done (Q : Type 0) : Type 0 where
   pub outcome : Outcome
   pub left : Node Q
@@ -101,8 +101,8 @@ pub record QueueKind (Q : Type 0) : Type 0 where
   pub sent_one : Q → ℕ → ℕ → Q
   -- the messages of a link that aren't confirmed, sent or not
   pub unconfirmed : Q → ℕ → List Message
-  -- what a completion finds on a link, and what it leaves: the user messages that move stand before all of Held, and
-  -- nothing stands on the link
+  -- what a completion finds on a link, and what it leaves: the user messages that move go before all of Held, and
+  -- nothing stays on the link
   pub found : Q → ℕ → Option ℕ → Found
   pub completed : Q → ℕ → Option ℕ → Q
   -- the messages of Held; one more at its end; none
@@ -113,7 +113,7 @@ pub record QueueKind (Q : Type 0) : Type 0 where
   pub outstanding : Q → ℕ → ℕ
   pub last_sent : Q → ℕ → ℕ
   pub last_accepted : Q → ℕ → ℕ
-  -- how many messages of each kind stand in all queues and in Held
+  -- how many messages of each kind are in all queues and in Held
   pub users : Q → ℕ
   pub managements : Q → ℕ
 
@@ -147,7 +147,7 @@ pub data Happening : Type 0 where
   Submitted : (message : Message) → Happening
   Activated : (link : ℕ) → Happening
   Deactivated : (link : ℕ) → Happening
-  -- a translation row is added, where memory for it isn't refused
+  -- a translation row is added, if memory for it isn't refused
   TitleAdded : (row : TitleEntry) (is_memory_refused : Bool) → Happening
   TitleRemoved : (key : TitleKey) (digits : List ℕ) → Happening
 
@@ -156,7 +156,7 @@ pub data Asking : Type 0 where
   Takes : (link : ℕ) → Asking
   AsksWants : (link : ℕ) → Asking
 
--- ---- The links of a node, by their numbers (Q.704 §3.2, block TLAC).
+-- ---- The links of a node, by their numbers (TLAC, Q.704 §3.2).
 
 abbrev pub is_link : Parts → ℕ → Bool
 is_link p link = nat_lt link (length p.links)
@@ -180,14 +180,14 @@ with_link p link state = record p { links = links_with p link state }
 
 -- ---- Notices: what an operator is told.
 
--- of the notices the last 64 are kept, and all are counted
+-- the last 64 notices are kept, and all are counted
 abbrev pub noted : Notice → Noted → Noted
 noted notice n = record {
   last = keep_last NOTICES (n.last ++ notice ∷ []);
   count = (n.count + 1) % 2 ^ 64;
 }
 
--- how many notices were made since there were so many
+-- how many notices were made since there were this many
 abbrev pub made_since : ℕ → Noted → ℕ
 made_since count n = (n.count + 2 ^ 64 - count) % 2 ^ 64
 
@@ -199,7 +199,7 @@ noted_all (notice ∷ others) n = noted_all others (noted notice n)
 abbrev pub note : Notice → Parts → Parts
 note notice p = record p { notices = noted notice p.notices }
 
--- once more, where that can be counted
+-- one more, if that can be counted
 abbrev pub once_more : ℕ → ℕ
 once_more times = suc (min times (2 ^ 64 - 2))
 
@@ -211,7 +211,7 @@ flagged p = record p { times_lost = once_more p.times_lost }
 abbrev pub flagged_late : Parts → Parts
 flagged_late p = record p { times_late = once_more p.times_late }
 
--- a message in a frame that is refused leaves a notice
+-- a message in a frame that is refused makes a notice
 abbrev pub note_outcome : ℕ → Outcome → Parts → Parts
 note_outcome link (Refused cause) p = note (notices.Refused cause link) p
 note_outcome link (Queued other) p = p

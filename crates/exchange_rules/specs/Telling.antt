@@ -1,4 +1,4 @@
--- Message routing (Q.704 §2.3, block HMRT) of management that this node makes, or that a link left over when it failed.
+-- HMRT, message routing (Q.704 §2.3): management that this node makes, or that a link left over when it failed.
 use Rattle.std.specs.Prelude.{ℕ, ◌+◌, ◌*◌, Option, Some, None, Bool, ◌&&◌, ◌||◌, not, nat_lt, List, [], ◌∷◌, Result, Ok, Err, if◌then◌else◌}
 use Rattle.signalling_types.specs.Message.{Message, dpc_of, flow_of}
 use Rattle.settings_rows.specs.Configuration.{Configuration}
@@ -33,7 +33,7 @@ abbrev pub unsent : Cause → Message → Parts → Parts
 unsent cause m p = p ▷ note (notices.Unsent cause (dpc_of m)) ▷ flagged
 
 module _ {Q : Type 0} (q : QueueKind Q) (c : Configuration) where
-  -- a management message goes out on a link; where it finds no room or no link it is dropped
+  -- a management message goes out on a link; without room or a link it is dropped
   abbrev pub send : Option Cause → Option ℕ → Message → Node Q → Node Q
   send (Some cause) link m node = with_parts node (unsent cause m node.parts)
   send None None m node = with_parts node (unsent NoRoute m node.parts)
@@ -51,25 +51,25 @@ module _ {Q : Type 0} (q : QueueKind Q) (c : Configuration) where
   abbrev pub send_anew : Message → Node Q → Node Q
   send_anew m node = send None (link_of c node.parts (flow_of m)) m node
 
--- ---- Transfer prohibited, restricted and allowed (Q.704 §13.2 to §13.4, blocks RTPC, RTRC and RTAC), and the answers to
--- route set tests (§13.5, block RSRT): what adjacent points are told of routes.
+-- ---- RTPC, RTAC and RTRC, transfer prohibited, allowed and restricted control (Q.704 §13.2 to §13.4), and RSRT, route
+-- set test control (§13.5): what adjacent points are told of routes, and how their tests are answered.
 
--- what is owed is told while fewer management messages than this stand in the node
+-- what is owed is told while the node has fewer management messages than this
 abbrev pub told_below : ℕ
 told_below = 128
 
--- the message that tells a status of a point
+-- the message that says a status of a point
 abbrev pub telling : RouteStatus → (about : ℕ) → Management
 telling Prohibited about = TransferProhibited about
 telling Restricted about = TransferRestricted about
 telling Allowed about = TransferAllowed about
 
--- the message to the adjacent point of a set that tells a status of a destination
+-- the message to the adjacent point of a set that says a status of a destination
 abbrev pub route_message : Configuration → (set destination : ℕ) → RouteStatus → Message
 route_message c set destination status =
     management_to c (adjacent_of c set) (telling status (point_of c destination))
 
--- after transfer-prohibited T8 runs, anew where it runs already
+-- after transfer-prohibited T8 starts, or restarts
 abbrev pub timed_telling : Configuration → (set destination : ℕ) → RouteStatus → Running → Running
 timed_telling c set destination Prohibited r = set_timer (T8 set destination) c.timers.t8 r
 timed_telling c set destination Restricted r = r
@@ -89,18 +89,18 @@ told_parts c o p = record p {
 abbrev pub answered_parts : (set destination : ℕ) → RouteStatus → Parts → Parts
 answered_parts set destination status p = record p { told = with_told set destination status p.told }
 
--- whether no transfer-prohibited message about a destination goes out to the adjacent point of a set for now, or ever
+-- whether no transfer-prohibited message about a destination goes out to the adjacent point of a set, for now or ever
 abbrev pub is_inhibited : (set destination : ℕ) → Parts → Bool
 is_inhibited set destination p = is_running (T8 set destination) p.timers || is_own_point p.told set destination
 
 module _ {Q : Type 0} (q : QueueKind Q) (c : Configuration) where
-  -- whether few enough management messages stand in the node
+  -- whether the node has few enough management messages
   abbrev pub may_tell : Node Q → Bool
   may_tell node = nat_lt (q.managements node.queues) told_below
 
   -- ---- what is owed
 
-  -- whether nothing is owed that finds room
+  -- whether nothing is owed that there is room for
   abbrev pub is_all_told : Node Q → Bool
   is_all_told node = not (may_tell node) || owes_nothing (facts c node.parts) node.parts.told
 
@@ -108,7 +108,7 @@ module _ {Q : Type 0} (q : QueueKind Q) (c : Configuration) where
   tell o node =
       send_routed q c (route_message c o.set o.destination o.status) (with_parts node (told_parts c o node.parts))
 
-  -- what finds no such room stays owed
+  -- what there is no room for stays owed
   abbrev pub tell_if : Owed → Node Q → Node Q
   tell_if o node = if may_tell node then tell o node else node
 
@@ -122,7 +122,7 @@ module _ {Q : Type 0} (q : QueueKind Q) (c : Configuration) where
 
   -- ---- a message that has no route
 
-  -- its sender is told, at the other end of the link that it came by: transfer-prohibited
+  -- its sender is told at the other end of the link that it came by: transfer-prohibited
   abbrev pub prohibit : (set destination : ℕ) → Node Q → Node Q
   prohibit set destination node =
       send_routed q c (route_message c set destination Prohibited)
@@ -132,7 +132,7 @@ module _ {Q : Type 0} (q : QueueKind Q) (c : Configuration) where
   prohibit_if set destination node =
       if may_tell node && not (is_inhibited set destination node.parts) then prohibit set destination node else node
 
-  -- the link that it came by, if it came by one, and its destination
+  -- the link that it came by, if any, and its destination
   abbrev pub answer_no_route : (link destination : Option ℕ) → Node Q → Node Q
   answer_no_route (Some link) (Some destination) node = prohibit_if (set_of c link) destination node
   answer_no_route (Some link) None node = node
@@ -140,14 +140,14 @@ module _ {Q : Type 0} (q : QueueKind Q) (c : Configuration) where
 
   -- ---- tests
 
-  -- a test is answered, if it is to be: that counts as told
+  -- a test is answered, if it is to be, and that counts as told
   abbrev pub send_route_status : Option RouteStatus → (set destination : ℕ) → Node Q → Node Q
   send_route_status (Some status) set destination node =
       send_routed q c (route_message c set destination status)
       (with_parts node (answered_parts set destination status node.parts))
   send_route_status None set destination node = node
 
-  -- one from the adjacent point of a set; about that point itself it is ignored
+  -- a test from the adjacent point of a set; one about that point itself is ignored
   abbrev pub answer_route_test : RouteTest → (set destination : ℕ) → Node Q → Done Q
   answer_route_test test set destination node =
       if is_own_point node.parts.told set destination

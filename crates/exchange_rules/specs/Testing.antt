@@ -28,12 +28,12 @@ is_unsure (Some Allowed) = false
 is_unsure (Some Restricted) = true
 is_unsure (Some Prohibited) = true
 
--- behind each route over a set in service that isn't allowed T10 runs; when it runs out, the adjacent point is asked
+-- for each route over a set in service that isn't allowed T10 runs, and when it runs out the adjacent point is asked
 pub record AreTested (c : Configuration) (p : Parts) : Type 0 where
   pub each : (set destination : ℕ) → serves_set c p set ≡ true →
       is_unsure (status_of (facts c p) destination set) ≡ true → is_running (T10 set destination) p.timers ≡ true
 
--- so it is in each state that comes of the first
+-- this holds in each state reached from the first
 abbrev pub unsure_routes_are_tested : Type 0
 unsure_routes_are_tested =
     (c : Configuration) (asked : List Asking) → length c.links ≤ LINKS →

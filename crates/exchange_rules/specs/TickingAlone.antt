@@ -11,13 +11,13 @@ use Rattle.exchange_rules.specs.State.{Asking, Happens, Ticked}
 use Rattle.exchange_rules.specs.Lasting.{after_each}
 use Rattle.exchange_rules.specs.First.{Abstract, first_state}
 
--- so many ticks, and nothing else
+-- n ticks, and nothing else
 abbrev pub ticks_alone : ℕ → List Asking
 ticks_alone zero = []
 ticks_alone (suc more) = Happens Ticked ∷ ticks_alone more
 
--- no timer runs that may take a link into service or out of it: none is proved, no peer is busy, and nothing that was
--- sent isn't confirmed
+-- no timer runs that may take a link into service or out of it: no link is proved, no peer is busy, and everything sent
+-- is confirmed
 pub record IsQuiet (r : Running) : Type 0 where
   pub l4 : (link : ℕ) → is_running (L4 link) r ≡ false
   pub l6 : (link : ℕ) → is_running (L6 link) r ≡ false
@@ -37,15 +37,15 @@ pub record HoldsNothing (a : Abstract) : Type 0 where
       holds a.node.parts.holds procedure destination sls ≡ false
   pub messages : a.node.queues.held ≡ []
 
--- so it is where nothing but ticks happens for as long, from each state that comes of the first and is quiet
+-- this is so if nothing but ticks happens for as long, from each quiet state reached from the first
 abbrev pub ticks_end_holds_where_it_is_quiet : Type 0
 ticks_end_holds_where_it_is_quiet =
     (c : Configuration) (asked : List Asking) (many : ℕ) → length c.links ≤ LINKS →
     IsQuiet (after_each asked (first_state c)).node.parts.timers → longest_wait c.timers ≤ many →
     HoldsNothing (after_each (ticks_alone many) (after_each asked (first_state c)))
 
--- from any other, where it happens for as long as the two times together: what takes links into service or out of it
--- runs out first
+-- from any other, if it happens for as long as the two times together: the timers that take links into or out of
+-- service run out first
 abbrev pub ticks_end_all_holds : Type 0
 ticks_end_all_holds =
     (c : Configuration) (asked : List Asking) (many : ℕ) → length c.links ≤ LINKS →

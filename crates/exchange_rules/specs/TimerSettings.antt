@@ -27,7 +27,7 @@ setting_of ticks (T6 destination) = ticks.t6
 setting_of ticks (T8 set destination) = ticks.t8
 setting_of ticks (T10 set destination) = ticks.t10
 
--- a timer has as many ticks left as before, or it was set to as many as the settings give it, or it doesn't run
+-- a timer has as many ticks left as before, was set to as many as the settings give it, or doesn't run
 abbrev pub RunsBy : (setting : ℕ) → (before after : Option ℕ) → Type 0
 RunsBy setting before after = (after ≡ before) ⊎ ((after ≡ Some (max 1 setting)) ⊎ (after ≡ None))
 
@@ -43,7 +43,7 @@ left_by (Deactivated link) left = left
 left_by (TitleAdded row is_memory_refused) left = left
 left_by (TitleRemoved key digits) left = left
 
--- so it is over each event and each take
+-- this holds over each event and each take
 abbrev pub events_set_timers_to_their_settings : Type 0
 events_set_timers_to_their_settings =
     (what : Happening) (a : Abstract) (timer : TimerName) →
@@ -56,7 +56,7 @@ takes_set_timers_to_their_settings =
     RunsBy (setting_of a.settings.timers timer) (a.node.parts.timers.left timer)
     ((taken whole a link).node.parts.timers.left timer)
 
--- so in each state that comes of the first no timer has more ticks left
+-- so in each state reached from the first no timer has more ticks left
 abbrev pub timers_keep_their_settings : Type 0
 timers_keep_their_settings =
     (c : Configuration) (asked : List Asking) (timer : TimerName) (left : ℕ) →

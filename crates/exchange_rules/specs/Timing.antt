@@ -37,7 +37,7 @@ without_timers link r =
     r ▷ without_timer link L1 ▷ without_timer link L2 ▷ without_timer link L3
     ▷ without_timer link L4 ▷ without_timer link L6 ▷ without_timer link L7
 
--- a timer of a link starts, anew where it runs already
+-- a timer of a link starts, or restarts
 abbrev pub with_timer : Configuration → ℕ → LinkTimer → Running → Running
 with_timer c link timer r = set_timer (timer_name link timer) (ticks_of c.timers timer) r
 
@@ -53,13 +53,13 @@ with_timer_if c link (Some timer) r = with_timer c link timer r
 abbrev pub timed : Configuration → ℕ → Transition → Running → Running
 timed c link step r = r ▷ without_timer_if link step.stop ▷ with_timer_if c link step.start
 
--- L7 watches the oldest message that was sent and isn't confirmed; while the peer is busy it doesn't run
+-- L7 watches the oldest message that was sent and isn't confirmed; it doesn't run while the peer is busy
 
 -- a message was sent
 abbrev pub timed_sending : Configuration → ℕ → Running → Running
 timed_sending c link r = start_unless_running (timer_name link L7) (ticks_of c.timers L7) r
 
--- so many messages were confirmed, and so many sent ones are left unconfirmed
+-- the peer confirmed this many messages, and this many sent ones are left
 abbrev pub timed_confirming : Configuration → ℕ → (busy : Bool) → (confirmed outstanding : ℕ) → Running → Running
 timed_confirming c link busy confirmed outstanding r =
     if nat_eq confirmed 0 then r

@@ -15,7 +15,6 @@ use Rattle.exchange_rules.specs.First.{Abstract}
 
 -- ---- whose event it is
 
--- the timers of a link
 abbrev pub link_timers : List LinkTimer
 link_timers = L1 ∷ L2 ∷ L3 ∷ L4 ∷ L6 ∷ L7 ∷ []
 
@@ -26,8 +25,8 @@ runs_out p link timer = is_due (ticked p.timers) (timer_name link timer)
 abbrev pub some_runs_out : Parts → (link : ℕ) → Bool
 some_runs_out p link = list_any (runs_out p link) link_timers
 
--- whether an event may take a link into service, or begin an epoch of it: its association comes up, a frame comes by
--- it, or a timer of its own runs out
+-- whether an event may take a link into service, or begin one of its epochs: its association comes up, a frame comes by
+-- it, or one of its timers runs out
 abbrev pub is_about : Happening → Parts → (link : ℕ) → Bool
 is_about (CameUp its) p link = nat_eq its link
 is_about (FrameCame its text) p link = nat_eq its link
@@ -41,7 +40,7 @@ is_about (TitleRemoved key digits) p link = false
 
 -- ---- what becomes of a queue
 
--- q with messages behind it
+-- q with messages after it
 pub record IsGrown (q p : Queue) : Type 0 where
   pub behind : List Message
   pub grown : p ≡ record q { all = q.all ++ behind }
@@ -52,7 +51,7 @@ pub record IsCompleted (link : ℕ) (n m : Node WholeQueues) : Type 0 where
   pub is : (changeover_of m.parts link).incomplete ≡ false
   pub emptied : queue_at m.queues link ≡ emptied (queue_at n.queues link)
 
--- its changeover is as far as it was, and so is its queue
+-- its changeover and its queue are as before
 pub record IsUntouched (link : ℕ) (n m : Node WholeQueues) : Type 0 where
   pub changeover : (changeover_of m.parts link).incomplete ≡ (changeover_of n.parts link).incomplete
   pub queue : queue_at m.queues link ≡ queue_at n.queues link
@@ -63,20 +62,20 @@ HadChangeover link n m =
     ((changeover_of n.parts link).incomplete ≡ true)
     ⊎ ((in_service n.parts link ≡ true) × (in_service m.parts link ≡ false))
 
--- its queue was emptied by a completion, and messages may have gone behind what that left
+-- its queue was emptied by a completion, and messages may have been added since
 pub record IsEmptied (link : ℕ) (n m : Node WholeQueues) : Type 0 where
   pub queue : IsGrown (emptied (queue_at n.queues link)) (queue_at m.queues link)
   pub changeover : HadChangeover link n m
 
 -- what becomes of a link by an event that isn't about it
 pub record IsLeft (link : ℕ) (n m : Node WholeQueues) : Type 0 where
-  -- messages go behind its queue; only where a changeover was under way may it be emptied
+  -- messages are added to its queue; it may be emptied only if a changeover was under way
   pub queue : IsGrown (queue_at n.queues link) (queue_at m.queues link) ⊎ IsEmptied link n m
   -- a changeover begins only as the link fails
   pub begins : (changeover_of m.parts link).incomplete ≡ true → HadChangeover link n m
   -- out of service it stays so,
   pub service : in_service n.parts link ≡ false → in_service m.parts link ≡ false
-  -- and no message goes there: it is untouched, but where its changeover is completed
+  -- and gets no message: it is untouched unless its changeover is completed
   pub waits : in_service n.parts link ≡ false → IsUntouched link n m ⊎ IsCompleted link n m
 
 abbrev pub other_links_are_left : Type 0

@@ -1,4 +1,4 @@
--- A pair after a hold of all flows of which a test is true, and before.
+-- A pair after a hold of all flows for which a test holds, and before.
 use Rattle.flow_hold.proofs.Basics.{◌≡◌, ℕ, Bool, true, false, ◌&&◌, ◌||◌, refl, ap, sym, ◌∙◌, ◌⊎◌, inl, inr, and_parts, Procedure, HoldSet, is_same, holds, is_held, may_hold, with_flows, or_right, or_left, and_from, false≢true}
 use Rattle.flow_hold.proofs.Numbers.{same, same-itself}
 use Rattle.flow_hold.proofs.Pairing.{held_by}

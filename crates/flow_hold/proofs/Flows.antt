@@ -1,4 +1,4 @@
--- A hold of all flows of which a test is true adds their pairs, and no other.
+-- A hold of all flows for which a test holds adds their pairs, and no other.
 use Rattle.flow_hold.proofs.Basics.{◌≡◌, ◌≢◌, ℕ, zero, suc, ◌+◌, ◌<◌, ◌≤◌, Bool, true, false, ◌&&◌, ◌||◌, cond, List, [], ◌∷◌, map, refl, ap, sym, ◌∙◌, arith, filter, flat_map, list_any, range_with_len, eq_by_cmp, FinSet, contains, same_set, and_parts, cases_eq, list_any-append, Procedure, SELECTIONS, Hold, HoldSet, by_numbers, holds, may_hold, with_hold, NodeFlow, flows_to, flows, passes, any_flow, with_each, with_flows, IsOfNode, some_flow_passes, flows_add_their_pairs, flows_leave_others, flows_are_of_node, or_right, or_left, and_from, both_ways}
 use Rattle.std.proofs.Math.Logic.{⊎_elim}
 use Rattle.flow_hold.proofs.Numbers.{in_order, only_same_tie, tied, tied-same, untied}

@@ -1,4 +1,4 @@
--- A hold adds its pair, where the procedure may hold the flow.
+-- A hold adds its pair, if the procedure may hold the flow.
 use Rattle.flow_hold.proofs.Basics.{◌≡◌, ℕ, ◌<◌, Bool, true, false, ◌&&◌, ◌||◌, refl, ap, sym, ◌∙◌, nat_lt, if◌then◌else◌, eq_by_cmp, contains, insert, contains-insert, and_parts, ltb-true, Procedure, SELECTIONS, Hold, HoldSet, by_numbers, holds, may_hold_to, may_hold, with_hold, IsOfNode, pair, hold_is_of_node, hold_adds_its_pair, hold_leaves_others, may_not_leaves, hold_holds_its_flow, hold_keeps_flows_held, and-false, or_right}
 use Rattle.flow_hold.proofs.Numbers.{in_order, tied, tied-same, untied}
 use Rattle.flow_hold.proofs.Pairing.{held_by, may-alike}

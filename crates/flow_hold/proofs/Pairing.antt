@@ -1,4 +1,4 @@
--- A flow is held exactly where some pair is one of it, and a lift takes the pairs of one procedure.
+-- A flow is held exactly when some pair is one of it, and a lift takes the pairs of one procedure.
 use Rattle.flow_hold.proofs.Basics.{◌≡◌, ℕ, Bool, true, false, not, ◌&&◌, ◌||◌, List, [], ◌∷◌, refl, ap, sym, ◌∙◌, arith, nat_eq, nat_lt, list_any, eq_by_cmp, contains, items, contains-items, contains-empty, contains-retain, and_parts, true≢false, nat_tests, CHANGEBACK_CODES, SELECTIONS, Procedure, Changeover, Code, Time, Reroute, Hold, HoldSet, by_numbers, holds, is_of_flow, is_same, may_hold_to, may_hold, lifted, first_holds_nothing, first_is_of_node, held_by_a_procedure, lift_is_of_node, lift_leaves_others, lift_ends_its_own, or_right, or_left, and-false}
 use Rattle.flow_hold.proofs.Numbers.{only_same_tie, tied, tied-same, same-itself, not-same}
 

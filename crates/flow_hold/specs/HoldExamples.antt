@@ -1,4 +1,4 @@
--- A hold beside another, where a definition by which it ends the other makes the laws of holds false.
+-- One hold beside another: a definition that ends the other makes the laws of holds false here.
 use Rattle.std.specs.Prelude.{◌≡◌, true}
 use Rattle.flow_hold.specs.declared.procedure.Procedure.TheVariants.{Changeover}
 use Rattle.flow_hold.specs.Holds.{HoldSet, no_holds, holds, with_hold}

@@ -1,4 +1,4 @@
--- Holds: a set of pairs of a procedure and a flow (Q.704 §5.4, §6.3, §8.2).
+-- The holds of TCOC, TCBC and TCRC (Q.704 §5.4, §6.3, §8.2): a set of pairs of a procedure and a flow.
 use Rattle.std.specs.Prelude.{ℕ, Bool, ◌&&◌, not, List, [], ◌∷◌, nat_eq, nat_lt, if◌then◌else◌, map}
 use Rattle.std.specs.List.{list_any, filter, flat_map, range_with_len}
 use Rattle.std.specs.declared.cmp.Ordering.{Ordering}
@@ -9,7 +9,7 @@ use Rattle.signalling_types.specs.declared.limits.TheConstants.Limits.{CHANGEBAC
 use Rattle.flow_hold.specs.declared.procedure.Procedure.{Procedure}
 use Rattle.flow_hold.specs.declared.procedure.Procedure.TheVariants.{Changeover, Code, Time, Reroute}
 
--- a pair: a procedure holds the flow to a destination, by its place in the settings, with a selection
+-- a pair: a procedure holds the flow to a destination, by its index in the settings, with a selection
 pub record Hold : Type 0 where
   pub procedure : Procedure
   pub destination : ℕ
@@ -87,26 +87,25 @@ is_same one other = pointwise nat_eq (numbers_of one) (numbers_of other)
 abbrev pub lifted : HoldSet → Procedure → HoldSet
 lifted h procedure = record h { pairs = retain h.pairs (λ hold. not (is_same hold.procedure procedure)) }
 
--- ---- The flows of a node, and a hold of all of which a test is true.
+-- ---- The flows of a node, and a hold of all for which a test holds.
 
--- a flow of a node: its destination, by its place in the settings, and its selection
+-- a flow of a node: its destination, by its index in the settings, and its selection
 pub record NodeFlow : Type 0 where
   pub destination : ℕ
   pub sls : ℕ
 
--- the flows to a destination
 abbrev pub flows_to : (destination : ℕ) → List NodeFlow
 flows_to destination = map (λ sls. record { destination = destination; sls = sls }) (range_with_len 0 SELECTIONS)
 
--- the flows of a node with so many destinations
+-- the flows of a node with this many destinations
 unfoldable pub flows : (destinations : ℕ) → List NodeFlow
 flows destinations = flat_map flows_to (range_with_len 0 destinations)
 
--- whether a test is true of a flow
+-- whether a test holds for a flow
 abbrev pub passes : (test : (destination sls : ℕ) → Bool) → NodeFlow → Bool
 passes test flow = test flow.destination flow.sls
 
--- whether it is true of some flow
+-- whether it holds for some flow
 unfoldable pub any_flow : (destinations : ℕ) → (test : (destination sls : ℕ) → Bool) → Bool
 any_flow destinations test = list_any (passes test) (flows destinations)
 
@@ -116,6 +115,6 @@ with_each procedure [] h = h
 with_each procedure (flow ∷ others) h =
     with_each procedure others (with_hold h procedure flow.destination flow.sls)
 
--- a procedure holds each flow from now on of which a test is true, if it may
+-- a procedure holds each flow for which a test holds from now on, if it may
 unfoldable pub with_flows : HoldSet → Procedure → (test : (destination sls : ℕ) → Bool) → HoldSet
 with_flows h procedure test = with_each procedure (filter (passes test) (flows h.destinations)) h

@@ -11,7 +11,7 @@ first_holds_nothing =
     (links sets destinations : ℕ) (procedure : Procedure) (destination sls : ℕ) →
     holds (no_holds links sets destinations) procedure destination sls ≡ false
 
--- a flow is held exactly where some procedure holds it
+-- a flow is held exactly when some procedure holds it
 abbrev pub held_by_a_procedure : Type 0
 held_by_a_procedure =
     (h : HoldSet) (destination sls : ℕ) →
@@ -32,7 +32,7 @@ hold_is_of_node =
     (h : HoldSet) (procedure : Procedure) (destination sls : ℕ) → IsOfNode h →
     IsOfNode (with_hold h procedure destination sls)
 
--- a procedure holds the flow that it is to hold, where it may
+-- a procedure holds the flow that it is to hold, if it may
 abbrev pub hold_adds_its_pair : Type 0
 hold_adds_its_pair =
     (h : HoldSet) (procedure : Procedure) (destination sls : ℕ) →
@@ -50,7 +50,7 @@ hold_leaves_others =
     holds (with_hold h procedure destination sls) other other_destination other_sls
     ≡ holds h other other_destination other_sls
 
--- where it may not hold the flow, nothing changes
+-- if it may not hold the flow, nothing changes
 abbrev pub may_not_leaves : Type 0
 may_not_leaves =
     (h : HoldSet) (procedure : Procedure) (destination sls : ℕ) →
@@ -70,9 +70,9 @@ hold_keeps_flows_held =
     is_held h other_destination other_sls ≡ true →
     is_held (with_hold h procedure destination sls) other_destination other_sls ≡ true
 
--- ---- a hold of all flows of which a test is true
+-- ---- a hold of all flows for which a test holds
 
--- the test is true of some flow: one to a destination that is there, with a selection
+-- the test holds for some flow: one to a destination that is there, with a selection
 pub record IsAnyFlow (destinations : ℕ) (test : (destination sls : ℕ) → Bool) : Type 0 where
   pub flow : NodeFlow
   pub there : flow.destination < destinations
@@ -84,7 +84,7 @@ some_flow_passes =
     (destinations : ℕ) (test : (destination sls : ℕ) → Bool) →
     (any_flow destinations test ≡ true) ↔ IsAnyFlow destinations test
 
--- the procedure holds afterwards the flows that it held, and each that it may hold of which the test is true
+-- the procedure holds afterwards the flows that it held, and each that it may hold for which the test holds
 abbrev pub flows_add_their_pairs : Type 0
 flows_add_their_pairs =
     (h : HoldSet) (procedure : Procedure) (test : (destination sls : ℕ) → Bool) (destination sls : ℕ) →
@@ -108,7 +108,7 @@ flows_are_of_node =
 abbrev pub lift_is_of_node : Type 0
 lift_is_of_node = (h : HoldSet) (procedure : Procedure) → IsOfNode h → IsOfNode (lifted h procedure)
 
--- what other procedures hold stays where one is lifted
+-- what other procedures hold stays if one is lifted
 abbrev pub lift_leaves_others : Type 0
 lift_leaves_others =
     (h : HoldSet) (procedure other : Procedure) (destination sls : ℕ) → procedure ≢ other →

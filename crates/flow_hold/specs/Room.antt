@@ -23,7 +23,7 @@ abbrev pub hold_at : HoldTable → (row flow : ℕ) → Hold
 hold_at t row flow =
     record { procedure = procedure_at t row; destination = flow / SELECTIONS; sls = flow % SELECTIONS }
 
--- the pairs of a row that are marked, among the first so many flows
+-- the pairs of a row that are marked, among the first n flows
 unfoldable pub pairs_of_row : HoldTable → (row count : ℕ) → FinSet by_numbers
 pairs_of_row t row zero = empty
 pairs_of_row t row (suc flow) =
@@ -31,7 +31,7 @@ pairs_of_row t row (suc flow) =
     then insert (pairs_of_row t row flow) (hold_at t row flow)
     else pairs_of_row t row flow
 
--- and of the first so many rows
+-- and of the first n rows
 unfoldable pub pairs_of_rows : HoldTable → (count : ℕ) → FinSet by_numbers
 pairs_of_rows t zero = empty
 pairs_of_rows t (suc row) = union (pairs_of_rows t row) (pairs_of_row t row (SELECTIONS * t.destinations))

@@ -2,7 +2,7 @@
 use Rattle.std.specs.Prelude.{ℕ, ◌-◌, Bool, ◌&&◌, false, List, [], length, nat_le, nat_lt, slice_index_or}
 use Rattle.std.specs.Prelude.{if◌then◌else◌, Option, Some, None}
 
--- the first flow, and the marks of it and of those behind it
+-- the first flow, and the marks of it and of those after it
 pub record Marks : Type 0 where
   pub first : ℕ
   pub marks : List Bool
@@ -11,7 +11,7 @@ pub record Marks : Type 0 where
 abbrev pub marks_at : List Marks → ℕ → Marks
 marks_at rows row = slice_index_or rows row (record { first = 0; marks = [] })
 
--- where a flow stands in a row, if it does
+-- where a flow is in a row, if it does
 abbrev pub place_of_flow : Marks → ℕ → Option ℕ
 place_of_flow row flow =
     if nat_le row.first flow && nat_lt (flow - row.first) (length row.marks) then Some (flow - row.first) else None

@@ -14,12 +14,12 @@ pub record HoldTable : Type 0 where
   pub destinations : ℕ
   pub rows : List Marks
 
--- the number of a flow, where its destination is there
+-- the number of a flow, if its destination is there
 abbrev pub flow_place : HoldTable → (destination sls : ℕ) → Option ℕ
 flow_place t destination sls = if nat_lt destination t.destinations then Some (SELECTIONS * destination + sls) else None
 
--- the row of a procedure, where it is there: first the changeovers of all links, then their times, then the codes of
--- all sets, then the reroutings of all destinations
+-- the row of a procedure, if it is there: first the changeovers of all links, then their time-controlled holds, then
+-- the codes of all sets, then the reroutings of all destinations
 abbrev pub place_of : HoldTable → Procedure → Option ℕ
 place_of t (Changeover link) = if nat_lt link t.links then Some link else None
 place_of t (Time link) = if nat_lt link t.links then Some (t.links + link) else None
@@ -91,7 +91,7 @@ with_flow_marked t (Some row) (Some flow) = with_mark_at t row (place_of_flow (m
 with_flow_marked t (Some row) None = t
 with_flow_marked t None flow = t
 
--- a pair is marked; what isn't there is left aside
+-- a pair is marked; what isn't there is ignored
 abbrev pub with_pair : HoldTable → Procedure → (destination sls : ℕ) → HoldTable
 with_pair t procedure destination sls = with_flow_marked t (place_of t procedure) (flow_place t destination sls)
 

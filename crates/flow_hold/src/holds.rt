@@ -12,8 +12,8 @@ use std::marker::Model;
 /// A set of pairs of a procedure and a flow. A flow goes by the number of its destination, in the order of the
 /// settings, and by its selection.
 ///
-/// All room is made by `new`. `hold` and `is_held` take a fixed number of steps, however much is held; `lift` takes one
-/// for each flow of the node, and for a rerouting one for each of 16.
+/// All room is made by `new`. `hold` and `is_held` take a fixed number of steps, however much is held. `lift` takes one
+/// for each flow of the node, and 16 for a rerouting.
 #[derive(Drop)]
 pub struct Holds {
     table: Table,
@@ -35,7 +35,7 @@ impl Model for Holds {
 }
 
 impl Holds {
-    /// No holds, for a node with so many links, sets and destinations. The error means that memory ran out.
+    /// No holds, for a node with this many links, sets and destinations. The error means that memory ran out.
     ///
     /// It takes 16 octets for each destination and each procedure that may hold flows of all: two for each link and 16
     /// for each set. That is 42 MB at the limits of a node, and 1 KB for a node of one link, one set and two
@@ -56,8 +56,8 @@ impl Holds {
         })
     }
 
-    /// A procedure holds a flow. A link, set, code or destination that isn't there is left aside, and so is a rerouting
-    /// of another destination than the flow's.
+    /// A procedure holds a flow. A link, set, code or destination that isn't there is ignored, and so is a rerouting of
+    /// another destination than the flow's.
     pub fn hold(&mut self, procedure: Procedure, destination: usize, sls: Sls)
         ensures { self.new ≡ with_hold self.old procedure destination sls }
     {

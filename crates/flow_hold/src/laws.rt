@@ -12,7 +12,7 @@ pub fn nothing_is_held_at_first()
     ensures { first_holds_nothing }
 {}
 
-/// A flow is held exactly where some procedure holds it.
+/// A flow is held exactly when some procedure holds it.
 pub fn flow_is_held_by_a_procedure()
     ensures { held_by_a_procedure }
 {}
@@ -25,7 +25,7 @@ pub fn holds_are_of_their_node()
     ensures lift { lift_is_of_node }
 {}
 
-/// A hold adds its one pair, or none where the procedure may not hold the flow.
+/// A hold adds its one pair, or none if the procedure may not hold the flow.
 pub fn hold_adds_one_pair()
     ensures own { hold_adds_its_pair }
     ensures others { hold_leaves_others }
@@ -38,13 +38,13 @@ pub fn hold_holds_flows()
     ensures others { hold_keeps_flows_held }
 {}
 
-/// A hold of all flows of which a test is true adds just the pairs of those that the procedure may hold.
+/// A hold of all flows for which a test holds adds just the pairs of those that the procedure may hold.
 pub fn hold_of_flows_adds_their_pairs()
     ensures own { flows_add_their_pairs }
     ensures others { flows_leave_others }
 {}
 
-/// A test is true of some flow exactly where it is true of one to a destination that is there, with a selection.
+/// A test holds for some flow exactly when it holds for one to a destination that is there, with a selection.
 pub fn some_flow_passes_a_test()
     ensures { some_flow_passes }
 {}

@@ -1,4 +1,5 @@
-//! Which flows are held, and by which procedures: a flow that some procedure holds sends nothing.
+//! The holds of TCOC, TCBC and TCRC (Q.704 §5.4, §6.3, §8.2): which flows are held, and by which procedures. A held
+//! flow sends nothing.
 #![tactic(auto)]
 
 pub mod holds;

@@ -23,7 +23,7 @@ impl Model for HoldRow {
 }
 
 impl HoldRow {
-    /// Marks of so many flows; none is held.
+    /// Marks of this many flows; none is held.
     pub(crate) fn new(alloc: Global, first: usize, count: usize) -> Result<HoldRow, AllocError>
         ensures { IfOk result (λ row. row ≡ record { first = first; marks = replicate count false }) }
     {
@@ -47,7 +47,7 @@ impl HoldRow {
         self.marks.len()
     }
 
-    /// The place of a flow in the row, where it is there.
+    /// The index of a flow in the row, if it is there.
     pub(crate) fn place(&self, flow: usize) -> Option<usize>
         ensures { result ≡ place_of_flow self.now flow }
     {
@@ -56,7 +56,7 @@ impl HoldRow {
         ))
     }
 
-    /// Marks the flow at a place, and returns its mark before.
+    /// Marks the flow at an index, and returns its mark before.
     pub(crate) fn put(&mut self, place: usize) -> bool
         requires { place < length self.old.marks }
         ensures before { result ≡ slice_index_or self.old.marks place false }

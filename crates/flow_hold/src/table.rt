@@ -14,8 +14,8 @@ use signalling_types::Limits;
 use std::alloc::{AllocError, Global};
 use std::marker::Model;
 
-/// A row of marks for each procedure: whether it holds each of the flows that it may hold. Beside them stands how many
-/// procedures hold each flow.
+/// A row of marks for each procedure: whether it holds each of the flows that it may hold. Beside the rows is, for each
+/// flow, how many procedures hold it.
 #[derive(Drop)]
 pub(crate) struct Table {
     links: usize,
@@ -38,7 +38,7 @@ impl Model for Table {
 }
 
 impl Table {
-    /// Nothing is marked, for a node with so many links, sets and destinations. The error means that memory ran out.
+    /// Nothing is marked, for a node with this many links, sets and destinations. The error means that memory ran out.
     pub(crate) fn new(
         alloc: Global,
         links: usize,
@@ -63,7 +63,7 @@ impl Table {
         })
     }
 
-    /// Marks a pair. A link, set, code or destination that isn't there is left aside, and so is a rerouting of another
+    /// Marks a pair. A link, set, code or destination that isn't there is ignored, and so is a rerouting of another
     /// destination than the flow's.
     pub(crate) fn mark(&mut self, procedure: Procedure, destination: usize, selection: u8)
         ensures { self.new ≡ with_pair self.old procedure destination selection }
@@ -106,7 +106,7 @@ impl Table {
         }
     }
 
-    /// The row of a procedure, where it is there.
+    /// The row of a procedure, if it is there.
     fn row_of(&self, procedure: Procedure) -> Option<usize>
         ensures row { result ≡ place_of self.now procedure }
         ensures within { IfSome result (λ row. row < length self.now.rows) }
@@ -135,7 +135,7 @@ impl Table {
         }
     }
 
-    /// The number of a flow, where its destination is there.
+    /// The number of a flow, if its destination is there.
     fn flow(&self, destination: usize, selection: u8) -> Option<usize>
         ensures { result ≡ flow_place self.now destination selection }
     {
@@ -146,7 +146,7 @@ impl Table {
         }
     }
 
-    /// Marks the flow at a place of a row, and counts it unless it was marked.
+    /// Marks the flow at an index of a row, and counts it unless it was marked.
     fn put(&mut self, row: usize, place: usize)
         requires row { row < length self.old.rows }
         requires place { place < length (marks_at self.old.rows row).marks }
@@ -166,7 +166,7 @@ impl Table {
     }
 }
 
-/// Counts a flow that is marked, where it wasn't before.
+/// Counts a flow that is marked, if it wasn't before.
 fn count_once(counts: &mut Vec<u16>, flow: usize, before: bool)
     requires flow { flow < length counts.old.items }
     requires counted { as_count before ≤ slice_index_or counts.old.items flow 0 }
@@ -177,8 +177,8 @@ fn count_once(counts: &mut Vec<u16>, flow: usize, before: bool)
     counts[flow] = counts[flow] - u16::from(before) + 1;
 }
 
-/// The rows of so many procedures that may hold all flows, and of the reroutings of so many destinations. Nothing is
-/// held.
+/// The rows of this many procedures that may hold all flows, and of the reroutings of this many destinations. Nothing
+/// is held.
 fn first_rows(alloc: Global, shared: usize, destinations: usize) -> Result<Vec<HoldRow>, AllocError>
     requires shared { shared ≤ 2 * Limits.LINKS + Limits.CHANGEBACK_CODES * Limits.SETS }
     requires destinations { destinations ≤ Limits.DESTINATIONS }
@@ -195,14 +195,14 @@ fn first_rows(alloc: Global, shared: usize, destinations: usize) -> Result<Vec<H
     Ok(rows)
 }
 
-/// A count for each of so many flows, which nothing holds.
+/// A count for each of this many flows, which nothing holds.
 fn no_counts(alloc: Global, flows: usize) -> Result<Vec<u16>, AllocError>
     ensures { IfOk result (λ counts. counts.items ≡ replicate flows 0) }
 {
     Ok(vec![in alloc; 0; flows]?)
 }
 
-/// The row at a place: of all flows for the first ones, else of the flows of one destination.
+/// The row at an index: of all flows for the first ones, else of the flows of one destination.
 fn first_row(
     alloc: Global,
     shared: usize,

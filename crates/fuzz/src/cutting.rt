@@ -96,7 +96,7 @@ impl Cutter {
         }
     }
 
-    /// Takes a frame of so many octets.
+    /// Takes a frame of this many octets.
     fn take(&mut self, octets: &[u8], length: usize) {
         let next = piece_of(octets, self.given, length);
         let same = next.len() == length && self.frame.get(..length) == Some(next);
@@ -105,7 +105,7 @@ impl Cutter {
     }
 }
 
-/// So many octets from a place on, or as many as there are.
+/// This many octets from an index on, or as many as there are.
 pub(crate) fn piece_of(octets: &[u8], from: usize, count: usize) -> &[u8] {
     let rest = octets.get(from..).unwrap_or(&[]);
     rest.get(..count).unwrap_or(rest)

@@ -25,8 +25,8 @@ pub(crate) struct FarEnd {
     pub sent: Number24,
 }
 
-/// Appends a good frame: so many times in sixteen a Link Status, else User Data. Returns the number of the last message
-/// that the far end has sent then.
+/// Appends a good frame: this many times in sixteen a Link Status, else User Data. Returns the number of the last
+/// message that the far end has sent then.
 pub(crate) fn add_good(dice: &mut Dice, far: &FarEnd, statuses: u8, out: &mut Octets) -> Number24 {
     let kind = dice.octet() % 16;
     if kind < statuses {

@@ -37,7 +37,7 @@ fn go_on(world: &mut World, dice: &mut Dice, link: LinkId) {
     }
 }
 
-/// Tries so many frames.
+/// Tries this many frames.
 pub(crate) fn try_frames(world: &mut World, dice: &mut Dice, serving: bool, count: u64) {
     let mut frame = Octets::new();
     for _ in 0..count {
@@ -70,7 +70,7 @@ fn add_frame(world: &World, dice: &mut Dice, serving: bool, link: LinkId, frame:
     frame.cut(Limits::FRAME_OCTETS);
 }
 
-/// Tries so many streams. Returns how many were cut into the same frames in other pieces.
+/// Tries this many streams. Returns how many were cut into the same frames in other pieces.
 pub(crate) fn try_streams(world: &mut World, dice: &mut Dice, serving: bool, count: u64) -> u64 {
     let mut alike = 0u64;
     let mut stream = Octets::new();
@@ -111,7 +111,7 @@ fn try_stream(world: &mut World, dice: &mut Dice, link: LinkId, octets: &[u8]) -
     is_cut_so_again(dice, octets, &cutter)
 }
 
-/// Tries the frames of a stream, which have so many octets each, one after another.
+/// Tries the frames of a stream, which have this many octets each, one after another.
 fn try_pieces(world: &mut World, link: LinkId, octets: &[u8], lengths: &[usize]) {
     let mut from = 0usize;
     for length in lengths {

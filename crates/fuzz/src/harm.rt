@@ -6,7 +6,7 @@ use exchange::Limits;
 use signalling_types::number::next;
 use test_nodes::Dice;
 
-/// Harms the frame that begins at a place and goes to the end, or leaves it as it is.
+/// Harms the frame that begins at an offset and goes to the end, or leaves it as it is.
 pub(crate) fn harm(dice: &mut Dice, far: &FarEnd, start: usize, out: &mut Octets) {
     match dice.octet() % 18 {
         0..=4 => {}
@@ -71,7 +71,7 @@ fn add_some(dice: &mut Dice, out: &mut Octets) {
 
 /// Where fields begin, and how many octets each has: version, spare octet, class, type, length, unused octet, BSN,
 /// unused octet, FSN, then the state of a Link Status, or the priority octet, the SIO, the label, what comes first
-/// behind it, and the same of unitdata.
+/// after it, and the same of unitdata.
 const FIELDS_AT: [u8; 16] = [0, 1, 2, 3, 4, 8, 9, 12, 13, 16, 16, 17, 18, 22, 23, 24];
 
 const FIELD_OCTETS: [u8; 16] = [1, 1, 1, 1, 4, 1, 3, 1, 3, 4, 1, 1, 4, 1, 2, 3];
@@ -95,7 +95,7 @@ fn go_to_extremes(dice: &mut Dice, start: usize, out: &mut Octets) {
     out.set(end, last);
 }
 
-/// Puts random octets in place of the frame, mostly behind good headers of User Data or of Link Status.
+/// Puts random octets in place of the frame, mostly after good headers of User Data or of Link Status.
 fn replace(dice: &mut Dice, far: &FarEnd, start: usize, out: &mut Octets) {
     out.cut(start);
     if dice.one_in(3) {

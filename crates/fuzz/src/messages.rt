@@ -18,7 +18,7 @@ pub(crate) fn add_message(dice: &mut Dice, far: &FarEnd, out: &mut Octets) {
     }
 }
 
-/// Appends the SIO of a service indicator in the international network, and a label of one of so many selections
+/// Appends the SIO of a service indicator in the international network, and a label of one of this many selections
 /// (Q.704 §2.2, §14.2). The message comes from the far end, or one time in sixteen from any point.
 fn add_front(dice: &mut Dice, far: &FarEnd, indicator: u8, to: u32, codes: u8, out: &mut Octets) {
     let any = dice.number_of(&POINTS);
@@ -34,13 +34,13 @@ fn add_user_message(dice: &mut Dice, far: &FarEnd, out: &mut Octets) {
     let indicator = if dice.one_in(8) { dice.octet() } else { 5 };
     let to = dice.number_of(&POINTS);
     add_front(dice, far, indicator, to, 16, out);
-    // A few octets behind the label, or about the most that there may be, 268.
+    // A few octets after the label, or about the most that there may be, 268.
     let many = if dice.one_in(16) { 262 } else { 0 };
     let octets = dice.below(12).saturating_add(many);
     out.add_random(dice, octets);
 }
 
-/// The headings of management messages, and two that are no message's: XCO and XCA, CBD and CBA, ECO and ECA, TFP, TFR
+/// The headings of management messages, and two that no message has: XCO and XCA, CBD and CBA, ECO and ECA, TFP, TFR
 /// and TFA, RST and RSR, TRA (Q.704 §15, Q.2210 §9.8).
 const HEADINGS: [u8; 16] = [
     0x31, 0x41, 0x51, 0x61, 0x12, 0x22, 0x14, 0x14, 0x34, 0x54, 0x54, 0x15, 0x25, 0x17, 0x20, 0xff,
@@ -75,8 +75,9 @@ fn add_link_test(dice: &mut Dice, far: &FarEnd, out: &mut Octets) {
     out.add_random(dice, usize::from(octets));
 }
 
-/// An address of an SCCP message: by a title that leads to point 3, 300, to this node, nowhere, or is of another
-/// nature; by a subsystem of this node, one that isn't there, one with a point code; and two that can't be read.
+/// An address of an SCCP message: by a title that leads to point 3, to 300, to this node or nowhere, or of another
+/// nature; by a subsystem of this node, one that isn't there, or one with a point code; or one of two that can't be
+/// read.
 fn address(number: u8) -> &'static [u8] {
     match number % 10 {
         0 => &[0x12, 6, 0, 0x12, 4, 0x94, 0x03],

@@ -4,10 +4,10 @@ use arrayvec::ArrayVec;
 use std::marker::Model;
 use test_nodes::Dice;
 
-/// So many octets there are at most.
+/// This many octets there are at most.
 const MOST_OCTETS: usize = 8192;
 
-/// Where the length field of a frame stands (RFC 4165 §2.1.5).
+/// Where the length field of a frame is (RFC 4165 §2.1.5).
 const LENGTH_AT: usize = 4;
 
 /// Octets that are made and then harmed. What doesn't fit is left out.
@@ -40,12 +40,12 @@ impl Octets {
         self.as_slice().len()
     }
 
-    /// How many there are from a place on.
+    /// How many there are at an offset.
     pub(crate) fn len_from(&self, place: usize) -> usize {
         self.len().saturating_sub(place)
     }
 
-    /// Removes all octets from a place on.
+    /// Removes all octets at an offset.
     pub(crate) fn cut(&mut self, place: usize) {
         self.octets.truncate(place);
     }
@@ -55,28 +55,28 @@ impl Octets {
         let _added = self.octets.try_extend_from_slice(octets);
     }
 
-    /// Appends so many random octets.
+    /// Appends this many random octets.
     pub(crate) fn add_random(&mut self, dice: &mut Dice, count: usize) {
         for _ in 0..count {
             self.add(&[dice.octet()]);
         }
     }
 
-    /// Flips bits of the octet at a place, if there is one.
+    /// Flips bits of the octet at an offset, if there is one.
     pub(crate) fn flip(&mut self, place: usize, bits: u8) {
         if let Some(there) = self.octets.get_mut(place) {
             *there ^= bits;
         }
     }
 
-    /// Writes an octet at a place, if there is one.
+    /// Writes an octet at an offset, if there is one.
     pub(crate) fn set(&mut self, place: usize, octet: u8) {
         if let Some(there) = self.octets.get_mut(place) {
             *there = octet;
         }
     }
 
-    /// Removes so many octets from a place on.
+    /// Removes this many octets at an offset.
     pub(crate) fn take_out(&mut self, place: usize, count: usize) {
         for _ in 0..count {
             self.octets.pop_at(place);
@@ -89,7 +89,7 @@ impl Octets {
         self.set_length(start, length);
     }
 
-    /// Gives the frame that begins at a place this length field.
+    /// Gives the frame that begins at an offset this length field.
     pub(crate) fn set_length(&mut self, start: usize, length: u32) {
         let mut at = start.saturating_add(LENGTH_AT);
         for octet in length.to_be_bytes() {

@@ -51,7 +51,6 @@ fn view(node: &Exchange, link: u8, queue: bool) -> Option<LinkView> {
     })
 }
 
-/// The status of the route to a destination.
 fn status(node: &Exchange, destination: usize) -> Option<RouteStatus> {
     Some(node.route(destination)?.status)
 }

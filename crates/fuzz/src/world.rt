@@ -32,7 +32,7 @@ title = [
 ]
 "#;
 
-/// Where the SIO of a message stands in its frame, behind both headers and the priority octet (RFC 4165 §2.3.1).
+/// Where the SIO of a message is in its frame, after both headers and the priority octet (RFC 4165 §2.3.1).
 const MESSAGE_AT: usize = 17;
 
 /// A node, the frame that was taken last, and what became of the frames that were handed in.
@@ -145,7 +145,7 @@ impl World {
         self.node.step(&Event::Tick);
     }
 
-    /// So many ticks pass, before each of which all that waits is taken and acknowledged.
+    /// This many ticks pass, before each of which all that waits is taken and acknowledged.
     pub(crate) fn tend_and_tick(&mut self, ticks: usize) {
         for _ in 0..ticks {
             self.tend_all();

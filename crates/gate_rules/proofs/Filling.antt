@@ -1,4 +1,4 @@
--- Frames that a fill takes are given to the endpoint of the node's link, each where that takes it; and then what is due
+-- Frames that a fill takes are given to the endpoint of the node's link, each if that takes it; and then what is due
 -- goes out.
 use Rattle.std.proofs.Common.{◌≡◌, ◌≤◌, ◌+◌, ℕ, zero, suc, Bool, true, false, ◌&&◌, List, [], ◌∷◌, ◌++◌, Option, Some, None, length, map, refl, ap, sym, ◌∙◌, subst, arith, append-nil}
 use Rattle.std.specs.Prelude.{if◌then◌else◌}

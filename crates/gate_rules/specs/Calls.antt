@@ -39,7 +39,7 @@ pub record Shows (m : Make) (n : Node) (link : ℕ) (g : Gate) : Type 0 where
 
 -- ---- what is seen of a call
 
--- it tells what happened to the exchange, and so what that accepted and received
+-- what happened to the exchange, and so what that accepted and received
 abbrev pub seen_by : (link : ℕ) → Sight → Books → Books
 seen_by link Rose b = happened (CameUp link) b
 seen_by link (CameIn frame outcome) b = happened (FrameCame link frame) b
@@ -80,8 +80,8 @@ MayAll m peer other (what ∷ more) n = MayDo m.configuration peer other what n 
 abbrev pub packets_of : Node → (link : ℕ) → List PacketValue
 packets_of n link = map (λ e. e.packet) (n.ports link).site.packets
 
--- what a call does is what steps do: the gate and the exchange afterwards are those of the node, which accepted and
--- received what is seen of the call; and the endpoint put out what the call puts out
+-- what a call does is what steps do. The gate and the exchange afterwards are those of the node, which accepted and
+-- received what is seen of the call, and the endpoint put out what the call puts out
 pub record AreSteps (m : Make) (peer : Configuration) (other n : Node) (link : ℕ) (d : Did WholeQueues) : Type 0 where
   pub steps : List Doing
   pub may : MayAll m peer other steps n
@@ -109,7 +109,7 @@ does_flush (Settles now) g = false
 does_flush (Fills now) g = is_lasting now g.endpoint
 does_flush (Closes now) g = false
 
--- of a node and the other one, whatever was done before: of the gate of each link between the two
+-- for a node and the other one, whatever was done before, and the gate of each link between the two
 abbrev pub CallsAreSteps : (m : Make) → (peer : Configuration) → (other n : Node) → Type 0
 CallsAreSteps m peer other n =
     (link : ℕ) (g : Gate) (call : Call) (between : IsBetween m.configuration peer link) → Shows m n link g →

@@ -32,8 +32,8 @@ node_make m = record {
 abbrev pub first_nodes : (near far : Make) → nodes.World
 first_nodes near far = nodes.new_world (node_make near) (node_make far)
 
--- by steps of two nodes of `node_rules`, each of which these may do, the same exchanges come to be, that accepted and
--- received the same
+-- there are steps of two nodes of `node_rules`, which may do each of them, that lead to the same exchanges, with the
+-- same accepted and received
 pub record IsRunOfNodes (near far : Make) (w : World) : Type 0 where
   pub list : List nodes.World
   pub steps : nodes.Steps (node_make near) (node_make far) (first_nodes near far) list
@@ -43,7 +43,7 @@ pub record IsRunOfNodes (near far : Make) (w : World) : Type 0 where
 abbrev pub runs_are_runs_of_nodes : Type 0
 runs_are_runs_of_nodes = Always IsRunOfNodes
 
--- ---- the promises: they speak of exchanges, and of what these accepted and received for each other
+-- ---- the promises, about exchanges and what these accepted and received for each other
 
 abbrev pub ends_of : (near far : Make) → World → PairState
 ends_of near far w = record {

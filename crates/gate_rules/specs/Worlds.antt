@@ -1,5 +1,5 @@
 -- Two nodes that share a link set, each an exchange with a gate for each link of it, and all packets that these ever
--- put out: what is done at them are calls of gates, and what happens to exchanges besides. Each may have whatever
+-- put out. What is done at them are calls of gates, and other things that happen to exchanges. Each may have whatever
 -- further links and neighbours, on which anything may happen.
 use Rattle.std.specs.Prelude.{◌≡◌, ◌≤◌, ◌+◌, ◌*◌, ℕ, Bool, List, [], ◌∷◌, ◌++◌, Some, None, map, nat_eq, if◌then◌else◌}
 use Rattle.std.specs.List.{Contains}
@@ -80,7 +80,7 @@ port_after call d p = record {
   mark = if does_flush call p.gate then p.messages + messages_in d.seen else p.mark;
 }
 
--- the exchange is that which the call leaves, and what is seen of the call tells what it accepted and received
+-- the exchange is the one that the call leaves, and what is seen of the call says what it accepted and received
 abbrev pub books_after : (link : ℕ) → Did WholeQueues → Books → Books
 books_after link d b = record (seen_all link d.seen b) { exchange = d.exchange }
 
@@ -99,7 +99,7 @@ did (Leaves link) n = record n { books = left_by link (frame_to_take whole n.boo
 -- ---- when
 
 -- a packet that comes was put out at the other end of the link. Since it was made, no more messages passed there than
--- there are numbers, but for two windows
+-- there are numbers, less two windows
 pub record Arrives (other : Port) (packet : PacketValue) : Type 0 where
   pub one : Emitted
   pub there : Contains other.packets one

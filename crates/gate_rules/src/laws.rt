@@ -6,15 +6,15 @@ ghost use Rattle.gate_rules.specs.Promises.{runs_are_runs_of_nodes, each_message
 ghost use Rattle.gate_rules.specs.Promises.{alone_is_special};
 
 /// Whatever was done at two nodes before: each call of the gate of a link between them does what a list of steps of its
-/// node does, each of which that may do: where a datagram or the time comes, where the gate settles, where it takes
-/// frames, and where it closes. So a gate is as careful as the promises of two nodes ask. A new gate stands beside a
-/// new node.
+/// node does, and that may do each of them: when a datagram or the time comes, when the gate settles, when it takes
+/// frames, and when it closes. So a gate is as careful as the promises of two nodes ask. A new gate goes with a new
+/// node.
 pub fn calls_of_gates_are_steps()
     ensures calls { calls_are_steps }
     ensures new { new_gates_show }
 {}
 
-/// Whatever the network does, and whatever happens on links that lead elsewhere, what two nodes do that call their
+/// Whatever the network does, and whatever happens on links that lead elsewhere: what two nodes do that call their
 /// gates, as they like, is what two nodes of `node_rules` may do.
 pub fn runs_of_gates_are_runs_of_nodes()
     ensures { runs_are_runs_of_nodes }
@@ -41,8 +41,8 @@ pub fn nodes_alone_are_the_special_case()
 {}
 
 /// What a gate puts out is octets on its way (`sent_as`), and a gate that hears these octets hears the packet that was
-/// put out, where SCTP ports have 16 bits. So that octets aren't changed is all that has to be asked of the network in
-/// place of "hears a packet"; whose packet it is, and its age, is asked as before.
+/// put out, if SCTP ports have 16 bits. So that octets aren't changed is all that must be asked of the network in place
+/// of "hears a packet"; whose packet it is, and its age, is asked as before.
 pub fn octets_of_gates_read_back()
     ensures { packets_are_read }
 {}

@@ -1,5 +1,5 @@
--- What is kept of a queue: the messages that aren't confirmed, the number of the first of them, how many of them
--- were sent, and the number that the peer's next message must have.
+-- What is kept of a queue: the messages that aren't confirmed, the number of the first of them, how many of them were
+-- sent, and the number that the peer's next message must have.
 use Rattle.std.specs.Prelude.{ℕ, Bool, ◌+◌, ◌-◌, ◌%◌, List, Option, Some, None, Result, Ok, Err, nat_eq, nat_lt}
 use Rattle.std.specs.Prelude.{nat_le, slice_get, if◌then◌else◌}
 use Rattle.signalling_types.specs.Message.{Message}
@@ -28,11 +28,11 @@ counts_of q = record {
 abbrev pub kept_first : Counts
 kept_first = record { oldest = 0; outstanding = 0; expected = 0 }
 
--- the same, where the first message gets another number
+-- the same, if the first message gets another number
 abbrev pub kept_first_at : ℕ → Counts
 kept_first_at number = record { oldest = number; outstanding = 0; expected = 0 }
 
--- how many more messages a number confirms: its distance from the last confirmed one, where as many are outstanding
+-- how many more messages a number confirms: its distance from the last confirmed one, if that many are outstanding
 abbrev pub kept_newly_confirmed : Counts → ℕ → Option ℕ
 kept_newly_confirmed k bsn =
     if nat_le (steps_between k.oldest (next_number bsn)) k.outstanding

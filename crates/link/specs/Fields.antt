@@ -1,4 +1,4 @@
--- The counts of a link give the fields of its sequence back.
+-- The counts of a link determine the fields of its sequence.
 use Rattle.std.specs.Prelude.{◌≡◌}
 use Rattle.std.proofs.Common.{refl}
 use Rattle.link.specs.Inside.{counts_in, IsInStep, fields_of}

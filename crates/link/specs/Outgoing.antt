@@ -1,4 +1,4 @@
--- A message that goes out, as a call gives it: its number, and the message where it stands.
+-- A message that goes out, as a call returns it: its number, and the message in place.
 use Rattle.std.specs.Prelude.{ℕ}
 use denote.Ref.{Bor}
 use Rattle.signalling_types.specs.Message.{Message}

@@ -19,8 +19,8 @@ pub record Queue : Type 0 where
   -- how many messages of the peer were accepted
   pub received : ℕ
 
--- what is confirmed was sent, what was sent is there, and no more than a window of w is sent and unconfirmed;
--- settings allow no wider one than WINDOW
+-- what is confirmed was sent, what was sent is there, and no more than a window of w is sent and unconfirmed; settings
+-- allow no window above WINDOW
 pub record IsQueue (w : ℕ) (q : Queue) : Type 0 where
   pub confirmed : q.confirmed ≤ q.sent
   pub sent : q.sent ≤ length q.all
@@ -35,7 +35,7 @@ unconfirmed q = drop q.confirmed q.all
 abbrev pub first_queue : Queue
 first_queue = record { base = 0; all = []; confirmed = 0; sent = 0; received = 0 }
 
--- the same, where the first message gets another number
+-- the same, if the first message gets another number
 abbrev pub first_queue_at : ℕ → Queue
 first_queue_at number = record { base = number; all = []; confirmed = 0; sent = 0; received = 0 }
 
@@ -43,8 +43,8 @@ first_queue_at number = record { base = number; all = []; confirmed = 0; sent = 
 abbrev pub forward_number : Queue → ℕ → ℕ
 forward_number q k = (q.base + k) % modulus
 
--- a backward sequence number names a count from `confirmed` to `sent` where the number after it is that of the message
--- behind the count (RFC 4165 §2.2)
+-- a backward sequence number names a count from `confirmed` to `sent`, if the number after it is that of the message
+-- after the count (RFC 4165 §2.2)
 pub record Names (q : Queue) (bsn n : ℕ) : Type 0 where
   pub from_confirmed : q.confirmed ≤ n
   pub to_sent : n ≤ q.sent
@@ -68,7 +68,7 @@ newly_confirmed q bsn = option_map (λ n. n - q.confirmed) (named_count q bsn)
 abbrev pub expected : Queue → Bool → ℕ
 expected q carries = if carries then q.received % modulus else previous_number q.received
 
--- how many messages a frame confirms, or what is wrong with it: the FSN is looked at first
+-- how many messages a frame confirms, or what is wrong with it; the FSN is looked at first
 abbrev pub confirmation : Option ℕ → Result ℕ SeqFault
 confirmation (Some count) = Ok count
 confirmation None = Err BadBsn

@@ -1,4 +1,4 @@
--- The law of the search at one queue whose numbers go round, where a definition by plain integers makes it false.
+-- The law of the search at one queue whose numbers wrap round: a definition by plain integers makes it false here.
 use Rattle.std.specs.Prelude.{◌≡◌, ◌-◌, ◌^◌, [], ◌∷◌, Some}
 use Rattle.signalling_types.specs.Message.{Message}
 use Rattle.link.specs.Queue.{Queue, IsQueue, Names, named_count}

@@ -1,4 +1,4 @@
--- The alignment of a link, as a table of states and inputs (own).
+-- Link alignment (RFC 4165 §4.1.3, Q.703 §7), in a table of states and inputs of this node's own.
 use Rattle.std.specs.Prelude.{ℕ, Bool, true, false, Option, Some, None, List, [], ◌∷◌, ◌==◌, ◌&&◌, if◌then◌else◌}
 use Rattle.m2pa_codec.specs.Frames.{status_number}
 use Rattle.m2pa_codec.specs.declared.status.LinkStatus.{LinkStatus}
@@ -19,7 +19,7 @@ pub data Effect : Type 0 where
   Fails : Effect
   -- Ready is remembered until Proving is left
   Remembers : Effect
-  -- the link enters a state; a status is sent and a timer starts, where one is named
+  -- the link enters a state; a status is sent and a timer starts, if one is named
   Enters : (state : Alignment) (sent : Option LinkStatus) (started : Option LinkTimer) → Effect
   -- the link enters service, and the input is then handled there
   EntersServing : Effect

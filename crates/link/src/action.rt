@@ -49,7 +49,7 @@ pub enum Action {
 pub struct Transition {
     /// The state afterwards.
     pub state: Alignment,
-    /// The timer that stops, if one does: that of the state before, where the link enters another.
+    /// The timer that stops, if one does: that of the state before, if the link enters another.
     pub stop: Option<LinkTimer>,
     /// The status that is sent, if one is.
     pub send: Option<LinkStatus>,

@@ -107,7 +107,7 @@ fn in_not_aligned(input: Input) -> Action
     ensures { result ≡ action_at Alignment.NotAligned input }
 {
     let here = Alignment::NotAligned;
-    // A link is proved at length, also where its peer is in a hurry.
+    // A link is proved at length, even if its peer is in a hurry.
     let proving = Some(LinkStatus::ProvingNormal);
     match input {
         Input::Status(LinkStatus::Alignment) => {

@@ -1,5 +1,5 @@
-//! One link: how it comes into service and leaves it, as a table of states and inputs, and the numbers of its
-//! messages: which goes out next, and what a frame of the peer confirms.
+//! Link alignment (RFC 4165 §4.1.3) as a table of states and inputs, and the sequence numbers of a link (§2.2): which
+//! message goes out next, and what a frame of the peer confirms.
 #![tactic(auto)]
 
 pub mod action;

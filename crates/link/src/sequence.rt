@@ -88,9 +88,9 @@ impl Sequence {
         }
     }
 
-    /// How many messages of the lane stand before the count that a number names: a frame with this backward number
-    /// confirms them, and a changeover with it moves those behind them (Q.704 §5.4). None where the number names no
-    /// count from what is confirmed to what was sent.
+    /// How many messages of the queue come before the count that a number names. A frame with this backward number
+    /// confirms them, and a changeover with it moves those after them (Q.704 §5.4). None if the number names no count
+    /// from what is confirmed to what was sent.
     pub fn retrieve(&self, confirmed: Number24) -> Option<usize>
         ensures count { result ≡ kept_newly_confirmed self.now confirmed }
         ensures queue { (w : ℕ) (lane : List Message) (q : Queue) →
@@ -109,12 +109,12 @@ impl Sequence {
         self.outstanding
     }
 
-    /// Takes the numbers of a frame of User Data, which carries a message or not: what it confirms leaves the front
-    /// of the lane, and a message that it carries counts as received. Answers how many messages it confirmed.
+    /// Takes the numbers of a frame of User Data, with or without a message. What it confirms leaves the front of the
+    /// queue, and a message that it carries counts as received. Returns how many messages it confirmed.
     ///
-    /// Refused BadFsn where the forward number isn't the next one, or without a message not that of the last
-    /// accepted message; else BadBsn where the backward number names no count from what is confirmed to what
-    /// was sent. Then nothing changes.
+    /// Refused BadFsn if the forward number isn't the next one or, without a message, isn't that of the last accepted
+    /// message; else BadBsn if the backward number names no count from what is confirmed to what was sent. Then nothing
+    /// changes.
     #[inline(always)]
     pub fn accept<L: Lanes>(
         &mut self,
@@ -174,8 +174,8 @@ impl Sequence {
         Ok(count)
     }
 
-    /// The next message that goes out, with its number; it counts as sent from now on. None where as many as the
-    /// window are unconfirmed, or no message is left.
+    /// The next message that goes out, with its number; it counts as sent from now on. None if as many as the window
+    /// are unconfirmed, or no message is left.
     pub fn next_to_send<'l, L: Lanes>(
         &mut self,
         lanes: &'l L,

@@ -8,7 +8,7 @@ use link_trials::stopping::{Stop, Stopped, round_with};
 use link_trials::{Clock, Total, Trial, World};
 use std::alloc::Global;
 
-/// So many links there are.
+/// This many links there are.
 const LINKS: u8 = 3;
 
 /// The link that stopped before, at both ends and at the first place.
@@ -21,7 +21,7 @@ fn first_stop() -> Stop {
     }
 }
 
-/// One run for each place of the round behind the return of a link, and each link that the first end loses there.
+/// One run for each place of the round after the return of a link, and each link that the first end loses there.
 pub(crate) fn stop_again(alloc: Global) -> Total {
     let mut total = Total::NOTHING;
     for step in 0..steps_over(LINKS) {

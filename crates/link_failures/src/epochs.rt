@@ -9,10 +9,10 @@ use link_trials::{Clock, Total, Trial, World};
 use pair_world::End;
 use std::alloc::Global;
 
-/// So many links there are.
+/// This many links there are.
 const LINKS: u8 = 3;
 
-/// So many messages at most go out before the link stops, less one, and as many behind that.
+/// This many messages at most go out before the link stops, less one, and as many after that.
 const MOST: u8 = 4;
 
 /// What tells a run from the others.
@@ -23,13 +23,13 @@ struct Case {
     far: End,
     /// The link that stops.
     link: u8,
-    /// So many messages arrive on it before.
+    /// This many messages arrive on it before.
     before: u8,
-    /// So many go out on it behind, and are lost with it.
+    /// This many go out on it after, and are lost with it.
     behind: u8,
 }
 
-/// One run for each end, each link, and each count of messages before and behind.
+/// One run for each end, each link, and each count of messages before and after.
 pub(crate) fn late_answers(alloc: Global) -> Total {
     let mut total = Total::NOTHING;
     for link in 0..LINKS {
@@ -60,7 +60,7 @@ impl Trial for Case {
     }
 }
 
-/// The answer comes late. Says whether all came to rest behind that.
+/// The answer comes late. Says whether all came to rest after that.
 fn answer_late(world: &mut World, case: Case) -> bool {
     let up = bring_up(world);
     submit_flow(world, case.near, case.link, case.before);
@@ -71,7 +71,7 @@ fn answer_late(world: &mut World, case: Case) -> bool {
     up && settle(world, Clock::STILL)
 }
 
-/// The link comes back, and all messages are submitted. Says whether all came to rest behind that.
+/// The link comes back, and all messages are submitted. Says whether all came to rest after that.
 fn return_link(world: &mut World, link: LinkId) -> bool {
     let back = come_back(world, link, Clock::STILL);
     submit_all(world);
@@ -102,7 +102,7 @@ fn next_epoch(world: &mut World, case: Case) {
     take_all(world, case.near, link, case.behind);
 }
 
-/// An end sends so many frames of a link.
+/// An end sends this many frames of a link.
 fn take_all(world: &mut World, end: End, link: LinkId, count: u8) {
     for _ in 0..count {
         world.take(end, link);
@@ -117,7 +117,7 @@ fn stop_again(world: &mut World, case: Case) {
     world.lose(case.far, link);
 }
 
-/// An end submits so many messages on a flow.
+/// An end submits this many messages on a flow.
 fn submit_flow(world: &mut World, end: End, flow: u8, count: u8) {
     for _ in 0..count {
         world.submit(end, flow);

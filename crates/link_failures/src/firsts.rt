@@ -9,7 +9,7 @@ use link_trials::{Clock, Total, Trial, World};
 use pair_world::End;
 use std::alloc::Global;
 
-/// So many links there are.
+/// This many links there are.
 const LINKS: u8 = 3;
 
 /// How a link opens at both ends.
@@ -42,7 +42,6 @@ fn open_in_round(alloc: Global, way: Way, round: u8, total: &mut Total) {
     }
 }
 
-/// Those of one place.
 fn open_links(alloc: Global, way: Way, place: (u8, u8), total: &mut Total) {
     for link in 0..LINKS {
         let one = stop_at(place, link, Stopped::AtOne);
@@ -70,7 +69,6 @@ fn open_links(alloc: Global, way: Way, place: (u8, u8), total: &mut Total) {
     }
 }
 
-/// A link that stops at a place.
 fn stop_at(place: (u8, u8), link: u8, ends: Stopped) -> Stop {
     let (round, step) = place;
     Stop {
@@ -90,7 +88,7 @@ struct OpenFirst {
 }
 
 impl Trial for OpenFirst {
-    // Messages are submitted before the link comes back, and behind that.
+    // Messages are submitted before the link comes back, and after that.
     fn run(&self, _alloc: Global, world: &mut World) -> bool {
         let stopped = stop_and_settle(world, &self.stop, Clock::STILL);
         submit_all(world);
@@ -147,7 +145,6 @@ fn fall(world: &mut World, end: End, link: LinkId) {
     pass_round(world);
 }
 
-/// The end that an end faces.
 fn facing(end: End) -> End {
     match end {
         End::One => End::Two,

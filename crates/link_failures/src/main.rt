@@ -1,9 +1,9 @@
 //! Two nodes whose links stop and come back, at each place of a busy exchange and at random.
 //!
-//! Two nodes (`Pair` of `pair_world`) with the built-in timers have one to four links of one set between them, and
-//! each other as the one destination. All that is done is a `Pair::turn`. A round is, for each end and each link in
-//! order, a frame that is taken and then delivered at the other end. Each message carries its flow in its label, and
-//! behind that its number in the flow: the accepted messages of a flow are numbered 1, 2, 3 and so on.
+//! Two nodes (`Pair` of `pair_world`) with the built-in timers have one to four links of one set between them, and each
+//! other as the one destination. All that is done is a `Pair::turn`. A round is, for each end and each link in order, a
+//! frame that is taken and then delivered at the other end. Each message carries its flow in its label, and after that
+//! its number in the flow: the accepted messages of a flow are numbered 1, 2, 3 and so on.
 //!
 //! # What a line says
 //!
@@ -17,11 +17,11 @@
 //! - `lost_any`, `late_any`: in how many runs an end set the flag.
 //! - `sums compared`: while no end had set `lost_any`, before each 16th step, the sums of both ends were compared: as
 //!   many messages were accepted, by the outcomes and by `Pair::accepted`, as the other end received and as
-//!   `Pair::waiting` counts; and of one message as many. That is done in every group; only the lines of the groups by
-//!   chance say how often. If a sum is wrong, the line says how many `sums` were `wrong`.
-//! - `unended`: in how many runs a link that was to open didn't, rounds never came to rest, not all messages came
-//!   while one of several links was down, though no end had set `lost_any`, or an order to add or remove a translation
-//!   row didn't.
+//!   `Pair::waiting` counts; and the same for one message. That is done in every group; only the lines of the random
+//!   groups say how often. If a sum is wrong, the line says how many `sums` were `wrong`.
+//! - `unended`: in how many runs a link that was to open didn't, rounds never came to rest, not all messages came while
+//!   one of several links was down though no end had set `lost_any`, or an order to add or remove a translation row
+//!   wasn't carried out.
 //!
 //! That is what `Pair::accepted`, `Pair::received` and `Pair::waiting` promise, and no more. Nothing is promised after
 //! `lost_any`, so what comes then isn't judged; the numbers in brackets show how much was.
@@ -35,34 +35,34 @@
 //!   rounds pass. Without a tick no timer of a changeover or a changeback runs out, so no flag is set. With ticks
 //!   after each round T1 to T4 run out, at either end or at both.
 //! - SCCP by title: as Stopped, without a tick, but only end 1 submits: a UDT for its own point on each of the 16
-//!   flows, whose title its one translation row leads to end 2. That has no row, and returns each by a UDTS, which
+//!   flows, whose title its one translation row leads to end 2. That end has no row, and returns each by a UDTS, which
 //!   end 1 refuses, since it has no subsystem. So each run accepts 48 UDTs at end 1 and as many UDTSs at end 2, and
 //!   each comes.
 //! - Stopped again: `e1` stops at both ends at the first place and comes back. After the third submissions end 1
 //!   loses one of the links at one of the 13 places of the next round, while flows are taken back.
-//! - One end first: as Stopped, without a tick, where the link stops at the end that is to open first. It opens at
-//!   one end, and a round passes; then the other follows, or the first falls before that and opens again, or the other
+//! - One end first: as Stopped, without a tick, if the link stops at the end that is to open first. It opens at one
+//!   end, and a round passes; then the other follows, or the first falls before that and opens again, or the other
 //!   follows the fallen one and both open again, or never follows and opens first itself. In both orders of the ends.
 //! - An answer late: both ends lose a link. The answer to one end's order stays behind, the link opens if it may,
-//!   carries messages and is lost again, and only then the answer comes: for each end and each link, with 0 to 3
+//!   carries messages and is lost again, and only then does the answer come: for each end and each link, with 0 to 3
 //!   messages that come before and 1 to 4 that are lost.
-//! - By chance: 400 steps from a seed. Of 256 steps 78 submit a message, 86 take a frame, 67 deliver one, 4 lose a link
+//! - At random: 400 steps from a seed. Of 256 steps 78 submit a message, 86 take a frame, 67 deliver one, 4 lose a link
 //!   status, 4 double one, 3 lose a link at an end, 3 let a tick pass, 1 keeps a link from opening by an operator's
 //!   order or lets it open, 2 add or remove a translation row by one, 5 open a link at one end, and 3 let an end
 //!   follow. The dice say whether a link status or User Data comes next, and whether the other end loses the link
 //!   before it opens at this one. Then all links are let open, those that aren't in service come back, three times, and
 //!   rounds pass until nothing is left.
 //!
-//! A link that fails while no other is left loses what waits for it when T1 runs out, and doesn't open before that.
-//! So in each run over one link an end sets `lost_any`: what is left to judge is that nothing comes twice or out of
-//! order.
+//! A link that fails while no other is left loses what waits for it when T1 runs out, and doesn't open before that. So
+//! in each run over one link an end sets `lost_any`, and all that is left to judge is that nothing comes twice or out
+//! of order.
 //!
 //! # What it has caught
 //!
-//! Six wrong bodies were put in by hand. A changeover that drops unsent messages, one that moves messages behind the
-//! held ones, a changeback declaration on the link that came back, and a returning link that holds no flow show in
-//! many lines; a link that may open while the answer to its order is awaited shows in "an answer late" alone; and an
-//! acknowledgement that also lifts the hold of a changeover shows at random over 3 and 4 links alone.
+//! Six wrong bodies were put in by hand. A changeover that drops unsent messages, one that moves messages after the
+//! held ones, a changeback declaration on the link that came back, and a returning link that holds no flow show in many
+//! lines. A link that may open while the answer to its order is awaited shows only in "an answer late". An
+//! acknowledgement that also lifts the hold of a changeover shows only at random, over 3 and 4 links.
 #![tactic(auto)]
 
 mod again;
@@ -82,7 +82,7 @@ use random::schedules;
 use std::io;
 use stops::Group;
 
-/// So many schedules there are over each number of links.
+/// This many schedules there are over each number of links.
 const SCHEDULES: u64 = 1250;
 
 /// One tick at both ends between two rounds.
@@ -153,7 +153,7 @@ fn stop_fewer(rt: &HostRuntime) -> io::Result<()> {
     )
 }
 
-/// One link of so many stops at each place.
+/// One link of this many stops at each place.
 fn stop_one(rt: &HostRuntime, name: &str, links: u8, clock: Clock) -> io::Result<()> {
     let group = Group {
         links,
@@ -190,7 +190,7 @@ fn try_chance(rt: &HostRuntime) -> io::Result<()> {
     throw(rt, "400 steps by chance, 4 links", 4)
 }
 
-/// Random schedules over so many links.
+/// Random schedules over this many links.
 fn throw(rt: &HostRuntime, name: &str, links: u8) -> io::Result<()> {
     let total = schedules(rt.alloc(), links, SCHEDULES);
     print_group(rt, name, &total)?;

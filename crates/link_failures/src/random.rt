@@ -8,13 +8,13 @@ use pair_world::End;
 use std::alloc::Global;
 use test_nodes::Dice;
 
-/// So many steps each schedule has.
+/// This many steps each schedule has.
 const STEPS: usize = 400;
 
-/// So many times the links come back behind it, so that all that is waiting arrives.
+/// This many times the links come back after it, so that all that is waiting arrives.
 const RETURNS: usize = 3;
 
-/// So many schedules over so many links.
+/// This many schedules over this many links.
 pub(crate) fn schedules(alloc: Global, links: u8, count: u64) -> Total {
     let mut total = Total::NOTHING;
     for run in 0..count {
@@ -24,7 +24,7 @@ pub(crate) fn schedules(alloc: Global, links: u8, count: u64) -> Total {
     total
 }
 
-/// One run: a schedule, and what arrives behind it.
+/// One run: a schedule, and what arrives after it.
 #[derive(Clone, Copy)]
 struct Schedule {
     dice: Dice,
@@ -47,7 +47,6 @@ fn take_steps(world: &mut World, dice: Dice) {
     }
 }
 
-/// A step.
 fn step(world: &mut World, dice: &mut Dice) {
     let chance = dice.octet() % 200;
     let link = LinkId::new(dice.octet() % world.links().max(1));
@@ -84,7 +83,7 @@ fn frame_or_loss(world: &mut World, dice: &mut Dice, chance: u8, at: (End, LinkI
     };
 }
 
-/// The next frame of one of the two streams comes, as the dice say; where there is none, of the other.
+/// The next frame of one of the two streams comes, as the dice say; if there is none, of the other.
 fn deliver(world: &mut World, dice: &mut Dice, end: End, link: LinkId) -> bool {
     if dice.one_in(2) {
         world.deliver(end, link)
@@ -102,7 +101,7 @@ fn operate(world: &mut World, dice: &mut Dice, end: End, link: LinkId) {
     }
 }
 
-/// A link opens at an end, where it may. As the dice say, where it is down at one end it is lost at the other before.
+/// A link opens at an end, if it may. As the dice say, if it is down at one end it is lost at the other before.
 fn reopen(world: &mut World, dice: &mut Dice, end: End, link: LinkId) {
     if dice.one_in(2) {
         lose_halves(world, link);
@@ -125,7 +124,7 @@ fn lose_halves(world: &mut World, link: LinkId) {
     }
 }
 
-/// All links that can come back do, several times. Says whether all came to rest behind that.
+/// All links that can come back do, several times. Says whether all came to rest after that.
 fn bring_back(world: &mut World) -> bool {
     activate_all(world);
     let mut settled = false;

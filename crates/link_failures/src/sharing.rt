@@ -7,7 +7,7 @@ use pair_world::End;
 use script::built_in;
 use std::alloc::{AllocError, Global};
 
-/// One more run, of two nodes with so many links.
+/// One more run, of two nodes with this many links.
 pub(crate) fn run_over<T: Trial>(total: &mut Total, alloc: Global, links: u8, trial: &T) {
     let shape = Shape {
         links,
@@ -17,14 +17,15 @@ pub(crate) fn run_over<T: Trial>(total: &mut Total, alloc: Global, links: u8, tr
     total.run(alloc, linked(alloc, links), shape, trial);
 }
 
-/// The two nodes. None where memory ran out.
+/// The two nodes. None if memory ran out.
 fn linked(alloc: Global, links: u8) -> Option<LinkedNodes> {
     let one = settings_at(alloc, End::One, links).ok()?;
     let two = settings_at(alloc, End::Two, links).ok()?;
     LinkedNodes::new(alloc, one, two).ok()
 }
 
-/// The settings of an end with so many links, e0 and so on, to the other, its one destination. The rest is as built in.
+/// The settings of an end with this many links, e0 and so on, to the other, its one destination. The rest is as built
+/// in.
 fn settings_at(alloc: Global, end: End, links: u8) -> Result<Settings, DraftFault> {
     let (own, adjacent) = points(end);
     match draft_to(alloc, own as i64, adjacent as i64, links) {
@@ -50,7 +51,6 @@ fn draft_to(alloc: Global, own: i64, adjacent: i64, links: u8) -> Result<Draft, 
     Ok(draft)
 }
 
-/// The link of a code.
 fn link_draft(alloc: Global, code: u8) -> Result<LinkDraft, AllocError> {
     Ok(LinkDraft {
         name: format!(in alloc; "e{code}")?,

@@ -27,7 +27,6 @@ impl StopTrial for Group {
     }
 }
 
-/// One run.
 #[derive(Clone, Copy)]
 struct StopRun {
     group: Group,
@@ -45,9 +44,9 @@ impl Trial for StopRun {
     }
 }
 
-/// The link stops and comes back, and all messages are submitted again before it comes back, so that some wait on the
-/// other links then, and once more behind that. Says whether all went well: where another link is left, what was
-/// submitted first came while this one was down.
+/// The link stops and comes back. All messages are submitted again before it comes back, so some wait on the other
+/// links then, and once more after that. Says whether all went well: if another link is left, what was submitted first
+/// came while this one was down.
 pub(crate) fn stop_and_return(world: &mut World, stop: &Stop, clock: Clock) -> bool {
     let stopped = stop_and_settle(world, stop, clock);
     submit_all(world);
@@ -56,8 +55,7 @@ pub(crate) fn stop_and_return(world: &mut World, stop: &Stop, clock: Clock) -> b
     stopped && back
 }
 
-/// All links come up, and the link stops. Says whether all went well: where another link is left, what was submitted
-/// came.
+/// All links come up, and the link stops. Says whether all went well: if another link is left, what was submitted came.
 pub(crate) fn stop_and_settle(world: &mut World, stop: &Stop, clock: Clock) -> bool {
     let up = bring_up(world);
     submit_all(world);

@@ -9,9 +9,9 @@ use std::alloc::Global;
 pub struct Book {
     /// The messages that were accepted, in order.
     pub accepted: Vec<Mark>,
-    /// So many messages had come to the other end when neither end had yet said that one may be lost.
+    /// This many messages had come to the other end when neither end had yet said that one may be lost.
     pub once: usize,
-    /// So many had come when, besides, this end hadn't yet said that one may be late.
+    /// This many had come when, besides, this end hadn't yet said that one may be late.
     pub in_order: usize,
 }
 
@@ -34,7 +34,7 @@ impl Book {
         }
     }
 
-    /// One of the marks of the accepted messages, by a number. None where none was accepted.
+    /// One of the marks of the accepted messages, by a number. None if none was accepted.
     pub fn mark_by(&self, number: u64) -> Option<Mark> {
         let count = self.accepted.len().max(1);
         self.accepted.get(number as usize % count).copied()
@@ -45,7 +45,7 @@ impl Book {
         self.accepted.push(mark).is_ok()
     }
 
-    /// So many messages came by now, and one may be late.
+    /// This many messages came by now, and one may be late.
     pub fn note(&mut self, count: usize, late: bool) {
         self.once = count;
         if !late {
@@ -86,7 +86,7 @@ impl Books {
         }
     }
 
-    /// So many of an end's messages came by now, and one may be late.
+    /// This many of an end's messages came by now, and one may be late.
     pub fn note(&mut self, end: End, count: usize, late: bool) {
         match end {
             End::One => self.one.note(count, late),

@@ -1,10 +1,9 @@
 //! What was accepted, compared with what was received.
 //!
-//! What is judged is what `Pair::received` promises. While neither end has said that a message may
-//! be lost, each one that was accepted has come once, or waits. While besides the end that accepted
-//! hasn't said that one may be late, the first of each flow have come, in order, and the others
-//! wait. So what came until then is judged. Where no end said so to the last, nothing may be
-//! waiting any more.
+//! What is judged is what `Pair::received` promises. While neither end has said that a message may be lost, each one
+//! that was accepted has come once, or waits. While the accepting end hasn't said that one may be late either, the
+//! first messages of each flow have come, in order, and the others wait. So what came until then is judged. If no end
+//! ever said so, no message may still be waiting at the end.
 
 use crate::book::Book;
 use crate::marking::{FLOWS, Mark, counts_up, mark_of, place_of};
@@ -30,7 +29,7 @@ pub struct Verdict {
     pub turned: u64,
 }
 
-/// Compares what both ends accepted with what they received. None where memory ran out.
+/// Compares what both ends accepted with what they received. None if memory ran out.
 pub fn judge(alloc: Global, world: &World) -> Option<Verdict> {
     let whole = !world.may_have_lost();
     let there = judge_way(alloc, world.book(End::One), world.received(End::Two), whole)?;
@@ -38,7 +37,7 @@ pub fn judge(alloc: Global, world: &World) -> Option<Verdict> {
     Some(there.and(back))
 }
 
-/// Compares what one end accepted with what the other received, and with all of it where this is to be whole.
+/// Compares what one end accepted with what the other received, and with all of it if this is to be whole.
 fn judge_way(alloc: Global, book: &Book, received: &[Msu], whole: bool) -> Option<Verdict> {
     let marks = marks_of(alloc, first_messages(received, book.once))?;
     let ordered = first_marks(marks.as_slice(), book.in_order);
@@ -64,7 +63,7 @@ fn first_marks(marks: &[Mark], count: usize) -> &[Mark] {
     &marks[..count.min(marks.len())]
 }
 
-/// The marks of messages, where they have one.
+/// The marks of messages, if they have one.
 fn marks_of(alloc: Global, messages: &[Msu]) -> Option<Vec<Mark>> {
     let mut marks = Vec::new(alloc);
     for message in messages {

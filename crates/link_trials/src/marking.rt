@@ -8,7 +8,7 @@ const SIO: u8 = 0x85;
 /// The service information octet of SCCP in that network.
 const SCCP_SIO: u8 = 0x83;
 
-/// Octets of a number, which stands at the end of each message.
+/// Octets of a number, which is at the end of each message.
 const NUMBER_OCTETS: usize = 2;
 
 /// How many flows there are to a point: one for each signalling link selection.
@@ -24,7 +24,7 @@ pub struct Mark {
     pub number: u16,
 }
 
-/// The message of a mark, from a point to another: two octets behind the label have its number.
+/// The message of a mark, from a point to another: two octets after the label have its number.
 pub fn message_of(mark: Mark, own: u16, adjacent: u16) -> Option<Msu> {
     // The point that a message says it comes from isn't checked: on every other flow it is the far one.
     let origin = if mark.flow % 2 == 0 { own } else { adjacent };
@@ -38,8 +38,8 @@ pub fn message_of(mark: Mark, own: u16, adjacent: u16) -> Option<Msu> {
     Msu::new(SIO, &[a, b, c, d, high, low]).ok()
 }
 
-/// The UDT of a mark, which a user part hands over for its own point: its called address is by a title whose first
-/// digit is 7, its calling one by subsystem number, it asks for a return on error, and its data is the number (Q.713
+/// The UDT of a mark, which a user part hands over for its own point. Its called address is by a title whose first
+/// digit is 7, its calling one by subsystem number; it asks for a return on error, and its data is the number (Q.713
 /// §4.10).
 pub fn unitdata_of(mark: Mark, own: u16) -> Option<Msu> {
     let label = Label {
@@ -69,7 +69,7 @@ pub fn mark_of(message: &Msu) -> Option<Mark> {
     })
 }
 
-/// The place of a mark where all stand by their numbers, and by their flows.
+/// The place of a mark among all, ordered by their numbers and then by their flows.
 pub fn place_of(mark: Mark) -> usize {
     mark.number as usize * FLOWS as usize + mark.flow as usize
 }

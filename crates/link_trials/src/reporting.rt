@@ -1,4 +1,4 @@
-//! What is printed of a group of runs.
+//! What is printed for a group of runs.
 
 use crate::ledger::Verdict;
 use crate::total::Total;

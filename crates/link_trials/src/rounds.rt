@@ -5,16 +5,16 @@ use crate::world::World;
 use exchange::LinkId;
 use pair_world::End;
 
-/// So many rounds at most carry what is left.
+/// This many rounds at most carry what is left.
 pub const MOST_ROUNDS: usize = 200;
 
-/// So many ticks pass while a link is proved.
+/// This many ticks pass while a link is proved.
 pub const PROVING_TICKS: u8 = 3;
 
 /// So often the ticks between two rounds pass until T1 has run out, during which a link alone may not open again.
 const T1_PASSES: usize = 4;
 
-/// So many exchanges of frames carry the statuses of a link.
+/// This many exchanges of frames carry the statuses of a link.
 const STATUSES: usize = 4;
 
 /// How many ticks pass at each end between two rounds.
@@ -37,7 +37,7 @@ impl Clock {
     }
 }
 
-/// How many steps a round has over so many links, at most 63: for each end and each link, a frame is taken, and then
+/// How many steps a round has over this many links, at most 63: for each end and each link, a frame is taken, and then
 /// delivered at the other end.
 pub fn steps_over(links: u8) -> u8 {
     links.saturating_mul(4)

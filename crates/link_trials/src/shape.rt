@@ -24,7 +24,7 @@ impl Shape {
     }
 }
 
-/// The link that comes so many behind another.
+/// The link that comes this many after another.
 pub fn numbered(link: LinkId, behind: u8) -> LinkId {
     LinkId::new((link.index() as u8).wrapping_add(behind))
 }

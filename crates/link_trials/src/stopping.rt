@@ -7,7 +7,7 @@ use exchange::LinkId;
 use pair_world::End;
 use std::alloc::Global;
 
-/// So many rounds pass in which a link may stop.
+/// This many rounds pass in which a link may stop.
 pub const ROUNDS: u8 = 8;
 
 /// At which end a link stops.
@@ -73,7 +73,7 @@ pub trait StopTrial {
     fn play(&self, alloc: Global, stop: &Stop, total: &mut Total);
 }
 
-/// One run for each place of eight rounds, before, between and behind their steps, for each of so many links and each
+/// One run for each place of eight rounds, before, between and after their steps, for each of this many links and each
 /// of the three ways in which it stops.
 pub fn stop_everywhere<T: StopTrial>(alloc: Global, links: u8, trial: &T) -> Total {
     let mut total = Total::NOTHING;

@@ -1,5 +1,5 @@
-//! The sums that a pair keeps between any two steps, while no end says that a message may be lost: of whatever
-//! messages, as many were accepted at an end as the other received and as wait.
+//! The sums that a pair keeps between any two steps, while no end says that a message may be lost: of any messages, as
+//! many were accepted at an end as the other received, together with those that wait.
 
 ghost use Rattle.std.specs.Prelude.{true};
 ghost use Rattle.std.specs.Str.{bytes_eq};
@@ -45,8 +45,8 @@ impl Pick for SameMessage {
     }
 }
 
-/// Compares the sums of all messages of either end, and that of one message of each, which the number of this
-/// comparison chooses, where there is one.
+/// Compares the sums of all messages of either end, and of one message of each, if there is one, chosen by the number
+/// of this comparison.
 pub fn compare_both(nodes: &LinkedNodes, books: &Books, count: Option<u64>) -> Sums {
     let there = compare(nodes, End::One, books.of(End::One), count);
     let back = compare(nodes, End::Two, books.of(End::Two), count);
@@ -94,7 +94,6 @@ impl Sums {
         wrong: 0,
     };
 
-    /// One sum.
     fn of(accepted: u128, received: u128, waiting: u128) -> Sums {
         let same = accepted == received.wrapping_add(waiting);
         Sums {

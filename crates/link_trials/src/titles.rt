@@ -10,10 +10,9 @@ const KEY: TitleKey = TitleKey {
     nature: 4,
 };
 
-/// Its one digit.
 const DIGIT: u8 = 7;
 
-/// The step in which the operator of an end removes the row where it is there, and else adds it, leading to this point.
+/// The step in which the operator of an end removes the row if it is there, and else adds it, leading to this point.
 /// None if there is no such point.
 pub fn title_step(end: End, is_there: bool, point: u16) -> Option<Step> {
     if is_there {
@@ -23,7 +22,6 @@ pub fn title_step(end: End, is_there: bool, point: u16) -> Option<Step> {
     }
 }
 
-/// The row.
 fn row(point: u16) -> Option<TitleRow> {
     TitleRow::new(
         KEY.translation,
@@ -35,7 +33,6 @@ fn row(point: u16) -> Option<TitleRow> {
     )
 }
 
-/// Its digits.
 fn digits() -> TitleDigits {
     let mut digits = TitleDigits::new();
     digits.push(DIGIT);

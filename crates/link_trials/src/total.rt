@@ -26,8 +26,8 @@ pub struct Total {
     pub lost_any: u64,
     /// How many runs there were in which an end said that a message may be late.
     pub late_any: u64,
-    /// How many runs didn't end as they were to: a link didn't open, frames were carried for ever, not all messages
-    /// came while the link was down, though another was left, or a translation row wasn't added or removed.
+    /// How many runs didn't end as they should: a link didn't open, frames were carried for ever, not all messages came
+    /// while the link was down though another was left, or a translation row wasn't added or removed.
     pub unended: u64,
 }
 
@@ -42,7 +42,7 @@ impl Total {
         unended: 0,
     };
 
-    /// One more run, of these nodes, where memory was left for them.
+    /// One more run, of these nodes, if memory was left for them.
     pub fn run<T: Trial>(
         &mut self,
         alloc: Global,
@@ -82,7 +82,7 @@ impl Total {
     }
 }
 
-/// One more, where it is so.
+/// One more, if it is so.
 fn plus(count: u64, one: bool) -> u64 {
     if one { count.wrapping_add(1) } else { count }
 }

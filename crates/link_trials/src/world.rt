@@ -75,7 +75,7 @@ impl World {
         self.nodes.late_any(End::One) || self.nodes.late_any(End::Two)
     }
 
-    /// How a link between the two stands at an end.
+    /// The state of a link between the two at an end.
     fn standing(&self, end: End, link: LinkId) -> LinkStanding {
         self.nodes.standing(end, self.shape.at(end, link))
     }

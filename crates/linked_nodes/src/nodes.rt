@@ -7,8 +7,8 @@ use pair_world::{End, Pair, PairFault, Step};
 use std::alloc::Global;
 use std::marker::Model;
 
-/// Two nodes and the frames between them, whose state is hidden from proofs. All that is asked of them is answered by a
-/// small value: so that no proof above sees an exchange, a pair or a clause of theirs.
+/// Two nodes and the frames between them, whose state is hidden from proofs. Every question about them has a small
+/// value for its answer, so no proof above sees an exchange, a pair or a clause of theirs.
 pub struct LinkedNodes {
     pair: Pair,
 }
@@ -34,12 +34,12 @@ impl LinkedNodes {
         Ok(LinkedNodes { pair })
     }
 
-    /// Takes a step, but for a frame that goes elsewhere.
+    /// Takes a step except a frame that goes elsewhere.
     pub fn turn(&mut self, step: Step) -> Became {
         turn(&mut self.pair, step)
     }
 
-    /// An end sends the next frame of a link that leads elsewhere. None where there is none.
+    /// An end sends the next frame of a link that leads elsewhere. None if there is none.
     pub fn send_elsewhere(
         &mut self,
         end: End,
@@ -73,7 +73,7 @@ impl LinkedNodes {
         late_any(&self.pair, end)
     }
 
-    /// How a link stands at an end; Down if there is none.
+    /// The state of a link at an end; Down if there is none.
     pub fn standing(&self, end: End, link: LinkId) -> LinkStanding {
         standing(self.pair.at(end), link)
     }

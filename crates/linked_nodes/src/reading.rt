@@ -2,7 +2,7 @@
 
 use exchange::{Exchange, LinkId, LinkStanding, SetId};
 
-/// How a link stands; Down if there is none.
+/// The state of a link; Down if there is none.
 pub(crate) fn standing(exchange: &Exchange, link: LinkId) -> LinkStanding {
     match exchange.link(link) {
         Some(view) => view.standing,

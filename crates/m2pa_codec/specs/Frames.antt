@@ -21,7 +21,7 @@ status_number Busy = 7
 status_number BusyEnded = 8
 status_number OutOfService = 9
 
--- the state of a number, where there is one
+-- the state of a number, if there is one
 unfoldable pub status_of : ℕ → Option LinkStatus
 status_of number =
     if number == 1 then Some Alignment
@@ -37,7 +37,7 @@ status_of number =
 
 -- ---- The frames of M2PA: what they say, and the texts that say it (RFC 4165 §2).
 
--- what a frame says: its numbers, and a message or a link status where it has one
+-- what a frame says: its numbers, and a message or a link status if it has one
 pub data FrameValue : Type 0 where
   -- User Data without a message: bsn, fsn
   EmptyFrame : (bsn fsn : ℕ) → FrameValue
@@ -63,7 +63,7 @@ state_octets status = to_be_bytes w32 (status_number status)
 abbrev pub common_header : (spare kind len : ℕ) → List ℕ
 common_header spare kind len = 1 ∷ spare ∷ 11 ∷ kind ∷ to_be_bytes w32 len
 
--- the header with the numbers, each behind an unused octet (RFC 4165 §2.2)
+-- the header with the numbers, each after an unused octet (RFC 4165 §2.2)
 abbrev pub number_header : (before_bsn bsn before_fsn fsn : ℕ) → List ℕ
 number_header before_bsn bsn before_fsn fsn = (before_bsn ∷ three_octets bsn) ++ (before_fsn ∷ three_octets fsn)
 
@@ -78,7 +78,7 @@ pub record IsHeaded (text : List ℕ) (kind bsn fsn : ℕ) (body : List ℕ) : T
   pub fsn_fits : fsn < 2 ^ 24
 
 -- the text is a frame that says this. User Data has no body, or any priority octet, the message's octet and its field
--- (RFC 4165 §2.3.1); Link Status has its state and any filler (RFC 4165 §2.3.2)
+-- (RFC 4165 §2.3.1). Link Status has its state and any filler (RFC 4165 §2.3.2)
 abbrev pub IsFrame : List ℕ → FrameValue → Type 0
 IsFrame text (EmptyFrame bsn fsn) = IsHeaded text user_data bsn fsn []
 IsFrame text (MessageFrame bsn fsn sio sif) = (priority : ℕ) × IsHeaded text user_data bsn fsn (priority ∷ sio ∷ sif)
@@ -106,7 +106,7 @@ fsn_of (EmptyFrame bsn fsn) = fsn
 fsn_of (MessageFrame bsn fsn sio sif) = fsn
 fsn_of (StatusFrame bsn fsn status) = fsn
 
--- the message's field; nothing where there is no message
+-- the message's field; nothing if there is no message
 abbrev pub sif_of : FrameValue → List ℕ
 sif_of (EmptyFrame bsn fsn) = []
 sif_of (MessageFrame bsn fsn sio sif) = sif
@@ -122,14 +122,14 @@ pub record IsSayable (value : FrameValue) : Type 0 where
 abbrev pub AreOctets : List ℕ → Type 0
 AreOctets text = (i : ℕ) → slice_index text i < 2 ^ 8
 
--- ---- Reading a frame, with the first fault that is met (RFC 4165 §2).
+-- ---- Reading a frame, with the first fault that is found (RFC 4165 §2).
 
 -- the length that the text says it has: octets 4 to 7
 abbrev pub length_field : List ℕ → ℕ
 length_field text =
     from_be_bytes w32 (slice_index text 4 ∷ slice_index text 5 ∷ slice_index text 6 ∷ slice_index text 7 ∷ [])
 
--- the number in the three octets from a place on
+-- the number in the three octets at an offset
 abbrev pub number_field : List ℕ → ℕ → ℕ
 number_field text at = number_of (slice_index text at ∷ slice_index text (at + 1) ∷ slice_index text (at + 2) ∷ [])
 
@@ -141,7 +141,7 @@ bsn_field text = number_field text 9
 abbrev pub fsn_field : List ℕ → ℕ
 fsn_field text = number_field text 13
 
--- the state that a link status tells, where it has one of the nine: octets 16 to 19
+-- the state that a link status tells, if it has one of the nine: octets 16 to 19
 abbrev pub state_field : List ℕ → Option LinkStatus
 state_field text =
     status_of (from_be_bytes w32
@@ -169,7 +169,7 @@ link_status_fault text =
     else if is_some (state_field text) then None
     else Some Unknown
 
--- the first fault behind the common header
+-- the first fault after the common header
 abbrev pub body_fault : List ℕ → Option FrameFault
 body_fault text =
     if nat_lt (length text) 16 then Some Short

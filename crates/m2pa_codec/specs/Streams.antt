@@ -12,7 +12,7 @@ pub record IsText (text : List ℕ) : Type 0 where
   pub limit : length text ≤ FRAME_OCTETS
   pub announced : length_field text ≡ length text
 
--- a stream is broken where the length field in a frame's place says what no frame has
+-- a stream is broken if the length field in a frame's place says what no frame has
 abbrev pub is_broken : List ℕ → Bool
 is_broken octets =
     nat_le 8 (length octets) && (nat_lt (length_field octets) 8 || nat_lt FRAME_OCTETS (length_field octets))
@@ -25,7 +25,7 @@ next_in octets =
     else if nat_lt (length octets) (length_field octets) then Wait
     else Whole (length_field octets)
 
--- no whole text is in front
+-- no whole text comes first
 abbrev pub Stops : Next → Type 0
 Stops (Whole count) = ⊥
 Stops Wait = Unit {0}
@@ -65,7 +65,7 @@ GivesFirst (Whole count) old new out = IsText (take count out) × (old ≡ take 
 GivesFirst Wait old new out = Unit {0}
 GivesFirst Broken old new out = Unit {0}
 
--- the buffer changes by the text alone: what lies behind it stays, and without a text the whole buffer
+-- the buffer changes by the text alone: what lies after it stays, and without a text the whole buffer
 abbrev pub ChangesFront : Next → (before out : List ℕ) → Type 0
 ChangesFront (Whole count) before out = drop count out ≡ drop count before
 ChangesFront Wait before out = out ≡ before

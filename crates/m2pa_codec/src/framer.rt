@@ -8,7 +8,7 @@ use crate::window::Window;
 use signalling_types::Limits;
 use std::marker::Model;
 
-/// What a framer finds in front of the octets that it holds.
+/// What a framer finds at the front of the octets that it holds.
 #[derive(Clone, Copy, Debug, PartialEq, Eq)]
 pub enum Next {
     /// A whole text of this many octets.
@@ -46,11 +46,11 @@ impl Framer {
         }
     }
 
-    /// Takes octets from the front of the piece, as many as there is room for, and answers how many.
-    /// Once the stream is broken it takes none.
+    /// Takes octets from the front of the piece, as many as there is room for, and returns how many. Once the stream is
+    /// broken it takes none.
     pub fn feed(&mut self, piece: &[u8]) -> usize
         ensures count { result ≡ length (taken_of self.old piece.now) }
-        // What is taken stands behind what was held.
+        // What is taken goes after what was held.
         ensures held { self.new ≡ self.old ++ taken_of self.old piece.now }
         // A piece is cut short for one of two reasons.
         ensures short { result < length piece.now
@@ -62,15 +62,15 @@ impl Framer {
         count
     }
 
-    /// The first text once it is whole: it lies in front of the buffer, and is held no longer. Else
-    /// what is held stays. Nothing else of the buffer changes. Broken where the length field in a
-    /// frame's place is under 8 or above 4,096, then and from then on.
+    /// The first text once it is whole, put at the front of the buffer and held no longer. Else what is held stays.
+    /// Nothing else in the buffer changes. Broken, from then on, if the length field in a frame's place is under 8 or
+    /// above 4,096.
     pub fn next(&mut self, out: &mut [u8; Limits::FRAME_OCTETS]) -> Next
         ensures answer { result ≡ next_in self.old }
         ensures held { self.new ≡ left_by result self.old }
         ensures first { GivesFirst result self.old self.new out.new }
         ensures buffer { ChangesFront result out.old out.new }
-        // A text always fits: with all the room in use there is one, or the stream is broken.
+        // A text always fits: if all the room is in use there is one, or the stream is broken.
         ensures full { result ≡ Next.Wait → length self.old < Limits.FRAME_OCTETS }
     {
         let held = self.held.as_slice();

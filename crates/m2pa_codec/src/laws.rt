@@ -1,5 +1,4 @@
-//! Laws of frames, for whoever reads a stream of them. Each function says its law by its
-//! contract, and does nothing.
+//! Laws of frames, for whoever reads a stream of them. Each function states its law in its contract, and does nothing.
 
 ghost use Rattle.std.specs.Prelude.{◌≡◌, ℕ, ◌++◌, ◌↔◌, List, [], Ok};
 ghost use Rattle.m2pa_codec.specs.Frames.{FrameValue, IsFrame, IsSayable, AreOctets, spelled, read_frame};
@@ -11,7 +10,7 @@ pub fn no_frame_begins_another()
         → rest ≡ [] }
 {}
 
-/// Octets are a frame that says a value exactly where reading gives that value.
+/// Octets are a frame that says a value exactly when reading gives that value.
 #[tactic(auto, using(crate::proofs::FrameTexts::is_frame_read_frame, crate::proofs::FrameTexts::read_frame_is_frame))]
 pub fn frames_are_what_is_read()
     ensures { (text : List ℕ) (v : FrameValue) → AreOctets text

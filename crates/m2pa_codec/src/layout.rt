@@ -12,7 +12,7 @@ pub(crate) const USER_DATA: u8 = 1;
 /// The message type of Link Status (RFC 4165 §2.1.4).
 pub(crate) const LINK_STATUS: u8 = 2;
 
-/// What is written where readers pass over an octet.
+/// What is written into octets that readers skip.
 pub(crate) const SPARE: u8 = 0;
 
 /// Octets of the common header (RFC 4165 §2.1).
@@ -28,8 +28,8 @@ pub(crate) const MESSAGE_HEADER_OCTETS: usize = HEADER_OCTETS + 2;
 /// Octets of a Link Status message without filler: both headers and the state (RFC 4165 §2.3.2).
 pub(crate) const STATUS_OCTETS: usize = HEADER_OCTETS + 4;
 
-/// Where the backward sequence number stands (RFC 4165 §2.2).
+/// Where the backward sequence number is (RFC 4165 §2.2).
 pub(crate) const BSN_AT: usize = 9;
 
-/// Where the forward sequence number stands (RFC 4165 §2.2).
+/// Where the forward sequence number is (RFC 4165 §2.2).
 pub(crate) const FSN_AT: usize = 13;

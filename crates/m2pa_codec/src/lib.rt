@@ -1,4 +1,4 @@
-//! Frames of M2PA, read and written, and cut out of a stream of octets (RFC 4165 §2).
+//! M2PA frames (RFC 4165 §2): read, written, and cut out of a stream of octets.
 #![tactic(auto)]
 
 pub mod frame;

@@ -12,11 +12,11 @@ use signalling_types::{FrameFault, Number24};
 
 /// The frame that the octets are, all of them, or their first fault (RFC 4165 §2).
 ///
-/// In this order: Short under 8 octets; Length where the length field isn't the number of octets;
-/// Version where the version isn't 1; Unknown where the class isn't 11 or the message type is
-/// neither 1 nor 2; Short under 16 octets, where a single octet follows these in User Data, and
-/// under 20 octets of Link Status; Unknown where its state isn't 1 to 9. Spare, unused and priority
-/// octets and the filler of a link status may be any, and a message's field may have any length.
+/// Faults in this order: Short under 8 octets; Length if the length field isn't the number of octets; Version if the
+/// version isn't 1; Unknown if the class isn't 11 or the message type is neither 1 nor 2; Short under 16 octets, for
+/// User Data with a single octet after these, and for Link Status under 20 octets; Unknown if its state isn't 1 to 9.
+/// Spare, unused and priority octets and the filler of a link status may be any, and a message's field may have any
+/// length.
 pub fn decode(octets: &[u8]) -> Result<Frame<'_>, FrameFault>
     // What reading gives.
     ensures exact { Answers result (read_frame octets.now) }
@@ -68,7 +68,7 @@ fn read(octets: &[u8]) -> Result<Frame<'_>, FrameFault>
     }
 }
 
-/// The number in the three octets from a place on.
+/// The number in the three octets at an offset.
 fn number_at(octets: &[u8], at: usize) -> Number24
     requires before { 1 ≤ at }
     requires fits { at + 3 ≤ length octets.now }

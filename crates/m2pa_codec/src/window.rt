@@ -36,8 +36,8 @@ impl Window {
         &self.octets[self.start..self.end]
     }
 
-    /// Puts octets behind those that it holds. What is held moves to the front of the buffer first
-    /// where the room behind it is too little.
+    /// Adds octets after those that it holds. If the room after those is too little, they move to the front of the
+    /// buffer first.
     pub(crate) fn append(&mut self, more: &[u8])
         requires { length (items self.old) + length more.now ≤ Limits.FRAME_OCTETS }
         ensures { items self.new ≡ items self.old ++ more.now }
@@ -67,7 +67,7 @@ impl Window {
         self.end = end - start;
     }
 
-    // Writes octets into the room behind those that are held.
+    // Writes octets into the room after those that are held.
     fn write_behind(&mut self, more: &[u8])
         requires { length more.now ≤ room self.old }
         ensures { items self.new ≡ items self.old ++ more.now }

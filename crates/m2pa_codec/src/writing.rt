@@ -11,9 +11,9 @@ use crate::layout::{
 };
 use signalling_types::{Limits, Number24};
 
-/// Writes the frame at the front of the buffer, and answers how many octets it has: 16, or 18 and
-/// those of the message's field, or 20 for a link status. Spare, unused and priority octets are 0,
-/// and no filler is written. The buffer behind the frame may hold anything afterwards (RFC 4165 §2).
+/// Writes the frame at the front of the buffer, and returns how many octets it has: 16; 18 and those of the message's
+/// field; or 20 for a link status. Spare, unused and priority octets are 0, and no filler is written. The buffer after
+/// the frame may hold anything afterwards (RFC 4165 §2).
 #[inline(always)]
 pub fn encode(frame: &Frame<'_>, out: &mut [u8; BUFFER_OCTETS]) -> usize
     requires { length (sif_of (value_of frame.now)) ≤ Limits.SIF_OCTETS }
@@ -53,7 +53,7 @@ fn write(frame: &Frame<'_>, out: &mut [u8; BUFFER_OCTETS]) -> usize
     }
 }
 
-/// Writes both headers of a frame of this message type, of this many octets in all, and answers the place behind them.
+/// Writes both headers of a frame of this message type, of this many octets in all, and returns the offset after them.
 #[inline(always)]
 fn write_header(
     out: &mut [u8; BUFFER_OCTETS],
@@ -73,7 +73,7 @@ fn write_header(
     write_at(out, at, &fsn.to_four_octets())
 }
 
-/// Writes the octets from a place on, and answers the place behind them.
+/// Writes the octets at an offset, and returns the offset after them.
 #[inline(always)]
 fn write_at(out: &mut [u8; BUFFER_OCTETS], at: usize, octets: &[u8]) -> usize
     requires { at + length octets.now ≤ 300 }

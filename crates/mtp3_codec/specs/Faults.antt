@@ -3,7 +3,6 @@ use Rattle.std.specs.Prelude.{ℕ}
 use Rattle.mtp3_codec.specs.declared.fault.MgmtFault.{MgmtFault}
 use Rattle.mtp3_codec.specs.declared.fault.MgmtFault.TheVariants.{Short, NotInProfile}
 
--- a fault's number
 abbrev pub fault_number : MgmtFault → ℕ
 fault_number Short = 1
 fault_number NotInProfile = 2

@@ -1,4 +1,4 @@
--- The fields behind the heading of a management message (Q.704 §15, Q.2210 §10).
+-- The fields after the heading of a management message (Q.704 §15, Q.2210 §10).
 use Rattle.std.specs.Prelude.{ℕ, ◌+◌, ◌*◌, ◌/◌, ◌%◌, ◌^◌, List, [], ◌∷◌, Result, Ok, Err, ◌==◌, if◌then◌else◌, Option, Some, None, ◌<◌, length, nat_lt, nat_eq}
 use Rattle.signalling_types.specs.Numbers.{number_of}
 use Rattle.mtp3_codec.specs.declared.fault.MgmtFault.{MgmtFault}
@@ -14,7 +14,7 @@ use Rattle.signalling_types.specs.declared.cause.Cause.TheVariants.{NoLabel, Wro
 use Rattle.mtp3_codec.specs.declared.discrimination.Discrimination.{Discrimination}
 use Rattle.mtp3_codec.specs.declared.discrimination.Discrimination.TheVariants.{Here, Transfer, Refused}
 
--- a number of 24 bits in front of the fields, low octet first
+-- a 24-bit number before the fields, low octet first
 abbrev pub number_in : List ℕ → Result ℕ MgmtFault
 number_in [] = Err Short
 number_in (low ∷ []) = Err Short
@@ -25,12 +25,12 @@ number_in (low ∷ middle ∷ high ∷ rest) = Ok (number_of (high ∷ middle �
 abbrev pub number_octets : ℕ → List ℕ
 number_octets number = number % 2 ^ 8 ∷ number / 2 ^ 8 % 2 ^ 8 ∷ number / 2 ^ 16 % 2 ^ 8 ∷ []
 
--- a changeback code in front of the fields: one octet
+-- a changeback code before the fields: one octet
 abbrev pub changeback_code_in : List ℕ → Result ℕ MgmtFault
 changeback_code_in [] = Err Short
 changeback_code_in (code ∷ rest) = Ok code
 
--- a point code in front of the fields: the low 14 bits of two octets, low octet first
+-- a point code before the fields: the low 14 bits of two octets, low octet first
 abbrev pub point_in : List ℕ → Result ℕ MgmtFault
 point_in [] = Err Short
 point_in (low ∷ []) = Err Short
@@ -40,7 +40,7 @@ point_in (low ∷ high ∷ rest) = Ok ((low + high * 2 ^ 8) % 2 ^ 14)
 abbrev pub point_octets : ℕ → List ℕ
 point_octets point = point % 2 ^ 8 ∷ point / 2 ^ 8 ∷ []
 
--- ---- The octet behind the label, which says what kind of message it is (Q.704 §15.3, Q.707 §5).
+-- ---- The octet after the label, which says what kind of message it is (Q.704 §15.3, Q.707 §5).
 
 -- the group H0 in the low half, the message H1 in the high half
 abbrev pub heading : (h0 h1 : ℕ) → ℕ
@@ -75,8 +75,8 @@ management_heading TrafficRestartAllowed = heading 7 1
 
 -- ---- The routing label: where a message goes, where it comes from, and how it chooses its link (Q.704 §2.2).
 
--- the label of a signalling information field: its first four octets as one number, low octet first;
--- the low 14 bits are the destination, the next 14 the origin, the top four the link selection
+-- the label of a signalling information field: its first four octets as one number, low octet first. The low 14 bits
+-- are the destination, the next 14 the origin, the top four the link selection
 abbrev pub label_at : List ℕ → Label
 label_at sif = record {
   dpc = label_number sif % 2 ^ 14;
@@ -84,7 +84,7 @@ label_at sif = record {
   sls = label_number sif / 2 ^ 28 % 2 ^ 4;
 }
 
--- the same, where the field has four octets
+-- the same, if the field has four octets
 abbrev pub label_in : List ℕ → Option Label
 label_in sif = if nat_lt (length sif) 4 then None else Some (label_at sif)
 
@@ -107,8 +107,8 @@ pub record IsLabel (label : Label) : Type 0 where
 
 -- ---- Whether a message is for this point or another (Q.704 §2.4).
 
--- why a message is refused before its destination is looked at, if it is: it has no whole label,
--- or its network indicator is another one
+-- why a message is refused before its destination is looked at, if it is: it has no whole label, or another network
+-- indicator
 abbrev pub label_fault : Message → ℕ → Option Cause
 label_fault m network =
     if nat_lt (length m.sif) 4

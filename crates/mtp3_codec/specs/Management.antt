@@ -13,7 +13,7 @@ abbrev pub with_field : (ℕ → Management) → Result ℕ MgmtFault → Result
 with_field message (Ok field) = Ok (message field)
 with_field message (Err fault) = Err fault
 
--- the message of a heading, of the link code in the label, and of the fields behind the heading; what stands behind the
+-- the message of a heading, of the link code in the label, and of the fields after the heading; what is after the
 -- fields is ignored
 abbrev pub message_of : (octet slc : ℕ) (fields : List ℕ) → Result Management MgmtFault
 message_of octet slc fields =
@@ -31,7 +31,7 @@ message_of octet slc fields =
     else if octet == heading 7 1 then Ok TrafficRestartAllowed
     else Err NotInProfile
 
--- behind the label: the heading, and what belongs to it
+-- after the label: the heading, and what belongs to it
 abbrev pub message_in : ℕ → List ℕ → Result Management MgmtFault
 message_in slc [] = Err Short
 message_in slc (octet ∷ fields) = message_of octet slc fields
@@ -40,7 +40,7 @@ message_in slc (octet ∷ fields) = message_of octet slc fields
 abbrev pub read_management : List ℕ → Result Management MgmtFault
 read_management sif = message_in (label_at sif).sls (drop 4 sif)
 
--- what stands in the label's place of the selection: the link code of a message that has one, else 0
+-- what is in the label's place of the selection: the link code of a message that has one, else 0
 abbrev pub link_code_of : Management → ℕ
 link_code_of (ExtendedChangeoverOrder slc number) = slc
 link_code_of (ExtendedChangeoverAcknowledgement slc number) = slc
@@ -55,8 +55,8 @@ link_code_of (RouteSetTestProhibited point) = 0
 link_code_of (RouteSetTestRestricted point) = 0
 link_code_of TrafficRestartAllowed = 0
 
--- the fields of a message: the number of the last message that its sender accepted, a changeback code, the code of the
--- point that it is about, or nothing
+-- the fields of a message: the number of the last message that its sender accepted, a changeback code, the point code
+-- that it is about, or nothing
 abbrev pub field_octets : Management → List ℕ
 field_octets (ExtendedChangeoverOrder slc number) = number_octets number
 field_octets (ExtendedChangeoverAcknowledgement slc number) = number_octets number
@@ -77,8 +77,8 @@ management_octets dpc opc message =
     label_octets (record { dpc = dpc; opc = opc; sls = link_code_of message })
     ++ management_heading message ∷ field_octets message
 
--- the ranges of what a message names: a link code of four bits, a number of 24, a changeback code of eight, and the
--- code of a point of 14
+-- the ranges of what a message names: a link code of four bits, a number of 24, a changeback code of eight, and a point
+-- code of 14
 abbrev pub IsManagement : Management → Type 0
 IsManagement (ExtendedChangeoverOrder slc number) = (slc < 2 ^ 4) × (number < 2 ^ 24)
 IsManagement (ExtendedChangeoverAcknowledgement slc number) = (slc < 2 ^ 4) × (number < 2 ^ 24)
@@ -95,13 +95,13 @@ IsManagement TrafficRestartAllowed = ⊤
 
 -- ---- Link tests and their answers: messages of service indicator 1 (Q.707 §5).
 
--- what a link test says: the signalling link code, which stands in the label's place of the selection, and a pattern
+-- what a link test says: the signalling link code, which is in the label's place of the selection, and a pattern
 pub record LinkTestValue : Type 0 where
   pub kind : TestKind
   pub slc : ℕ
   pub pattern : List ℕ
 
--- behind the heading: an octet with the pattern's length in its high half, the pattern, and any octets
+-- after the heading: an octet with the pattern's length in its high half, the pattern, and any octets
 abbrev pub pattern_in : TestKind → ℕ → List ℕ → Result LinkTestValue MgmtFault
 pattern_in kind slc [] = Err Short
 pattern_in kind slc (count ∷ rest) =
@@ -114,7 +114,7 @@ abbrev pub test_of_kind : Option TestKind → ℕ → List ℕ → Result LinkTe
 test_of_kind None slc rest = Err NotInProfile
 test_of_kind (Some kind) slc rest = pattern_in kind slc rest
 
--- behind the label: the heading, and what belongs to it
+-- after the label: the heading, and what belongs to it
 abbrev pub test_in : ℕ → List ℕ → Result LinkTestValue MgmtFault
 test_in slc [] = Err Short
 test_in slc (octet ∷ rest) = test_of_kind (kind_of octet) slc rest

@@ -20,8 +20,8 @@ pub enum Discrimination {
 
 /// Whether a message is for the point `own` of the network with this indicator, or for another (Q.704 §2.4).
 ///
-/// Refused NoLabel where its signalling information field has fewer than four octets; else WrongNetwork where
-/// its network indicator is another. Else its destination point code decides.
+/// Refused NoLabel if its signalling information field has fewer than four octets; else WrongNetwork if its network
+/// indicator is another. Else its destination point code decides.
 pub fn discriminate(message: MsuRef<'_>, own: PointCode, network: u8) -> Discrimination
     ensures { result ≡ discrimination (lent message.entry) own network }
 {

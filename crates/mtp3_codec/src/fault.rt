@@ -6,7 +6,7 @@ ghost use Rattle.mtp3_codec.specs.Faults.{fault_number};
 /// Why a management or test message isn't read. The numbers are part of the interface.
 #[derive(Clone, Copy, Debug, PartialEq, Eq)]
 pub enum MgmtFault {
-    /// The message has no heading, or too few octets behind it.
+    /// The message has no heading, or too few octets after it.
     Short = 1,
     /// Its heading is one that the node leaves out.
     NotInProfile = 2,

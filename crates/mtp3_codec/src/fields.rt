@@ -1,4 +1,4 @@
-//! The fields behind the heading of a management message.
+//! The fields after the heading of a management message.
 
 ghost use Rattle.std.specs.Prelude.{◌≡◌, Ok};
 ghost use Rattle.mtp3_codec.specs.Headings.{changeback_code_in, number_in, number_octets, point_in, point_octets};
@@ -6,7 +6,7 @@ ghost use Rattle.mtp3_codec.specs.Headings.{changeback_code_in, number_in, numbe
 use crate::fault::MgmtFault;
 use signalling_types::{Number24, PointCode};
 
-/// The number in front of the fields, low octet first.
+/// The number before the fields, low octet first.
 pub(crate) fn number_in(fields: &[u8]) -> Result<Number24, MgmtFault>
     ensures { result ≡ number_in fields.now }
 {
@@ -25,7 +25,7 @@ pub(crate) fn number_octets(number: Number24) -> [u8; 3]
     [low, middle, high]
 }
 
-/// The changeback code in front of the fields.
+/// The changeback code before the fields.
 pub(crate) fn changeback_code_in(fields: &[u8]) -> Result<u8, MgmtFault>
     ensures { result ≡ changeback_code_in fields.now }
 {
@@ -35,7 +35,7 @@ pub(crate) fn changeback_code_in(fields: &[u8]) -> Result<u8, MgmtFault>
     Ok(code)
 }
 
-/// The point code in front of the fields, low octet first. The two top bits are spare.
+/// The point code before the fields, low octet first. The two top bits are spare.
 pub(crate) fn point_in(fields: &[u8]) -> Result<PointCode, MgmtFault>
     ensures { result ≡ point_in fields.now }
 {

@@ -19,7 +19,7 @@ pub struct Label {
 }
 
 impl Label {
-    /// The label of a signalling information field. None where the field has fewer than four octets.
+    /// The label of a signalling information field. None if the field has fewer than four octets.
     pub fn read(sif: &[u8]) -> Option<Label>
         ensures { result ≡ label_in sif.now }
     {
@@ -71,7 +71,7 @@ fn first_octets(sif: &[u8]) -> [u8; 4]
     }
 }
 
-/// Every label, written, is one number low octet first, and is read back from in front of any octets.
+/// Every label, written, is one number low octet first, and is read back whatever octets follow it.
 pub fn every_label_reads_back()
     ensures octets { (label : Label) → All (λ octet. octet < 256) (label_octets label) }
     ensures number { (label : Label) → IsLabel label → label_number (label_octets label) ≡ number_of_label label }

@@ -53,7 +53,7 @@ impl TestKind {
 pub struct LinkTest<'a> {
     /// Which of the two it is.
     pub kind: TestKind,
-    /// The signalling link code, which stands in the label where other messages have their selection (Q.704 §15.2).
+    /// The signalling link code, which is in the label where other messages have their selection (Q.704 §15.2).
     pub slc: Sls,
     /// The test pattern, at most 15 octets.
     pub pattern: &'a [u8],
@@ -62,9 +62,9 @@ pub struct LinkTest<'a> {
 impl<'a> LinkTest<'a> {
     /// The link test or answer of a signalling information field. Its pattern is a slice of it.
     ///
-    /// Short where there is no heading behind the label; else NotInProfile where the heading is none of the two; else
-    /// Short where there is no length octet, or fewer octets behind it than that says. The length octet's low half and
-    /// the octets behind the pattern are ignored.
+    /// Short if there is no heading after the label; else NotInProfile if the heading is neither of the two; else Short
+    /// if there is no length octet, or fewer octets after it than it says. The length octet's low half and the octets
+    /// after the pattern are ignored.
     pub fn read(sif: &'a [u8]) -> Result<LinkTest<'a>, MgmtFault>
         ensures exact { Gives result (read_link_test sif.now) }
         ensures fits { IfOk result (λ test. length test.pattern.now ≤ 15) }
@@ -82,7 +82,7 @@ impl<'a> LinkTest<'a> {
     }
 
     /// Writes the answer to this test at the front of a buffer, from the point `opc` to the point `dpc`, and returns
-    /// how many octets it has. It has the same code and the same pattern (Q.707 §2.2).
+    /// how many octets it has. It has the same code and pattern (Q.707 §2.2).
     pub fn answer(&self, dpc: PointCode, opc: PointCode, out: &mut [u8; ANSWER_OCTETS]) -> usize
         requires { length self.now.pattern.now ≤ 15 }
         ensures count { result ≡ 6 + length self.now.pattern.now }
@@ -104,7 +104,7 @@ impl<'a> LinkTest<'a> {
     }
 }
 
-/// The pattern behind a heading, and what it makes of it.
+/// The pattern after a heading, and what it makes of it.
 fn read_pattern(kind: TestKind, slc: Sls, rest: &[u8]) -> Result<LinkTest<'_>, MgmtFault>
     ensures exact { Gives result (pattern_in kind slc rest.now) }
     ensures fits { IfOk result (λ test. length test.pattern.now ≤ 15) }

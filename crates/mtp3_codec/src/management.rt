@@ -59,7 +59,7 @@ pub enum Management {
     EmergencyChangeoverAcknowledgement(Sls),
     /// TFP: the receiver is to send nothing more for this point by way of the sender (Q.704 §13.2, §15.7).
     TransferProhibited(PointCode),
-    /// TFR: the receiver is to send for this point by another way, where it has one (Q.704 §13.4, §15.9).
+    /// TFR: the receiver is to send for this point by another way, if it has one (Q.704 §13.4, §15.9).
     TransferRestricted(PointCode),
     /// TFA: the receiver may send for this point by way of the sender again (Q.704 §13.3, §15.8).
     TransferAllowed(PointCode),
@@ -74,10 +74,10 @@ pub enum Management {
 impl Management {
     /// The message of a signalling information field.
     ///
-    /// Short where there is no heading behind the label; else NotInProfile where the heading is one that the node
-    /// leaves out; else Short where too few octets stand behind it: a number has three, a point code two, a changeback
-    /// code one. Octets behind the fields of a message are ignored, and so are the two top bits of a point code and the
-    /// label's selection in a message without a link code.
+    /// Short if there is no heading after the label; else NotInProfile if the node leaves out messages of this heading;
+    /// else Short if too few octets follow: a number has three, a point code two, a changeback code one. What follows
+    /// the fields of a message is ignored, and so are the two top bits of a point code and the label's selection in a
+    /// message without a link code.
     pub fn read(sif: &[u8]) -> Result<Management, MgmtFault>
         ensures { result ≡ read_management sif.now }
     {
@@ -90,7 +90,7 @@ impl Management {
         Management::of_heading(heading, label.sls, fields)
     }
 
-    /// The message of a heading, of a link code, which stands in the label, and of the fields behind the heading.
+    /// The message of a heading, of a link code, which is in the label, and of the fields after the heading.
     fn of_heading(heading: u8, slc: Sls, fields: &[u8]) -> Result<Management, MgmtFault>
         ensures { result ≡ message_of heading slc fields.now }
     {
@@ -177,7 +177,7 @@ impl Management {
         }
     }
 
-    /// What stands in the label's place of the selection: the link code of a message that has one, else 0.
+    /// What is in the label's place of the selection: the link code of a message that has one, else 0.
     fn link_code(&self) -> Sls
         ensures { result ≡ link_code_of self.now }
     {
@@ -198,7 +198,7 @@ impl Management {
     }
 }
 
-/// What stands in the place of a link code in a message that has none.
+/// What is in the place of a link code in a message that has none.
 fn no_link_code() -> Sls
     ensures { result ≡ 0 }
 {

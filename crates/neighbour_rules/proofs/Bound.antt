@@ -1,4 +1,4 @@
--- All that stands in queues and in Held is for other points, and the user messages among it for destinations: so it stays.
+-- All that is in queues and in Held is for other points, and the user messages among it for destinations: so it stays.
 use Rattle.pair_rules.proofs.Basics.{◌≡◌, ◌⊎◌, inl, inr, ℕ, Bool, true, false, List, [], ◌∷◌, ◌++◌, length, Option, Some, None, refl, subst, sym, is_some, option_and_then, slice_set, ◌&&◌, not}
 use Rattle.pair_rules.proofs.Definitions.{Message, dpc_of, flow_of, is_management, Configuration, IsWell, destination_place, Queue, first_queue, behind, accepted_count, IsOfSteps, Node, WholeQueues, whole, queue_at, declaration, link_of, waits, Parts, HoldSet, chosen_link, facts, each-set, each-replicate}
 use Rattle.link.specs.Queue as queue

@@ -1,4 +1,5 @@
--- What an event brings in, a submission, a message that passes through, or what SCCP makes of one for this point: by moves.
+-- What an event brings in, a submission, a message that passes through, or what SCCP makes of one for this point: by
+-- moves.
 use Rattle.pair_rules.proofs.Basics.{◌≡◌, ◌≢◌, ◌⊎◌, inl, inr, ◌≤◌, ◌<◌, ℕ, Bool, true, false, not, ◌&&◌, ◌||◌, List, [], ◌∷◌, ◌++◌, length, Option, Some, None, refl, ap, sym, subst, ◌∙◌, nat_eq, nat_lt, arith, if◌then◌else◌, is_some, nat_tests, append-nil, ⊎_elim, cases_eq, eq-eqb, slice_index_or}
 use Rattle.std.proofs.lemmas.List.Quantifiers.{position-Some}
 use Rattle.pair_rules.proofs.Definitions.{Message, flow_of, is_management, dpc_of, service_indicator, network_indicator, SIF_OCTETS, Cause, Outcome, Handled, Held, Ignored, Local, Queued, Refused, Configuration, DestinationEntry, TitleEntry, IsWell, IsDestination, Discrimination, Label, Saying, UserMessage, is_user_message, destination_place, is_user, local, on_unitdata, sccp, Node, Done, answer, refuse, WholeQueues, whole, no_room, all_wait, waits, submit_to, whither_goes, link_of, comes-here}

@@ -1,4 +1,5 @@
--- The rules by which a changeover goes on and ends, of a link between the two nodes or of another one: each goes by moves.
+-- The rules by which a changeover goes on and ends, of a link between the two nodes or of another one: each goes by
+-- moves.
 use Rattle.pair_rules.proofs.Basics.{⊎_elim, cases_eq, ◌≡◌, ◌≢◌, ◌<◌, ℕ, Bool, true, false, not, List, [], ◌∷◌, length, Option, Some, None, refl, ap, sym, subst, ◌∙◌, if◌then◌else◌, slice_index_or, set-get_or, length-set}
 use Rattle.pair_rules.proofs.Definitions.{link_of, send, appended, answer, Handled, Ignored, without_wait, Message, flow_of, Configuration, Management, IsManagement, ExtendedChangeoverAcknowledgement, Running, clear_timer, Queue, emptied, first_queue, named_count, last_accepted, accepted_count, Standing, acknowledged, completed, no_changeover, behind, managements_of, Link, after_failure, down_link, is_down, Node, with_parts, down, in_service, link_at, links_with, WholeQueues, queue_at, whole, begin_by_peer, changeover_of, fail_by_peer, make_unavailable, with_changeover, acknowledge_changeover, changeover_acknowledgement, complete_by_order, complete_if, fail_by_order, on_changeover_order, on_changeover_acknowledgement, send_each, with_changeover_acknowledged, without_tests, Parts, peer_of, set_of, management_to, send_anew, made-management, code-fits, Fits, StaysFit, fit-steps, alike-at, concluded-steps, Order, Answer, Saying, Pair, Flow}
 use Rattle.signalling_types.specs.Numbers.{previous_number}

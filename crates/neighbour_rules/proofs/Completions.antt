@@ -1,4 +1,5 @@
--- A changeover is completed, of a link between the two nodes by the peer's order or its answer, of another one by whatever: by moves.
+-- A changeover is completed, of a link between the two nodes by the peer's order or its answer, of another one by
+-- whatever: by moves.
 use Rattle.pair_rules.proofs.Basics.{append-nil, filter, ◌≡◌, ◌≢◌, ◌<◌, ◌&&◌, ℕ, Bool, true, false, not, List, [], ◌∷◌, ◌++◌, length, Option, Some, None, refl, ap, sym, subst, ◌∙◌, nat_eq, drop, if◌then◌else◌, is_some, slice_set, slice_index_or, ⊎_elim, cases_eq}
 use Rattle.pair_rules.proofs.Definitions.{link_at, send_anew, Message, Flow, is_management, Configuration, Running, clear_timer, Link, link_in, is_down, lifted, leaves_others, HoldSet, Queue, emptied, named_count, last_accepted, Standing, standing_at, with_standing, behind, users_of, managements_of, Node, Parts, Found, Route, down, WholeQueues, queue_at, whole, changeover_of, concluded, lose, lose_each, send_each, set_of, Fits, StaysFit, Order, Answer, Pair, Saying, ChangesOnly, with_completion}
 use Rattle.signalling_types.specs.declared.cause.Cause.TheVariants.{LostUnconfirmed}

@@ -1,5 +1,6 @@
--- A link loses its flows to the one that entered service: they are held by a code, whose declaration goes out, or by time. By moves, where the link that
--- entered is one of the two; where it leads elsewhere, what is held isn't shown, and the declaration passes by.
+-- A link loses its flows to the one that entered service: they are held by a code, whose declaration goes out, or by
+-- time. By moves, if the link that entered is one of the two; where it leads elsewhere, what is held isn't shown, and
+-- the declaration passes by.
 use Rattle.pair_rules.proofs.Basics.{◌≡◌, ◌≢◌, ◌<◌, ◌&&◌, ℕ, suc, Bool, true, false, List, [], ◌∷◌, length, Option, Some, None, refl, ap, sym, subst, ◌∙◌, nat_lt, arith, if◌then◌else◌, ⊎_elim, fun_ext, ltb-true}
 use Rattle.pair_rules.proofs.Definitions.{SELECTIONS, Message, Flow, Configuration, Management, ChangebackDeclaration, Queue, appended, first_queue, with_flows, flows_leave, Procedure, Running, is_outstanding, with_code, Node, Parts, with_parts, in_service, WholeQueues, queue_at, whole, management_to, peer_of, set_of, facts, network_of, code_for, code-fits, declaration, loses_flows, queue_on, Fits, StaysFit, fit-steps, each-set, IsAlike, IsManagement, Saying, Declaration}
 use Rattle.changeback.specs.Codes.{codes_of}

@@ -1,4 +1,5 @@
--- User Data is handed in, the next that is in flight on a link between the two, or by a link that leads elsewhere: by moves.
+-- User Data is handed in, the next that is in flight on a link between the two, or by a link that leads elsewhere: by
+-- moves.
 use Rattle.pair_rules.proofs.Basics.{slice_index_or, inl, ◌≡◌, ◌≢◌, ◌<◌, ℕ, Bool, true, false, not, List, [], ◌∷◌, length, Some, Result, Ok, Err, refl, ap, sym, subst, ◌∙◌, option_to_list}
 use Rattle.pair_rules.proofs.Definitions.{Message, Flow, FailureReason, Configuration, FrameValue, EmptyFrame, MessageFrame, Alignment, Down, NotAligned, Aligned, Proving, AlignedReady, InService, Action, UserData, action_at, SeqFault, Link, after_failure, down_link, is_down, is_in_service, Node, with_parts, down, in_service, link_at, set_of, WholeQueues, whole, fail, Carrying, accept, act_by_data, empty_data, handle_by, message_data, numbers, owing, new_by, new_at, advance, Fits, fit-steps, alike-at, confirming, owing-steps, fail-links, advance-serves, data-serves, all_wait, brought_by, accept_data, count_confirmed, Saying, Pair}
 use Rattle.exchange_rules.proofs.Rules.{rules-of}

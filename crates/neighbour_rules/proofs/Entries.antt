@@ -1,4 +1,5 @@
--- A link enters service: each flow to the other that had a link keeps it or takes the one that entered, and the route to the other stays allowed.
+-- A link enters service: each flow to the other that had a link keeps it or takes the one that entered, and the route
+-- to the other stays allowed.
 use Rattle.pair_rules.proofs.Basics.{◌≡◌, ◌⊎◌, inl, inr, ℕ, Bool, true, false, [], ◌∷◌, map, Option, Some, None, refl, ap, sym, ◌∙◌, nat_eq, if◌then◌else◌, option_and_then, slice_index_or, ⊎_elim}
 use Rattle.pair_rules.proofs.Definitions.{Flow, Configuration, destination_place, with_link, chosen_link, first_route, Parts, facts, link_of, set_of, begun_anew_if}
 use Rattle.exchange_rules.proofs.Basics.{get_or-map}

@@ -1,4 +1,4 @@
--- A link fails, between the two nodes or elsewhere, and an order goes out where another link of its set is left: by moves.
+-- A link fails, between the two nodes or elsewhere, and an order goes out if another link of its set is left: by moves.
 use Rattle.pair_rules.proofs.Basics.{◌≡◌, ◌≢◌, ◌<◌, ◌||◌, ℕ, Bool, true, false, not, List, [], length, Some, refl, ap, sym, subst, ◌∙◌, if◌then◌else◌, ⊎_elim, cases_eq}
 use Rattle.pair_rules.proofs.Definitions.{is_down, Message, FailureReason, Flow, Configuration, failed, begun_by_peer, Link, after_failure, down_link, each-set, Node, Parts, with_parts, down, in_service, link_at, WholeQueues, queue_at, whole, begin, begin_by_peer, change_over, changeover_of, changeover_order, changing, fail, fail_by_peer, fail_link, has_other, make_unavailable, without_tests, peer_of, set_of, set_place, made-management, Fits, StaysFit, fit-steps, failing_by_peer-steps, fell-steps, timed_changeover-timed, with_failure}
 use Rattle.signalling_types.specs.declared.notice.FailureReason.TheVariants as reasons

@@ -1,4 +1,5 @@
--- The two ends of a link between the nodes, by their numbers, and the line of that link; and a link that leads elsewhere has no far end.
+-- The two ends of a link between the nodes, by their numbers, and the line of that link; and a link that leads
+-- elsewhere has no far end.
 use Rattle.pair_rules.proofs.Basics.{◌≡◌, ◌≢◌, ◌<◌, ◌≤◌, ℕ, Bool, true, false, not, [], Option, Some, None, length, map, nat_eq, refl, ap, sym, subst, ◌∙◌, if◌then◌else◌, option_and_then, slice_get, ⊎_elim, cases_eq, cases_lt, eq-eqb}
 use Rattle.std.proofs.lemmas.Option.{slice_get-get_or, slice_get_past}
 use Rattle.exchange_rules.proofs.Basics.{eqb-true}

@@ -1,5 +1,5 @@
--- What holds of a node at work that shares a set with another, whatever neighbours it has besides, and of what is in flight to it; and that a rule goes by
--- moves and keeps that.
+-- What holds of a node at work that shares a set with another, whatever neighbours it has besides, and of what is in
+-- flight to it; and that a rule goes by moves and keeps that.
 use Rattle.pair_rules.proofs.Basics.{◌≡◌, ◌≢◌, ℕ, true, false, List, [], ◌∷◌, Some, Ok, slice_index_or}
 use Rattle.pair_rules.proofs.Definitions.{Message, SIF_OCTETS, is_management, service_indicator, dpc_of, opc_of, Configuration, destination_place, Label, FrameValue, EmptyFrame, MessageFrame, IsSayable, read_management, Management, ExtendedChangeoverOrder, ExtendedChangeoverAcknowledgement, ChangebackDeclaration, ChangebackAcknowledgement, Node, Fits, WholeQueues, queue_at, changeover_of, down, link_at, set_of, whither_goes, first_route, IsWell}
 use Rattle.std.proofs.Common.{◌<◌, ◌≤◌, length}
@@ -40,7 +40,8 @@ pub record IsAccepted (z : Configuration) (m : Message) : Type 0 where
   pub label : Label
   pub here : whither_goes z m ≡ whither.Here label
 
--- whatever stands on a link between the two, or in Held, or goes from one to the other; what passes by is short, so that a frame that carries it reads back
+-- whatever stands on a link between the two, or in Held, or goes from one to the other; what passes by is short, so
+-- that a frame that carries it reads back
 pub data IsSent (c z : Configuration) (set : ℕ) (m : Message) : Type 0 where
   made : IsMade c z set m → IsSent c z set m
   accepted : IsAccepted z m → IsSent c z set m

@@ -1,4 +1,5 @@
--- A declaration is confirmed, the confirmation of one ends its hold, and timers end holds, of the set between the two or of another: by moves.
+-- A declaration is confirmed, the confirmation of one ends its hold, and timers end holds, of the set between the two
+-- or of another: by moves.
 use Rattle.pair_rules.proofs.Basics.{◌≡◌, ◌≢◌, ◌<◌, ◌&&◌, ℕ, Bool, true, false, List, [], ◌∷◌, Some, refl, ap, sym, ◌∙◌, nat_eq, if◌then◌else◌, slice_index_or, get_or-set_other, ◌^◌}
 use Rattle.pair_rules.proofs.Definitions.{Message, Handled, Ignored, Configuration, ChangebackAcknowledgement, HoldSet, Procedure, leaves_others, is_outstanding, Node, Noted, answer, with_parts, flagged_late, WholeQueues, whole, freed, late_code, late_time, changeback_acknowledgement, on_changeback_acknowledgement, on_changeback_declaration, rerouting_ended, made-management, StaysFit, fit-steps, run_timer-steps, Saying, Declaration, Confirmation}
 use Rattle.timers.specs.declared.name.TimerName.TheVariants as name

@@ -1,4 +1,5 @@
--- Of the lines between two nodes that share a set, the near end of one changes; what happens on a link that leads elsewhere changes none.
+-- Of the lines between two nodes that share a set, the near end of one changes; what happens on a link that leads
+-- elsewhere changes none.
 use Rattle.pair_rules.proofs.Basics.{◌≡◌, ◌≢◌, ◌<◌, ℕ, Bool, true, false, List, Option, Some, None, length, nat_eq, nat_lt, ap, sym, ◌∙◌, lt-ltb, position, []}
 use Rattle.std.proofs.Common.{cond}
 use Rattle.std.proofs.lemmas.List.Quantifiers.{position-Some}

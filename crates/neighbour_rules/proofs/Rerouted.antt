@@ -1,4 +1,5 @@
--- What adjacent points tell of routes, and ask about them: by moves. The route to the other node stays allowed, and no hold of a rerouting is shown.
+-- What adjacent points tell of routes, and ask about them: by moves. The route to the other node stays allowed, and no
+-- hold of a rerouting is shown.
 use Rattle.pair_rules.proofs.Basics.{◌≡◌, ◌≢◌, ℕ, Bool, true, false, List, [], ◌∷◌, map, Option, Some, None, Result, Ok, Err, refl, ap, sym, subst, ◌∙◌, nat_eq, if◌then◌else◌, slice_index_or, slice_set, ⊎_elim, cases_eq, get_or-set_other, true≢false, set-get_or}
 use Rattle.pair_rules.proofs.Definitions.{Message, Outcome, Ignored, Handled, Configuration, RouteStatus, Route, first_route, HoldSet, is_own_point, Node, Parts, Standing, standing_at, Link, link_in, is_down, Codes, is_outstanding, WholeQueues, whole, lost_any, late_any, answer, with_parts, facts, StaysFit, fit-steps}
 use Rattle.changeback.specs.Rerouting.{held_for, rerouted}

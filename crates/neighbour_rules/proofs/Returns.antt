@@ -1,5 +1,5 @@
--- A link takes a step of its alignment, and where it enters service it takes its flows back from one link after another: by moves, where it is one of the
--- two, and unseen where it leads elsewhere.
+-- A link takes a step of its alignment, and if it enters service it takes its flows back from one link after another:
+-- by moves, if it is one of the two, and unseen where it leads elsewhere.
 use Rattle.pair_rules.proofs.Basics.{◌≡◌, ◌≢◌, ◌⊎◌, inl, inr, ◌<◌, ◌&&◌, ℕ, zero, suc, Bool, true, false, not, List, [], length, Option, refl, ap, sym, subst, ◌∙◌, nat_lt, nat_eq, if◌then◌else◌, option_map, ⊎_elim, fun_ext, and_parts, cases_eq, None}
 use Rattle.pair_rules.proofs.Definitions.{SELECTIONS, Message, Flow, Configuration, destination_place, Input, action_at, Link, down_link, is_down, is_in_service, stepped, FrameValue, each-set, facts_alike, chosen_link, Route, Running, Standing, ToldTable, Facts, Node, Parts, with_parts, down, in_service, link_at, WholeQueues, whole, has_other, facts, network_of, set_of, change_back, loses_flows, take_back_each, advance, begun_anew_if, enters, return_if, step_on, changeover_of, StaysFit, fit-steps, each-step, anew-steps, stepped-at, stepped-other, stepping-there, IsAlike, take_back_each-alike, LinkEnd, Pair, Saying}
 use Rattle.std.proofs.Common.{option_and_then}

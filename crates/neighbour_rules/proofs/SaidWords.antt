@@ -1,5 +1,5 @@
--- What stands between two ends, by counts, and what the words among it say: what a message says to the far node, it says in the machine of moves, by the
--- code of the link.
+-- What is between two ends, by counts, and what the words among it say: what a message says to the far node, it says in
+-- the machine of moves, by the code of the link.
 use Rattle.pair_rules.proofs.Basics.{◌≡◌, ◌≢◌, ◌⊎◌, inl, inr, ◌<◌, ◌&&◌, ◌||◌, ℕ, Bool, true, false, List, [], ◌∷◌, length, Option, Some, None, Result, Ok, Err, refl, ap, sym, ◌∙◌, arith, nat_eq, nat_lt, nat_tests, count_by, if◌then◌else◌, option_and_then, option_map, ⊎_elim, cases_eq, eq-eqb}
 use Rattle.std.specs.Option.{option_eq}
 use Rattle.std.proofs.lemmas.List.Quantifiers.{position-Some}

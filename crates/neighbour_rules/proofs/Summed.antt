@@ -1,5 +1,5 @@
--- Sums and rows over the lines between two nodes, by their codes, and over the links of a node: alike, where a code has one link of the set at most, and
--- links that lead elsewhere count nothing.
+-- Sums and rows over the lines between two nodes, by their codes, and over the links of a node: alike, if a code has
+-- one link of the set at most, and links that lead elsewhere count nothing.
 use Rattle.pair_rules.proofs.Basics.{◌≡◌, ◌≢◌, ◌<◌, ◌≤◌, ◌+◌, ℕ, zero, suc, Bool, true, false, List, [], ◌++◌, length, refl, ap, sym, ◌∙◌, arith, nat_eq, nat_lt, if◌then◌else◌, ⊎_elim, cases_eq, cases_lt, eq-eqb, lt-ltb, le-ltb, append-nil}
 use Rattle.pair_rules.proofs.Definitions.{Message, Configuration, IsWell, code-fits, set_of}
 use Rattle.exchange_rules.proofs.Basics.{eqb-true}

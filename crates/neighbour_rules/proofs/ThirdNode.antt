@@ -1,4 +1,4 @@
--- The run in which a message comes from a third node, by computation: but for whether it waits, which is looked at once.
+-- The run in which a message comes from a third node, by computation: except whether it waits, which is looked at once.
 use Rattle.pair_rules.proofs.Basics.{◌≡◌, ◌≤◌, ◌<◌, ℕ, zero, suc, Bool, true, false, List, [], ◌∷◌, ◌++◌, Some, refl, ap, sym, subst, ◌∙◌, arith, nat_eq, IsTrue, slice_get, IsDistinct, list_any, true≢false, All-from_recursion}
 use Rattle.pair_rules.proofs.Definitions.{Message, flow_of, Configuration, SetEntry, LinkEntry, LINKS, SETS, DESTINATIONS, POOL, WINDOW, TICKS, IsLink, IsSet, IsDestination, IsTitle, IsWell, IsWithin, all_ticks, is_led_first, set_timer, start_unless_running, clear_timer, clear_set, due_name, after_due, due_count, first_sets, choice_among, link_by, Procedure, any_flow, flows, HoldSet, holds, is_held, held_by, none_at_first, Done, Node, lost_any, late_any, WholeQueues, whole, no_room, waits, link_of, Outcome, FrameCame, accept_text, read_frame, receive, deliver, outcome_of, new_message, brought_by, brought_in, apply, settled, take_back_each, PairState, taken_in}
 use Rattle.timers.specs.Timers.{names_of}

@@ -1,4 +1,5 @@
--- A link of the two enters service, and the links lose their flows to it in their order: which line each flow to the other takes meanwhile, and what holds it.
+-- A link of the two enters service, and the links lose their flows to it in their order: which line each flow to the
+-- other takes meanwhile, and what holds it.
 use Rattle.pair_rules.proofs.Basics.{◌≡◌, ◌≢◌, ◌<◌, ◌≤◌, ◌&&◌, ◌⊎◌, inl, inr, ℕ, suc, Bool, true, false, length, Option, Some, None, refl, ap, sym, subst, ◌∙◌, nat_eq, nat_lt, arith, option_map, if◌then◌else◌, ⊎_elim, cases_order, le-ltb, lt-ltb, List}
 use Rattle.pair_rules.proofs.Definitions.{SELECTIONS, Flow, Configuration, HoldSet, with_flows, Procedure, flows_leave, Link, is_in_service, link_in, chosen_link, Node, Parts, down, in_service, link_at, link_of, WholeQueues, whole, facts, hold_flows, is_taken_back, loses_flows, Fits, StaysFit, fit-steps, IsAlike, AddsOnly, StaysOrIsHeld}
 use Rattle.flow_hold.specs.Holds as hold

@@ -1,4 +1,5 @@
--- What isn't shown changes: timers, notices, what points are told, routes to third points, and the links that lead elsewhere. The same pair is shown.
+-- What isn't shown changes: timers, notices, what points are told, routes to third points, and the links that lead
+-- elsewhere. The same pair is shown.
 use Rattle.pair_rules.proofs.Basics.{◌≡◌, ◌≢◌, ◌<◌, ◌≤◌, ℕ, Bool, true, false, not, ◌&&◌, List, [], ◌∷◌, length, Option, Some, None, refl, ap, sym, subst, ◌∙◌, nat_eq, nat_lt, if◌then◌else◌, option_and_then, option_map, slice_index_or, ⊎_elim, cases_lt, get_or_past}
 use Rattle.pair_rules.proofs.Definitions.{SELECTIONS, Message, Flow, Configuration, destination_place, is_outstanding, Alignment, Link, down_link, is_down, is_in_service, chosen_link, Node, Parts, down, in_service, link_at, link_of, lost_any, late_any, WholeQueues, queue_at, changeover_of, Standing, standing_at, HoldSet, Codes, link_in, facts, set_of, first_route, Fits, StaysFit, Pair}
 use Rattle.exchange_rules.proofs.Basics.{eqb-true}

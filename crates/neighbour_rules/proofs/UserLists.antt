@@ -1,4 +1,5 @@
--- The user messages and the management of a list, by their service indicator and by what they say: alike, but for those that pass by.
+-- The user messages and the management of a list, by their service indicator and by what they say: alike except those
+-- that pass by.
 use Rattle.pair_rules.proofs.Basics.{◌≡◌, ◌⊎◌, inl, inr, ℕ, Bool, true, false, not, List, [], ◌∷◌, ◌++◌, refl, ap, sym, ◌∙◌, if◌then◌else◌}
 use Rattle.pair_rules.proofs.Definitions.{Message, is_management, read_management, users_of, managements_of, Pair, Saying, UserMessage, is_user_message}
 use Rattle.pair_moves.specs.Failing as coarse

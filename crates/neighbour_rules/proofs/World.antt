@@ -1,5 +1,6 @@
--- Two nodes that share a link set, in the midst of an event at the near one, and the machine of moves as it shows them. Its lines are the links between
--- the two, by their signalling link codes: each node finds its own link by its set and the code.
+-- Two nodes that share a link set, in the midst of an event at the near one, and the machine of moves as it shows them.
+-- Its lines are the links between the two, by their signalling link codes: each node finds its own link by its set and
+-- the code.
 use Rattle.pair_rules.proofs.Basics.{◌≡◌, ℕ, Bool, true, false, ◌&&◌, ◌||◌, Option, Some, None, Result, Ok, Err, length, nat_eq, nat_lt, refl, ap, ◌∙◌, if◌then◌else◌, option_map}
 use Rattle.std.specs.List.{position_or_len}
 use Rattle.std.specs.Prelude.{map}

@@ -1,5 +1,5 @@
--- Four laws of two nodes that share a link set, link by link, from which "Exactly once" comes. Each is said of one
--- direction: of what the near end has for the far end. A link and the far end of it have each their own number.
+-- Four laws of two nodes that share a link set, link by link, from which "Exactly once" follows. Each is stated for one
+-- direction: for what the near end has for the far end. A link and the far end of it have each their own number.
 use Rattle.std.specs.Prelude.{◌≡◌, ◌≢◌, ◌≤◌, ◌-◌, ◌⊎◌, ◌||◌, ◌&&◌, ℕ, Bool, true, false, not, List, [], ◌++◌, drop, take, Contains, length, slice_get, Option, Some, None, if◌then◌else◌}
 use Rattle.signalling_types.specs.Message.{Message, opc_of}
 use Rattle.settings_rows.specs.Configuration.{Configuration}
@@ -17,8 +17,8 @@ use Rattle.pair_rules.specs.Laws.{Word, is_down_at, is_incomplete_at, messages_i
 use Rattle.neighbour_rules.specs.Neighbours.{far_end, is_management_between}
 use Rattle.neighbour_rules.specs.Promises.{Always}
 
--- after every list of steps from two exchanges on that were just booted, in both directions, while neither end may have
--- lost a message
+-- after every list of steps from two newly booted exchanges, in both directions, while neither end may have lost a
+-- message
 abbrev pub WhileNothingIsLost : (PairState → Type 0) → Type 0
 WhileNothingIsLost Statement = Always (λ p. LostNothing p → BothWays Statement p)
 
@@ -28,7 +28,7 @@ OfEachLink p Statement = (link other : ℕ) → far_end p link ≡ Some other �
 
 -- ---- (i) frames carry what was not received
 
--- a link is in use from the near end to the far end, unless an end may follow the other, until it is down at both ends,
+-- a link is in use from the near end to the far end, unless an end may follow the other, until it is down at both ends
 -- and the near end's changeover of it is complete
 abbrev pub is_in_use : PairState → (link other : ℕ) → Bool
 is_in_use p link other =
@@ -43,8 +43,8 @@ unreceived_at p link other = drop (queue_of p.far other).received (queue_of p.ne
 abbrev pub sent_at : PairState → (link other : ℕ) → List Message
 sent_at p link other = take ((queue_of p.near link).sent - (queue_of p.far other).received) (unreceived_at p link other)
 
--- the far end received no fewer than are confirmed, and no more than were sent; and while the link isn't down there,
--- the User Data in flight to it carry those that were sent and not received, each of them once, in order
+-- the far end received no fewer than are confirmed, and no more than were sent. While the link isn't down there, the
+-- User Data in flight to it carry those that were sent and not received, each of them once, in order
 pub record FramesCarry (p : PairState) (link other : ℕ) : Type 0 where
   pub confirmed : (queue_of p.near link).confirmed ≤ (queue_of p.far other).received
   pub received : (queue_of p.far other).received ≤ (queue_of p.near link).sent
@@ -59,8 +59,8 @@ NextIsFirst p link other =
     new_message other text p.far.exchange ≡ Some message →
     slice_get (queue_of p.near link).all (queue_of p.far other).received ≡ Some message
 
--- while the far end may follow, the link may open there, and the near one, which opened first, isn't in service and has
--- the queue with which it began; nothing is in flight to it, and no message to the far end
+-- while the far end may follow, the link may open there. The near one, which opened first, isn't in service and has the
+-- queue with which it began; nothing is in flight to it, and no message to the far end
 pub record OpenedAlone (p : PairState) (link other : ℕ) : Type 0 where
   pub alone : may_follow p.near link ≡ false
   pub far_may : may_open_at p.far other ≡ true
@@ -87,7 +87,7 @@ frames_carry = WhileNothingIsLost IsCarried
 
 -- ---- (ii) links open with no word left
 
--- what an order to change over, or the answer to one, says to the node that it comes to, where it is from this point and
+-- what an order to change over, or the answer to one, says to the node that it comes to, if it is from this point and
 -- for that node: which of its links it is about, and the number of the last message that its sender accepted there
 abbrev pub word_from : (point : ℕ) → Configuration → Message → Option Word
 word_from point c m =
@@ -97,8 +97,8 @@ word_from point c m =
 abbrev pub word_there : PairState → Message → Option Word
 word_there p m = word_from p.near.exchange.settings.own p.far.exchange.settings m
 
--- the messages of the near end that the far end hasn't received: those of each link, which are all on one that leads
--- elsewhere, and then those of Held
+-- the messages of the near end that the far end hasn't received: those of each link, which for a link that leads
+-- elsewhere are all, and then those of Held
 abbrev pub unreceived_by : PairState → (link : ℕ) → (other : Option ℕ) → List Message
 unreceived_by p link (Some other) = unreceived_at p link other
 unreceived_by p link None = (queue_of p.near link).all
@@ -114,7 +114,7 @@ pub record IsUnderWay (p : PairState) (word : Word) : Type 0 where
   pub stands : Contains (unreceived p) message
   pub says : word_there p message ≡ Some word
 
--- User Data says it that is in flight to the far end, on a link that isn't down there
+-- User Data in flight to the far end says it, on a link that isn't down there
 pub record IsInFlight (p : PairState) (word : Word) : Type 0 where
   pub link : ℕ
   pub up : is_down_at p.far link ≡ false
@@ -122,8 +122,8 @@ pub record IsInFlight (p : PairState) (word : Word) : Type 0 where
   pub carried : Contains (messages_in (in_flight p.far.incoming.user_data link)) message
   pub says : word_there p message ≡ Some word
 
--- where the near end wants a link to open, and it may open at the far end of it too, or the near end may follow that, no
--- word about it is under way or in flight, from either end
+-- if the near end wants a link to open, and it may open at the far end too, or the near end may follow that, no word
+-- about it is under way or in flight from either end
 pub record NoneIsLeftOf (p : PairState) (link other : ℕ) : Type 0 where
   pub there : (word : Word) → IsUnderWay p word ⊎ IsInFlight p word → word.link ≢ other
   pub back : (word : Word) → IsUnderWay (turned p) word ⊎ IsInFlight (turned p) word → word.link ≢ link
@@ -140,7 +140,7 @@ none_is_left = WhileNothingIsLost NoneIsLeft
 
 -- ---- (iii) words carry the final number
 
--- the link of a word is down at its sender, which so accepts nothing more there; and its number is that of the last
+-- the link of a word is down at its sender, which so accepts nothing more there, and its number is that of the last
 -- message that was accepted
 pub record IsFinal (p : PairState) (word : Word) : Type 0 where
   pub link : ℕ
@@ -157,12 +157,13 @@ words_are_final = WhileNothingIsLost AreFinal
 -- ---- (iv) completions move what the peer lacks
 
 pub record MovesLacked (p : PairState) : Type 0 where
-  -- while a link is in use, the number of the last message that the far end accepted names the count of those that it received
+  -- while a link is in use, the number of the last message that the far end accepted names the count of those that it
+  -- received
   pub named : OfEachLink p
       (λ link other.
       is_in_use p link other ≡ true →
       named_count (queue_of p.near link) (last_accepted (queue_of p.far other)) ≡ Some (queue_of p.far other).received)
-  -- a word that the next frame of any link brings is one that was under way
+  -- a word brought by the next frame of any link is one that was under way
   pub brought : (link : ℕ) (text : List ℕ) (message : Message) (word : Word) →
       slice_get (in_flight p.near.incoming.user_data link) 0 ≡ Some text →
       new_message link text p.near.exchange ≡ Some message →

@@ -22,7 +22,7 @@ use Rattle.pair_rules.specs.Pairs.{PairState, Streams, Turn, turned, in_flight, 
 
 -- ---- the links between the two
 
--- the far end of a link, where it leads to the far point: the link there with its signalling link code
+-- the far end of a link, if it leads to the far point: the link there with its signalling link code
 abbrev pub end_there : (near far : Configuration) → Option LinkEntry → Option ℕ
 end_there near far (Some l) =
     if nat_eq (adjacent_of near l.set) far.own then link_with_code far near.own l.slc else None
@@ -60,7 +60,7 @@ is_management_between from to m =
 pub data Doing : Type 0 where
   -- what is done at an end of a pair that has only each other, on whichever link
   Does : (what : pairs.Doing) → Doing
-  -- a link opens that leads elsewhere, or a frame comes by it
+  -- a link that leads elsewhere opens, or a frame comes by it
   OpensElsewhere : (link : ℕ) → Doing
   HearsElsewhere : (link : ℕ) (text : List ℕ) → Doing
 
@@ -69,7 +69,7 @@ pub data Step : Type 0 where
   AtFar : (what : Doing) → Step
 
 -- what the near end's exchange does about what happens, and what it accepts of it: the user messages for the far point
--- that it brings in
+-- that this brings in
 abbrev pub takes_in : Happening → PairState → Turn
 takes_in what p = record {
   outcome = outcome_of whole what p.near.exchange;
@@ -81,7 +81,7 @@ takes_in what p = record {
   };
 }
 
--- the next frame of a link is in flight to the far end of the link; where it leads elsewhere, the frame goes there
+-- the next frame of a link is in flight to the far end of the link, or goes elsewhere if the link leads elsewhere
 abbrev pub take_frame : Option FrameValue → (link : ℕ) → (other : Option ℕ) → PairState → Turn
 take_frame None link other p = ignored p
 take_frame (Some frame) link (Some other) p = record {
@@ -96,8 +96,8 @@ take_frame (Some frame) link None p = record {
   left = record p { near = record p.near { exchange = taken whole p.near.exchange link } };
 }
 
--- a frame comes that was in flight on a link, and with it the message that it newly carries, which is received where it
--- is a user message for this point
+-- a frame that was in flight on a link comes, and with it the message that it newly carries, which is received if it is
+-- a user message for this point
 abbrev pub deliver_frame : Option (List ℕ) → (link : ℕ) → (left : Streams) → PairState → Turn
 deliver_frame None link left p = ignored p
 deliver_frame (Some text) link left p = record {
@@ -116,8 +116,8 @@ deliver_frame (Some text) link left p = record {
   };
 }
 
--- a link opens at the near end, where that wants it to, and where it may open at the far one too: then nothing is in
--- flight, and the far end may follow
+-- a link opens at the near end, if that wants it to and it may open at the far one too. Then nothing is in flight, and
+-- the far end may follow
 abbrev pub opens_first : Wants → (other : Option ℕ) → (far_may : Bool) → (link : ℕ) → PairState → Turn
 opens_first Open (Some other) true link p = record {
   outcome = Handled;
@@ -149,11 +149,11 @@ speaks_for near far text =
     (λ m. is_management_between near far m || is_management_between far near m)
     (option_to_list (carried_message (read_frame text)))
 
--- whether it does so of the two nodes, for which nobody else may speak
+-- whether it does so for either of the two nodes, for which nobody else may speak
 abbrev pub speaks_for_either : PairState → (text : List ℕ) → Bool
 speaks_for_either p text = speaks_for p.near.exchange.settings.own p.far.exchange.settings.own text
 
--- anything may happen on a link that leads elsewhere, but that a frame speaks for either
+-- anything may happen on a link that leads elsewhere, except that a frame speaks for either
 abbrev pub takes_elsewhere : (elsewhere speaks : Bool) → Happening → PairState → Turn
 takes_elsewhere true false what p = takes_in what p
 takes_elsewhere elsewhere speaks what p = ignored p

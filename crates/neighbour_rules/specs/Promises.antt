@@ -1,4 +1,4 @@
--- What two nodes that share a link set promise each other, whatever neighbours each has besides: each message for the
+-- What two nodes that share a link set promise each other, whatever other neighbours each has: each message for the
 -- other once, each flow in order; and what holds whatever has been lost.
 use Rattle.std.specs.Prelude.{◌≡◌, ◌+◌, ℕ, Bool, true, List, [], ◌∷◌, ◌++◌, All, count_by, drop, length, unwrap_or, slice_index_or, Option, Some, None}
 use Rattle.signalling_types.specs.Message.{Message}
@@ -16,7 +16,7 @@ use Rattle.pair_rules.specs.Accepting.{IsUserMessageTo}
 use Rattle.pair_rules.specs.Sharing.{AreSharing}
 use Rattle.neighbour_rules.specs.Neighbours.{Step, after_steps, far_end, leads_elsewhere, users_to}
 
--- how many of the near end's messages on a link the far end of it accepted, as its number names them; where that names
+-- how many of the near end's messages on a link the far end of it accepted, as its number names them; if that names
 -- none, those that it confirmed
 abbrev pub accepted_there : PairState → (link other : ℕ) → ℕ
 accepted_there p link other =
@@ -24,7 +24,7 @@ accepted_there p link other =
     (named_count (queue_of p.near link) (last_accepted (queue_of p.far other)))
     (queue_of p.near link).confirmed
 
--- the user messages for the far point that wait on a link: those behind that count. None stands on a link that leads
+-- the user messages for the far point that wait on a link: those after that count. None is on a link that leads
 -- elsewhere
 abbrev pub waiting_by : PairState → (link : ℕ) → (other : Option ℕ) → List Message
 waiting_by p link (Some other) =
@@ -40,7 +40,8 @@ waiting p =
     join_to (waiting_on p) (length p.near.exchange.settings.links)
     ++ users_to p.far.exchange.settings.own p.near.exchange.node.queues.held
 
--- of every kind of user message, as many were accepted at the near end as came to the far end and wait
+-- of every kind of user message, as many were accepted at the near end as came to the far end, together with those that
+-- wait
 abbrev pub EachOnce : PairState → Type 0
 EachOnce p =
     (test : Message → Bool) →
@@ -53,7 +54,7 @@ InOrder p =
 
 -- ---- always
 
--- after every list of steps, from two exchanges on that were just booted, with settings that share a set
+-- after every list of steps from two newly booted exchanges whose settings share a set
 abbrev pub Always : (PairState → Type 0) → Type 0
 Always Statement =
     (near far : Configuration) (steps : List Step) → AreSharing near far →
@@ -63,7 +64,7 @@ Always Statement =
 abbrev pub each_message_once : Type 0
 each_message_once = Always (λ p. LostNothing p → BothWays EachOnce p)
 
--- "Order", where besides no timer of the accepting end ended a hold
+-- "Order", if furthermore no timer of the accepting end ended a hold
 abbrev pub each_flow_in_order : Type 0
 each_flow_in_order = Always (λ p. LostNothing p → BothWays (λ q. IsPunctual q → InOrder q) p)
 
@@ -71,15 +72,16 @@ each_flow_in_order = Always (λ p. LostNothing p → BothWays (λ q. IsPunctual 
 
 -- the books of the near end
 pub record AreBooked (p : PairState) : Type 0 where
-  -- all that the near end accepted is for the far point, and all that it received for its own, and all are user messages
+  -- everything that the near end accepted is for the far point, everything that it received is for its own, and all of
+  -- it are user messages
   pub accepted : All (IsUserMessageTo p.far.exchange.settings.own) p.near.accepted
   pub received : All (IsUserMessageTo p.near.exchange.settings.own) p.near.received
 
 abbrev pub books_are_of_the_two : Type 0
 books_are_of_the_two = Always (λ p. BothWays AreBooked p)
 
--- one set alone leads to the far point, and the route over it is allowed (`first_route`); each flow there that has a link has one that leads
--- there; and no user message for the far point stands on a link that leads elsewhere
+-- one set alone leads to the far point, and the route over it is allowed (`first_route`); each flow there that has a
+-- link has one that leads there; and no user message for the far point is on a link that leads elsewhere
 pub record StaysBetween (p : PairState) : Type 0 where
   pub destination : ℕ
   pub known : destination_place p.near.exchange.settings p.far.exchange.settings.own ≡ Some destination

@@ -1,4 +1,4 @@
--- A run of two nodes that share a link set, of which the near one has a link to a third besides. A message comes from
+-- A run of two nodes that share a link set, where the near one has a link to a third node too. A message comes from
 -- there for the far point, and goes on to it, once.
 use Rattle.std.specs.Prelude.{◌≡◌, ℕ, true, false, Some, List, [], ◌∷◌, ◌++◌}
 use Rattle.signalling_types.specs.Message.{Message}
@@ -70,7 +70,7 @@ opening =
     ∷ AtNear (Does Ticks) ∷ AtFar (Does Ticks)
     ∷ tells_far ++ tells_near ++ third_tells Ready ∷ []
 
--- ---- states, each by steps from the one before
+-- ---- states, each reached by steps from the one before
 
 abbrev pub served : PairState
 served = after_steps opening (first_pair near_settings far_settings)
@@ -82,20 +82,20 @@ its_text = spelled (MessageFrame before_first 0 the_message.sio the_message.sif)
 abbrev pub heard : PairState
 heard = after_steps (AtNear (HearsElsewhere 0 its_text) ∷ []) served
 
--- all that stands on the link comes
+-- all that is on the link comes
 abbrev pub come : PairState
 come = after_steps (sends_far ++ sends_far ++ sends_far) heard
 
 -- and what they show
 pub record GoesOn : Type 0 where
   pub sharing : AreSharing near_settings far_settings
-  -- link 0 leads to the third node, and link 1 to the far one, where it is number 0
+  -- link 0 leads to the third node, and link 1 to the far one, if it is number 0
   pub elsewhere : leads_elsewhere served 0 ≡ true
   pub between : far_end served 1 ≡ Some 0
   -- the near end accepts it, and it waits for the far one
   pub accepted : heard.near.accepted ≡ the_message ∷ []
   pub waits : waiting heard ≡ the_message ∷ []
-  -- behind what the near end told the far one of its route to the third node: prohibited, then allowed
+  -- it goes after what the near end told the far one of its route to the third node: prohibited, then allowed
   pub behind :
       (queue_of heard.near 1).all
       ≡ route_message near_settings 1 0 Prohibited ∷ route_message near_settings 1 0 Allowed ∷ the_message ∷ []

@@ -1,6 +1,6 @@
-//! What holds of two nodes that share a link set, whatever neighbours each has besides, after every list
-//! of steps from two newly booted exchanges on. The steps are those of `specs/Neighbours.antt`. Each
-//! function says its law by its contract, and does nothing.
+//! What holds of two nodes that share a link set, whatever other neighbours each has, after every list of steps from
+//! two newly booted exchanges. The steps are those of `specs/Neighbours.antt`. Each function states its law in its
+//! contract, and does nothing.
 
 ghost use Rattle.pair_rules.specs.Deliveries.{deliveries_tell};
 ghost use Rattle.neighbour_rules.specs.Alone.{alone_is_special};
@@ -11,9 +11,9 @@ ghost use Rattle.neighbour_rules.specs.Promises.{each_message_once, each_flow_in
 ghost use Rattle.neighbour_rules.specs.Promises.{books_are_of_the_two, flows_stay_between};
 ghost use Rattle.neighbour_rules.specs.ThirdNode.{GoesOn};
 
-/// "Exactly once", in both directions. While neither exchange may have lost a message, as many user
-/// messages of any kind were accepted at one end for the other point as the other end received and as
-/// wait: on the links between the two, and in Held.
+/// "Exactly once", in both directions. While neither exchange may have lost a message, as many user messages of any
+/// kind were accepted at one end for the other point as the other end received, together with those that wait: on the
+/// links between the two, and in Held.
 pub fn each_message_comes_once()
     ensures { each_message_once }
 {}
@@ -25,63 +25,59 @@ pub fn each_flow_keeps_its_order()
     ensures { each_flow_in_order }
 {}
 
-/// Law (i), of a link between the two and either direction. While the link is up at either end, and
-/// until the near end's changeover of it is complete, unless an end may follow the other, the far end
-/// received no fewer messages than are confirmed, and no more than were sent; and while the link isn't
-/// down there, the User Data in flight carry those between, in order, whomever they are for (RFC 4165
-/// §2.2). No link status carries a message. While the far end may follow, the link may open there, and
-/// the near one isn't in service and has an empty queue; nothing is in flight to it, and no message to
-/// the far end. A message that a frame newly carries is the first that the far end lacked. On a link
-/// that leads elsewhere nothing is in flight from the far end.
+/// Law (i), of a link between the two and either direction. While the link is up at either end, and until the near
+/// end's changeover of it is complete, unless an end may follow the other, the far end received no fewer messages than
+/// are confirmed, and no more than were sent. While the link isn't down there, the User Data in flight carry those
+/// between, in order, whomever they are for (RFC 4165 §2.2). No link status carries a message. While the far end may
+/// follow, the link may open there, and the near one isn't in service and has an empty queue; nothing is in flight to
+/// it, and no message to the far end. A message that a frame newly carries is the first that the far end lacked. On a
+/// link that leads elsewhere nothing is in flight from the far end.
 pub fn frames_carry_what_was_not_received()
     ensures { frames_carry }
 {}
 
-/// Law (ii). Where an end wants a link between the two to open, and it may open at the other too or the
-/// end may follow the other, no order to change over of one of the two for the other, and no answer,
-/// that is about it stands in Held or unreceived in a queue of either end, on whatever link, and no User
-/// Data with one is in flight to an end on a link that isn't down there (Q.704 §5.4).
+/// Law (ii) (Q.704 §5.4). An end wants a link between the two to open, and it may open at the other too, or the end may
+/// follow the other. Then no order to change over of one of the two for the other, and no answer, that is about the
+/// link is in Held or unreceived in a queue of either end, on whatever link. Nor is User Data with one in flight to an
+/// end on a link that isn't down there.
 pub fn links_open_with_no_word_left()
     ensures { none_is_left }
 {}
 
-/// Nothing is awaited in vain, in both directions: law (ii) to the full. While an end awaits the answer
-/// to its order to change over from a link between the two, exactly one message says so: its order about
-/// that link, or the other end's answer, in Held or not received on a link (Q.704 §5.4). And while a
-/// code of the set between them awaits its acknowledgement, exactly one does: a changeback declaration
-/// of it with that code, or an acknowledgement of the other end (Q.704 §6.3). Else none does. This holds
-/// while neither exchange may have lost a message.
+/// Nothing is awaited in vain, in both directions: law (ii) in full. While an end awaits the answer to its order to
+/// change over from a link between the two, exactly one message about that is in Held or not received on a link: its
+/// order, or the other end's answer (Q.704 §5.4). While a code of the set between them awaits its acknowledgement,
+/// exactly one message has that code: a changeback declaration of this end, or an acknowledgement of the other (Q.704
+/// §6.3). Else there is none. This holds while neither exchange may have lost a message.
 pub fn nothing_is_awaited_in_vain()
     ensures { nothing_is_awaited_in_vain }
 {}
 
-/// Law (iii). While an order of one of the two to change over or an answer stands in Held or unreceived
-/// in a queue, for the other, the link that it is about is down at the end that sends it, and it carries
-/// the number of the last message that was accepted there (Q.704 §5.4, with the numbers of Q.2210).
+/// Law (iii). While an order of one of the two to change over, or an answer, is in Held or unreceived in a queue for
+/// the other, the link that it is about is down at the end that sends it, and it carries the number of the last message
+/// that was accepted there (Q.704 §5.4, with the numbers of Q.2210).
 pub fn words_carry_the_final_number()
     ensures { words_are_final }
 {}
 
-/// Law (iv). While a link between the two is up at either end, and until an end's changeover of it is
-/// complete, unless an end may follow the other, the number of the last message that the peer accepted
-/// there names the count of all that it received. So an order or an answer of the peer that completes the
-/// changeover, as one that the next frame of any link brings, moves the messages that the peer lacks, and
-/// no other (Q.704 §5.4, §5.5).
+/// Law (iv). While a link between the two is up at either end, and until an end's changeover of it is complete, unless
+/// an end may follow the other, the number of the last message that the peer accepted there names the count of all that
+/// it received. So an order or an answer of the peer that completes the changeover, such as one brought by the next
+/// frame of any link, moves the messages that the peer lacks, and no others (Q.704 §5.4, §5.5).
 pub fn completions_move_what_the_peer_lacks()
     ensures { moves_are_lacked }
 {}
 
-/// Two nodes that have only each other are the special case: settings that face each other (`AreJoined`
-/// of `pair_rules`) share a set, and each step between them comes to what it comes to there, and leaves
-/// the same. All that an end accepted is for the other, and "Exactly once" and "Order" hold of all user
-/// messages.
+/// Two nodes that have only each other are the special case: settings that face each other (`AreJoined` of
+/// `pair_rules`) share a set, and each step between them has the same outcome and effect as there. All that an end
+/// accepted is for the other, and "Exactly once" and "Order" hold of all user messages.
 pub fn a_pair_alone_is_the_special_case()
     ensures { alone_is_special }
 {}
 
-/// These laws aren't empty, nor those of third nodes in them: by a run of 27 steps of two exchanges that
-/// share a set, a message that comes to one of them from a third node is accepted for the other, and
-/// comes to that, once. No flag is raised.
+/// These laws aren't empty, nor are third nodes in them. In a run of 27 steps of two exchanges that share a set, a
+/// message that comes to one of them from a third node is accepted for the other, and reaches that once. No flag is
+/// raised.
 pub fn a_message_comes_from_a_third_node()
     ensures { GoesOn }
 {}
@@ -92,28 +88,26 @@ pub fn books_are_of_the_two_points()
     ensures { books_are_of_the_two }
 {}
 
-/// The route to the other point stays allowed: each flow there that has a link has one that leads there,
-/// and no user message for it stands on a link that leads elsewhere (Q.704 §4.2). This holds whatever
-/// happens on the other links, and whatever has been lost.
+/// The route to the other point stays allowed (Q.704 §4.2): each flow there that has a link has one that leads there,
+/// and no user message for it is on a link that leads elsewhere. This holds whatever happens on the other links, and
+/// whatever has been lost.
 pub fn flows_stay_between_the_two()
     ensures { flows_stay_between }
 {}
 
-/// Nothing is held in vain, at either end: the changeover that holds a flow isn't complete, and has T1
-/// running, or its answer awaited and T2 running; T4 of a code that holds one runs, T3 of a link that
-/// holds one by time, T6 of a destination whose flows are rerouted (Q.704 §16.8). This holds whatever has
-/// been lost.
+/// Nothing is held in vain, at either end (Q.704 §16.8). A changeover that holds a flow isn't complete, and has T1
+/// running, or its answer awaited and T2 running. T4 of a code that holds one runs, and so do T3 of a link that holds
+/// one by time and T6 of a destination whose flows are rerouted. This holds whatever has been lost.
 pub fn nothing_is_held_in_vain()
     ensures { nothing_is_held_in_vain }
 {}
 
-/// Of two nodes that have only each other: received means delivered, or handled by SCCP, at either end.
-/// A frame that is handed in comes to Local exactly if what the end received grew by a message of a
-/// user part that its settings list, or by one of SCCP for a subsystem there; to NoUserPart exactly if
-/// it grew by one of another part; and to Queued or Held exactly if it grew by one of SCCP that goes on
-/// by its title. What the end accepted then grew by that one as its relay wrote it, and by nothing
-/// else. If one of SCCP is refused, it grew by the UDTS that returns it, or by nothing; otherwise it
-/// didn't grow (Q.704 §2.4, Q.714 §2.3, §4.2). This holds whether or not a message may be lost.
+/// Of two nodes that have only each other, at either end: received means delivered, or handled by SCCP. A frame that is
+/// handed in comes to Local exactly if what the end received grew by a message of a user part that its settings list,
+/// or by one of SCCP for a subsystem there; to NoUserPart exactly if it grew by one of another part; and to Queued or
+/// Held exactly if it grew by one of SCCP that goes on by its title. What the end accepted then grew by that message as
+/// its relay wrote it, and by nothing else. If one of SCCP is refused, it grew by the UDTS that returns it, or by
+/// nothing; otherwise it didn't grow (Q.704 §2.4, Q.714 §2.3, §4.2). This holds whether or not a message may be lost.
 pub fn deliveries_tell_what_came()
     ensures { deliveries_tell }
 {}

@@ -1,4 +1,4 @@
-//! Two nodes that share a link set, whatever neighbours each has besides, with the frames in flight between them.
+//! Two nodes that share a link set, whatever other neighbours each has, with the frames in flight between them.
 #![tactic(auto)]
 
 pub mod laws;

@@ -1,4 +1,4 @@
--- Where a flow comes from that changes its link.
+-- The former link of a flow that changes its link.
 use Rattle.std.specs.Prelude.{ℕ, ◌&&◌, not, nat_eq, Option, Some, None, if◌then◌else◌}
 
 -- the link that a flow comes from: it goes by one link now, and went by another before

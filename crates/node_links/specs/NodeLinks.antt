@@ -1,4 +1,4 @@
--- What a link is, beside its queue.
+-- TLAC, link availability control (Q.704 §3.2): the state of a link, apart from its queue.
 use Rattle.std.specs.Prelude.{Bool, List, true, false, [], ◌++◌, ℕ, map, length, replicate, slice_index_or, slice_set}
 use Rattle.m2pa_codec.specs.declared.status.LinkStatus.{LinkStatus}
 use Rattle.link.specs.declared.alignment.Alignment.{Alignment}
@@ -27,7 +27,7 @@ pub record Link : Type 0 where
   -- whether a message that came isn't acknowledged yet
   pub acknowledgement_owed : Bool
 
--- ---- The state of one link, beside its queue.
+-- ---- The state of one link, apart from its queue.
 
 -- a link that has never been up; the operator lets it open
 abbrev pub down_link : Link
@@ -40,7 +40,7 @@ down_link = record {
   acknowledgement_owed = false;
 }
 
--- a link after a step of its alignment: the status that the step sends waits behind the others
+-- a link after a step of its alignment; the status that the step sends waits after the others
 abbrev pub stepped : Transition → Link → Link
 stepped step l = record l { alignment = step.state; waiting = l.waiting ++ option_to_list step.send }
 
@@ -50,11 +50,11 @@ after_action Ignored l = l
 after_action Fail l = l
 after_action (Go step) l = stepped step l
 
--- a link that failed: no status waits, and Busy and the acknowledgement that was owed are forgotten
+-- a link that failed: no status waits, and Busy and an acknowledgement that was owed are forgotten
 abbrev pub after_failure : Link → Link
 after_failure l = record l { alignment = Down; waiting = []; peer_busy = false; acknowledgement_owed = false }
 
--- a link that got an association begins anew
+-- a link that got an association restarts
 abbrev pub opened : Link → Link
 opened l = stepped opening (record (after_failure l) { association = true })
 
@@ -83,7 +83,7 @@ pub record Network : Type 0 where
   pub sets : List (List ℕ)
   pub routes : List (List Route)
 
--- of each link, whether it is in service
+-- for each link, whether it is in service
 abbrev pub serving : List Link → List Bool
 serving links = map (λ l. is_in_service l.alignment) links
 

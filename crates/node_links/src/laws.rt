@@ -12,7 +12,7 @@ pub fn the_link_of_a_flow_is_in_service()
         → is_in_service (link_in n.links link).alignment ≡ true }
 {}
 
-/// The law that a link out of service may change as it likes: with that link taken out, the routing facts are what they
+/// The law that a link out of service may change in any way: with that link taken out, the routing facts are what they
 /// were. The call does nothing.
 #[tactic(auto, using(crate::proofs::Serving::serving_without))]
 pub fn a_link_out_of_service_as_before()

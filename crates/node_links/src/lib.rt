@@ -1,4 +1,5 @@
-//! The links of a node: the state of each, and the routes that they open.
+//! TLAC and TSRC, link availability and signalling routing control (Q.704 §3.2, §4.2): the state of each link of a
+//! node, and the routes that its links open.
 #![tactic(auto)]
 
 pub mod laws;

@@ -108,7 +108,7 @@ impl LinkState {
         self.waiting.first().copied()
     }
 
-    /// Does what its alignment does about an input, and says what that is. Where the link is to fail, nothing changes
+    /// Does what its alignment does about an input, and says what that is. If the link is to fail, nothing changes
     /// here.
     pub fn on(&mut self, input: Input) -> Action
         ensures action { result ≡ action_at self.old.alignment input }
@@ -121,7 +121,7 @@ impl LinkState {
         action
     }
 
-    /// Takes a step: the status that it sends waits behind the others.
+    /// Takes a step: the status that it sends waits after the others.
     fn take_step(&mut self, step: Transition)
         requires { sent_by self.old.alignment + length (option_to_list step.send) ≤ sent_by step.state }
         ensures { self.new ≡ stepped step self.old }

@@ -19,8 +19,8 @@ use std::marker::Model;
 
 /// The state of each link, and the routes, which always know which links are in service.
 ///
-/// All room is made by `new`. The link of each flow stands in a table (`Routes`): `link_of` is one look-up, and where a
-/// link enters or leaves service, or a status changes, the flows that it matters for are looked at anew.
+/// All room is made by `new`. The link of each flow is in a table (`Routes`): `link_of` is one look-up, and when a link
+/// enters or leaves service, or a status changes, the flows that this may move are looked at again.
 #[derive(Drop)]
 pub struct NodeLinks {
     states: Vec<LinkState>,
@@ -40,7 +40,7 @@ impl Model for NodeLinks {
 }
 
 impl NodeLinks {
-    /// The links of a node with so many sets, these links and these destinations: every link is down, and every route
+    /// The links of a node with this many sets, these links and these destinations: every link is down, and every route
     /// is allowed. The error means that memory ran out.
     #[tactic(auto, using(crate::proofs::Serving::kept))]
     pub fn new(
@@ -95,8 +95,8 @@ impl NodeLinks {
         self.routes.in_service_without(link)
     }
 
-    /// The link of a flow, by the number of its destination and its selection: of the group that messages to that
-    /// destination take, the first in service in the order in which the selection tries them whose set they take (Q.704
+    /// The link of a flow, by the number of its destination and its selection, out of the group that messages to that
+    /// destination take: of the links in service whose set they take, the one that the selection tries first (Q.704
     /// §4.2).
     pub fn link_of(&self, destination: usize, sls: Sls) -> Option<LinkId>
         ensures link { result ≡ chosen_link (facts_of self.now) destination sls }
@@ -105,9 +105,9 @@ impl NodeLinks {
         self.routes.link_of(destination, sls)
     }
 
-    /// The link that a flow, which goes by this link, would take if this link were out of service, as in `before` (Q.704
-    /// §6.2). `None` where it doesn't go by this link, or would have no other. It costs one look-up, and for a flow that
-    /// goes by this link the sets that lead to its destination and their links.
+    /// The link that a flow, which goes by this link, would take if this link were out of service, as in `before`
+    /// (Q.704 §6.2). `None` if it doesn't go by this link, or would have no other. It costs one look-up, and for a flow
+    /// that goes by this link the sets that lead to its destination and their links.
     pub fn former_link(
         &self,
         before: &RouteFacts<'_>,
@@ -144,7 +144,7 @@ impl NodeLinks {
         before.link_of(destination, sls)
     }
 
-    /// A link does what its alignment does about an input, and says what that is. Where the link is to fail, nothing
+    /// A link does what its alignment does about an input, and says what that is. If the link is to fail, nothing
     /// changes here.
     #[tactic(auto, using(crate::proofs::Serving::kept))]
     pub fn on(&mut self, link: LinkId, input: Input) -> Action
@@ -221,7 +221,7 @@ impl NodeLinks {
     }
 }
 
-/// So many links that have never been up.
+/// This many links that have never been up.
 fn down_links(alloc: Global, count: usize) -> Result<Vec<LinkState>, AllocError>
     ensures { IfOk result (λ links. links.items ≡ replicate count down_link) }
 {

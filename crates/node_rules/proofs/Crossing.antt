@@ -1,4 +1,4 @@
--- The run in which a user message crosses, by computation: but for whether it waits as it is submitted, which is looked
+-- The run in which a user message crosses, by computation: except whether it waits as it is submitted, which is looked
 -- at first.
 use Rattle.std.proofs.Common.{◌≡◌, arith, Bool, true, false, List, [], ◌∷◌, ◌++◌, Some, None, refl, ap, sym, ◌∙◌, subst, true≢false}
 use Rattle.timers.specs.Timers.{set_timer, start_unless_running, clear_timer, clear_set, due_name, after_due, due_count, names_of}

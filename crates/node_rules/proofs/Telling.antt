@@ -1,4 +1,4 @@
--- What an endpoint tells by one thing that happens to it: messages of the association that is up, and Down behind them;
+-- What an endpoint tells by one thing that happens to it: messages of the association that is up, and Down after them;
 -- or Up, and then these; or none of it.
 use Rattle.std.proofs.Common.{◌≡◌, ◌⊎◌, inl, inr, ℕ, Bool, true, false, List, [], ◌∷◌, ◌++◌, Option, Some, None, length, refl, ap, sym, ◌∙◌, subst, append-nil}
 use Rattle.std.proofs.lemmas.List.{append_assoc}

@@ -50,8 +50,8 @@ pub record IsSpecial (near far : Make) (w : World) : Type 0 where
   pub far_links : AreBetween far.configuration near.configuration
   -- all that either accepted is for the other, and all that it received for itself
   pub all_booked : ends_of near far w ≡ whole_ends w
-  -- by steps of two exchanges that have only each other (`pair_rules`) the same exchanges come to be, that accepted and
-  -- received the same
+  -- there are steps of two exchanges that have only each other (`pair_rules`) that lead to the same exchanges, with the
+  -- same accepted and received
   pub steps : List Step
   pub near_is : HasBooks w.near.books (after_steps steps (first_pair near.configuration far.configuration)).near
   pub far_is : HasBooks w.far.books (after_steps steps (first_pair near.configuration far.configuration)).far

@@ -86,8 +86,7 @@ pub record Crosses : Type 0 where
   -- the link enters service at both nodes
   pub near_serves : alignment_of served.near 0 ≡ InService
   pub far_serves : alignment_of served.far 0 ≡ InService
-  -- the message is accepted at the near node, where it waits; then it is received at the far one, once, and waits no
-  -- more
+  -- the message is accepted at the near node, and waits; then it is received at the far one, once, and waits no more
   pub accepted : submitted.near.books.accepted ≡ the_message ∷ []
   pub missing : submitted.far.books.received ≡ []
   pub waits : waiting (ends_of near_make far_make submitted) ≡ the_message ∷ []

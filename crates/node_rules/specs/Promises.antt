@@ -33,8 +33,8 @@ pub record IsOf (own other : ℕ) (b : Books) (e : End) : Type 0 where
   pub accepted : users_to other b.accepted ≡ e.accepted
   pub received : users_to own b.received ≡ e.received
 
--- by steps of two exchanges with frames in flight between them the same exchanges come to be, that accepted and
--- received the same for each other
+-- there are steps of two exchanges with frames in flight between them that lead to the same exchanges, with the same
+-- accepted and received for each other
 pub record IsRunOfPair (near far : Make) (w : World) : Type 0 where
   pub steps : List Step
   pub near_is :
@@ -47,7 +47,7 @@ pub record IsRunOfPair (near far : Make) (w : World) : Type 0 where
 abbrev pub runs_are_runs_of_pairs : Type 0
 runs_are_runs_of_pairs = Always IsRunOfPair
 
--- ---- the promises: they speak of exchanges, and of what these accepted and received for each other
+-- ---- the promises, about exchanges and what these accepted and received for each other
 
 abbrev pub end_of : (own other : ℕ) → Books → End
 end_of own other b = record {

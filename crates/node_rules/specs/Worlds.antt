@@ -53,7 +53,7 @@ happened_elsewhere what b = record b {
   accepted = b.accepted ++ brought_in what b.exchange;
 }
 
--- a frame goes out on a link that leads elsewhere, where one is next
+-- a frame goes out on a link that leads elsewhere, if one is next
 abbrev pub left_by : (link : ℕ) → Option FrameValue → Books → Books
 left_by link None b = b
 left_by link (Some frame) b = record b { exchange = taken whole b.exchange link }
@@ -116,7 +116,7 @@ pub data Doing : Type 0 where
   Happens : (what : Happening) → Doing
   -- something happens to the endpoint of a link, and what that tells is handed in, in order
   Associates : (link : ℕ) (what : endpoint.Happening) → Doing
-  -- the next frame of a link is taken, and given to its endpoint
+  -- the next frame of the link is taken, and given to its endpoint
   Sends : (link : ℕ) → Doing
   -- a link that leads elsewhere brings something, whatever joins it to a further neighbour; or its next frame goes
   Brings : (what : Happening) → Doing
@@ -183,12 +183,12 @@ IsOwn (Deactivated link) = Unit {0}
 IsOwn (TitleAdded row is_memory_refused) = Unit {0}
 IsOwn (TitleRemoved key digits) = Unit {0}
 
--- an endpoint isn't left to itself with a wish that its link doesn't have: where it wants an association, or begins to,
+-- an endpoint isn't left to itself with a wish that its link doesn't have: if it wants an association, or begins to,
 -- its link wants to open
 abbrev pub IsLooked : (link : ℕ) → endpoint.Happening → Node → Type 0
 IsLooked link what n = wish_by_call what (n.ports link).wish ≡ Seeking → wants_of n.books.exchange link ≡ Open
 
--- it is asked for one only where its link wants to open, and none is up
+-- it is asked for one only if its link wants to open, and none is up
 pub record IsAsked (link : ℕ) (n : Node) : Type 0 where
   pub wants : wants_of n.books.exchange link ≡ Open
   pub down : (n.ports link).wish ≢ Served

@@ -8,7 +8,7 @@ use Rattle.exchange.specs.Calls.{Kept}
 use Rattle.pair_world.specs.declared.step.End.{End}
 use Rattle.pair_world.specs.declared.step.End.TheVariants.{One, Two}
 
--- the datagrams that a gate put out, in order. Where memory ran out for one, it isn't among them
+-- the datagrams that a gate put out, in order. If memory ran out for one, it isn't among them
 pub record KeptLog : Type 0 where
   pub sent : List Sent
   pub is_whole : Bool
@@ -54,7 +54,6 @@ due_of (Some port) = due port.gate
 abbrev pub due_on : KeptNode → (link : ℕ) → Option ℕ
 due_on k link = due_of (slice_get k.ports link)
 
--- the octets of one
 abbrev pub octets_of : Option Sent → List ℕ
 octets_of None = []
 octets_of (Some x) = x.octets

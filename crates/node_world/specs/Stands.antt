@@ -55,7 +55,7 @@ pub record StandsFor (k : KeptWorld) (w : World) : Type 0 where
   pub near : NodeStands k.near w.near
   pub far : NodeStands k.far w.far
 
--- octets that a gate put out, since when no more messages passed there than there are numbers, but for two windows
+-- octets that a gate put out, since when no more messages passed there than there are numbers, less two windows
 pub record IsYoung (p : Port) (octets : List ℕ) : Type 0 where
   pub one : Emitted
   pub there : Contains p.packets one

@@ -5,7 +5,7 @@ use sctp_endpoint::Address;
 /// What is called at the gate of a link.
 #[derive(Clone, Copy)]
 pub enum Call {
-    /// The datagram in this place of all that the gate at the other end of the link put out comes, from an address.
+    /// The datagram at this index of all that the gate at the other end of the link put out comes, from an address.
     Hear(usize, Address),
     /// Time went by.
     Tick,

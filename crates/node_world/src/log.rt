@@ -37,8 +37,8 @@ impl Datagram {
     }
 }
 
-/// The datagrams that a gate put out, in order. Where memory runs out for one, it isn't kept, as if the network had
-/// lost it.
+/// The datagrams that a gate put out, in order. If memory runs out for one, it isn't kept, as if the network had lost
+/// it.
 #[derive(Drop)]
 pub(crate) struct Log {
     alloc: Global,
@@ -66,7 +66,6 @@ impl Log {
         }
     }
 
-    /// The datagrams.
     pub(crate) fn sent(&self) -> &[Datagram]
         ensures { result.now ≡ self.now.sent }
     {

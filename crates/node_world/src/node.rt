@@ -47,8 +47,8 @@ impl Model for Node {
 impl Node {
     /// A node of these settings, with a gate of each of these, in order, for each of its links.
     ///
-    /// BadGates where there are more or fewer of them than links, or where the bounds of one's timeouts are out of
-    /// order; NoMemory where memory ran out.
+    /// BadGates if there are more or fewer of them than links, or if the bounds of one's timeouts are out of order;
+    /// NoMemory if memory ran out.
     pub(crate) fn new(
         alloc: Global,
         settings: Settings,
@@ -90,7 +90,6 @@ impl Node {
         self.exchange.step(event)
     }
 
-    /// The exchange.
     pub(crate) fn exchange(&self) -> &Exchange
         ensures { result.now ≡ self.now.exchange }
     {
@@ -114,7 +113,7 @@ impl Node {
         }
     }
 
-    /// Whether all that the gate of a link put out is kept; not where there is no such link.
+    /// Whether all that the gate of a link put out is kept; not if there is no such link.
     pub(crate) fn is_whole(&self, link: LinkId) -> bool
         ensures { result ≡ is_whole_on self.now link }
     {
@@ -155,7 +154,7 @@ impl Node {
     }
 }
 
-/// The octets in a place of these datagrams; none where there is no such datagram.
+/// The octets at an index of these datagrams; none if there is no such datagram.
 fn octets_in(sent: &[Datagram], place: usize) -> &[u8]
     ensures { result.now ≡ octets_of (slice_get sent.now place) }
 {
@@ -165,7 +164,7 @@ fn octets_in(sent: &[Datagram], place: usize) -> &[u8]
     }
 }
 
-/// The gates of so many links.
+/// The gates of this many links.
 fn ports_of(alloc: Global, gates: &[GateMaking], links: u8) -> Result<Vec<Port>, WorldFault>
     requires { links ≡ length gates.now }
     ensures first { IfOk result (λ ports. ports.items ≡ first_ports 0 gates.now) }

@@ -60,9 +60,8 @@ impl Model for World {
 impl World {
     /// Two nodes that were just made, each of its settings and of what each of its links' gates is made of, in order.
     ///
-    /// NotFacing where the settings don't face each other (`Settings::faces`); BadGates where there are more or fewer
-    /// gates than links, or where the bounds of one's timeouts are out of order; NoMemory comes only where a growth was
-    /// refused.
+    /// NotFacing if the settings don't face each other (`Settings::faces`); BadGates if there are more or fewer gates
+    /// than links, or if the bounds of one's timeouts are out of order; NoMemory comes only if a growth was refused.
     pub fn new(
         alloc: Global,
         near: Settings,
@@ -111,8 +110,8 @@ impl World {
         }
     }
 
-    /// Calls the gate of a link, at a time in milliseconds. Answers whether it did: not where there is no such link, or
-    /// no such datagram.
+    /// Calls the gate of a link, at a time in milliseconds. Returns whether it did: not if there is no such link, or no
+    /// such datagram.
     pub fn call(&mut self, end: End, link: LinkId, call: Call, now: u64) -> bool
         ensures answer { result ≡ is_made call link (kept_at (other end) self.old) (kept_at end self.old) }
         // It is a call of each abstract world that it stood for, if a datagram that comes isn't too old.
@@ -136,8 +135,8 @@ impl World {
         // "Exactly once": while it is false, of every kind of user message, as many were accepted at one node as the
         // other received and as wait between them, in both directions.
         ensures once { (w : worlds.World) → StandsFor self.now w → result ≡ false → BothWays EachOnce (whole_ends w) }
-        // "Order": and while besides no timer of the accepting node ended a hold (`Exchange::late_any`), the messages
-        // of each flow that were accepted are, in order, those that were received, and then those that wait.
+        // "Order": and while also no timer of the accepting node ended a hold (`Exchange::late_any`), the messages of
+        // each flow that were accepted are, in order, those that were received, and then those that wait.
         ensures order { (w : worlds.World) → StandsFor self.now w → result ≡ false →
             BothWays (λ p. IsPunctual p → InOrder p) (whole_ends w) }
     {
@@ -152,7 +151,7 @@ impl World {
         self.node(end).exchange()
     }
 
-    /// The datagrams that the gate of a link put out, in order; none where there is no such link.
+    /// The datagrams that the gate of a link put out, in order; none if there is no such link.
     pub fn sent(&self, end: End, link: LinkId) -> &[Datagram]
         ensures sent { result.now ≡ sent_on (kept_at end self.now) link }
         // Each is a packet that the abstract gate put out.
@@ -162,8 +161,8 @@ impl World {
         self.node(end).sent(link)
     }
 
-    /// Whether `sent` has all datagrams that the gate of a link put out: memory never ran out for one. False where
-    /// there is no such link.
+    /// Whether `sent` has all datagrams that the gate of a link put out: memory never ran out for one. False if there
+    /// is no such link.
     pub fn is_whole(&self, end: End, link: LinkId) -> bool
         ensures { (w : worlds.World) → StandsFor self.now w → result ≡ true →
             HasAll ((node_at end w).ports link) (sent_on (kept_at end self.now) link) }
@@ -171,7 +170,7 @@ impl World {
         self.node(end).is_whole(link)
     }
 
-    /// When to call the gate of a link next, in milliseconds (`Gate::deadline`); None where there is no such link.
+    /// When to call the gate of a link next, in milliseconds (`Gate::deadline`); None if there is no such link.
     pub fn deadline(&self, end: End, link: LinkId) -> Option<u64>
         ensures { (w : worlds.World) → StandsFor self.now w → link < length (kept_at end self.now).ports →
             result ≡ due ((node_at end w).ports link).gate }
@@ -187,7 +186,6 @@ impl World {
         self.near.exchange().lost_any() || self.far.exchange().lost_any()
     }
 
-    /// A node.
     fn node(&self, end: End) -> &Node
         ensures { result.now ≡ kept_at end self.now }
     {
@@ -224,7 +222,7 @@ fn is_own(event: &Event<'_>) -> bool
     }
 }
 
-/// Calls the gate of a link at a node, where the other one's gates put out some datagrams.
+/// Calls the gate of a link at a node, given the datagrams that the other one's gates put out.
 fn call_at(node: &mut Node, other: &Node, link: LinkId, call: Call, now: u64) -> bool
     ensures answer { result ≡ is_made call link other.now node.old }
     ensures calls { result ≡ true → (a : Abstract) → exchanges.StandsFor node.old.exchange a →

@@ -20,7 +20,7 @@ answer_about (Some page) method =
 abbrev pub answer_at : (path method : List ℕ) → Answer
 answer_at path method = answer_about (page_at path) method
 
--- the value of a field that is there once
+-- the value of a field that occurs once
 abbrev pub lone : List FieldValue → Option (List ℕ)
 lone [] = None
 lone (value ∷ []) = Some value.bytes

@@ -11,19 +11,19 @@ abbrev pub head_bounds : Limits
 head_bounds = record { max_head_len = 8192; max_extensions_len = 0; max_trailers_len = 0 }
 
 -- the bounds of a connection: such a head, no body, and no further request before the answer went out; a read has room
--- for 1,024 octets at least
+-- for at least 1,024 octets
 abbrev pub connection_bounds : Config
 connection_bounds = record { limits = head_bounds; max_body_len = 0; max_pending = 0; read_size = 1024 }
 
--- so many milliseconds later, in 64 bits
+-- this many milliseconds later, in 64 bits
 abbrev pub later : (now milliseconds : ℕ) → ℕ
 later now milliseconds = min (now + milliseconds) (2 ^ 64 - 1)
 
--- a client that just came has so long for its first request, and for its answer to be taken
+-- a client that just came has this long for its first request, and for its answer to be taken
 abbrev pub begun : (now : ℕ) → Patience
 begun now = record { until_ms = later now REQUEST_MS }
 
--- a client whose answer went out has so long for the next
+-- a client whose answer went out has this long for the next
 abbrev pub answered : (now : ℕ) → Patience
 answered now = record { until_ms = later now IDLE_MS }
 

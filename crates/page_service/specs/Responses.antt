@@ -13,13 +13,13 @@ status_of Forbidden = 403
 status_of NotFound = 404
 status_of NotAllowed = 405
 
--- the kind of text that a page is; metrics are Prometheus' text format 0.0.4
+-- the kind of text of a page; metrics are Prometheus' text format 0.0.4
 abbrev pub content_type : Page → List ℕ
 content_type Status = codes "text/html; charset=utf-8"
 content_type State = codes "application/json"
 content_type Metrics = codes "text/plain; version=0.0.4; charset=utf-8"
 
--- of a page, and of a text that says why there is none
+-- for a page, and for a text that says why there is none
 abbrev pub content_type_of : Answer → List ℕ
 content_type_of (Shown page) = content_type page
 content_type_of BadRequest = codes "text/plain; charset=utf-8"
@@ -36,7 +36,7 @@ guards =
     ∷ (codes "content-security-policy", codes "default-src 'none'; script-src 'unsafe-inline'; style-src 'unsafe-inline'; connect-src 'self'; base-uri 'none'; form-action 'none'; frame-ancestors 'none'")
     ∷ []
 
--- which methods there are, where another was used
+-- which methods there are, if another was used
 abbrev pub allowed : Answer → List Header
 allowed (Shown page) = []
 allowed BadRequest = []

@@ -12,7 +12,7 @@ use crate::page::Page;
 use bytes::Bytes;
 use http::{HeaderMap, HeaderValue, Request};
 
-/// What a request gets: first its host is looked at, then its path, then its method.
+/// What a request gets, by its host, then its path, then its method.
 pub fn answer_request(names: &PageNames, request: &Request<Bytes>) -> Answer
     ensures { result ≡ answer_to names.now (head_of request.now) }
 {
@@ -26,7 +26,7 @@ pub fn answer_request(names: &PageNames, request: &Request<Bytes>) -> Answer
     }
 }
 
-/// The value of the Host field, where there is one such field.
+/// The value of the Host field, if there is one such field.
 fn lone_host(headers: &HeaderMap<HeaderValue>) -> Option<&[u8]>
     ensures { option_map (λ host. host.now) result ≡ lone (get_all headers.now (codes "host")) }
 {

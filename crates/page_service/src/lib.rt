@@ -1,4 +1,5 @@
-//! The status page of a node as a service of HTTP: which request is answered, and with what. It does no input or output.
+//! The status page of a node as a service of HTTP: which request is answered, and with what. It does no input or
+//! output.
 #![tactic(auto)]
 
 pub mod answer;

@@ -8,7 +8,7 @@ use std::marker::Model;
 use std::net::SocketAddr;
 
 /// The names by which a page is asked for: its address, and `localhost` at its port. A page of another site that a
-/// browser was led to has a name of its own, and reads nothing here by it.
+/// browser was led to has a name of its own, and can read nothing here by it.
 #[derive(Drop)]
 pub struct PageNames {
     address: String,
@@ -27,8 +27,8 @@ impl Model for PageNames {
 }
 
 impl PageNames {
-    /// Those of a page at this address. Where it is open it may be asked for by any name. The error means that memory
-    /// ran out.
+    /// Those of a page at this address. If it is open it may be asked for by any name. The error means that memory ran
+    /// out.
     pub fn new(alloc: Global, address: SocketAddr, is_open: bool) -> Result<PageNames, AllocError>
         ensures { IfOk result (λ names. names ≡ names_of address is_open) }
     {

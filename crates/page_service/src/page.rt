@@ -37,7 +37,7 @@ pub trait Content {
     /// The octets of each page.
     ghost content: { Self → Page → List ℕ };
 
-    /// Puts the octets of a page behind what a body holds. The error means that memory ran out.
+    /// Appends the octets of a page to a body. The error means that memory ran out.
     fn write(&self, page: Page, body: &mut Rope) -> Result<(), AllocError>
         ensures { OnOk result (body.new.items ≡ body.old.items ++ content self.now page) };
 }

@@ -1,4 +1,4 @@
--- The order of one flow where what stands on links is as before.
+-- The order of one flow if what is on links is as before.
 use Rattle.pair_moves.proofs.Basics.{◌≡◌, ◌≢◌, ℕ, false, ◌<◌, List, [], ◌∷◌, ◌++◌, refl, ap, sym, ◌∙◌, append-nil, append_assoc}
 use Rattle.pair_moves.proofs.Definitions.{Message, Flow, Saying, is_of_flow, Line, Side, Pair, turned, turned_line, unreceived, BecomeAt, of_flow, standing_on, IsGuarded, IsInOrder}
 use Rattle.pair_moves.proofs.Books.{each-line}

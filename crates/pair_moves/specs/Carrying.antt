@@ -12,7 +12,7 @@ use Rattle.pair_moves.specs.Passing.{BecomeAt}
 abbrev pub with_status : Line → Line
 with_status z = record z { told_far = suc z.told_far }
 
--- a line with so many link statuses in flight to the near end
+-- a line with this many link statuses in flight to the near end
 abbrev pub with_statuses_left : Line → ℕ → Line
 with_statuses_left z count = record z { told_near = count }
 

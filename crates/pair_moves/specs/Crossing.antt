@@ -1,5 +1,4 @@
--- A run of the moves: the only message stands on a link that fails under it, and comes to the far
--- node by another.
+-- A run of the moves: the only message is on a link that fails under it, and comes to the far node by another.
 use Rattle.std.specs.Prelude.{◌≡◌, ℕ, ◌+◌, Bool, true, false, List, [], ◌∷◌, ◌++◌, drop, slice_index, nat_eq}
 use Rattle.std.specs.Prelude.{Option, Some, None, if◌then◌else◌}
 use Rattle.signalling_types.specs.Message.{Message, is_management}
@@ -68,7 +67,7 @@ abbrev pub after_sending_one : Pair → ℕ → ℕ → Message → Pair
 after_sending_one p link number m =
     with_line p link (with_sent (p.line link) (record { number = number; message = m }))
 
--- the only message in flight on a link is taken in, and confirms so many
+-- the only message in flight on a link is taken in, and confirms this many
 abbrev pub after_taking_one : Pair → ℕ → ℕ → Message → Pair
 after_taking_one p link count m =
     with_near (with_line p link (with_accepted (p.line link) [] true count)) (record p.near { arrived = m ∷ [] })

@@ -23,7 +23,7 @@ pub record LinkEnd : Type 0 where
   -- since it opened, it heard the other end
   pub heard : Bool
 
--- a link: its two ends, and what is in flight to each: User Data, the first that went out first; and so many link
+-- a link: its two ends, and what is in flight to each: User Data, the first that went out first, and this many link
 -- statuses, on a stream of their own
 pub record Line : Type 0 where
   pub near : LinkEnd
@@ -52,14 +52,14 @@ pub record Side : Type 0 where
   pub arrived : List Message
   -- the messages of flows that wait
   pub held : List Message
-  -- the messages that were accepted, made or taken out of a list, and stand nowhere yet
+  -- the messages that were accepted, made or taken out of a list, and are nowhere yet
   pub loose : List Message
   -- the link that a flow takes, and which procedures hold it
   pub route : Flow → Option ℕ
   pub holds : Procedure → Flow → Bool
   -- the codes of declarations without their confirmation
   pub outstanding : ℕ → Bool
-  -- a message may be lost; a hold was ended by its timer
+  -- whether a message may be lost, and whether a hold was ended by its timer
   pub lost : Bool
   pub late : Bool
 

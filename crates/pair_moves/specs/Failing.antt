@@ -8,8 +8,7 @@ use Rattle.pair_moves.specs.Sayings.{Saying, Order, Answer, is_user_message}
 use Rattle.pair_moves.specs.Ends.{Line, Procedure, Changeover, Pair}
 use Rattle.pair_moves.specs.Passing.{BecomeAt, Hears}
 
--- a line after its near end failed, and whether an answer is awaited from then on: a changeover
--- begins where it served
+-- a line after its near end failed, and whether an answer is awaited from then on; a changeover begins if it served
 abbrev pub with_failure : Line → (awaited : Bool) → Line
 with_failure z awaited = record z {
   near = record z.near {
@@ -31,7 +30,7 @@ with_completion z awaited = record z {
 abbrev pub without_wait : Line → Line
 without_wait z = record z { near = record z.near { awaited = false } }
 
--- the user messages of a list, and the others: the management of the two nodes, and all of which the laws don't speak
+-- the user messages of a list, and the others: the management of the two nodes, and all that the laws don't speak of
 abbrev pub users_of : (Message → Saying) → List Message → List Message
 users_of read ms = filter (λ m. is_user_message (read m)) ms
 

@@ -23,9 +23,9 @@ Name from to (EmptyFrame fsn bsn ∷ frames) =
 Name from to (MessageFrame fsn bsn message ∷ frames) =
     (count : ℕ) × (from ≤ count) × (count ≤ to) × (bsn ≡ previous_number count) × Name count to frames
 
--- the far end accepted the first messages of the near end's queue, as many as it counts; while it
--- is up the User Data in flight carry the others that were sent; and while the near end is up those
--- that come back confirm some of the first
+-- the far end accepted the first messages of the near end's queue, as many as it counts. While it is up the User Data
+-- in flight carry the others that were sent, and while the near end is up those that come back confirm some of the
+-- first
 pub record Flows (z : Line) : Type 0 where
   pub confirmed : z.near.queue.confirmed ≤ z.far.queue.received
   pub received : z.far.queue.received ≤ z.near.queue.sent
@@ -36,15 +36,14 @@ pub record Flows (z : Line) : Type 0 where
 abbrev pub is_in_use : Line → Bool
 is_in_use z = not (z.near_may_follow || z.far_may_follow) && (z.near.up || z.near.incomplete || z.far.up)
 
--- law (i): so it is, unless an end may follow, while either end is up, and until the near end's
--- changeover is complete
+-- law (i): this holds, unless an end may follow, while either end is up, and until the near end's changeover is
+-- complete
 abbrev pub IsFlowing : Line → Type 0
 IsFlowing z = is_in_use z ≡ true → Flows z
 
--- in place of it, while the far end may follow: that end may still open. The near end opened first,
--- and may have failed since; it isn't in service and has nothing to complete, heard nothing, and its
--- queue is as it began. Nothing is in flight to it, no link status either, and what is in flight to the far end carries
--- no message and confirms none
+-- in place of it, while the far end may follow: that end may still open. The near end opened first, and may have failed
+-- since. It isn't in service, has nothing to complete, heard nothing, and its queue is as it began. Nothing is in
+-- flight to it, no link status either, and what is in flight to the far end carries no message and confirms none
 pub record OpenedAlone (z : Line) : Type 0 where
   pub alone : z.near_may_follow ≡ false
   pub far_may : MayOpen z.far
@@ -61,9 +60,8 @@ pub record OpenedAlone (z : Line) : Type 0 where
 abbrev pub OpensAlone : Line → Type 0
 OpensAlone z = z.far_may_follow ≡ true → OpenedAlone z
 
--- how an end of a link is: its queue is one, numbered from 0; in service it is up, and while a
--- changeover goes on it is down; and a message stands there only in service or until its changeover
--- is complete
+-- how an end of a link is: its queue is numbered from 0; in service it is up, and while a changeover goes on it is
+-- down; and a message is there only in service or until its changeover is complete
 pub record IsEnd (x : LinkEnd) : Type 0 where
   pub queue : IsQueue WINDOW x.queue
   pub base : x.queue.base ≡ 0
@@ -72,18 +70,18 @@ pub record IsEnd (x : LinkEnd) : Type 0 where
   pub awaited : x.awaited ≡ true → x.up ≡ false
   pub idle : (x.serving || x.incomplete) ≡ false → x.queue.all ≡ []
 
--- law (iv): as long as that, the number of the last message that the far end accepted names the count of
--- all that it received. So a completion with that number moves just the messages that it lacks
+-- law (iv): for as long, the number of the last message that the far end accepted names the count of all that it
+-- received. So a completion with that number moves just the messages that it lacks
 abbrev pub NamesReceived : Line → Type 0
 NamesReceived z =
     is_in_use z ≡ true → named_count z.near.queue (last_accepted z.far.queue) ≡ Some z.far.queue.received
 
--- the messages that wait at the near end, as the two ends count: those behind the count that the far
--- end's number names, and where it names none, all that aren't confirmed
+-- the messages that wait at the near end, as the two ends count: those after the count that the far end's number names,
+-- or if it names none, all that aren't confirmed
 abbrev pub waiting_on : Line → List Message
 waiting_on z =
     drop (unwrap_or (named_count z.near.queue (last_accepted z.far.queue)) z.near.queue.confirmed) z.near.queue.all
 
--- these are at all times those that the far end lacks
+-- at all times these are those that the far end lacks
 abbrev pub WaitsRightly : Line → Type 0
 WaitsRightly z = waiting_on z ≡ unreceived z

@@ -1,5 +1,5 @@
--- The run goes on: the link that failed returns, and the flow goes back to it behind a declaration.
--- A message that is accepted meanwhile waits in Held, and comes behind the first.
+-- The run goes on: the link that failed returns, and the flow goes back to it after a declaration. A message that is
+-- accepted meanwhile waits in Held, and comes after the first.
 use Rattle.std.specs.Prelude.{◌≡◌, ℕ, ◌+◌, Bool, true, false, List, [], ◌∷◌, ◌++◌, nat_eq, Some, None}
 use Rattle.signalling_types.specs.Message.{Message}
 use Rattle.pair_moves.specs.Sayings.{is_declaration, is_confirmation}
@@ -69,7 +69,7 @@ accepted_second =
 abbrev pub kept_second : Pair
 kept_second = with_near accepted_second (record accepted_second.near { loose = []; held = second_message ∷ [] })
 
--- the declaration goes out behind the first message, and is confirmed
+-- the declaration goes out after the first message, and is confirmed
 
 abbrev pub declaration_sent : Pair
 declaration_sent = after_sending_one kept_second 1 2 the_declaration
@@ -135,14 +135,14 @@ pub record HasReturned (p : Pair) : Type 0 where
   pub stood : (p.line 0).near.queue.all ≡ second_message ∷ []
   pub flags : RaisesNoFlag p
 
--- a code is outstanding at the near node, and one declaration with it or confirmation of it is under way
+-- a code is outstanding at the near node, and one declaration or confirmation with it is under way
 pub record IsOutstanding (p : Pair) (code : ℕ) : Type 0 where
   pub outstanding : p.near.outstanding code ≡ true
   pub one :
       under_way (saying read_plainly (is_declaration code)) p
       + under_way (saying read_plainly (is_confirmation code)) (turned p) ≡ 1
 
--- the run goes on so from where the first message was handed over
+-- the run goes on like this from where the first message was handed over
 pub record Returns : Type 0 where
   pub moves : Moves read_plainly handed_over return_run
   pub declaration : IsOutstanding declaration_sent 0

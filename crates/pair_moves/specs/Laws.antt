@@ -5,14 +5,13 @@ use Rattle.link.specs.Queue.{last_accepted}
 use Rattle.pair_moves.specs.Sayings.{Saying, is_order, is_answer, is_untrue, is_declaration, is_confirmation}
 use Rattle.pair_moves.specs.Ends.{Pair, turned, unreceived}
 
--- the sum over so many links
+-- the sum over this many links
 abbrev pub sum_to : (ℕ → ℕ) → ℕ → ℕ
 sum_to f zero = 0
 sum_to f (suc n) = sum_to f n + f n
 
--- how many messages that pass a test the near node accepted or made, and the far node hasn't looked
--- at: those in Held, the loose ones, those of the queues that aren't received, and those that just
--- arrived
+-- how many messages that pass a test the near node accepted or made, and the far node hasn't looked at: those in Held,
+-- the loose ones, those of the queues that aren't received, and those that just arrived
 abbrev pub under_way : (Message → Bool) → Pair → ℕ
 under_way test p =
     count_by test p.near.held + count_by test p.near.loose

@@ -12,12 +12,12 @@ use Rattle.pair_moves.specs.Failing.{CompletesByAnswer, EndsWait, IgnoresAnswer}
 use Rattle.pair_moves.specs.Returning.{OpensFirst, OpensSecond, Enters, Declares, WaitsForTime}
 use Rattle.pair_moves.specs.Returning.{Confirms, EndsHold, IgnoresConfirmation}
 
--- a timer ends holds: from then on nothing is said of order
+-- a timer ends holds: from then on nothing is claimed about order
 pub record RunsLate (p q : Pair) : Type 0 where
   pub holds : Procedure → Flow → Bool
   pub after : q ≡ record p { near = record p.near { holds = holds; late = true } }
 
--- a message may be lost: from then on nothing is said at all
+-- a message may be lost: from then on nothing is claimed at all
 pub record Loses (q : Pair) : Type 0 where
   pub lost : q.near.lost ≡ true
 
@@ -67,7 +67,6 @@ module _ (read : Message → Saying) where
   Moves p [] = Unit {0}
   Moves p (q ∷ rest) = Move p q × Moves q rest
 
--- the last of them
 abbrev pub last_of : Pair → List Pair → Pair
 last_of p [] = p
 last_of p (q ∷ rest) = last_of q rest

@@ -9,8 +9,8 @@ use Rattle.pair_moves.specs.Laws.{under_way}
 abbrev pub user : (Message → Saying) → (Message → Bool) → Message → Bool
 user read test m = is_user_message (read m) && test m
 
--- of every kind of user message, as many were accepted at the near node as the far node received
--- and as are under way
+-- of every kind of user message, as many were accepted at the near node as the far node received, together with those
+-- under way
 abbrev pub EachOnce : (Message → Saying) → Pair → Type 0
 EachOnce read p =
     (test : Message → Bool) →

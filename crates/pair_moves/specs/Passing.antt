@@ -1,5 +1,5 @@
--- Moves of the messages of a node: from its user parts, into Held and out of it, and onto a link.
--- Each record says what one node, or one line, becomes; all else of the pair is as before.
+-- Moves of the messages of a node: from its user parts, into Held and out of it, and onto a link. Each record says what
+-- one node or one line becomes; the rest of the pair is as before.
 use Rattle.std.specs.Prelude.{◌≡◌, ◌≢◌, ℕ, true, false, not, ◌<◌, List, [], ◌∷◌, ◌++◌, filter, Some}
 use Rattle.signalling_types.specs.Message.{Message, flow_of}
 use Rattle.signalling_types.specs.declared.point.Flow.{Flow}
@@ -17,8 +17,7 @@ pub record BecomeAt (p : Pair) (link : ℕ) (z : Line) (lines : ℕ → Line) : 
 abbrev pub with_message : Line → Message → Line
 with_message z m = record z { near = record z.near { queue = appended z.near.queue m } }
 
--- a message of a flow may go on by a link: the flow takes it, nothing holds the flow, and none of
--- it stands in Held
+-- a message of a flow may go on by a link: the flow takes it, nothing holds the flow, and none of it is in Held
 pub record MayGo (read : Message → Saying) (s : Side) (flow : Flow) (link : ℕ) : Type 0 where
   pub routed : s.route flow ≡ Some link
   pub unheld : (procedure : Procedure) → s.holds procedure flow ≡ false
@@ -55,8 +54,7 @@ module _ (read : Message → Saying) (p q : Pair) where
     pub first : p.near.loose ≡ message ∷ rest
     pub after : q ≡ record p { near = record p.near { loose = rest; held = p.near.held ++ message ∷ [] } }
 
-  -- the first loose message goes behind those of a link in service; a user message only where it
-  -- may go on by that link
+  -- the first loose message goes after those of a link in service; a user message only if it may go on by that link
   pub record Places : Type 0 where
     pub link : ℕ
     pub message : Message
@@ -75,8 +73,8 @@ module _ (read : Message → Saying) (p q : Pair) where
       near = record p.near { arrived = heard.rest; received = p.near.received ++ heard.message ∷ [] };
     }
 
-  -- messages of which the laws don't speak come to a node from elsewhere, leave it, or change places; all others stay
-  -- as they are, in their order
+  -- messages that the laws don't speak of come to a node from elsewhere, leave it, or change places; all others stay as
+  -- they are, in order
   pub record MixesOthers : Type 0 where
     pub held : List Message
     pub loose : List Message

@@ -50,7 +50,7 @@ pub record AddsOnly (before : Procedure → Flow → Bool) (adding : Procedure)
   pub same : ChangesOnly before adding holds
 
 module _ (read : Message → Saying) (p q : Pair) where
-  -- a link opens at the near end, where it may open at the far one too, which then may follow
+  -- a link opens at the near end, if it may open at the far one too, which may then follow
   pub record OpensFirst : Type 0 where
     pub link : ℕ
     pub near_may : MayOpen (p.line link).near
@@ -80,8 +80,8 @@ module _ (read : Message → Saying) (p q : Pair) where
     pub set : BecomeAt p link (with_service (p.line link)) lines
     pub after : q ≡ record p { line = lines; near = record p.near { route = route } }
 
-  -- flows leave a link in service for the one that returned: a declaration with a free code goes
-  -- out behind all that stands on the former link, and holds them
+  -- flows leave a link in service for the one that returned. A declaration with a free code goes out after all that is
+  -- on the former link, and holds them
   pub record Declares : Type 0 where
     pub former : ℕ
     pub serving : (p.line former).near.serving ≡ true

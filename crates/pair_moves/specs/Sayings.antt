@@ -68,8 +68,8 @@ is_confirmation code (Declaration other) = false
 is_confirmation code (Confirmation other) = nat_eq other code
 is_confirmation code Other = false
 
--- an order or answer about a link is untrue where the link is up at its sender, or where it names
--- another number than that of the last message accepted there
+-- an order or answer about a link is untrue if the link is up at its sender, or if it names another number than that of
+-- the last message accepted there
 abbrev pub is_untrue : (link : ℕ) (up : Bool) (last_accepted : ℕ) → Saying → Bool
 is_untrue link up last_accepted UserMessage = false
 is_untrue link up last_accepted (Order about number) = nat_eq about link && (up || not (nat_eq number last_accepted))

@@ -27,7 +27,8 @@ Always Statement =
     (last_of (first_pair links) pairs).far.lost ≡ false →
     BothWays (Statement read) (last_of (first_pair links) pairs)
 
--- law (i), and what holds in place of it; how the ends of a link are; and a message that comes is the first that its end lacked
+-- law (i), and what holds in place of it; how the ends of a link are; a message that comes is the first that its end
+-- lacked
 abbrev pub lines_flow : Type 0
 lines_flow = Always (λ read p. (link : ℕ) → IsFlowing (p.line link))
 
@@ -43,8 +44,8 @@ messages_come_in_order =
     (q : Pair) (m : TakesMessage read p q) →
     slice_get (p.line m.link).far.queue.all (p.line m.link).near.queue.received ≡ Some m.message)
 
--- law (ii); and so nothing about a link is under way from either node when it may open at both ends, or
--- where one may follow the other
+-- law (ii). So nothing about a link is under way from either node when it may open at both ends, or when one may follow
+-- the other
 abbrev pub orders_are_awaited : Type 0
 orders_are_awaited = Always OrdersAreAwaited
 
@@ -66,8 +67,8 @@ follows_with_nothing_under_way =
 abbrev pub words_are_true : Type 0
 words_are_true = Always WordsAreTrue
 
--- law (iv), and what it comes to: what waits by the number is what the far end lacks; and a
--- completion moves the messages that the far end lacks, and no other
+-- law (iv), and what it amounts to: what waits by the number is what the far end lacks, and a completion moves the
+-- messages that the far end lacks, and no others
 abbrev pub numbers_name_what_was_received : Type 0
 numbers_name_what_was_received = Always (λ read p. (link : ℕ) → NamesReceived (p.line link))
 
@@ -94,6 +95,6 @@ codes_are_outstanding = Always CodesAreOutstanding
 abbrev pub each_message_once : Type 0
 each_message_once = Always EachOnce
 
--- "Order", where besides no timer of the sending node ended a hold
+-- "Order", if furthermore no timer of the sending node ended a hold
 abbrev pub each_flow_in_order : Type 0
 each_flow_in_order = Always (λ read p. p.near.late ≡ false → (flow : Flow) → IsInOrder read flow p)

@@ -13,15 +13,14 @@ ghost use Rattle.pair_moves.specs.Crossing.{Crosses};
 ghost use Rattle.pair_moves.specs.GoingBack.{Returns};
 ghost use Rattle.pair_moves.specs.Theorems.{codes_are_outstanding, each_message_once, each_flow_in_order};
 
-/// Law (i), of one link and one direction. While either end is up, and until the near end's
-/// changeover is complete, unless an end may follow the other, the far end accepted the first
-/// messages of the near end's queue, as many as it counts (RFC 4165 §2.2). While the far end is up,
-/// the User Data in flight carry those from there to the last that was sent, in order. While the
-/// near end is up, the backward numbers of the User Data that come to it name counts that the far
-/// end accepted, never falling. So a message that comes is the first that its end lacked. While an end may follow, the
-/// one that opened first has an empty queue and isn't in service; nothing is in flight to it, and
-/// no message to the other, which is down and may open. A message stands at an end only while the
-/// end is in service or its changeover isn't complete.
+/// Law (i), of one link and one direction. While either end is up, and until the near end's changeover is complete,
+/// unless an end may follow the other, the far end accepted the first messages of the near end's queue, as many as it
+/// counts (RFC 4165 §2.2). While the far end is up, the User Data in flight carry those from there to the last that was
+/// sent, in order. While the near end is up, the backward numbers of the User Data that come to it name counts that the
+/// far end accepted, never falling. So a message that comes is the first that its end lacked. While an end may follow,
+/// the one that opened first has an empty queue and isn't in service; nothing is in flight to it, and no message to the
+/// other, which is down and may open. A message is at an end only while the end is in service or its changeover isn't
+/// complete.
 pub fn frames_carry_what_was_not_received()
     ensures carried { lines_flow }
     ensures opening { first_ends_are_alone }
@@ -29,10 +28,9 @@ pub fn frames_carry_what_was_not_received()
     ensures taken { messages_come_in_order }
 {}
 
-/// Law (ii). Of a node's changeover orders about a link and the peer's answers about it, exactly
-/// one is under way while the node awaits that answer, and else none (Q.704 §5.4): so no node awaits
-/// in vain. None is from either node when the link may open at both ends, nor where an end may
-/// follow the other.
+/// Law (ii). Of a node's changeover orders about a link and the peer's answers about it, exactly one is under way while
+/// the node awaits that answer, and else none (Q.704 §5.4). So no node awaits in vain. None is from either node when
+/// the link may open at both ends, nor when an end may follow the other.
 pub fn orders_and_answers_are_awaited()
     ensures awaited { orders_are_awaited }
     ensures opening { opens_with_nothing_under_way }
@@ -46,11 +44,10 @@ pub fn orders_and_answers_are_true()
     ensures { words_are_true }
 {}
 
-/// Law (iv). While either end of a link is up, and until its changeover is complete, unless an end
-/// may follow the other, the number of the last message that the peer accepted there names the count
-/// of all that it received. At all times the messages behind the count that the number names, or
-/// where it names none those that aren't confirmed, are those that the peer lacks; and a completion,
-/// by an order or by an answer, moves these and no other (Q.704 §5.4, §5.5).
+/// Law (iv) (Q.704 §5.4, §5.5). While either end of a link is up, and until its changeover is complete, unless an end
+/// may follow the other, the number of the last message that the peer accepted there names the count of all that it
+/// received. At all times the messages after the count that the number names, or if it names none those that aren't
+/// confirmed, are those that the peer lacks. A completion, by an order or by an answer, moves these and no others.
 pub fn completions_move_what_the_peer_lacks()
     ensures named { numbers_name_what_was_received }
     ensures waiting { what_waits_is_lacked }
@@ -64,31 +61,28 @@ pub fn codes_are_outstanding_until_they_are_confirmed()
     ensures { codes_are_outstanding }
 {}
 
-/// "Exactly once": of whatever kind of user messages, as many were accepted at one node as the
-/// other received and as stand between them: in Held, on a link behind what the other node
-/// accepted, or in a list that a node is at work on.
+/// "Exactly once": of any kind of user messages, as many were accepted at one node as the other received, together with
+/// those between them: in Held, on a link after what the other node accepted, or in a list that a node is working on.
 pub fn each_message_comes_once()
     ensures { each_message_once }
 {}
 
-/// "Order": the user messages of a flow that one node accepted are, in order, those that the other
-/// received or that just arrived there, those that stand on the one link that has any, those in
-/// Held, and those at work. It holds while no timer of the accepting node ended a hold.
+/// "Order": the user messages of a flow that one node accepted are, in order, those that the other received or that
+/// just arrived there, those on the one link that has any, those in Held, and those being worked on. It holds while no
+/// timer of the accepting node ended a hold.
 pub fn each_flow_keeps_its_order()
     ensures { each_flow_in_order }
 {}
 
-/// These laws aren't empty: by a run of 39 moves a message that stands on a link as it fails at
-/// both ends is accepted at one node and received by the other, through a changeover order and its
-/// answer, and no flag is raised.
+/// These laws aren't empty. In a run of 39 moves a message on a link that fails at both ends is accepted at one node
+/// and received by the other, through a changeover order and its answer, and no flag is raised.
 pub fn a_message_crosses_a_failure()
     ensures { Crosses }
 {}
 
-/// Nor is the law of codes. The run goes on by 27 moves: the link that failed returns, and the flow
-/// goes back to it behind a changeback declaration. A message that is accepted meanwhile is held
-/// until the declaration is confirmed, goes by the link that returned, and is received behind the
-/// first; no flag is raised.
+/// Nor is the law of codes. The run goes on by 27 moves: the link that failed returns, and the flow goes back to it
+/// after a changeback declaration. A message that is accepted meanwhile is held until the declaration is confirmed,
+/// goes by the link that returned, and is received after the first. No flag is raised.
 pub fn a_flow_returns_in_order()
     ensures { Returns }
 {}

@@ -1,4 +1,4 @@
--- User messages behind a number: as many stand where a node makes management alone.
+-- User messages after a number: as many are if a node makes management alone.
 use Rattle.pair_rules.proofs.Basics.{◌≡◌, ◌≤◌, ◌+◌, ◌&&◌, ℕ, zero, suc, Bool, true, false, not, List, [], ◌∷◌, ◌++◌, length, drop, Option, Some, None, refl, ap, ◌∙◌, arith, if◌then◌else◌, count_by}
 use Rattle.pair_rules.proofs.Definitions.{Message, flow_of, is_management, Cause, Configuration, Queue, appended, first_queue, named_count, Facts, Node, with_parts, WholeQueues, whole, queue_at, queue_on, no_room, link_of, send, entry_of, peer_of, set_of, ChangebackDeclaration, advance, enters, return_if, loses_flows, hold_flows, code_for, declaration, take_back_each, facts, after}
 use Rattle.std.specs.Prelude.{unwrap_or}

@@ -1,5 +1,5 @@
--- A refused message of SCCP brings in what it adds to the user messages behind a number: one, where the UDTS that returns it stands in a queue or in
--- Held.
+-- A refused message of SCCP brings in what it adds to the user messages after a number: one, where the UDTS that
+-- returns it is in a queue or in Held.
 use Rattle.pair_rules.proofs.Basics.{◌≡◌, ◌≤◌, ◌<◌, ◌+◌, ◌-◌, ◌&&◌, ℕ, Bool, true, false, not, List, [], ◌∷◌, ◌++◌, length, drop, Option, Some, None, Result, Ok, Err, refl, ap, sym, subst, ◌∙◌, nat_eq, arith, if◌then◌else◌, get_or-set_other, get_or-set_same}
 use Rattle.pair_rules.proofs.Definitions.{Message, dpc_of, flow_of, service_indicator, Cause, Refused, Configuration, FrameValue, EmptyFrame, MessageFrame, StatusFrame, read_frame, Action, UserData, action_at, SeqFault, Queue, IsQueue, after_answer, appended, count_confirmed, first_queue, named_count, Discrimination, Node, FrameCame, Submitted, WholeQueues, whole, queue_at, queue_on, no_room, link_of, waits, Carrying, Fits, accept, accept_data, accept_text, carries, empty_data, message_data, numbers, is_link, down, link_at, new_at, new_by, new_message, new_of, advance, outcome_of, after, sccp, whither_goes, taken_in, Done, refuse, fit-steps, in_service, confirming, owing-steps, advance-serves, data-serves}
 use Rattle.std.specs.Option.{option_map}

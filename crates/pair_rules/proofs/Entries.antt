@@ -1,4 +1,5 @@
--- A link enters service: by the table of the alignment it was up and stays so, and each flow that had a link keeps it or takes the one that entered.
+-- A link enters service: by the table of the alignment it was up and stays so, and each flow that had a link keeps it
+-- or takes the one that entered.
 use Rattle.pair_rules.proofs.Basics.{◌≡◌, ◌&&◌, ℕ, Bool, true, false, not, List, [], ◌∷◌, Option, Some, None, refl, ap, sym, ◌∙◌, ◌==◌, if◌then◌else◌, list_all, and_parts}
 use Rattle.pair_rules.proofs.Definitions.{Configuration, Alignment, Down, NotAligned, Aligned, Proving, AlignedReady, InService, Action, Input, Status, UserData, Expiry, Effect, Fails, Remembers, Enters, EntersServing, Serves, Cell, table, state_number, is_same_input, effect_in, action_of, action_at, is_down, is_in_service, with_link, chosen_link, Parts, facts, FrameValue, Node, WholeQueues, LinkEnd}
 use Rattle.link.specs.declared.action.Action.TheVariants.{Ignored, Fail, Go}

@@ -1,4 +1,4 @@
--- Lists of moves, one behind another.
+-- Lists of moves, one after another.
 use Rattle.pair_rules.proofs.Basics.{◌≡◌, true, List, [], ◌∷◌, ◌++◌, refl, ◌∙◌, ap, subst, sym}
 use Rattle.pair_rules.proofs.Definitions.{Message, Saying, Pair}
 use Rattle.pair_moves.specs.Moves.{NearMove, Move, Moves, Loses, last_of}

@@ -1,4 +1,4 @@
--- The run of two exchanges, by computation: but for whether its message waits, which is looked at twice.
+-- The run of two exchanges, by computation: except whether its message waits, which is looked at twice.
 use Rattle.pair_rules.proofs.Basics.{◌≡◌, ◌≢◌, ℕ, Bool, true, false, not, ◌&&◌, ◌||◌, List, [], ◌∷◌, ◌++◌, refl, sym, ap, ◌∙◌, subst, None, Some, slice_get, slice_index_or, option_to_list, true≢false, and_left as and-first}
 use Rattle.pair_rules.proofs.Definitions.{Message, flow_of, Configuration, set_timer, start_unless_running, clear_timer, clear_set, due_name, after_due, due_count, first_sets, choice_among, link_by, Procedure, any_flow, flows, with_flows, HoldSet, holds, is_held, is_same, lifted, may_hold, no_holds, flows_add, flows_leave, contains-lifted, held_by, none_at_first, Done, Node, lost_any, late_any, WholeQueues, whole, no_room, waits, link_of, go_by, go_each, FrameCame, new_message, apply, handle_event, settled, take_back_each, PairState, AtNear, Delivers, Loses, OpensFirst, taken_in, after_steps, deliver_frame, users_of, in_flight, may_follow, without_data, is_down_at, waiting_on, brought_in}
 use Rattle.std.specs.Prelude.{Option}

@@ -1,4 +1,4 @@
--- Where an element stands in a list.
+-- Where an element is in a list.
 use Rattle.std.proofs.Common.{◌≡◌, ◌+◌, Bool, not, cond, List, [], ◌∷◌, map, position, refl, ap}
 use Rattle.std.specs.List.{prefix_len}
 use Rattle.std.proofs.lemmas.List.{length-map}

@@ -1,4 +1,4 @@
--- What stands between two ends, by counts, and what the words among it say.
+-- What is between two ends, by counts, and what the words among it say.
 use Rattle.pair_rules.proofs.Basics.{◌≡◌, subst, ◌<◌, ◌≢◌, ◌+◌, ℕ, Bool, true, false, zero, suc, List, [], ◌∷◌, length, Some, refl, ap, sym, ◌∙◌, arith, Contains, count_by, drop, take, slice_get, ⊎_elim, cases_eq, Contains-append_left, Contains-append_right}
 use Rattle.pair_rules.proofs.Definitions.{Message}
 use Rattle.std.proofs.lemmas.Option.{slice_get_read}

@@ -1,4 +1,4 @@
--- What goes out on a link, by what stands and waits there.
+-- What goes out on a link, by what is and waits there.
 use Rattle.pair_rules.proofs.Basics.{◌≡◌, ◌&&◌, ◌-◌, ℕ, Bool, true, false, not, Option, Some, None, refl, ap, sym, ◌∙◌, nat_lt, if◌then◌else◌, slice_get}
 use Rattle.pair_rules.proofs.Definitions.{Message, LinkStatus, Queue, Sending, forward_number, numbered, to_send, SendsStatus, SendsMessage, Acknowledges, message_first, status_first}
 

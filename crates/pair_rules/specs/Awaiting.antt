@@ -1,4 +1,5 @@
--- What messages say that an end may await of the other; and that every hold has its timer or its word.
+-- What messages say that an end may await of the other; and every hold has a timer that runs or an answer that is
+-- awaited.
 use Rattle.std.specs.Prelude.{ℕ, Option, Some, None, Result, Ok, Err}
 use Rattle.settings_rows.specs.Configuration.{Configuration}
 use Rattle.mtp3_codec.specs.declared.fault.MgmtFault.{MgmtFault}
@@ -8,7 +9,7 @@ use Rattle.exchange_rules.specs.Messages.{link_with_code}
 use Rattle.exchange_rules.specs.LastingHolds.{AllWillEnd}
 use Rattle.pair_rules.specs.Pairs.{PairState}
 
--- ---- what a message says to the node with these settings, which it comes to from a point
+-- ---- what a message says to the node with these settings, given the point that it comes from
 
 -- of four kinds each names a link or a code
 abbrev pub Kind : Type 0
@@ -39,7 +40,7 @@ named_in kind c point (Err fault) = None
 
 -- ---- what is held
 
--- at both ends every hold has its timer or its word, whether or not a message may be lost
+-- at both ends every hold has a timer that runs or an answer that is awaited, whether or not a message may be lost
 pub record HoldInNoVain (p : PairState) : Type 0 where
   pub near : AllWillEnd p.near.exchange.node.parts
   pub far : AllWillEnd p.far.exchange.node.parts

@@ -1,4 +1,4 @@
--- What a delivery comes to tells what it brought, and what the end accepted of that.
+-- The outcome of a delivery says what it brought, and what the end accepted of that.
 use Rattle.std.specs.Prelude.{◌≡◌, ◌≢◌, ◌⊎◌, ℕ, Bool, true, false, List, [], ◌∷◌, drop, length, if◌then◌else◌, nat_eq, Option, Some, None}
 use Rattle.signalling_types.specs.Message.{Message, service_indicator}
 use Rattle.signalling_types.specs.declared.cause.Cause.{Cause}
@@ -14,18 +14,18 @@ use Rattle.pair_rules.specs.Promises.{Always, BothWays}
 
 -- ---- what came of a message of SCCP
 
--- of one that is refused the end accepts at most the UDTS that returns it
+-- the end accepts at most the UDTS that returns one that is refused
 abbrev pub IsReturnedAtMost : Option (List ℕ) → Message → (accepted : List Message) → Type 0
 IsReturnedAtMost None m accepted = accepted ≡ []
 IsReturnedAtMost (Some udts) m accepted = (accepted ≡ []) ⊎ (accepted ≡ in_place_of m udts ∷ [])
 
--- for a cause that isn't that of user parts
+-- for a cause that isn't one of user parts
 pub record IsRefused (c : Configuration) (rows : List TitleEntry) (cause : Cause) (m : Message)
     (accepted : List Message) : Type 0 where
   pub other : cause ≢ NoUserPart
   pub returned : IsReturnedAtMost (returned (own_of c) rows m.sif cause) m accepted
 
--- one that goes on, written anew, is queued or held, and nothing else is accepted; or it is refused
+-- one that goes on, rewritten, is queued or held, and nothing else is accepted; or it is refused
 abbrev pub GoesOn : (sif : List ℕ) → Configuration → List TitleEntry → Message → Outcome → (accepted : List Message)
     → Type 0
 GoesOn sif c rows m (Queued link) accepted = accepted ≡ in_place_of m sif ∷ []
@@ -35,7 +35,7 @@ GoesOn sif c rows m Local accepted = ⊥
 GoesOn sif c rows m Handled accepted = ⊥
 GoesOn sif c rows m Ignored accepted = ⊥
 
--- by what becomes of it at this point: one for a subsystem here is delivered
+-- by what becomes of it at this point; one for a subsystem here is delivered
 abbrev pub IsRelayed : RelayedValue → Configuration → List TitleEntry → Message → Outcome → (accepted : List Message)
     → Type 0
 IsRelayed relays.Delivered c rows m outcome accepted = (outcome ≡ Local) × (accepted ≡ [])
@@ -59,21 +59,21 @@ pub record IsQuiet (outcome : Outcome) (accepted : List Message) : Type 0 where
   pub held : outcome ≢ Held
   pub nothing : accepted ≡ []
 
--- by what was received, at an end with these settings and translation rows: Local if a message came for a user part
--- that the settings list, NoUserPart if one came for another, and what SCCP makes of it if one came for SCCP
+-- what an end with these settings and translation rows answers, by what was received: Local if a message came for a
+-- user part that the settings list, NoUserPart if one came for another, and what SCCP makes of it if one came for SCCP
 abbrev pub ComesTo : Configuration → List TitleEntry → (received accepted : List Message) → Outcome → Type 0
 ComesTo c rows [] accepted outcome = IsQuiet outcome accepted
 ComesTo c rows (m ∷ ms) accepted outcome =
     ComesOf (nat_eq (service_indicator m) sccp) c rows m outcome accepted
 
--- what the near end received by something done there, and what it accepted
+-- what the near end received and accepted by something done there
 abbrev pub received_by : Doing → PairState → List Message
 received_by what p = drop (length p.near.received) (did what p).left.near.received
 
 abbrev pub accepted_by : Doing → PairState → List Message
 accepted_by what p = drop (length p.near.accepted) (did what p).left.near.accepted
 
--- what something done at an end came to tells both
+-- the outcome of something done at an end says both
 abbrev pub TellsOf : Doing → PairState → Outcome → Type 0
 TellsOf what p outcome =
     ComesTo p.near.exchange.settings p.near.exchange.node.parts.titles (received_by what p) (accepted_by what p) outcome
@@ -81,7 +81,7 @@ TellsOf what p outcome =
 abbrev pub Tells : Doing → PairState → Type 0
 Tells what p = TellsOf what p (did what p).outcome
 
--- a delivery at the near end does, of User Data or of a link status
+-- so does that of a delivery at the near end, of User Data or of a link status
 pub record TellsWhatCame (p : PairState) : Type 0 where
   pub user_data : (link : ℕ) → Tells (Delivers link) p
   pub status : (link : ℕ) → Tells (DeliversStatus link) p

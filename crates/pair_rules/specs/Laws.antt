@@ -1,5 +1,5 @@
--- What the laws of a link between two exchanges speak of: how it stands at an end, the messages that frames carry, and
--- what an order to change over says to the node that it comes to.
+-- The terms of the laws of a link between two exchanges: how it is at an end, the messages that frames carry, and what
+-- an order to change over says to the node that it comes to.
 use Rattle.std.specs.Prelude.{◌≡◌, ◌<◌, ◌^◌, ℕ, Bool, List, filter_map, length, Option, Some, None, Result, Ok, Err, if◌then◌else◌}
 use Rattle.std.specs.Option.{option_map}
 use Rattle.signalling_types.specs.Message.{Message, is_management, opc_of}
@@ -18,7 +18,6 @@ use Rattle.pair_rules.specs.Promises.{AreJoined}
 
 -- ---- a link at an end
 
--- a link is down at an end
 abbrev pub is_down_at : End → (link : ℕ) → Bool
 is_down_at e link = down e.exchange.node.parts link
 
@@ -55,7 +54,7 @@ word_read c point (Err fault) = None
 abbrev pub word_of : Configuration → Message → Option Word
 word_of c m = if is_management m then word_read c (opc_of m) (read_management m.sif) else None
 
--- what an order says that a node makes about a link, and its answer to one, to the node that it faces
+-- what a node's order about a link, and its answer to one, say to the node that it faces
 pub record SayTheirWord (near far : Configuration) (link number : ℕ) : Type 0 where
   pub order : word_of far (changeover_order near link number) ≡ Some (about number link)
   pub answer : word_of far (changeover_acknowledgement near link number) ≡ Some (about number link)

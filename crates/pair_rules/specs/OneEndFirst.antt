@@ -1,4 +1,4 @@
--- A run of two exchanges: their only message stands on a link that fails with it. The link opens again at one end, and
+-- A run of two exchanges: their only message is on a link that fails with it. The link opens again at one end, and
 -- falls there before the other follows. The message comes by the other link, once.
 use Rattle.std.specs.Prelude.{◌≡◌, ℕ, true, false, List, [], ◌∷◌, ◌++◌}
 use Rattle.signalling_types.specs.Message.{Message}
@@ -69,7 +69,7 @@ sends_far link = AtNear (Takes link) ∷ AtFar (Delivers link) ∷ []
 abbrev pub sends_near : (link : ℕ) → List Step
 sends_near link = AtFar (Takes link) ∷ AtNear (Delivers link) ∷ []
 
--- a link opens at one end after the other, and both ends prove it
+-- a link opens at one end and then at the other, and both ends prove it
 abbrev pub aligns : (link : ℕ) → List Step
 aligns link =
     AtNear (OpensFirst link) ∷ AtFar (OpensSecond link)
@@ -85,11 +85,11 @@ opening =
 abbrev pub ordering : List Step
 ordering = AtNear (Loses 0) ∷ AtFar (Loses 0) ∷ sends_far 1 ++ AtFar (Takes 1) ∷ []
 
--- both answers come, each behind a declaration that stood on the link
+-- both answers come, each after a declaration that was on the link
 abbrev pub answering : List Step
 answering = sends_near 1 ++ sends_near 1 ++ sends_far 1 ++ sends_far 1
 
--- ---- states, each by steps from the one before
+-- ---- states, each reached by steps from the one before
 
 abbrev pub served : PairState
 served = after_steps opening (first_pair near_settings far_settings)

@@ -17,15 +17,15 @@ use Rattle.exchange_rules.specs.Queues.{whole}
 use Rattle.exchange_rules.specs.Exchange.{outcome_of, after, frame_to_take, taken, wants_of}
 use Rattle.exchange_rules.specs.Receiving.{new_message}
 
--- what is in flight to an end on each link, on two streams: its link statuses, and its User Data; on each the first
--- that went out first, but neither stream is ordered with the other (RFC 4165 §2)
+-- what is in flight to an end on each link, on two streams: its link statuses, and its User Data. On each stream the
+-- first that went out comes first, but neither stream is ordered with the other (RFC 4165 §2)
 pub record Streams : Type 0 where
   pub statuses : List (List (List ℕ))
   pub user_data : List (List (List ℕ))
 
--- an end: its exchange; what is in flight to it; of each link whether it may follow the other end, which opened first;
--- all user messages that it accepted, and all that came to it from the other end. It accepts what an event there brings
--- into a queue or Held: what a user part hands over, what SCCP relays, and the UDTS that it returns
+-- an end: its exchange; what is in flight to it; for each link, whether it may follow the other end, which opened
+-- first; all user messages that it accepted, and all that came to it from the other end. It accepts what an event there
+-- brings into a queue or Held: what a user part hands over, what SCCP relays, and the UDTS that it returns
 pub record End : Type 0 where
   pub exchange : Abstract
   pub incoming : Streams
@@ -61,7 +61,7 @@ pub data Doing : Type 0 where
   -- the operator lets a link open, or keeps it from it
   Activates : (link : ℕ) → Doing
   Deactivates : (link : ℕ) → Doing
-  -- the operator adds a translation row, where memory for it isn't refused, or removes one
+  -- the operator adds a translation row, if memory for it isn't refused, or removes one
   AddsTitle : (row : TitleEntry) (is_memory_refused : Bool) → Doing
   RemovesTitle : (key : TitleKey) (digits : List ℕ) → Doing
   -- a link opens at this end, which is the first of the two; or this end follows the other
@@ -72,7 +72,7 @@ pub data Step : Type 0 where
   AtNear : (what : Doing) → Step
   AtFar : (what : Doing) → Step
 
--- what became of a step, and what it left
+-- the outcome of a step, and the pair after it
 pub record Turn : Type 0 where
   pub outcome : Outcome
   pub left : PairState
@@ -114,7 +114,7 @@ submit m p = record {
   };
 }
 
--- a frame is in flight behind the others of its stream
+-- a frame is put in flight after the others of its stream
 abbrev pub behind_statuses : List ℕ → (link : ℕ) → Streams → Streams
 behind_statuses text link s =
     record s { statuses = slice_set s.statuses link (in_flight s.statuses link ++ text ∷ []) }
@@ -146,8 +146,8 @@ without_status link s = record s { statuses = slice_set s.statuses link (drop 1 
 abbrev pub without_data : (link : ℕ) → Streams → Streams
 without_data link s = record s { user_data = slice_set s.user_data link (drop 1 (in_flight s.user_data link)) }
 
--- a frame comes that was in flight on a link, and with it the user message that it newly carries; of that the end may
--- accept what SCCP makes of it, for the other end. So much is left in flight
+-- a frame that was in flight on a link comes, and with it the user message that it newly carries. Of that the end may
+-- accept what SCCP makes of it for the other end. This much is left in flight
 abbrev pub deliver_frame : Option (List ℕ) → (link : ℕ) → (left : Streams) → PairState → Turn
 deliver_frame None link left p = ignored p
 deliver_frame (Some text) link left p = record {
@@ -162,7 +162,7 @@ deliver_frame (Some text) link left p = record {
   };
 }
 
--- what is in flight to the near end changes, where a link status is in flight there
+-- what is in flight to the near end changes, if a link status is in flight there
 abbrev pub change_statuses : Option (List ℕ) → (left : Streams) → PairState → Turn
 change_statuses None left p = ignored p
 change_statuses (Some text) left p =
@@ -179,8 +179,8 @@ with_status_twice link s =
 abbrev pub emptied : (link : ℕ) → Streams → Streams
 emptied link s = record { statuses = slice_set s.statuses link []; user_data = slice_set s.user_data link [] }
 
--- a link opens at the near end, where that wants it to, and where it may open at the far one too: then nothing is in
--- flight, and the far end may follow
+-- a link opens at the near end, if that wants it to and it may open at the far one too. Then nothing is in flight, and
+-- the far end may follow
 abbrev pub opens_first : Wants → (far_may : Bool) → (link : ℕ) → PairState → Turn
 opens_first Open true link p = record {
   outcome = Handled;
@@ -198,7 +198,7 @@ opens_first Open true link p = record {
 }
 opens_first wants far_may link p = ignored p
 
--- the near end follows the far one, where it may and wants to
+-- the near end follows the far one, if it may and wants to
 abbrev pub opens_second : Wants → (follows : Bool) → (link : ℕ) → PairState → Turn
 opens_second Open true link p = record {
   outcome = Handled;
@@ -240,9 +240,9 @@ turn (AtFar what) p = record {
   left = turned (did what (turned p)).left;
 }
 
--- ---- from the first on
+-- ---- from the first
 
--- nothing is in flight on so many links
+-- nothing is in flight on this many links
 abbrev pub nothing_in_flight : (links : ℕ) → Streams
 nothing_in_flight links = record { statuses = replicate links []; user_data = replicate links [] }
 

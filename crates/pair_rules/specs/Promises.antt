@@ -12,11 +12,10 @@ use Rattle.exchange_rules.specs.State.{lost_any, late_any}
 use Rattle.pair_moves.specs.Order.{join_to}
 use Rattle.pair_rules.specs.Pairs.{End, PairState, Step, turned, first_pair, after_steps}
 
--- the queue of a link at an end
 abbrev pub queue_of : End → (link : ℕ) → Queue
 queue_of e link = queue_at e.exchange.node.queues link
 
--- how many of the near end's messages on a link the far end accepted, as its number names them; where that names none,
+-- how many of the near end's messages on a link the far end accepted, as its number names them; if that names none,
 -- those that it confirmed
 abbrev pub accepted_there : PairState → (link : ℕ) → ℕ
 accepted_there p link =
@@ -24,7 +23,7 @@ accepted_there p link =
     (named_count (queue_of p.near link) (last_accepted (queue_of p.far link)))
     (queue_of p.near link).confirmed
 
--- the user messages of a link that wait at the near end: those behind that count
+-- the user messages of a link that wait at the near end: those after that count
 abbrev pub waiting_on : PairState → (link : ℕ) → List Message
 waiting_on p link = users_of (drop (accepted_there p link) (queue_of p.near link).all)
 
@@ -42,7 +41,8 @@ pub record LostNothing (p : PairState) : Type 0 where
 abbrev pub user : (Message → Bool) → Message → Bool
 user test m = not (is_management m) && test m
 
--- of every kind of user message, as many were accepted at the near end as came to the far end and wait
+-- of every kind of user message, as many were accepted at the near end as came to the far end, together with those that
+-- wait
 abbrev pub EachOnce : PairState → Type 0
 EachOnce p =
     (test : Message → Bool) →
@@ -68,7 +68,7 @@ pub record AreJoined (near far : Configuration) : Type 0 where
   pub far_well : IsWell far
   pub facing : IsFacing near far
 
--- after every list of steps, from two exchanges on that were just booted
+-- after every list of steps from two newly booted exchanges
 abbrev pub Always : (PairState → Type 0) → Type 0
 Always Statement =
     (near far : Configuration) (steps : List Step) → AreJoined near far →
@@ -79,6 +79,6 @@ pub record BothWays (Statement : PairState → Type 0) (p : PairState) : Type 0 
   pub there : Statement p
   pub back : Statement (turned p)
 
--- "Order", where besides no timer of the accepting end ended a hold
+-- "Order", if furthermore no timer of the accepting end ended a hold
 abbrev pub IsPunctual : PairState → Type 0
 IsPunctual p = late_any p.near.exchange.node.parts ≡ false

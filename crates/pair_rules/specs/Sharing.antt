@@ -1,4 +1,4 @@
--- Two nodes that share a link set, whatever neighbours each has besides: what their orders and answers say.
+-- Two nodes that share a link set, whatever other neighbours each has: what their orders and answers say.
 use Rattle.std.specs.Prelude.{◌≡◌, ◌<◌, ◌^◌, ℕ, length, Some}
 use Rattle.settings_rows.specs.Configuration.{Configuration}
 use Rattle.settings.specs.Well.{IsWell}
@@ -15,7 +15,7 @@ pub record AreSharing (near far : Configuration) : Type 0 where
   pub shares : SharesSet near far
 
 -- the far node has a link with the code of the near one's, and by the other's point and that code each node finds its
--- own; an order about the near one that the near node makes, and its answer to one, say the far one and the number
+-- own. An order about the near one that the near node makes, and its answer to one, name the far one and the number
 pub record SayOneLink (near far : Configuration) (link number : ℕ) : Type 0 where
   pub other : ℕ
   pub code : (entry_of far other).slc ≡ (entry_of near link).slc
@@ -24,7 +24,7 @@ pub record SayOneLink (near far : Configuration) (link number : ℕ) : Type 0 wh
   pub order : word_of far (changeover_order near link number) ≡ Some (about number other)
   pub answer : word_of far (changeover_acknowledgement near link number) ≡ Some (about number other)
 
--- so it is of each link of the set
+-- this holds for each link of the set
 abbrev pub links_are_told_by_their_codes : Type 0
 links_are_told_by_their_codes =
     (near far : Configuration) (link number : ℕ) (sharing : AreSharing near far) → link < length near.links →

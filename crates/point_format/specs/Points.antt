@@ -18,12 +18,11 @@ abbrev pub in_three_parts : ℕ → List ℕ
 in_three_parts point =
     digit (point / 2048) ∷ 45 ∷ three_digits (point / 8 % 256) ++ 45 ∷ digit (point % 8) ∷ []
 
--- the text of a point
 abbrev pub point_text : PointFormat → ℕ → List ℕ
 point_text Plain point = decimal point
 point_text ThreeEightThree point = in_three_parts point
 
--- a text that says a point: its number, or its three parts where points are written in these
+-- a text that says a point: its number, or its three parts if points are written in these
 abbrev pub IsPointText : PointFormat → List ℕ → ℕ → Type 0
 IsPointText Plain text point = text ≡ decimal point
 IsPointText ThreeEightThree text point = (text ≡ in_three_parts point) ⊎ (text ≡ decimal point)

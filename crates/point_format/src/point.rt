@@ -34,7 +34,7 @@ pub fn point_text(point: PointCode, format: PointFormat) -> ArrayString<POINT_OC
     text
 }
 
-/// Writes the three parts of a point where nothing is written yet.
+/// Writes the three parts of a point into an empty text.
 fn push_three_parts(text: &mut ArrayString<POINT_OCTETS>, point: PointCode)
     requires { text.old.bytes ≡ [] }
     ensures { text.new.bytes ≡ in_three_parts point }
@@ -46,8 +46,8 @@ fn push_three_parts(text: &mut ArrayString<POINT_OCTETS>, point: PointCode)
     }
 }
 
-/// The point of a text: its number in decimal digits without leading zeros, or, where the format is in
-/// three parts, also those three parts, the area in three digits. None for any other text.
+/// The point of a text: its number in decimal digits without leading zeros; or, if the format is in three parts, those
+/// too, the area in three digits. None for any other text.
 pub fn parse_point(text: &[u8], format: PointFormat) -> Option<PointCode>
     ensures point { result ≡ point_in format text.now }
     ensures value { IfSome result (λ point. IsPointText format text.now point) }
@@ -97,7 +97,6 @@ fn number(text: &str) -> Option<u16>
     text.parse::<u16>().ok()
 }
 
-/// The point of these three parts.
 fn parse_three_parts(text: &[u8]) -> Option<PointCode>
     ensures value { IfSome result (λ point. (point < 2 ^ 14) × (text.now ≡ in_three_parts point)) }
     ensures found { (point : ℕ) → point < 2 ^ 14 → text.now ≡ in_three_parts point → result ≡ Some point }

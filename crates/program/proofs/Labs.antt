@@ -1,4 +1,4 @@
--- A lab script that ended for want of memory, or otherwise, and how the program ends after it.
+-- A lab script that ended for lack of memory, or otherwise, and how the program ends after it.
 use Rattle.std.proofs.Common.{◌≡◌, ◌≢◌, ◌⊎◌, ℕ, List, Result, Ok, Err, Some, refl, subst, inl, inr}
 use Rattle.std.specs.Prelude.{OnOk, String}
 use Rattle.std.specs.Global.{Global}

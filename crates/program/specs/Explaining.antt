@@ -13,25 +13,25 @@ use Rattle.program.specs.declared.folder.Unread.TheVariants.{Missing, Forbidden,
 use Rattle.script.specs.declared.fault.ScriptFault.{ScriptFault}
 use Rattle.script.specs.declared.fault.ScriptFault.TheVariants as fault
 
--- standard error is told a text; or its write failed, and it is told the first octets of it
+-- a text is written to standard error; or the write failed, and the first octets of the text were written
 abbrev pub IsTold : List ℕ → Output → Output → Type 0
 IsTold text errors errors_new =
     (Appends errors.written errors_new.written text × (errors_new.failures ≡ errors.failures))
     ⊎ (AppendsFirst errors.written errors_new.written text × (errors_new.failures ≡ counted errors.failures))
 
--- it is told a text that was made; or memory ran out for the text, and it is told nothing
+-- a text that was made is written there; or memory ran out for the text, and nothing is
 abbrev pub IsToldMade : {F : Type 0} → Result (String Global) F → Output → Output → Type 0
 IsToldMade (Ok text) errors errors_new = IsTold (string_bytes text) errors errors_new
 IsToldMade (Err _) errors errors_new = errors_new ≡ errors
 
--- it is told some text of this kind; or memory ran out for the text, and it is told nothing
+-- some text of this kind is written there; or memory ran out for the text, and nothing is
 abbrev pub IsToldOf : (List ℕ → Type 0) → Output → Output → Type 0
 IsToldOf IsText errors errors_new =
     ((text : List ℕ) × IsText text × IsTold text errors errors_new) ⊎ (errors_new ≡ errors)
 
 -- ---- words
 
--- the words of the program, and their meaning
+-- the program's commands, and what they mean
 abbrev pub usage_text : List ℕ
 usage_text =
     codes "stp run               runs the script on standard input, with the built-in settings\n"
@@ -58,7 +58,7 @@ unread_text Failed = codes "a read of it failed"
 abbrev pub unread_sentence : List ℕ → Unread → List ℕ
 unread_sentence file why = file ++ (codes ": " ++ (unread_text why ++ codes "\n"))
 
--- the keys of a file that no table knows are warned of
+-- each key of a file that no table knows has a warning
 abbrev pub IsWarned : (file : List ℕ) → Output → Output → Type 0
 IsWarned file errors errors_new = IsToldOf (AreWarnings file) errors errors_new
 
@@ -69,7 +69,7 @@ pub record IsFaultExplained (file : List ℕ) (why : SettingsFault) (sentence : 
 
 -- ---- scripts
 
--- why a script ended before its end; of a line its number, the line where it is shown, and what is wrong with it
+-- why a script ended before its end; for a line its number, the line if it is shown, and what is wrong with it
 abbrev pub IsScriptExplained : ScriptFault → Output → Output → Type 0
 IsScriptExplained (fault.Line number) errors errors_new =
     (line : List ℕ) × IsToldOf (IsAboutLine number line) errors errors_new
@@ -79,7 +79,7 @@ IsScriptExplained fault.TooManyReads errors errors_new =
     IsTold (codes "standard input: its end wasn't found in 4194304 reads\n") errors errors_new
 IsScriptExplained fault.NoMemory errors errors_new = errors_new ≡ errors
 
--- the same of a script that may have come to its end, of which nothing is told
+-- the same for a script that may have reached its end, for which nothing is written
 abbrev pub IsEndExplained : {A : Type 0} → Result A ScriptFault → Output → Output → Type 0
 IsEndExplained (Ok x) errors errors_new = errors_new ≡ errors
 IsEndExplained (Err fault) errors errors_new = IsScriptExplained fault errors errors_new
@@ -91,12 +91,12 @@ abbrev pub strangers_sentence : (near far : List ℕ) → List ℕ
 strangers_sentence near far =
     near ++ (codes " and " ++ (far ++ codes " don't face each other: docs/MANUAL.md says what that needs\n"))
 
--- the sentence about a line that is none of a lab script
+-- the sentence about a line that isn't one of a lab script
 abbrev pub lab_line_sentence : (number : ℕ) → List ℕ
 lab_line_sentence number =
     codes "line " ++ (decimal number ++ codes ": not a line of a lab script; docs/MANUAL.md lists them\n")
 
--- why a lab script ended before its end, if it did: as of another script, but for a line
+-- why a lab script ended before its end, if it did: as for another script, except for a line
 abbrev pub IsLabEndExplained : Result Unit ScriptFault → Output → Output → Type 0
 IsLabEndExplained (Err (fault.Line number)) errors errors_new =
     IsToldOf (λ text. text ≡ lab_line_sentence number) errors errors_new

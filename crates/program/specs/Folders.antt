@@ -15,7 +15,7 @@ use Rattle.serve_settings.specs.declared.fault.ServeFault.TheVariants.{NoMemory}
 use Rattle.toml.specs.Data.{Members}
 use Rattle.program.specs.declared.folder.FileFault.{FileFault}
 
--- what a read of a file came to: its octets, or why there are none
+-- the outcome of reading a file: its octets, or why there are none
 abbrev pub FileRead : Type 0
 FileRead = Result (List ℕ) FileFault
 
@@ -28,7 +28,7 @@ pub record AreSettings (octets : List ℕ) (c : Configuration) : Type 0 where
   pub text : IsUtf8 octets
   pub read : IsReadAs octets c
 
--- the first fault of octets that are to be settings: they aren't UTF-8, or it is that of their text
+-- the first fault of octets that should be settings: they aren't UTF-8, or it is that of their text
 abbrev pub IsFileFault : List ℕ → SettingsFault → Type 0
 IsFileFault octets why = (¬ (IsUtf8 octets) × (why ≡ Text)) ⊎ (IsUtf8 octets × IsFirstFault octets why)
 
@@ -36,7 +36,7 @@ IsFileFault octets why = (¬ (IsUtf8 octets) × (why ≡ Text)) ⊎ (IsUtf8 octe
 abbrev pub IsFault : List ℕ → SettingsFault → Type 0
 IsFault octets why = (why ≡ no_memory) ⊎ IsFileFault octets why
 
--- the document that octets are says nothing of a server, or its settings of one have no fault
+-- the document of the octets says nothing about a server, or its settings of one have no fault
 pub record AreServed (octets : List ℕ) : Type 0 where
   pub document : Members
   pub are : AreDocument octets document

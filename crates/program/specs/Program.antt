@@ -1,4 +1,4 @@
--- What the program does for what its words ask, and its exit statuses.
+-- What the program does for its arguments, and its exit statuses.
 use Rattle.std.specs.Prelude.{◌≡◌, ◌≢◌, ◌⊎◌, ℕ, List, ◌++◌, codes, Result, Ok, Err, OnOk, String, true}
 use Rattle.std.specs.Global.{Global}
 use Rattle.std.specs.Io.KnownBytes.{Appends, IsAtEnd}
@@ -57,7 +57,7 @@ status_after (Err fault.NoMemory) = status.Start
 abbrev pub told : SettingsFault → List ℕ
 told fault = fault_line fault ++ codes "\n"
 
--- the same of a fault of a server's settings
+-- the same for a fault of a server's settings
 abbrev pub told_server : ServeFault → List ℕ
 told_server fault = server.fault_line fault ++ codes "\n"
 
@@ -65,7 +65,7 @@ told_server fault = server.fault_line fault ++ codes "\n"
 abbrev pub version_line : List ℕ
 version_line = codes "stp 0.1.0\n"
 
--- last lines were written, and the program ends so; or its write failed
+-- last lines were written, and the program ends like this; or its write failed
 abbrev pub EndsWith : Status → List ℕ → Output → Output → Status → Type 0
 EndsWith wanted lines output output_new ended =
     ((ended ≡ wanted) × Appends output.written output_new.written lines × (output_new.failures ≡ output.failures))
@@ -73,7 +73,7 @@ EndsWith wanted lines output output_new ended =
     × (output_new.failures ≡ counted output.failures))
 
 -- the script ran from the first state of a node with these settings, and the program ends by how it ended, which
--- standard error is told
+-- standard error says
 abbrev pub RunsScript : Configuration → Streams → Streams → Status → Type 0
 RunsScript settings old new ended =
     (script : Result Unit ScriptFault) × (after : Abstract)
@@ -82,7 +82,7 @@ RunsScript settings old new ended =
     × Counts script old.input new.input old.output new.output × (ended ≡ status_after script)
     × IsEndExplained script old.errors new.errors
 
--- these lines are all that the program prints: nothing of the script is read, and standard error is told nothing
+-- these lines are all that the program prints: nothing of the script is read, and nothing is written to standard error
 abbrev pub OnlyPrints : Status → List ℕ → Streams → Streams → Status → Type 0
 OnlyPrints wanted lines old new ended =
     EndsWith wanted lines old.output new.output ended × (new.input ≡ old.input) × (new.errors ≡ old.errors)
@@ -95,7 +95,7 @@ HasNoMemory old new ended = OnlyPrints status.Start (told no_memory) old new end
 abbrev pub NoText : SettingsFault → List ℕ → Type 0
 NoText why text = ⊥
 
--- a node runs the script, or the fault of its settings is told and explained, and nothing of the script is read
+-- a node runs the script, or the fault of its settings is printed and explained, and nothing of the script is read
 abbrev pub RunsNode : (Configuration → Type 0) → (SettingsFault → Type 0) → (SettingsFault → List ℕ → Type 0)
     → Streams → Streams → Status → Type 0
 RunsNode IsGiven IsWrong IsSentence old new ended =
@@ -103,8 +103,8 @@ RunsNode IsGiven IsWrong IsSentence old new ended =
     ⊎ ((why : SettingsFault) × IsWrong why × EndsWith status.Start (told why) old.output new.output ended
     × (new.input ≡ old.input) × IsToldOf (IsSentence why) old.errors new.errors)
 
--- the same with the settings of a file, after warnings of it; where the file can't be read, nothing is printed, and
--- standard error is told why
+-- the same with the settings of a file, after its warnings; if the file can't be read, nothing is printed, and standard
+-- error says why
 abbrev pub RunsFile : (file : List ℕ) → FileRead → Streams → Streams → Status → Type 0
 RunsFile file (Ok octets) old new ended =
     (warned : Output) × IsWarned file old.errors warned
@@ -115,16 +115,16 @@ RunsFile file (Err (file_fault.Unread why)) old new ended =
     × IsToldOf (λ text. text ≡ unread_sentence file why) old.errors new.errors
 RunsFile file (Err file_fault.NoMemory) old new ended = HasNoMemory old new ended
 
--- `ok` is printed of a file whose settings of a server have no fault, or that says nothing of one, and else their fault,
--- which standard error explains
+-- for a file whose settings of a server have no fault, or that has none, `ok` is printed; else their fault, which
+-- standard error explains
 abbrev pub ChecksServer : (file octets : List ℕ) → (output output_new errors errors_new : Output) → Status → Type 0
 ChecksServer file octets output output_new errors errors_new ended =
     (AreServed octets × EndsWith status.Done (codes "ok\n") output output_new ended × (errors_new ≡ errors))
     ⊎ ((why : ServeFault) × IsServerFault octets why × EndsWith status.Start (told_server why) output output_new ended
     × IsToldOf (server_sentences.Explains file why) errors errors_new)
 
--- of a file that has settings of a node those of its server are checked; else the fault is printed, which standard
--- error explains; and warnings come before
+-- if a file has settings of a node, those of its server are checked; else the fault is printed, which standard error
+-- explains; warnings come before
 abbrev pub ChecksFile : (file : List ℕ) → FileRead → (output output_new errors errors_new : Output) → Status → Type 0
 ChecksFile file (Ok octets) output output_new errors errors_new ended =
     (warned : Output) × IsWarned file errors warned
@@ -138,13 +138,13 @@ ChecksFile file (Err (file_fault.Unread why)) output output_new errors errors_ne
 ChecksFile file (Err file_fault.NoMemory) output output_new errors errors_new ended =
     EndsWith status.Start (told no_memory) output output_new ended × (errors_new ≡ errors)
 
--- a file has these settings, and standard error is warned of it
+-- a file has these settings, and its warnings are written to standard error
 abbrev pub HasSettings : (file : List ℕ) → FileRead → Configuration → (errors errors_new : Output) → Type 0
 HasSettings file (Ok octets) settings errors errors_new = AreSettings octets settings × IsWarned file errors errors_new
 HasSettings file (Err fault) settings errors errors_new = ⊥
 
--- how the program ends where it has no settings of a file: its fault is printed and explained, after warnings; where
--- the file can't be read, nothing is printed, and standard error is told why
+-- how the program ends for a file that has no settings: its fault is printed and explained, after warnings; if the file
+-- can't be read, nothing is printed, and standard error says why
 abbrev pub EndsAtFile : (file : List ℕ) → FileRead → (output output_new errors errors_new : Output) → Status → Type 0
 EndsAtFile file (Ok octets) output output_new errors errors_new ended =
     (why : SettingsFault) × IsFault octets why × EndsWith status.Start (told why) output output_new ended
@@ -156,7 +156,7 @@ EndsAtFile file (Err file_fault.NoMemory) output output_new errors errors_new en
     EndsWith status.Start (told no_memory) output output_new ended × (errors_new ≡ errors)
 
 -- a file that is served has settings, and nothing is said of what a server does; or it has none, and the program ends
--- as it ends then
+-- as it does then
 abbrev pub ServesFile : (file : List ℕ) → FileRead → (output output_new errors errors_new : Output) → Status → Type 0
 ServesFile file (Ok octets) output output_new errors errors_new ended =
     ((settings : Configuration) × AreSettings octets settings)
@@ -169,8 +169,8 @@ pub record AreJoined (near far : Configuration) : Type 0 where
   pub facing : IsFacing near far
   pub alike : link_names near ≡ link_names far
 
--- the lab script was begun, and the program ends by how it ended: Done only where it was read to its end, and Stream
--- only where a read or a write failed or no end was found in all of the reads
+-- the lab script was begun, and the program ends by how it ended: Done only if it was read to its end, and Stream only
+-- if a read or a write failed or no end was found in all of the reads
 pub record RunsLabScript (old new : Streams) (ended : Status) : Type 0 where
   pub script : Result Unit ScriptFault
   pub begun : script ≢ Err fault.NoMemory
@@ -179,8 +179,8 @@ pub record RunsLabScript (old new : Streams) (ended : Status) : Type 0 where
   pub status : ended ≡ status_after script
   pub explained : IsLabEndExplained script old.errors new.errors
 
--- two nodes of files with these names run the lab script, or memory runs out before it; where they can't be joined,
--- this is printed and explained, and nothing of the script is read
+-- two nodes of files with these names run the lab script, or memory runs out before it; if they can't be joined, this
+-- is printed and explained, and nothing of the script is read
 abbrev pub RunsNodes : (near far : List ℕ) → (near_settings far_settings : Configuration) → Streams → Streams → Status
     → Type 0
 RunsNodes near far near_settings far_settings old new ended =
@@ -189,7 +189,7 @@ RunsNodes near far near_settings far_settings old new ended =
     × EndsWith status.Start (codes "fault NotFacing\n") old.output new.output ended × (new.input ≡ old.input)
     × IsToldOf (λ text. text ≡ strangers_sentence near far) old.errors new.errors)
 
--- a file is read, and what comes next is done with its settings; where it has none, nothing of the script is read
+-- a file is read, and what comes next is done with its settings; if it has none, nothing of the script is read
 abbrev pub ReadsFile : (file : List ℕ) → (List ℕ → FileRead → Type 0) → (Configuration → Streams → Type 0)
     → Streams → Streams → Status → Type 0
 ReadsFile file reads Next old new ended =
@@ -206,7 +206,7 @@ RunsLab near far reads old new ended =
     (λ far_settings begun. RunsNodes near far near_settings far_settings begun new ended) between new ended)
     old new ended
 
--- what the program does for a task, where a file is read as `reads` says
+-- what the program does for a task, if a file is read as `reads` says
 abbrev pub DoesTask : Task → (List ℕ → FileRead → Type 0) → Streams → Streams → Status → Type 0
 DoesTask BuiltInRun reads old new ended =
     RunsNode (λ settings. settings ≡ built_in_settings) (λ why. why ≡ no_memory) NoText old new ended
@@ -226,7 +226,7 @@ DoesTask OtherWords reads old new ended =
     EndsWith status.Usage (codes "usage\n") old.output new.output ended × (new.input ≡ old.input)
     × IsTold usage_text old.errors new.errors
 
--- what the program does for its words: what they ask for, or memory runs out for them, where they take any
+-- what the program does for its arguments: what they ask for, or memory runs out for them, if they take any
 abbrev pub Does : List (String Global) → (List ℕ → FileRead → Type 0) → Streams → Streams → Status → Type 0
 Does words reads old new ended =
     DoesTask (asked words) reads old new ended ⊎ ((take_memory words ≡ true) × HasNoMemory old new ended)

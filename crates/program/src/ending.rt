@@ -19,7 +19,7 @@ use toml::Table;
 /// The program's name and version, as `stp --version` prints them.
 const VERSION_LINE: &[u8] = b"stp 0.1.0\n";
 
-/// Refuses words that couldn't be read: they aren't the program's, unless memory ran out.
+/// Refuses arguments that couldn't be read: they aren't the program's, unless memory ran out.
 pub fn refuse_words<W: Sink, E: Sink>(error: &Error, writer: &mut W, errors: &mut E) -> Status
     ensures memory { error_kind error.now ≡ ErrorKind.OutOfMemory
         → EndsWith Status.Start (told no_memory) (W.output writer.old) (W.output writer.new) result
@@ -34,7 +34,7 @@ pub fn refuse_words<W: Sink, E: Sink>(error: &Error, writer: &mut W, errors: &mu
     tell_usage(writer, errors)
 }
 
-/// Prints that the words aren't those of the program, and tells what these are.
+/// Prints that the arguments aren't the program's, and explains what these are.
 pub(crate) fn tell_usage<W: Sink, E: Sink>(writer: &mut W, errors: &mut E) -> Status
     ensures printed { EndsWith Status.Usage (codes "usage\n") (W.output writer.old) (W.output writer.new) result }
     ensures told { IsTold usage_text (E.output errors.old) (E.output errors.new) }
@@ -43,7 +43,7 @@ pub(crate) fn tell_usage<W: Sink, E: Sink>(writer: &mut W, errors: &mut E) -> St
     end_with(Status::Usage, b"usage\n", writer)
 }
 
-/// Prints the words of the program, and their meaning.
+/// Prints the program's commands, and what they mean.
 pub(crate) fn tell_help<W: Sink>(writer: &mut W) -> Status
     ensures { EndsWith Status.Done usage_text (W.output writer.old) (W.output writer.new) result }
 {
@@ -74,7 +74,7 @@ pub(crate) fn tell_no_memory<W: Sink>(writer: &mut W) -> Status
     end_with(Status::Start, b"fault NoMemory\n", writer)
 }
 
-/// Prints that a file is no document, and tells this sentence of it.
+/// Prints that a file is no document, and explains that with this sentence.
 pub(crate) fn tell_no_document<W: Sink, E: Sink>(
     sentence: &str,
     writer: &mut W,
@@ -88,8 +88,7 @@ pub(crate) fn tell_no_document<W: Sink, E: Sink>(
     end_with(Status::Start, b"fault 1\n", writer)
 }
 
-/// Prints what is wrong with the settings in the document that a file is, and explains it; or prints that memory ran
-/// out.
+/// Prints what is wrong with the settings in the document of a file, and explains it; or prints that memory ran out.
 pub(crate) fn tell_file_fault<W: Sink, E: Sink>(
     alloc: Global,
     file: &str,
@@ -119,8 +118,8 @@ fn told(alloc: Global, fault: SettingsFault) -> Result<String, AllocError>
     format!(in alloc; "{fault}\n")
 }
 
-/// Prints what is wrong with the settings of a server in the document that a file is, and explains it; or prints that
-/// memory ran out.
+/// Prints what is wrong with the settings of a server in the document of a file, and explains it; or prints that memory
+/// ran out.
 pub(crate) fn tell_server_fault<W: Sink, E: Sink>(
     alloc: Global,
     file: &str,

@@ -15,7 +15,7 @@ use settings_file::SettingsFault;
 use std::alloc::{AllocError, Global};
 use toml::Table;
 
-/// The words of the program, and their meaning.
+/// The program's commands, and what they mean.
 pub(crate) const USAGE: &[u8] = b"\
 stp run               runs the script on standard input, with the built-in settings
 stp run FILE          runs it with the settings in FILE
@@ -29,14 +29,14 @@ The lines of a script, the settings and the exit statuses are in docs/MANUAL.md.
 README.md is the introduction, and lists the other pages in docs/.
 ";
 
-/// Tells a text. Where that fails, nothing more can be told.
+/// Writes a text to standard error. If that fails, nothing more can be written there.
 fn tell<E: Sink>(text: &[u8], errors: &mut E)
     ensures { IsTold text.now (E.output errors.old) (E.output errors.new) }
 {
     let _told = errors.write(text);
 }
 
-/// Tells a text, unless memory ran out for it.
+/// Writes a text, unless memory ran out for it.
 fn tell_made<E: Sink>(text: Result<String, AllocError>, errors: &mut E)
     ensures { IsToldMade text (E.output errors.old) (E.output errors.new) }
 {
@@ -45,14 +45,14 @@ fn tell_made<E: Sink>(text: Result<String, AllocError>, errors: &mut E)
     }
 }
 
-/// Tells the words of the program, and their meaning.
+/// Writes the program's commands, and what they mean.
 pub(crate) fn explain_words<E: Sink>(errors: &mut E)
     ensures { IsTold usage_text (E.output errors.old) (E.output errors.new) }
 {
     tell(USAGE, errors);
 }
 
-/// Tells why a file can't be read.
+/// Explains why a file can't be read.
 pub(crate) fn explain_unread<E: Sink>(alloc: Global, file: &str, why: Unread, errors: &mut E)
     ensures { IsToldOf (λ text. text ≡ unread_sentence file.now why) (E.output errors.old) (E.output errors.new) }
 {
@@ -72,21 +72,21 @@ fn unread_text(why: Unread) -> &'static str
     }
 }
 
-/// Warns about unknown keys in the document that a settings file is.
+/// Warns about unknown keys in the document of a settings file.
 pub(crate) fn warn<E: Sink>(alloc: Global, file: &str, document: &Table, errors: &mut E)
     ensures { IsWarned file.now (E.output errors.old) (E.output errors.new) }
 {
     tell_made(settings_file::warnings(alloc, file, document), errors);
 }
 
-/// Tells the sentence that says why a settings file is no document.
+/// Writes the sentence that says why a settings file is no document.
 pub(crate) fn explain_no_document<E: Sink>(sentence: &str, errors: &mut E)
     ensures { IsTold sentence.now (E.output errors.old) (E.output errors.new) }
 {
     tell(sentence.as_bytes(), errors);
 }
 
-/// Tells what is wrong with the settings in the document that a file is.
+/// Explains what is wrong with the settings in the document of a file.
 pub(crate) fn explain_fault<E: Sink>(
     alloc: Global,
     file: &str,
@@ -102,7 +102,7 @@ pub(crate) fn explain_fault<E: Sink>(
     );
 }
 
-/// Tells what is wrong with the settings of a server in the document that a file is.
+/// Explains what is wrong with the settings of a server in the document of a file.
 pub(crate) fn explain_server<E: Sink>(
     alloc: Global,
     file: &str,
@@ -118,7 +118,7 @@ pub(crate) fn explain_server<E: Sink>(
     );
 }
 
-/// Tells why a script ended before its end, if it did: of a line that ended it, what is wrong with it.
+/// Explains why a script ended before its end, if it did; for a line that ended it, what is wrong with it.
 pub(crate) fn explain_end<E: Sink>(
     alloc: Global,
     script: Result<(), ScriptFault>,
@@ -133,7 +133,7 @@ pub(crate) fn explain_end<E: Sink>(
     }
 }
 
-/// Tells why a script ended before its end.
+/// Explains why a script ended before its end.
 fn explain_script<E: Sink>(
     alloc: Global,
     fault: ScriptFault,
@@ -157,7 +157,7 @@ fn explain_script<E: Sink>(
     }
 }
 
-/// Tells that the nodes of two files don't face each other.
+/// Explains that the nodes of two files don't face each other.
 pub(crate) fn explain_strangers<E: Sink>(alloc: Global, near: &str, far: &str, errors: &mut E)
     ensures { IsToldOf (λ text. text ≡ strangers_sentence near.now far.now)
         (E.output errors.old) (E.output errors.new) }
@@ -170,7 +170,7 @@ pub(crate) fn explain_strangers<E: Sink>(alloc: Global, near: &str, far: &str, e
     );
 }
 
-/// Tells why a lab script ended before its end, if it did.
+/// Explains why a lab script ended before its end, if it did.
 pub(crate) fn explain_lab_end<E: Sink>(
     alloc: Global,
     script: Result<(), ScriptFault>,
@@ -185,7 +185,7 @@ pub(crate) fn explain_lab_end<E: Sink>(
     }
 }
 
-/// Tells which line ended a lab script.
+/// Explains which line ended a lab script.
 fn explain_lab_line<E: Sink>(alloc: Global, number: u64, errors: &mut E)
     ensures { IsToldOf (λ text. text ≡ lab_line_sentence number) (E.output errors.old) (E.output errors.new) }
 {

@@ -1,5 +1,5 @@
-//! The program: what its words ask for, the files of settings, what standard error is told, and the
-//! exit statuses.
+//! The program: what its arguments ask for, the files of settings, what is written to standard error, and the exit
+//! statuses.
 #![tactic(auto)]
 
 mod ending;

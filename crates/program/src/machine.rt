@@ -8,8 +8,8 @@ use script::{ReaderSource, WriterSink};
 use std::process::ExitCode;
 use std::{env, io};
 
-/// The program `stp` with the machine's words, files and standard streams. Its lab joins links by TCP on this machine,
-/// and it serves a node on the network. `main` is this call.
+/// The program `stp` with the machine's arguments, files and standard streams. Its lab joins links by TCP on this
+/// machine, and it serves a node on the network. `main` is this call.
 pub fn run_on_machine(rt: &HostRuntime) -> ExitCode {
     let mut reader = ReaderSource::new(rt.stdin());
     let mut writer = WriterSink::new(io::writer(rt));
@@ -29,7 +29,7 @@ pub fn run_on_machine(rt: &HostRuntime) -> ExitCode {
     ExitCode::from(status.number())
 }
 
-/// The words behind the program's name.
+/// The program's arguments.
 fn words(rt: &HostRuntime) -> io::Result<Vec<String>> {
     let words = env::args(rt)?.skip(1).collect(rt.alloc())?;
     Ok(words)

@@ -1,4 +1,4 @@
-//! The program around scripts: what it does for its words, and how it ends.
+//! The program around scripts: what it does for its arguments, and how it ends.
 
 ghost use Rattle.std.specs.Prelude.{◌≡◌, ◌⊎◌, ℕ, List, Ok, IfOk, IfErr};
 ghost use Rattle.toml.specs.View.{table_view};
@@ -129,7 +129,7 @@ fn run_file<F: Folder, R: Source, W: Sink, E: Sink>(
     }
 }
 
-/// Tells whether the settings of a file have a fault: those of a node, and those of its server, if it says any.
+/// Prints whether the settings of a file have a fault: those of a node, and those of its server, if it has any.
 fn check_file<F: Folder, W: Sink, E: Sink>(
     alloc: Global,
     folder: &F,
@@ -149,7 +149,7 @@ fn check_file<F: Folder, W: Sink, E: Sink>(
     status
 }
 
-/// Tells whether the settings in the document that a file is have a fault.
+/// Prints whether the settings in the document of a file have a fault.
 fn check_document<W: Sink, E: Sink>(
     alloc: Global,
     file: &str,
@@ -169,7 +169,7 @@ fn check_document<W: Sink, E: Sink>(
     }
 }
 
-/// Tells whether the settings of a server in the document that a file is have a fault.
+/// Prints whether the settings of a server in the document of a file have a fault.
 fn check_server_in<W: Sink, E: Sink>(
     alloc: Global,
     file: &str,
@@ -228,7 +228,7 @@ fn run_in<R: Source, W: Sink, E: Sink>(
     status_after(script)
 }
 
-/// The settings that a node has where it is given none.
+/// The settings of a node that is given none.
 fn built_in_settings(alloc: Global) -> Result<Settings, SettingsFault>
     ensures settings { IfOk result (λ settings. settings ≡ built_in_settings) }
     ensures fault { IfErr result (λ why. why ≡ no_memory) }

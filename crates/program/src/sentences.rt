@@ -12,17 +12,17 @@ use strsim::osa_distance;
 /// Octets of a line that a sentence shows, at most.
 const SHOWN_OCTETS: usize = 60;
 
-/// A command is near a word if one edit for each so many octets of the word leads to it; one edit
-/// always does.
+/// A command is near a word if it takes at most one edit for every this many octets of the word; one edit is always
+/// near.
 const OCTETS_PER_EDIT: usize = 3;
 
 /// What parts the words of a line.
 const SPACE: u8 = b' ';
 
-/// The sentence that says what is wrong with the line of this number, of which this was read, with a line feed:
-/// `line 3 "tik 3": no command is named tik; the nearest is tick`.
+/// The sentence that says what is wrong with the line of this number, which was read as this, with a line feed: `line 3
+/// "tik 3": no command is named tik; the nearest is tick`.
 ///
-/// `AllocError` where memory ran out.
+/// `AllocError` if memory ran out.
 pub(crate) fn sentence(
     alloc: Global,
     number: u64,
@@ -47,7 +47,6 @@ fn is_shown(text: &str) -> bool {
             .all(|octet| octet == SPACE || octet.is_ascii_graphic())
 }
 
-/// What is wrong with a line.
 fn wrong(alloc: Global, line: &[u8], fault: LineFault) -> Result<String, AllocError> {
     match fault {
         LineFault::Malformed => malformed(alloc, line),
@@ -82,7 +81,7 @@ fn malformed(alloc: Global, line: &[u8]) -> Result<String, AllocError> {
     }
 }
 
-/// Whether a space stands at an end of a line, or behind another.
+/// Whether a space is at an end of a line, or after another.
 fn has_empty_word(line: &[u8]) -> bool {
     line.split(|octet| *octet == SPACE)
         .any(|word| word.is_empty())
@@ -106,7 +105,7 @@ fn no_command(alloc: Global, word: &str) -> Result<String, AllocError> {
     }
 }
 
-/// The word of the near command that the fewest edits lead to.
+/// The word of the near command that takes the fewest edits.
 fn nearest(alloc: Global, word: &str) -> Result<Option<&'static str>, AllocError> {
     let mut nearest = None;
     let mut too_many = 1 + (word.len() / OCTETS_PER_EDIT).max(1);
@@ -120,7 +119,7 @@ fn nearest(alloc: Global, word: &str) -> Result<Option<&'static str>, AllocError
     Ok(nearest)
 }
 
-/// What a line of this command has to be.
+/// What a line of this command must be.
 fn form(command: Command) -> &'static str {
     match command {
         Command::Up => "up LINK",

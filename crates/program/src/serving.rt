@@ -39,7 +39,7 @@ pub(crate) fn serve_file<F: Folder, W: Sink, E: Sink>(
     status
 }
 
-/// Serves a node with the settings in the document that a file is, if they have no fault.
+/// Serves a node with the settings in the document of a file, if they have no fault.
 fn serve_document<W: Sink, E: Sink>(
     rt: &HostRuntime,
     file: &str,
@@ -88,7 +88,7 @@ fn serve_with<W: Sink, E: Sink>(
     }
 }
 
-/// Tells why nothing is served, with this capture file where there was to be one.
+/// Explains why nothing is served, with this capture file if there was to be one.
 fn tell_failure<W: Sink, E: Sink>(
     alloc: Global,
     failure: ServeFailure,

@@ -1,4 +1,4 @@
-//! Files of settings: each is read and parsed once, and then warned of, read and checked.
+//! Files of settings: each is read and parsed once, then its warnings are written, and its settings read and checked.
 
 ghost use Rattle.std.specs.Prelude.{◌≡◌, ℕ, List, Ok, IfOk, IfErr};
 ghost use Rattle.toml.specs.View.{table_view};
@@ -40,7 +40,7 @@ pub(crate) fn settings_of<F: Folder, W: Sink, E: Sink>(
     settings
 }
 
-/// The document that a file is, or how the program ends without one.
+/// The document of a file, or how the program ends without one.
 pub(crate) fn document_of<F: Folder, W: Sink, E: Sink>(
     alloc: Global,
     folder: &F,
@@ -66,7 +66,7 @@ pub(crate) fn document_of<F: Folder, W: Sink, E: Sink>(
     }
 }
 
-/// The document that the octets of a file are, or how the program ends without one.
+/// The document of the octets of a file, or how the program ends without one.
 fn parsed<W: Sink, E: Sink>(
     alloc: Global,
     file: &str,
@@ -89,8 +89,8 @@ fn parsed<W: Sink, E: Sink>(
     }
 }
 
-/// The settings of a node in the document that a file is, after warnings of unknown keys; or how the program ends
-/// without them.
+/// The settings of a node in the document of a file, after warnings of unknown keys; or how the program ends without
+/// them.
 pub(crate) fn settings_in<W: Sink, E: Sink>(
     alloc: Global,
     file: &str,

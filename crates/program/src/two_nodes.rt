@@ -61,7 +61,7 @@ pub(crate) fn run_files<F: Folder, J: Joiner, R: Source, W: Sink, E: Sink>(
     run_if_facing(alloc, near, far, files, medium, reader, writer, errors)
 }
 
-/// Runs the lab script on two nodes with these settings, which files of these names have, if they face each other and
+/// Runs the lab script on two nodes with these settings, read from files of these names, if they face each other and
 /// name their links alike.
 fn run_if_facing<J: Joiner, R: Source, W: Sink, E: Sink>(
     alloc: Global,
@@ -123,7 +123,7 @@ fn run_between<J: Joiner, R: Source, W: Sink, E: Sink>(
     ended
 }
 
-/// The same, where the near node is booted.
+/// The same, if the near node is booted.
 fn run_beside<J: Joiner, R: Source, W: Sink, E: Sink>(
     alloc: Global,
     near: &mut Exchange,
@@ -150,7 +150,7 @@ fn run_beside<J: Joiner, R: Source, W: Sink, E: Sink>(
     ended
 }
 
-/// The same, where both nodes are booted.
+/// The same, if both nodes are booted.
 fn run_booted<J: Joiner, R: Source, W: Sink, E: Sink>(
     alloc: Global,
     near: &mut Exchange,
@@ -173,7 +173,7 @@ fn run_booted<J: Joiner, R: Source, W: Sink, E: Sink>(
     end_lab(alloc, script, writer, errors)
 }
 
-/// Runs the lab script on two nodes whose links are joined so.
+/// Runs the lab script on two nodes whose links are joined like this.
 fn run_by<J: Joiner, R: Source, W: Sink>(
     alloc: Global,
     near: &mut Exchange,
@@ -204,7 +204,7 @@ fn booted(alloc: Global, settings: Settings) -> Result<Exchange, NoMemory>
     Exchange::boot(alloc, settings)
 }
 
-/// Tells why a lab script ended before its end, if it did, and how the program ends.
+/// Explains why a lab script ended before its end, if it did, and returns how the program ends.
 fn end_lab<W: Sink, E: Sink>(
     alloc: Global,
     script: Result<(), ScriptFault>,

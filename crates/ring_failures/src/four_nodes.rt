@@ -5,8 +5,8 @@ use pair_world::End;
 use std::alloc::Global;
 use test_nodes::{Node, settings_of};
 
-/// The settings of the first node where it has a third neighbour: two links lead to point 2, and two to point 3. By
-/// point 3 it reaches point 4, or else by point 2.
+/// The settings of the first node if it has a third neighbour: two links lead to point 2, and two to point 3. By point
+/// 3 it reaches point 4, or else by point 2.
 const BESIDE_THREE: &str = r#"own = 1
 set = [{ name = "two", adjacent = 2 }, { name = "three", adjacent = 3 }]
 link = [
@@ -60,14 +60,14 @@ destination = [
 /// A point that only the third neighbours know.
 pub(crate) const UNKNOWN: u16 = 9;
 
-/// The two ends. None where memory ran out.
+/// The two ends. None if memory ran out.
 pub(crate) fn ends(alloc: Global) -> Option<LinkedNodes> {
     let one = settings_of(alloc, BESIDE_THREE).ok()?;
     let two = settings_of(alloc, BESIDE_FOUR).ok()?;
     LinkedNodes::new(alloc, one, two).ok()
 }
 
-/// The third neighbour of an end. None where memory ran out.
+/// The third neighbour of an end. None if memory ran out.
 pub(crate) fn neighbour(alloc: Global, end: End) -> Option<Node> {
     let text = match end {
         End::One => THREE,

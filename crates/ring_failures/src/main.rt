@@ -1,4 +1,4 @@
-//! Two nodes that have a third neighbour each, and a link of theirs that stops at each place while routes fail and
+//! Two nodes that have a third neighbour each, with a link between them that stops at each place while routes fail and
 //! return and messages pass through them.
 //!
 //! Four nodes stand in a ring. Points 1 and 2 are the two ends (`Pair` of `pair_world`), with two links between them.
@@ -9,12 +9,12 @@
 //!
 //! End 1 submits a message on each of 8 flows to end 2, and on each to point 4; point 3 submits one on each of 8 others
 //! to end 2, and one to a point that end 1 doesn't know; and so do end 2 and point 4. A link between the ends stops
-//! before, between or behind the steps of eight rounds, at either end or at both, without a tick. In these rounds the
+//! before, between or after the steps of eight rounds, at either end or at both, without a tick. In these rounds the
 //! link between points 3 and 4 fails, so that each end is told and takes the other way to the point behind, and then
 //! one link of each end to its neighbour. All is submitted again, the link comes back, then the others do, and all is
 //! submitted a third time.
 //!
-//! So each run accepts 96 messages of one end for the other; it has 4 failures and 4 reroutings at the ends, and
+//! So each run accepts 96 messages of one end for the other. It has 4 failures and 4 reroutings at the ends, and
 //! refuses 6 messages. Of those that pass through, 48 are for the other end. The line has what a line of
 //! `link_failures` has, and:
 //!

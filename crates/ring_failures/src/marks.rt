@@ -4,7 +4,7 @@ use exchange::{Frame, Label, Msu, decode};
 use link_trials::Mark;
 use link_trials::marking::mark_of;
 
-/// The mark of the user message for a point that a frame carries, where it carries one.
+/// The mark of the user message for a point that a frame carries, if it carries one.
 pub(crate) fn far_mark(octets: &[u8], point: u16) -> Option<Mark> {
     let message = carried(octets)?;
     let label = Label::read(message.sif())?;

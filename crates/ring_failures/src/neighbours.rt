@@ -10,7 +10,7 @@ use std::alloc::Global;
 use std::marker::Model;
 use test_nodes::Node;
 
-/// So many links are between the two ends, and so many lead from each to its third neighbour.
+/// This many links are between the two ends, and this many lead from each to its third neighbour.
 pub(crate) const LINKS_EACH: u8 = 2;
 
 /// The link of a third neighbour to the other one.
@@ -41,7 +41,7 @@ impl Model for Neighbours {
 }
 
 impl Neighbours {
-    /// Both before their first event. None where memory ran out.
+    /// Both before their first event. None if memory ran out.
     pub(crate) fn new(alloc: Global) -> Option<Neighbours> {
         let three = neighbour(alloc, End::One)?;
         let four = neighbour(alloc, End::Two)?;
@@ -93,7 +93,7 @@ impl Neighbours {
         self.lose(End::Two, LinkId::new(ACROSS));
     }
 
-    /// So many ticks pass at both.
+    /// This many ticks pass at both.
     pub(crate) fn tick(&mut self, count: u8) {
         for _ in 0..count {
             self.happen(End::One, &Event::Tick);

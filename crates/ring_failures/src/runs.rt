@@ -19,10 +19,10 @@ const LOST_ACROSS: u8 = 2;
 /// and before this one each end loses a link to its neighbour.
 const LOST_BESIDE: u8 = 4;
 
-/// So many ticks pass until T1, and with it T6, has run out.
+/// This many ticks pass until T1, and with it T6, has run out.
 const OUTLASTING_TICKS: u8 = 4;
 
-/// The links between the ends, behind those to its neighbour at end 2.
+/// The links between the ends, after those to its neighbour at end 2.
 const SHAPE: Shape = Shape {
     links: LINKS_EACH,
     first_at_two: LINKS_EACH,
@@ -39,7 +39,6 @@ impl StopTrial for StopInRing {
     }
 }
 
-/// One run.
 #[derive(Clone, Copy)]
 struct RingRun {
     stop: Stop,
@@ -141,7 +140,6 @@ fn rounds_with(world: &mut World, beside: &mut Neighbours, stop: &Stop) {
     stop.strike_at(world, ROUNDS, 0);
 }
 
-/// What fails before a round.
 fn fail_before(world: &mut World, beside: &mut Neighbours, round: u8) {
     if round == LOST_ACROSS {
         beside.lose_across();

@@ -23,7 +23,6 @@ pub(crate) fn submit_all(world: &mut World, beside: &mut Neighbours, number: u16
     accepted
 }
 
-/// Those of an end and its neighbour on one flow each.
 fn submit_flow(world: &mut World, beside: &mut Neighbours, end: End, mark: Mark) -> bool {
     let (_, adjacent) = points(end);
     let theirs = Mark {

@@ -1,4 +1,4 @@
--- Where nothing is listed as owed, nothing is owed.
+-- If nothing is listed as owed, nothing is owed.
 use Rattle.route_management.proofs.Basics.{◌≡◌, ℕ, true, List, [], length, ap, None, eqb-true, eq-eqb, nil_from_length, Facts, ToldTable, row_of, Owed, owed_at, owed, owes_nothing, all_told}
 use Rattle.route_management.proofs.Listing.{none_of_point, none_of_points, nothing_owed}
 

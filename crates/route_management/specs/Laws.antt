@@ -1,4 +1,4 @@
--- What holds of what is told and owed.
+-- What holds of what adjacent points were told, and are owed.
 use Rattle.std.specs.Prelude.{◌≡◌, ◌≢◌, ℕ, false, Some, None, []}
 use Rattle.std.specs.List.{All}
 use Rattle.std.specs.Option.{option_map}
@@ -7,14 +7,14 @@ use Rattle.routes.specs.declared.route.RouteStatus.TheVariants.{Allowed}
 use Rattle.routes.specs.Routes.{Facts, with_status, with_statuses_reset}
 use Rattle.route_management.specs.Told.{ToldTable, told_at, with_told, with_told_reset, is_reachable, owed_at, owed, all_told, status_to_advertise}
 
--- what is told is what was told, where both are there
+-- the table says what was told, if both are there
 abbrev pub told_is_kept : Type 0
 told_is_kept =
     (t : ToldTable) (set destination : ℕ) (status : RouteStatus) →
     told_at (with_told set destination status t) set destination
     ≡ option_map (λ old. status) (told_at t set destination)
 
--- once the adjacent point of a set is told of a destination, it is owed no word of it
+-- once the adjacent point of a set is told of a destination, it is owed nothing about it
 abbrev pub told_once : Type 0
 told_once =
     (f : Facts) (t : ToldTable) (set destination : ℕ) →
@@ -26,7 +26,7 @@ leaves_other_points =
     (f : Facts) (t : ToldTable) (set other about destination : ℕ) (status : RouteStatus) → set ≢ other →
     owed_at f (with_told set about status t) other destination ≡ owed_at f t other destination
 
--- and so does what any of them is owed of other destinations
+-- and what any of them is owed about other destinations stays
 abbrev pub leaves_other_destinations : Type 0
 leaves_other_destinations =
     (f : Facts) (t : ToldTable) (set other about destination : ℕ) (status : RouteStatus) → about ≢ destination →
@@ -50,7 +50,7 @@ status_leaves_other_destinations =
     (f : Facts) (about by set destination : ℕ) (status : RouteStatus) → about ≢ destination →
     status_to_advertise (with_status about by status f) set destination ≡ status_to_advertise f set destination
 
--- nor do the statuses of a set without a link in service, as they become allowed, what is to be told of any
+-- nor, as the statuses of a set without a link in service become allowed, does what any point is to be told of any
 abbrev pub reset_leaves_what_is_to_be_told : Type 0
 reset_leaves_what_is_to_be_told =
     (f : Facts) (reset set destination : ℕ) → is_reachable f reset ≡ false →
@@ -64,6 +64,6 @@ listed_is_owed =
     (f : Facts) (t : ToldTable) →
     All (λ o. owed_at f t o.set o.destination ≡ Some o.status) (owed f t)
 
--- and all of it: once all that is listed is told, nothing is owed
+-- and everything: once all that is listed is told, nothing is owed
 abbrev pub told_all_owes_nothing : Type 0
 told_all_owes_nothing = (f : Facts) (t : ToldTable) → owed f (all_told (owed f t) t) ≡ []

@@ -1,4 +1,4 @@
--- Numbers that are marked, and the next one that is.
+-- Numbers that are marked, and the next marked one.
 use Rattle.std.specs.Prelude.{◌≡◌, ◌≤◌, ◌<◌, ℕ, Bool, true, false, List, slice_index_or}
 
 -- whether a number is marked

@@ -4,8 +4,8 @@ use Rattle.route_management.specs.Marks.{is_marked}
 use Rattle.route_management.specs.declared.marks.TheConstants.{BLOCK}
 use Rattle.route_management.specs.declared.marks.Marks.TheInside.{Inside}
 
--- each number has its block, and no more than one block has none; where a block says that no number of it is marked,
--- none is, and where it is said of all numbers, none of all
+-- each number has its block, and at most one block has none. If a block says that none of its numbers is marked, none
+-- is, and if that is said of all numbers, none of all is
 pub record HasBlocks (s : Inside) : Type 0 where
   pub enough : vec_len s.marks < BLOCK * vec_len s.blocks
   pub few : BLOCK * vec_len s.blocks ≤ vec_len s.marks + BLOCK

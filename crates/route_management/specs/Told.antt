@@ -12,12 +12,11 @@ use Rattle.route_management.specs.declared.heard.Heard.TheVariants.{Ignored, Unc
 use Rattle.route_management.specs.declared.heard.RouteTest.{RouteTest}
 use Rattle.route_management.specs.declared.heard.RouteTest.TheVariants as test
 
--- of each set, the number of the destination that its links lead to, and what that point was told of each destination
+-- for each set, the number of the destination that its links lead to, and what that point was told of each destination
 pub record ToldTable : Type 0 where
   pub adjacents : List (Option ℕ)
   pub rows : List (List RouteStatus)
 
--- whether a number is this one
 abbrev pub is_number : ℕ → Option ℕ → Bool
 is_number n None = false
 is_number n (Some m) = nat_eq m n
@@ -30,11 +29,11 @@ is_own_point t set destination = is_number destination (slice_index_or t.adjacen
 abbrev pub row_of : ToldTable → ℕ → List RouteStatus
 row_of t set = slice_index_or t.rows set []
 
--- what it was told of a destination, where both are there
+-- what it was told of a destination, if both are there
 abbrev pub told_at : ToldTable → (set destination : ℕ) → Option RouteStatus
 told_at t set destination = slice_get (row_of t set) destination
 
--- of each set, of how many destinations its point is told
+-- for each set, of how many destinations its point is told
 abbrev pub shape_of : ToldTable → List ℕ
 shape_of t = map length t.rows
 
@@ -62,14 +61,14 @@ with_told set destination status t =
 abbrev pub with_told_reset : ℕ → ToldTable → ToldTable
 with_told_reset set t = record t { rows = slice_set t.rows set (map (λ old. Allowed) (row_of t set)) }
 
--- ---- What adjacent points are to be told, and which of it they weren't told yet (Q.704 §13.2 to §13.4).
+-- ---- What adjacent points are to be told, and what of that they don't know yet (Q.704 §13.2 to §13.4).
 
 -- whether two statuses are the same
 abbrev pub is_same : RouteStatus → RouteStatus → Bool
 is_same a b = status_number a == status_number b
 
 -- what the adjacent point of a set is to be told of a destination, by the routes that messages take there: not to send
--- them where there is no route, or where they may come back; else the status of those routes, allowed or restricted
+-- them if there is no route, or if they may come back; else the status of those routes, allowed or restricted
 abbrev pub said_by : ℕ → List Route → RouteStatus
 said_by set [] = Prohibited
 said_by set (first ∷ rest) = if list_any (leads_by set) (first ∷ rest) then Prohibited else first.status
@@ -86,7 +85,7 @@ abbrev pub is_unlike : Option RouteStatus → RouteStatus → Bool
 is_unlike None status = false
 is_unlike (Some told) status = not (is_same told status)
 
--- whether the adjacent point of a set is owed word of a destination
+-- whether the adjacent point of a set is owed an update about a destination
 abbrev pub is_owed : Facts → ToldTable → (set destination : ℕ) → Bool
 is_owed f t set destination =
     is_reachable f set && (not (is_own_point t set destination)
@@ -108,7 +107,7 @@ owed_about f t set destination =
     option_map (λ status. record { set = set; destination = destination; status = status })
     (owed_at f t set destination)
 
--- what is owed to the adjacent point of a set of so many destinations, from one on
+-- what is owed to the adjacent point of a set of this many destinations, from one on
 abbrev pub owed_from : Facts → ToldTable → (set from count : ℕ) → List Owed
 owed_from f t set from count = filter_map (owed_about f t set) (range_with_len from count)
 
@@ -116,7 +115,7 @@ owed_from f t set from count = filter_map (owed_about f t set) (range_with_len f
 abbrev pub owed_to : Facts → ToldTable → ℕ → List Owed
 owed_to f t set = owed_from f t set 0 (length (row_of t set))
 
--- what is owed to the adjacent points of so many sets, from one on
+-- what is owed to the adjacent points of this many sets, from one on
 abbrev pub owed_by_sets : Facts → ToldTable → (from count : ℕ) → List Owed
 owed_by_sets f t from count = flat_map (owed_to f t) (range_with_len from count)
 
@@ -133,14 +132,14 @@ abbrev pub all_told : List Owed → ToldTable → ToldTable
 all_told [] t = t
 all_told (o ∷ os) t = all_told os (with_told o.set o.destination o.status t)
 
--- ---- What a message of route management from an adjacent point asks (Q.704 §13.2 to §13.5).
+-- ---- What a route management message from an adjacent point asks for (Q.704 §13.2 to §13.5).
 
--- a status that is told of a route, which has this one if it is there
+-- a status that is reported for a route, which has this one if it is there
 abbrev pub heard_of : Option RouteStatus → RouteStatus → Heard
 heard_of None status = Ignored
 heard_of (Some old) status = if is_same old status then Unchanged else Changed
 
--- a transfer-prohibited, -restricted or -allowed message from the adjacent point of a set about a destination: it says
+-- a transfer-prohibited, -restricted or -allowed message from the adjacent point of a set about a destination says
 -- nothing of that point itself, nor of a destination that the set doesn't lead to
 abbrev pub heard : Facts → ToldTable → (set destination : ℕ) → RouteStatus → Heard
 heard f t set destination status =
@@ -152,7 +151,7 @@ tested test.Prohibited = Prohibited
 tested test.Restricted = Restricted
 
 -- what a test from the adjacent point of a set about a destination is answered with: what that point is to be told,
--- where this isn't what the test asks about; nothing about that point itself
+-- unless the test asks about just this; nothing about that point itself
 abbrev pub answer_to_test : Facts → ToldTable → (set destination : ℕ) → RouteTest → Option RouteStatus
 answer_to_test f t set destination test =
     if is_own_point t set destination || is_same (status_to_advertise f set destination) (tested test)

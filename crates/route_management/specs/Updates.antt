@@ -5,12 +5,12 @@ use Rattle.route_management.specs.Marks.{is_marked}
 use Rattle.route_management.specs.declared.updates.Extent.{Extent}
 use Rattle.route_management.specs.declared.updates.Extent.TheVariants.{Nothing, Marked, From}
 
--- how far they are looked for, and of each destination whether it is marked
+-- up to where they are looked for, and for each destination whether it is marked
 pub record Updates : Type 0 where
   pub extent : Extent
   pub marks : List Bool
 
--- whether an update stands at a place or behind it, by set and then by destination
+-- whether an update is at an index or after it, by set and then by destination
 abbrev pub is_from : (first about set destination : ℕ) → Bool
 is_from first about set destination = nat_lt first set || nat_eq first set && nat_le about destination
 
@@ -19,7 +19,6 @@ is_within Nothing marks set destination = false
 is_within Marked marks set destination = is_marked marks destination
 is_within (From first about) marks set destination = is_from first about set destination || is_marked marks destination
 
--- whether one may be pending
 abbrev pub may_be_pending : Updates → (set destination : ℕ) → Bool
 may_be_pending u set destination = is_within u.extent u.marks set destination
 
@@ -57,7 +56,7 @@ with_all u = record u { extent = From 0 0 }
 abbrev pub with_none : Updates → Updates
 with_none u = record u { extent = Nothing }
 
--- those about one more destination may be; where none was, no other is marked
+-- one more destination gets updates; if no update was pending, no other is marked
 abbrev pub with_mark : ℕ → Extent → List Bool → Updates
 with_mark destination Nothing marks = record {
   extent = Marked;
@@ -78,7 +77,8 @@ has_all_from set destination Nothing = false
 has_all_from set destination Marked = false
 has_all_from set destination (From first about) = is_from first about set destination
 
--- none before this one is: where all from an earlier one on might be, all from this one on may; else nothing changes
+-- none before this one is pending: if all from an earlier one on might be, all from this one on may; else nothing
+-- changes
 abbrev pub without_before : (set destination : ℕ) → Updates → Updates
 without_before set destination u =
     if has_all_from set destination u.extent

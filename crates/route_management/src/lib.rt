@@ -1,4 +1,5 @@
-//! Route management: what adjacent points are told of destinations, and what is made of what they tell (Q.704 §13).
+//! RTPC, RTAC, RTRC and RSRT, transfer prohibited, allowed and restricted control and route set test control (Q.704
+//! §13.2 to §13.5): what adjacent points are told of destinations, and what follows from what they tell.
 #![tactic(auto)]
 
 pub mod heard;

@@ -7,14 +7,14 @@ ghost use Rattle.route_management.specs.Marks.{NoneFrom, IsFirstFrom, is_marked,
 use std::alloc::{AllocError, Global};
 use std::marker::Model;
 
-/// So many numbers make a block.
+/// This many numbers make a block.
 const BLOCK: usize = 64;
 
 /// Whether each number below a bound is marked.
 ///
 /// All room is made by `new`: an octet for each number, and one for each 64 of them. `mark` takes a fixed number of
-/// steps, `clear` writes each octet, and `next` takes a step for each block up to that of the number that it finds, and
-/// 64 for each block in which some number was marked since `clear`; where none was, it takes one step.
+/// steps, and `clear` writes each octet. `next` takes a step for each block up to that of the number that it finds, and
+/// 64 for each block in which some number was marked since `clear`; if none was, it takes one step.
 #[derive(Drop)]
 pub(crate) struct Marks {
     marks: Vec<bool>,
@@ -48,7 +48,7 @@ impl Marks {
         })
     }
 
-    /// Marks a number; one that isn't below the bound is left aside. The others stay as they are.
+    /// Marks a number; one that isn't below the bound is ignored. The others stay as they are.
     pub(crate) fn mark(&mut self, number: usize)
         ensures { self.new ≡ slice_set self.old number true }
     {
@@ -68,7 +68,7 @@ impl Marks {
         self.any = false;
     }
 
-    /// The first marked number that isn't less than this one; `None` where there is none.
+    /// The first marked number that isn't less than this one; `None` if there is none.
     #[inline(never)]
     pub(crate) fn next(&self, from: usize) -> Option<usize>
         ensures some { IfSome result (λ number. IsFirstFrom self.now from number) }

@@ -23,7 +23,7 @@ impl Model for ToldRow {
 }
 
 impl ToldRow {
-    /// So many destinations, all of them allowed.
+    /// This many destinations, all of them allowed.
     pub(crate) fn new(alloc: Global, destinations: usize) -> Result<ToldRow, AllocError>
         ensures { IfOk result (λ row. row ≡ replicate destinations status.Allowed) }
     {
@@ -32,7 +32,7 @@ impl ToldRow {
         })
     }
 
-    /// What it was told of a destination, where that is there.
+    /// What it was told of a destination, if that is there.
     pub(crate) fn status(&self, destination: usize) -> Option<RouteStatus>
         ensures { result ≡ slice_get self.now destination }
     {
@@ -56,7 +56,6 @@ impl ToldRow {
     }
 }
 
-/// All are allowed.
 fn allow_all(statuses: &mut [RouteStatus])
     ensures { statuses.new ≡ map (λ old. status.Allowed) statuses.old }
 {

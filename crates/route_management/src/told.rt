@@ -19,8 +19,8 @@ use std::marker::Model;
 /// What the adjacent point of each set was told of each destination. A destination goes by its number in the order of
 /// the settings.
 ///
-/// All room is made by `new`. `tell` and `is_own_point` take a fixed number of steps, `reset` takes one for each
-/// destination, and each other call what `NodeLinks` takes for the route to one destination, or for its status.
+/// All room is made by `new`. `tell` and `is_own_point` take a fixed number of steps, and `reset` one for each
+/// destination. Each other call takes what `NodeLinks` takes for the route to one destination, or for its status.
 #[derive(Drop)]
 pub struct Told {
     adjacents: Vec<Option<usize>>,
@@ -66,9 +66,9 @@ impl Told {
         }
     }
 
-    /// The status that the adjacent point of a set is owed of a destination: what it is to be told, where it was told
-    /// something else. `None` where it was told just that, where no link of the set is in service, where it is that
-    /// destination itself, and where one of the two isn't there (Q.704 §13.2 to §13.4).
+    /// The status of a destination that the adjacent point of a set is still to be told: what it should know, if it was
+    /// told something else. `None` if it was told just that, if no link of the set is in service, if it is that
+    /// destination itself, or if one of the two isn't there (Q.704 §13.2 to §13.4).
     pub fn owed(&self, links: &NodeLinks, set: SetId, destination: usize) -> Option<RouteStatus>
         ensures { result ≡ owed_at (facts_of links.now) self.now set destination }
     {
@@ -83,7 +83,7 @@ impl Told {
         }
     }
 
-    /// What the adjacent point of a set was told of a destination; `None` where one of the two isn't there.
+    /// What the adjacent point of a set was told of a destination; `None` if one of the two isn't there.
     fn told(&self, set: SetId, destination: usize) -> Option<RouteStatus>
         ensures { result ≡ told_at self.now set destination }
     {
@@ -93,7 +93,7 @@ impl Told {
         }
     }
 
-    /// The adjacent point of a set is told of a destination. What isn't there is left aside, and all else that was told
+    /// The adjacent point of a set is told of a destination. What isn't there is ignored, and all else that was told
     /// stays.
     pub fn tell(&mut self, set: SetId, destination: usize, status: RouteStatus)
         ensures { self.new ≡ with_told set destination status self.old }
@@ -104,7 +104,7 @@ impl Told {
     }
 
     /// The adjacent point of a set takes all destinations for allowed, as the first link of the set enters service. A
-    /// set that isn't there is left aside, and what the others were told stays.
+    /// set that isn't there is ignored, and what the others were told stays.
     pub fn reset(&mut self, set: SetId)
         ensures { self.new ≡ with_told_reset set self.old }
     {
@@ -114,8 +114,8 @@ impl Told {
     }
 
     /// What comes of a transfer-prohibited, -restricted or -allowed message from the adjacent point of a set, by the
-    /// status that it gives a destination. Where that is `Changed`, the caller sets the status on the links (Q.704
-    /// §13.2 to §13.4).
+    /// status that it gives a destination. If that is `Changed`, the caller sets the status on the links (Q.704 §13.2
+    /// to §13.4).
     pub fn received(
         &self,
         links: &NodeLinks,
@@ -132,7 +132,7 @@ impl Told {
     }
 
     /// The status that answers a signalling-route-set-test message from the adjacent point of a set about a
-    /// destination: what that point is to be told. `None` where that is what the message asks about, and where the
+    /// destination: what that point is to be told. `None` if that is what the message asks about, and if the
     /// destination is that point itself (Q.704 §13.5).
     pub fn answer_to_test(
         &self,
@@ -152,8 +152,8 @@ impl Told {
     }
 }
 
-/// What the adjacent point of a set is to be told of a destination: prohibited where no route leads there, or where
-/// some messages go by that very set; else the status of their routes (Q.704 §13.2 to §13.4).
+/// What the adjacent point of a set is to be told of a destination: prohibited if no route leads there, or if some
+/// messages go by that very set; else the status of their routes (Q.704 §13.2 to §13.4).
 pub fn status_to_advertise(facts: &RouteFacts<'_>, set: SetId, destination: usize) -> RouteStatus
     ensures { result ≡ status_to_advertise facts.now set destination }
 {
@@ -170,14 +170,13 @@ fn said_by(set: SetId, routes: &[Route]) -> RouteStatus
     }
 }
 
-/// Whether one of these routes goes by a set.
 fn goes_by(routes: &[Route], set: SetId) -> bool
     ensures { result ≡ list_any (leads_by set) routes.now }
 {
     routes.iter().any(|route| route.set.index() == set.index())
 }
 
-/// Of each set, the number of the destination that its links lead to.
+/// For each set, the number of the destination that its links lead to.
 fn adjacents(
     alloc: Global,
     sets: &[SetRow],
@@ -200,7 +199,7 @@ fn adjacent_place(set: &SetRow, destinations: &[DestinationRow]) -> Option<usize
     destinations.iter().position(|destination| adjacent.code() == destination.point().code())
 }
 
-/// So many rows of so many destinations, all of them allowed.
+/// This many rows of this many destinations, all of them allowed.
 fn first_rows(alloc: Global, sets: usize, destinations: usize) -> Result<Vec<ToldRow>, AllocError>
     ensures { IfOk result (λ rows. rows.items ≡ replicate sets (replicate destinations status.Allowed)) }
 {

@@ -10,7 +10,7 @@ use signalling_types::SetId;
 use std::alloc::{AllocError, Global};
 use std::marker::Model;
 
-/// How far updates have to be looked for.
+/// How far updates must be looked for.
 #[derive(Clone, Copy, Drop)]
 pub enum Extent {
     /// None may be pending.
@@ -24,8 +24,8 @@ pub enum Extent {
 
 /// Which updates may be pending: for the adjacent point of which set, about which destination.
 ///
-/// All room is made by `new`, an octet for each destination and one for each 64. `is_any`, `add_all`, `add_all_if`
-/// and `clear` take a fixed number of steps, and so does `add` where any was pending before.
+/// All room is made by `new`, an octet for each destination and one for each 64. `is_any`, `add_all`, `add_all_if` and
+/// `clear` take a fixed number of steps, and so does `add` if any was pending before.
 #[derive(Drop)]
 pub struct PendingUpdates {
     extent: Extent,
@@ -41,7 +41,7 @@ impl Model for PendingUpdates {
 }
 
 impl PendingUpdates {
-    /// All updates about so many destinations may be pending. The error means that memory ran out.
+    /// All updates about this many destinations may be pending. The error means that memory ran out.
     pub fn new(alloc: Global, destinations: usize) -> Result<PendingUpdates, AllocError>
         ensures { IfOk result (λ updates. updates ≡ first_updates destinations) }
     {
@@ -96,8 +96,8 @@ impl PendingUpdates {
         self.extent = Extent::Nothing;
     }
 
-    /// No update before this one is pending any more. What is left is kept by its place where that is no more than what
-    /// was to be looked for; else all stays as it is.
+    /// No update before this one is pending any more. What is left is recorded by its index if that is no more than
+    /// what was to be looked for; else all stays as it is.
     pub fn clear_before(&mut self, set: SetId, destination: usize)
         ensures { self.new ≡ without_before set destination self.old }
     {
@@ -107,7 +107,7 @@ impl PendingUpdates {
         }
     }
 
-    /// The first destination from this one on of which an update for the point of a set may be pending; `None` where
+    /// The first destination from this one on with an update that may be pending for the point of a set; `None` if
     /// there is none.
     #[inline(always)]
     pub fn next(&self, set: SetId, from: usize) -> Option<usize>
@@ -121,7 +121,7 @@ impl PendingUpdates {
         }
     }
 
-    /// The same, where all updates from a place on may be pending.
+    /// The same, if all updates from an index on may be pending.
     #[inline(always)]
     fn next_in(&self, first: SetId, about: usize, set: SetId, from: usize) -> Option<usize>
         requires { self.now.extent ≡ From first about }
@@ -140,7 +140,7 @@ impl PendingUpdates {
     }
 }
 
-/// Whether all updates from this one on have to be looked for.
+/// Whether all updates from this one on must be looked for.
 fn has_all_from(extent: &Extent, set: SetId, destination: usize) -> bool
     ensures { result ≡ has_all_from set destination extent.now }
 {
@@ -150,7 +150,7 @@ fn has_all_from(extent: &Extent, set: SetId, destination: usize) -> bool
     }
 }
 
-/// Whether an update stands at a place or behind it, in the order of sets and, for a set, of destinations.
+/// Whether an update is at an index or after it, in the order of sets and, for a set, of destinations.
 #[inline(always)]
 fn is_from(first: SetId, about: usize, set: SetId, destination: usize) -> bool
     ensures { result ≡ is_from first about set destination }

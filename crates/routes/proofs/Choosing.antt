@@ -1,4 +1,4 @@
--- A flow has a link exactly where messages to its destination take a set.
+-- A flow has a link exactly when messages to its destination take a set.
 use Rattle.routes.proofs.Basics.{◌≡◌, ℕ, suc, Bool, true, false, ◌&&◌, ◌||◌, nat_eq, nat_lt, cond, List, [], ◌∷◌, length, refl, ap, ◌∙◌, arith, is_some, list_any, filter, flat_map-cons, list_any-append, nat_tests, Decides-eqb, Member, has_link, is_in_service, members_of, serves, Route, RouteStatus, Facts, set_at, routes_to, Choice, choice_among, is_open, taken_by, sets_of, members, link_by, chosen_link, chosen_sets, and_from, and_parts, or_left, or_right}
 use Rattle.routes.proofs.MembersInService.{some_serves}
 

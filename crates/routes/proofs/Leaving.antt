@@ -1,4 +1,5 @@
--- A link that leaves service takes its own flows with it, and no other; and a flow that has a link without it has one with it.
+-- A link that leaves service takes its own flows with it, and no other; and a flow that has a link without it has one
+-- with it.
 use Rattle.routes.proofs.Basics.{◌≡◌, ◌≢◌, ◌<◌, ◌≤◌, ◌⊎◌, ℕ, zero, suc, Bool, true, false, ◌||◌, ◌==◌, cond, List, [], ◌∷◌, ◌++◌, find, length, nat_eq, refl, ap, sym, subst, ◌∙◌, inl, inr, arith, Option, Some, None, Contains, is_some, slice_set, unwrap_or, list_any, filter, option_map, ⊎_elim, cases_lt, cases_eq, eqb-true, get_or_past, get_or-set_same, get_or-set_other, length-set, flat_map-cons, Contains-append_right, Contains-append_cases, Contains-permutation, IsPermutation-sym, same_Some, Member, is_in_service, has_link, members_of, preference, serves, Route, RouteStatus, Allowed, Restricted, Facts, set_at, routes_to, with_link, status_number, is_open, groups_of, open_group, Choice, allowed_or, choice_among, taken_by, sets_of, members, link_by, chosen_link, and_from, and_parts, list_any_at, or_right}
 use Rattle.routes.proofs.Preference.{preference_permutes}
 use Rattle.routes.proofs.MembersInService.{some_serves}

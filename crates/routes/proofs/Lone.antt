@@ -1,4 +1,4 @@
--- Where the group that messages take is one set alone, that set decides their links.
+-- If the group that messages take is one set alone, that set decides their links.
 use Rattle.routes.proofs.Basics.{◌≡◌, ℕ, Bool, true, false, ◌||◌, cond, List, [], ◌∷◌, ◌++◌, find, refl, ap, sym, ◌∙◌, Option, Some, unwrap_or, list_any, flat_map-cons, Member, members_of, first_serving, Route, RouteStatus, Allowed, Restricted, Facts, set_at, routes_to, is_open, groups_of, open_group, allowed_or, choice_among, sets_of, members, link_by, chosen_link, alone_in, lone_set}
 
 one_open : (b : Bool) → (b || false) ≡ true → b ≡ true

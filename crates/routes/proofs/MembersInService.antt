@@ -1,4 +1,5 @@
--- The link that a flow takes is in service and of a set that messages take, and there is one where its group has such a link.
+-- The link that a flow takes is in service and of a set that messages take, and there is one if its group has such a
+-- link.
 use Rattle.routes.proofs.Basics.{◌≡◌, ℕ, Bool, true, false, cond, List, [], ◌∷◌, refl, ap, ◌∙◌, sym, list_any-IsPermutation, list_any, option_map, Some, find, is_some, ◌||◌, Member, preference, is_in_service, serves, first_serving, and_parts}
 use Rattle.routes.proofs.Preference.{preference_permutes}
 

@@ -1,4 +1,4 @@
--- A table that is mended where a link or a set changed is the table of what is known then.
+-- A table that is mended if a link or a set changed is the table of what is known then.
 use Rattle.routes.proofs.Basics.{◌≡◌, ◌<◌, ◌||◌, ◌&&◌, ◌==◌, ℕ, Bool, true, false, cond, List, [], ◌∷◌, ◌++◌, map, drop, length, refl, ap, sym, ◌∙◌, arith, find, get_or-map, eqb-false, get_or-set_other, length-map, take_all, drop_all, append-nil, flat_map-cons, list_any-append, list_any-IsPermutation, list_any, filter, range_with_len, Option, Some, nat_eq, slice_index_or, slice_set, unwrap_or, if◌then◌else◌, option_map, has_member, Member, preference, first_serving, has_link, is_in_service, members_of, serves, Route, RouteStatus, Allowed, Restricted, Facts, set_at, routes_to, with_link, with_status_over, status_number, is_open, groups_of, open_group, Choice, allowed_or, choice_among, taken_by, sets_of, members, leads_by, with_statuses_reset, SELECTIONS, links_of_group, links_by, links_among, table_of, mended_below, goes_by_link, goes_by_set, or_parts}
 use Rattle.std.proofs.lemmas.List.{get_or-map as get_or-map-within}
 use Rattle.routes.proofs.Preference.{preference_permutes}

@@ -1,4 +1,4 @@
--- The order in which a flow tries two links, where a definition by which it tries one twice makes the laws false.
+-- The order in which a flow tries two links: a definition that tries one of them twice makes the laws false here.
 use Rattle.std.specs.Prelude.{◌≡◌, ℕ, [], ◌∷◌}
 use Rattle.routes.specs.declared.link_group.Member.{Member}
 use Rattle.routes.specs.Routes.{preference}

@@ -1,5 +1,5 @@
--- A flow of two joined sets, as a link of the other set leaves service: where flows are shared over the links that are
--- left, the flow moves though its own link stays.
+-- A flow of two joined sets, as a link of the other set leaves service. A definition that shares flows over the links
+-- that are left moves this flow, though its own link stays.
 use Rattle.std.specs.Prelude.{◌≡◌, true, false, [], ◌∷◌, Some}
 use Rattle.routes.specs.declared.route.RouteStatus.TheVariants.{Allowed}
 use Rattle.routes.specs.Routes.{Facts, with_link, chosen_link}

@@ -1,4 +1,5 @@
--- The links of a set, in the order of their signalling link codes (Q.704 §15.2).
+-- TSRC, signalling routing control (Q.704 §2.3, §4.2): the links of a set in the order of their signalling link codes
+-- (§15.2), what is known of routes, and which link a flow takes.
 use Rattle.std.specs.Prelude.{ℕ, zero, suc, Bool, ◌&&◌, List, [], ◌++◌, Option, position, nat_eq, false, ◌∷◌, length, map, replicate, slice_index_or, slice_set, if◌then◌else◌, ◌/◌, ◌%◌, find, slice_get, ◌==◌, Some, None, codes, unwrap_or}
 use Rattle.std.specs.List.{list_any, remove, filter, flat_map}
 use Rattle.std.specs.Option.{option_to_list, option_map}
@@ -8,7 +9,6 @@ use Rattle.routes.specs.declared.route.RouteStatus.{RouteStatus}
 use Rattle.routes.specs.declared.route.RouteStatus.TheVariants.{Allowed, Restricted, Prohibited}
 use Rattle.routes.specs.declared.link_group.Member.{Member}
 
--- whether a link is of this set and has this code there
 abbrev pub has_code : (set code : ℕ) → LinkEntry → Bool
 has_code set code link = nat_eq link.set set && nat_eq link.slc code
 
@@ -25,13 +25,12 @@ links_below (suc code) links set = links_below code links set ++ option_to_list 
 abbrev pub links_of : (links : List LinkEntry) (set : ℕ) → List ℕ
 links_of links set = links_below 16 links set
 
--- whether a link is one of these
 abbrev pub has_member : (link : ℕ) → List ℕ → Bool
 has_member link links = list_any (λ l. nat_eq l link) links
 
 -- ---- What is known of routes (Q.704 §3).
 
--- routing facts: the links of each set, by their codes; of each link, whether it is in service; the routes of each
+-- routing facts: the links of each set, by their codes; whether each link is in service; and the routes of each
 -- destination, by the sets that lead there, the preferred one first
 pub record Facts : Type 0 where
   pub sets : List (List ℕ)
@@ -52,7 +51,7 @@ routes_to f destination = slice_index_or f.routes destination []
 abbrev pub first_route : ℕ → Route
 first_route set = record { set = set; status = Allowed; joined = false }
 
--- the second of some routes is joined to the first, or isn't
+-- whether the second of some routes is joined to the first
 abbrev pub with_second_joined : Bool → List Route → List Route
 with_second_joined joined [] = []
 with_second_joined joined (first ∷ []) = first ∷ []
@@ -90,7 +89,7 @@ abbrev pub with_status : ℕ → ℕ → RouteStatus → Facts → Facts
 with_status destination set status f =
     record f { routes = slice_set f.routes destination (map (with_status_over set status) (routes_to f destination)) }
 
--- ---- In which order a flow tries the links of a group: those of one set, or of two that are joined (own).
+-- ---- In which order a flow tries the links of a group, of one set or of two that are joined (this node's own).
 
 -- the order in which n links are tried: first the one at the selection modulo n, then the others by the quotient
 abbrev pub order_of : {A : Type 0} → ℕ → ℕ → List A → List A
@@ -116,11 +115,11 @@ has_link in_service links = list_any (λ l. is_in_service in_service l) links
 abbrev pub members_of : (set : ℕ) → List ℕ → List Member
 members_of set links = map (λ link. record { link = link; set = set }) links
 
--- whether messages that take these sets may take a link: it is in service, and one of them is its set
+-- whether messages that take these sets may take a link: it is in service, and its set is one of them
 abbrev pub serves : List Bool → (sets : List ℕ) → Member → Bool
 serves in_service sets m = is_in_service in_service m.link && list_any (λ set. nat_eq set m.set) sets
 
--- the first link of a group that a flow of this selection tries and messages that take these sets may take
+-- the link of a group that a flow of this selection tries first, of those that messages that take these sets may take
 abbrev pub first_member : ℕ → List Bool → (sets : List ℕ) → List Member → Option Member
 first_member selection in_service sets group = find (serves in_service sets) (preference selection group)
 
@@ -157,7 +156,7 @@ is_open f status route =
 abbrev pub alone : List Route → List (List Route)
 alone routes = map (λ route. route ∷ []) routes
 
--- the routes to a destination in groups: the first two together where they are joined, and each other by itself
+-- the routes to a destination in groups: the first two together if they are joined, and every other by itself
 abbrev pub groups_of : List Route → List (List Route)
 groups_of [] = []
 groups_of (first ∷ []) = alone (first ∷ [])
@@ -170,7 +169,7 @@ first_size [] = 0
 first_size (first ∷ []) = 1
 first_size (first ∷ second ∷ rest) = if second.joined then 2 else 1
 
--- the first group with a route that has this status, and whose set has a link in service; none where there isn't one
+-- the first group with a route that has this status and whose set has a link in service, if there is one
 abbrev pub open_group : Facts → RouteStatus → List (List Route) → List Route
 open_group f status groups = unwrap_or (find (list_any (is_open f status)) groups) []
 
@@ -179,18 +178,18 @@ pub record Choice : Type 0 where
   pub group : List Route
   pub status : RouteStatus
 
--- a group by its allowed routes; where it has no route, another by its restricted ones
+-- a group by its allowed routes; if it has none, another group by its restricted ones
 abbrev pub allowed_or : (allowed restricted : List Route) → Choice
 allowed_or (first ∷ rest) restricted = record { group = first ∷ rest; status = Allowed }
 allowed_or [] restricted = record { group = restricted; status = Restricted }
 
--- the group that messages take: the first with a set that is allowed and has a link in service, else the first with one
--- that is restricted and has one
+-- the group that messages take: the first that has an allowed set with a link in service, else the first that has a
+-- restricted one
 unfoldable pub choice_among : Facts → List Route → Choice
 choice_among f routes =
     allowed_or (open_group f Allowed (groups_of routes)) (open_group f Restricted (groups_of routes))
 
--- the routes of the group that they take: all of that status whose sets have a link in service
+-- the routes of the group that they take: all with that status whose sets have a link in service
 abbrev pub taken_by : Facts → Choice → List Route
 taken_by f c = filter (is_open f c.status) c.group
 
@@ -208,11 +207,11 @@ chosen_sets f destination = sets_of (chosen_routes f destination)
 
 -- ---- the link
 
--- the links of a group, each with its set: those of its first set in the order of their codes, then those of its second
+-- the links of a group, each with its set: the first set's in the order of their codes, then the second's
 abbrev pub members : Facts → List Route → List Member
 members f group = flat_map (λ route. members_of route.set (set_at f route.set)) group
 
--- the link of a flow by a choice: the first of the group in service that it tries, of those whose set messages take
+-- the link of a flow by a choice: of the links in service whose set messages take, the one that it tries first
 unfoldable pub link_by : Facts → Choice → (selection : ℕ) → Option ℕ
 link_by f c selection = first_serving selection f.in_service (sets_of (taken_by f c)) (members f c.group)
 
@@ -228,11 +227,11 @@ alone_in [] = None
 alone_in (route ∷ []) = Some route.set
 alone_in (first ∷ second ∷ rest) = None
 
--- the set that all messages to a destination take, where the group that they take is that set alone
+-- the set that all messages to a destination take, if the group that they take is that set alone
 abbrev pub lone_set : Facts → ℕ → Option ℕ
 lone_set f destination = alone_in (choice_among f (routes_to f destination)).group
 
--- ---- The statuses of routes: one that is read, and those of a set as they become allowed again (Q.704 §13).
+-- ---- The statuses of routes: reading one, and making those of a set allowed again (Q.704 §13).
 
 -- whether a route goes by a set
 abbrev pub leads_by : ℕ → Route → Bool

@@ -6,7 +6,7 @@ use Rattle.routes.specs.Routes.{has_member, first_serving, Facts, set_at, routes
 use Rattle.routes.specs.declared.link_group.Member.{Member}
 use Rattle.routes.specs.declared.route.Route.{Route}
 
--- the links of the flows that take these sets of a group
+-- the links of flows that take these sets of a group
 unfoldable pub links_of_group : List Bool → (sets : List ℕ) → List Member → List (Option ℕ)
 links_of_group in_service sets group =
     map (λ selection. first_serving selection in_service sets group) (range_with_len 0 SELECTIONS)
@@ -23,7 +23,7 @@ links_among f routes = links_by f (choice_among f routes)
 abbrev pub table_of : Facts → List (List (Option ℕ))
 table_of f = map (links_among f) f.routes
 
--- ---- how a table is mended: row by row, where a test of the routes says so
+-- ---- how a table is mended: each row for which a test of the routes says so
 
 -- the row of a destination
 abbrev pub mended_at : Facts → (destination : ℕ) → List (List (Option ℕ)) → List (List (Option ℕ))

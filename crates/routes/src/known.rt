@@ -34,7 +34,7 @@ impl Model for KnownRoutes {
 }
 
 impl KnownRoutes {
-    /// The routes of a node with so many sets, these links and these destinations: no link is in service, and all
+    /// The routes of a node with this many sets, these links and these destinations: no link is in service, and all
     /// routes are allowed. The error means that memory ran out.
     pub fn new(
         alloc: Global,
@@ -63,7 +63,7 @@ impl KnownRoutes {
         }
     }
 
-    /// A link enters service, or leaves it. A link that isn't there is left aside.
+    /// A link enters service, or leaves it. A link that isn't there is ignored.
     pub fn set_link(&mut self, link: LinkId, in_service: bool)
         ensures { self.new ≡ with_link link in_service self.old }
     {
@@ -72,7 +72,7 @@ impl KnownRoutes {
         }
     }
 
-    /// The route to a destination by a set gets a status. A route that isn't there is left aside.
+    /// The route to a destination by a set gets a status. A route that isn't there is ignored.
     pub fn set_status(&mut self, destination: usize, set: SetId, status: RouteStatus)
         ensures { self.new ≡ with_status destination set status self.old }
     {
@@ -134,7 +134,7 @@ fn copied(in_service: &[bool]) -> ArrayVec<bool, { Limits::LINKS }>
     copy
 }
 
-/// The first sets, so many of them, among the links of a node.
+/// The first sets, this many of them, among the links of a node.
 #[tactic(auto, using(crate::proofs::Facts::sets))]
 fn link_sets(alloc: Global, sets: usize, links: &[LinkRow]) -> Result<Vec<LinkSet>, AllocError>
     requires sets { sets ≤ Limits.SETS }
@@ -148,7 +148,7 @@ fn link_sets(alloc: Global, sets: usize, links: &[LinkRow]) -> Result<Vec<LinkSe
     Ok(made)
 }
 
-/// So many links, none in service.
+/// This many links, none in service.
 fn none_in_service(alloc: Global, links: usize) -> Result<Vec<bool>, AllocError>
     ensures { IfOk result (λ made. made.items ≡ replicate links false) }
 {

@@ -10,8 +10,8 @@ ghost use Rattle.routes.specs.declared.route.Route.{Route};
 ghost use Rattle.routes.specs.declared.route.RouteStatus.{RouteStatus};
 ghost use Rattle.routes.specs.declared.route.RouteStatus.TheVariants.{Allowed, Prohibited};
 
-/// No links are tried in no order; else a flow tries the link at its selection modulo their count, and then the
-/// others as a flow of the quotient does.
+/// Without links there is no order; else a flow tries the link at its selection modulo their count, and then the others
+/// as a flow of the quotient does.
 pub fn preference_by_selection()
     ensures none { (selection : ℕ) → preference {A = Member} selection [] ≡ [] }
     ensures some { (selection : ℕ) (links : List Member) (other : Member) → 0 < length links
@@ -33,7 +33,7 @@ pub fn first_link_serves()
         → first_serving selection in_service sets links ≡ Some link → is_in_service in_service link ≡ true }
 {}
 
-/// A flow finds a link exactly where one of its group may be taken.
+/// A flow finds a link exactly when one of its group may be taken.
 #[tactic(auto, using(crate::proofs::MembersInService::some_serves))]
 pub fn some_link_serves()
     ensures { (selection : ℕ) (in_service : List Bool) (sets : List ℕ) (links : List Member)
@@ -47,7 +47,7 @@ pub fn chosen_link_serves()
         → chosen_link f destination selection ≡ Some link → is_in_service f.in_service link ≡ true }
 {}
 
-/// There is a link for a flow exactly where messages to its destination take some set.
+/// There is a link for a flow exactly when messages to its destination take some set.
 #[tactic(auto, using(crate::proofs::Choosing::linked_by_sets))]
 pub fn a_flow_has_a_link_where_it_has_a_set()
     ensures { (f : Facts) (destination selection : ℕ)
@@ -84,8 +84,8 @@ pub fn another_destination_is_left()
         → chosen_link (with_status destination set status f) other selection ≡ chosen_link f other selection }
 {}
 
-/// While no link of a set is in service, its statuses don't matter: as they become allowed, messages to each
-/// destination take the same routes, and each flow its link.
+/// While no link of a set is in service, its statuses don't matter: if they become allowed, messages to each
+/// destination take the same routes, and each flow keeps its link.
 #[tactic(auto, using(crate::proofs::Resetting::reset_routes, crate::proofs::Resetting::reset_link))]
 pub fn reset_out_of_service_moves_nothing()
     ensures routes { (f : Facts) (set destination : ℕ) → has_link f.in_service (set_at f set) ≡ false

@@ -1,4 +1,5 @@
-//! Link sets, and the routes over them: which link a message takes, and what is known of each route.
+//! TSRC, signalling routing control (Q.704 §2.3, §4.2): link sets, the routes over them, which link a message takes,
+//! and what is known of each route.
 #![tactic(auto)]
 
 mod flow_links;

@@ -31,8 +31,7 @@ impl Default for Member {
     }
 }
 
-/// The links that flows try: those of one link set, or of two that are joined, the links of the first set before those
-/// of the second.
+/// The links that flows try: those of one link set, or of two that are joined, the first set's before the second's.
 #[derive(Drop)]
 pub struct LinkGroup {
     members: ArrayVec<Member, MEMBERS>,
@@ -57,7 +56,7 @@ impl LinkGroup {
         }
     }
 
-    /// The links of a set join the group, behind those that are there. At most one set is there before.
+    /// The links of a set join the group, after those that are there. At most one set is there before.
     pub fn add(&mut self, set: SetId, links: &LinkSet)
         requires { length self.old ≤ Limits.LINKS_PER_SET }
         ensures members { self.new ≡ self.old ++ members_of set links.now }
@@ -66,8 +65,8 @@ impl LinkGroup {
         add_links(&mut self.members, set, links.links());
     }
 
-    /// The links, in the order in which a flow of this selection tries them: first the one at the selection modulo
-    /// their count, then the others in the same way by the quotient.
+    /// The links in the order in which a flow of this selection tries them: first the one at the selection modulo their
+    /// count, then the others in the same way by the quotient.
     pub fn preference(&self, sls: Sls) -> ArrayVec<Member, MEMBERS>
         ensures { result.items ≡ preference sls self.now }
     {
@@ -82,7 +81,7 @@ impl LinkGroup {
         order
     }
 
-    /// The link of a flow of this selection whose messages take these sets: of the links that it tries the first in
+    /// The link of a flow of this selection whose messages take these sets: of the links that it tries, the first in
     /// service whose set is one of them. `in_service` says of each link by its number whether it is in service.
     pub fn first_serving(&self, sls: Sls, in_service: &[bool], sets: &[SetId]) -> Option<LinkId>
         ensures { result ≡ first_serving sls in_service.now sets.now self.now }
@@ -114,7 +113,7 @@ impl LinkGroup {
         Some(members[usize::from(sls.number()) % members.len()])
     }
 
-    /// The same as `first_member`, link by link. Where the link that is tried first serves this isn't needed, and stays
+    /// The same as `first_member`, link by link. If the link that is tried first serves this isn't needed, and stays
     /// out of the path of such flows.
     #[inline(never)]
     fn search(&self, sls: Sls, in_service: &[bool], sets: &[SetId]) -> Option<Member>
@@ -134,7 +133,7 @@ impl LinkGroup {
     }
 }
 
-/// The links of a set, behind the members that are there.
+/// The links of a set, after the members that are there.
 fn add_links(members: &mut ArrayVec<Member, MEMBERS>, set: SetId, links: &[LinkId])
     requires members { array_vec_len members.old ≤ Limits.LINKS_PER_SET }
     requires links { length links.now ≤ Limits.LINKS_PER_SET }
@@ -163,7 +162,6 @@ fn serves(link: LinkId, set: SetId, in_service: &[bool], sets: &[SetId]) -> bool
     is_in_service(in_service, link) && is_one_of(sets, set)
 }
 
-/// Whether a set is one of these.
 fn is_one_of(sets: &[SetId], set: SetId) -> bool
     ensures { result ≡ list_any (λ s. nat_eq s set) sets.now }
 {

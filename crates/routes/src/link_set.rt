@@ -65,7 +65,7 @@ impl LinkSet {
     }
 }
 
-/// Puts a link behind the others, if there is one.
+/// Puts a link after the others, if there is one.
 fn add(links: &mut ArrayVec<LinkId, { Limits::LINKS_PER_SET }>, link: Option<LinkId>)
     requires { array_vec_len links.old < Limits.LINKS_PER_SET }
     ensures links { links.new.items ≡ links.old.items ++ option_to_list link }

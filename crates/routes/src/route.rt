@@ -13,7 +13,7 @@ use std::marker::Model;
 pub enum RouteStatus {
     /// Messages may go there by the set.
     Allowed,
-    /// Messages go there by the set where no other set leads there.
+    /// Messages go there by the set if no other set leads there.
     Restricted,
     /// No message goes there by the set.
     Prohibited,

@@ -14,7 +14,7 @@ use std::marker::Model;
 /// Which links are in service, or would be, and by which sets each destination is reached with which status. A
 /// destination goes by its number in the order of the settings.
 ///
-/// Each call is worked out anew: that takes the sets that lead to the destination and their links, however many others
+/// Each call is worked out again: that takes the sets that lead to the destination and their links, however many others
 /// there are.
 #[derive(Drop)]
 pub struct RouteFacts<'a> {
@@ -57,7 +57,7 @@ impl<'a> RouteFacts<'a> {
         }
     }
 
-    /// The status of the route to a destination by a set. `None` where no such route is there. It takes a step for each
+    /// The status of the route to a destination by a set. `None` if no such route is there. It takes a step for each
     /// set that leads to the destination.
     pub fn status_of(&self, destination: usize, set: SetId) -> Option<RouteStatus>
         ensures { result ≡ status_of self.now destination set }
@@ -79,7 +79,6 @@ impl<'a> RouteFacts<'a> {
             .any(|route| self.has_member(route.set, link))
     }
 
-    /// Whether a link is of a set.
     fn has_member(&self, set: SetId, link: LinkId) -> bool
         ensures { result ≡ has_member link (set_at self.now set) }
     {
@@ -98,7 +97,6 @@ impl<'a> RouteFacts<'a> {
             .any(|route| route.set.index() == set.index())
     }
 
-    /// The routes to a destination.
     fn routes_to(&self, destination: usize) -> &[Route]
         ensures { result.now ≡ routes_to self.now destination }
     {

@@ -19,7 +19,7 @@ use table::{compiled, mend, mend_by_link, mend_by_set};
 /// Which links are in service, and by which sets each destination is reached with which status. A destination goes by
 /// its number in the order of the settings.
 ///
-/// All room is made by `new`. The link of each flow stands in a table, which is mended as links and statuses change:
+/// All room is made by `new`. The link of each flow is in a table, which is mended as links and statuses change:
 /// `link_of` is one look-up. What else follows from the facts is worked out on each call of `facts`.
 #[derive(Drop)]
 pub struct Routes {
@@ -40,7 +40,7 @@ impl Model for Routes {
 }
 
 impl Routes {
-    /// The routes of a node with so many sets, these links and these destinations: no link is in service, and all
+    /// The routes of a node with this many sets, these links and these destinations: no link is in service, and all
     /// routes are allowed. The error means that memory ran out.
     pub fn new(
         alloc: Global,
@@ -57,9 +57,9 @@ impl Routes {
         Ok(Routes { known, links })
     }
 
-    /// A link enters service, or leaves it. A link that isn't there is left aside.
+    /// A link enters service, or leaves it. A link that isn't there is ignored.
     ///
-    /// Where that changes the link, the flows are looked at anew of each destination to which its set leads, and of no
+    /// If that changes the link, the flows are looked at again of each destination to which its set leads, and of no
     /// other.
     pub fn set_link(&mut self, link: LinkId, in_service: bool)
         ensures { self.new ≡ with_link link in_service self.old }
@@ -71,9 +71,9 @@ impl Routes {
         }
     }
 
-    /// The route to a destination by a set gets a status. A route that isn't there is left aside.
+    /// The route to a destination by a set gets a status. A route that isn't there is ignored.
     ///
-    /// The 16 flows to the destination are looked at anew.
+    /// The 16 flows to the destination are looked at again.
     pub fn set_status(&mut self, destination: usize, set: SetId, status: RouteStatus)
         ensures { self.new ≡ with_status destination set status self.old }
     {
@@ -83,7 +83,7 @@ impl Routes {
     }
 
     /// All routes by a set are allowed again, as its first link enters service (Q.704 §13). It takes a step for each
-    /// route of the node; the flows to each destination to which the set leads are looked at anew.
+    /// route of the node; the flows to each destination to which the set leads are looked at again.
     pub fn reset_statuses(&mut self, set: SetId)
         ensures { self.new ≡ with_statuses_reset set self.old }
     {
@@ -92,8 +92,8 @@ impl Routes {
         mend_by_set(&mut self.links, &facts, set);
     }
 
-    /// The link of a flow: of the group that messages to its destination take, the first in service in the order in
-    /// which the selection tries them whose set they take (Q.704 §4.2). It is one look-up.
+    /// The link of a flow, out of the group that messages to its destination take: of the links in service whose set
+    /// they take, the one that the selection tries first (Q.704 §4.2). It is one look-up.
     pub fn link_of(&self, destination: usize, sls: Sls) -> Option<LinkId>
         ensures { result ≡ chosen_link self.now destination sls }
     {

@@ -3,7 +3,6 @@ use Rattle.std.specs.Prelude.{ℕ}
 use Rattle.sccp_codec.specs.declared.fault.SccpFault.{SccpFault}
 use Rattle.sccp_codec.specs.declared.fault.SccpFault.TheVariants.{Short, Pointer, Kind}
 
--- a fault's number
 abbrev pub fault_number : SccpFault → ℕ
 fault_number Short = 1
 fault_number Pointer = 2

@@ -12,7 +12,7 @@ pub record AddressValue : Type 0 where
   pub national : Bool
   -- by what it is routed
   pub routing : Routing
-  -- its point code and its subsystem number, where it has them
+  -- its point code and its subsystem number, if it has them
   pub point : Option ℕ
   pub ssn : Option ℕ
   -- what its title is made of, and the octets of the title
@@ -34,7 +34,7 @@ is_by_ssn Title = false
 is_by_ssn Ssn = true
 
 -- the indicator octet: whether there is a point code, whether there is a subsystem number, four bits of title
--- indicator, by what it is routed, national use (Q.713 §3.4.1)
+-- indicator, what routing is by, national use (Q.713 §3.4.1)
 abbrev pub indicator_octet : AddressValue → ℕ
 indicator_octet a =
     bit (is_some a.point) 0 + bit (is_some a.ssn) 1 + a.title_indicator * 2 ^ 2
@@ -91,7 +91,7 @@ abbrev pub kind_of : UnitdataValue → ℕ
 kind_of (UdtValue class_octet parts) = 9
 kind_of (UdtsValue return_cause parts) = 10
 
--- the octet behind the message type
+-- the octet after the message type
 abbrev pub second_of : UnitdataValue → ℕ
 second_of (UdtValue class_octet parts) = class_octet
 second_of (UdtsValue return_cause parts) = return_cause
@@ -102,12 +102,12 @@ parts_of (UdtsValue return_cause parts) = parts
 
 -- ---- what octets say
 
--- where the length octet of the part stands that the pointer at this octet names (Q.713 §2.3)
+-- where the length octet of the part is that the pointer at this octet names (Q.713 §2.3)
 abbrev pub length_place : List ℕ → ℕ → ℕ
 length_place text pointer = pointer + slice_index text pointer
 
--- the pointer at this octet names this part: behind the five octets of type, class and pointers stands its length,
--- and then the part itself
+-- the pointer at this octet names this part: after the five octets of type, class and pointers is its length, and then
+-- the part itself
 pub record IsPart (text : List ℕ) (pointer : ℕ) (part : List ℕ) : Type 0 where
   pub behind : 5 ≤ length_place text pointer
   pub rest : List ℕ
@@ -119,7 +119,7 @@ pub record HasAddress (text : List ℕ) (pointer : ℕ) (a : AddressValue) : Typ
   pub part : IsPart text pointer octets
   pub address : IsAddress octets a
 
--- the octets are a message that says this; its parts may lie anywhere behind the pointers
+-- the octets are a message that says this; its parts may lie anywhere after the pointers
 pub record IsUnitdata (text : List ℕ) (v : UnitdataValue) : Type 0 where
   pub long : 5 ≤ length text
   pub kind : slice_index text 0 ≡ kind_of v
@@ -130,11 +130,11 @@ pub record IsUnitdata (text : List ℕ) (v : UnitdataValue) : Type 0 where
 
 -- ---- the octets that are written
 
--- a part behind its length
+-- a part after its length
 abbrev pub counted : List ℕ → List ℕ
 counted part = length part ∷ part
 
--- the parts in their order, without gaps, behind the pointers that name them
+-- the parts in their order, without gaps, after the pointers that name them
 abbrev pub laid_out : (called calling carried : List ℕ) → List ℕ
 laid_out called calling carried =
     (3 ∷ (3 + length called) ∷ (3 + length called + length calling) ∷ [])
@@ -168,7 +168,7 @@ pub record IsPartsValue (parts : PartsValue) : Type 0 where
 abbrev pub IsUnitdataValue : UnitdataValue → Type 0
 IsUnitdataValue v = IsPartsValue (parts_of v)
 
--- ---- Reading unitdata, with the first fault that is met (Q.713 §1.5, §2.3).
+-- ---- Reading unitdata, with the first fault that is found (Q.713 §1.5, §2.3).
 
 -- what reading gives: the fault, or without one the value
 abbrev pub unless : {V : Type 0} → Option SccpFault → V → Result V SccpFault
@@ -183,7 +183,7 @@ first_fault (None ∷ others) = first_fault others
 
 -- ---- an address
 
--- where the subsystem number and the title stand, by the indicator octet
+-- where the subsystem number and the title are, by the indicator octet
 abbrev pub ssn_place : ℕ → ℕ
 ssn_place indicator = if is_set indicator 0 then 3 else 1
 
@@ -234,7 +234,7 @@ header_fault text =
 abbrev pub part_length : List ℕ → ℕ → ℕ
 part_length text pointer = slice_index text (length_place text pointer)
 
--- the length octet stands behind the pointers and before the end, and the part before the end too
+-- the length octet is after the pointers and before the end, and the part before the end too
 abbrev pub pointer_fault : List ℕ → ℕ → Option SccpFault
 pointer_fault text pointer =
     if nat_lt (length_place text pointer) 5 then Some Pointer

@@ -26,7 +26,7 @@ abbrev pub digits_in : EncodingScheme → List ℕ → List ℕ
 digits_in Even octets = flat_map halves octets
 digits_in Odd octets = take (2 * length octets - 1) (flat_map halves octets)
 
--- a title of this scheme, with these octets behind the three before the digits
+-- a title of this scheme, with these octets after the three before the digits
 abbrev pub title_with : ℕ → ℕ → ℕ → EncodingScheme → List ℕ → TitleValue
 title_with translation plan_and_scheme nature scheme digit_octets = record {
   key = record { translation = translation; plan = plan_and_scheme / 16; nature = nature % 128 };

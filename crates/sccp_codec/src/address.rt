@@ -9,7 +9,7 @@ use crate::layout::{NATIONAL_BIT, POINT_BIT, ROUTING_BIT, SSN_BIT};
 use crate::title_indicator::TitleIndicator;
 use signalling_types::PointCode;
 
-/// By what a message to this address is routed (Q.713 §3.4.1).
+/// What a message to this address is routed by (Q.713 §3.4.1).
 #[derive(Clone, Copy, PartialEq, Eq)]
 pub enum Routing {
     /// By its global title.
@@ -23,24 +23,24 @@ pub enum Routing {
 pub struct Address<'a> {
     /// The bit that is kept for national use.
     pub national: bool,
-    /// By what a message to it is routed.
+    /// What a message to it is routed by.
     pub routing: Routing,
-    /// Its signalling point, where it says one.
+    /// Its signalling point, if it says one.
     pub point: Option<PointCode>,
-    /// Its subsystem number, where it says one.
+    /// Its subsystem number, if it says one.
     pub ssn: Option<u8>,
     /// What its title is made of.
     pub title_indicator: TitleIndicator,
-    /// The octets of its title: all that stand behind the fields before.
+    /// The octets of its title: all that follow the fields before.
     pub title: &'a [u8],
 }
 
 impl<'a> Address<'a> {
     /// The address that these octets are, all of them. Its title is a slice of them.
     ///
-    /// Short where there is no indicator octet, or where the point code or the subsystem number
-    /// that it announces isn't there whole. The title may be empty. The two top bits of the point
-    /// code are ignored (Q.713 §3.4.2.1).
+    /// Short if there is no indicator octet, or if the point code or the subsystem number that it
+    /// announces isn't there whole. The title may be empty. The two top bits of the point code are
+    /// ignored (Q.713 §3.4.2.1).
     pub fn read(octets: &'a [u8]) -> Result<Address<'a>, SccpFault>
         // What reading gives.
         ensures exact { Gives address_of result (read_address octets.now) }
@@ -79,7 +79,7 @@ fn is_set(octet: u8, bit: u32) -> bool
     octet >> bit & 1 == 1
 }
 
-/// The point code behind the indicator octet: 14 bits, low octet first.
+/// The point code after the indicator octet: 14 bits, low octet first.
 fn point_at(octets: &[u8]) -> Option<PointCode>
     requires { 3 ≤ length octets.now }
     ensures { result ≡ Some (point_at octets.now) }

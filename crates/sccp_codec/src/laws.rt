@@ -1,16 +1,15 @@
-//! Laws of unitdata, for whoever reads and writes it. Each function says its law by its contract, and
-//! does nothing.
+//! Laws of unitdata, for whoever reads and writes it. Each function states its law in its contract, and does nothing.
 
 ghost use Rattle.std.specs.Prelude.{◌≡◌, ℕ, ◌↔◌, List, Ok};
 ghost use Rattle.sccp_codec.specs.Messages.{AddressValue, IsAddress, IsAddressValue, AreOctets, address_octets, UnitdataValue, IsUnitdata, IsUnitdataValue, spelled, read_address, read_unitdata};
 
-/// Octets are an address that says something exactly where reading them gives it.
+/// Octets are an address that says something exactly when reading them gives it.
 pub fn addresses_are_what_is_read()
     ensures { (octets : List ℕ) (a : AddressValue) → AreOctets octets
         → IsAddress octets a ↔ (read_address octets ≡ Ok a) }
 {}
 
-/// Octets are a message that says something exactly where reading them gives it.
+/// Octets are a message that says something exactly when reading them gives it.
 pub fn messages_are_what_is_read()
     ensures { (text : List ℕ) (v : UnitdataValue) → AreOctets text
         → IsUnitdata text v ↔ (read_unitdata text ≡ Ok v) }

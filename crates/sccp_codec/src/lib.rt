@@ -1,5 +1,4 @@
-//! Unitdata of the signalling connection control part, read and written: UDT and UDTS, their
-//! addresses and their global titles (Q.713).
+//! SCCP unitdata (Q.713): UDT and UDTS, their addresses and their global titles, read and written.
 #![tactic(auto)]
 
 pub mod address;

@@ -10,14 +10,13 @@ use crate::layout::{CALLED_POINTER, CALLING_POINTER, DATA_POINTER, PARTS_AT, UDT
 use crate::unitdata::{Parts, Udt, Udts, Unitdata};
 
 impl<'a> Unitdata<'a> {
-    /// The message that the octets behind a routing label are, or their first fault. Its titles and
-    /// its data are slices of the octets. It takes a fixed number of steps.
+    /// The message that the octets after a routing label are, or their first fault. Its titles and its data are slices
+    /// of the octets. It takes a fixed number of steps.
     ///
-    /// In this order: Short where there is no octet; Kind where the first isn't that of a UDT or a
-    /// UDTS; Short under five octets; Pointer for each pointer in turn that names no length octet
-    /// behind the pointers, or a part that isn't there whole; Short for each address in turn that
-    /// has fewer octets than it announces. Parts may lie apart and over one another, and octets
-    /// that no part covers are ignored (Q.713 §1.5).
+    /// Faults in this order: Short if there is no octet; Kind if the first isn't that of a UDT or a UDTS; Short under
+    /// five octets; Pointer for each pointer in turn that names no length octet after the pointers, or a part that
+    /// isn't whole; Short for each address in turn that has fewer octets than it announces. Parts may lie apart or
+    /// overlap, and octets that no part covers are ignored (Q.713 §1.5).
     pub fn read(octets: &'a [u8]) -> Result<Unitdata<'a>, SccpFault>
         // What reading gives.
         ensures exact { Gives unitdata_of result (read_unitdata octets.now) }
@@ -81,8 +80,8 @@ fn read_parts(octets: &[u8]) -> Result<Parts<'_>, SccpFault>
     }
 }
 
-/// The part that the pointer at this octet names: as many octets behind it as it says stands the
-/// part's length, and behind that the part (Q.713 §2.3).
+/// The part that the pointer at this octet names: its value is the distance to the part's length, and the part follows
+/// that (Q.713 §2.3).
 fn part(octets: &[u8], pointer: usize) -> Result<&[u8], SccpFault>
     requires { pointer < length octets.now }
     ensures { Gives (λ part. part.now) result (unless (pointer_fault octets.now pointer) (part_at octets.now pointer)) }

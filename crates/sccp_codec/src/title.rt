@@ -16,7 +16,7 @@ const WHOLE_TITLE: u8 = 4;
 /// Octets that hold as many digits as a translation row may have.
 const DIGIT_OCTETS: usize = 16;
 
-/// How the digits of a title stand in its octets (Q.713 §3.4.2.3.4).
+/// How the digits of a title are in its octets (Q.713 §3.4.2.3.4).
 #[derive(Clone, Copy, PartialEq, Eq)]
 pub enum EncodingScheme {
     /// An odd number of digits: the high half of the last octet is filler.
@@ -50,9 +50,8 @@ pub struct GlobalTitle<'a> {
 impl<'a> Address<'a> {
     /// The global title of the address. Its digits are a slice of the address.
     ///
-    /// Refused NoNature where its indicator isn't 4; else BadSccp where the title has under three
-    /// octets; else NoNature where its encoding scheme is neither 1, odd, nor 2, even
-    /// (Q.713 §3.4.2.3.4; the order of refusals is this node's).
+    /// Refused NoNature if its indicator isn't 4; else BadSccp if the title has under three octets; else NoNature if
+    /// its encoding scheme is neither 1 (odd) nor 2 (even) (Q.713 §3.4.2.3.4; the order of refusals is this node's).
     pub fn global_title(&self) -> Result<GlobalTitle<'a>, Cause>
         ensures { GivesTitle result (read_title (address_of self.now).title_indicator (address_of self.now).title) }
     {
@@ -83,7 +82,7 @@ impl GlobalTitle<'_> {
     /// The digits of the title, 0 to 15 each: the first 32, since no translation looks at more. It
     /// takes a step for each octet of these.
     ///
-    /// Its k octets have 2k digits, and 2k - 1 in the odd scheme; none where k is 0.
+    /// Its k octets have 2k digits, and 2k - 1 in the odd scheme; none if k is 0.
     pub fn digits(&self) -> ArrayVec<u8, { Limits::TITLE_DIGITS }>
         ensures { result.items ≡ take Limits.TITLE_DIGITS (digits_in self.now.scheme self.now.digit_octets.now) }
     {

@@ -4,7 +4,7 @@ ghost use Rattle.std.specs.Prelude.{◌≡◌, ℕ, ◌/◌, ◌%◌, ◌^◌, �
 
 use std::marker::Model;
 
-/// What the global title of an address is made of, 0 to 15: 0 where there is none, 4 where it has a
+/// What the global title of an address is made of, 0 to 15: 0 if there is none, 4 if it has a
 /// translation type, a numbering plan, an encoding scheme and a nature of address (Q.713 §3.4.1).
 #[derive(Clone, Copy, PartialEq, Eq)]
 pub struct TitleIndicator {
@@ -22,7 +22,7 @@ impl Model for TitleIndicator {
 }
 
 impl TitleIndicator {
-    /// The indicator of this number, where it has at most four bits.
+    /// The indicator of this number, if it has at most four bits.
     pub fn new(number: u8) -> Option<TitleIndicator>
         ensures fits { IsSome result ↔ (number < 2 ^ 4) }
         ensures value { IfSome result (λ indicator. indicator ≡ number) }

@@ -35,7 +35,7 @@ impl Udt<'_> {
         self.class_octet % 16
     }
 
-    /// Whether the message is returned where it can't be delivered (Q.713 §3.6).
+    /// Whether the message is to be returned if it can't be delivered (Q.713 §3.6).
     pub fn returns_on_error(&self) -> bool
         ensures { result ≡ (self.now.class_octet / 16 == 8) }
     {

@@ -1,4 +1,4 @@
-//! Unitdata written behind a routing label.
+//! Unitdata written after a routing label.
 
 ghost use Rattle.std.specs.Prelude.{◌≡◌, ◌+◌, ◌<◌, ◌≤◌, ◌^◌, ◌++◌, ◌↔◌, length, take, drop, IsOk, IsSome, IfSome, IfOk, IfErr, OnOk, OnErr, Ok};
 ghost use Rattle.sccp_codec.specs.Messages.{address_octets, point_octets, ssn_octets, indicator_octet, bit, IsAddressValue, spelled, counted, pointed, IsWritable, IsPartsValue, HasOctets, read_unitdata};
@@ -16,13 +16,12 @@ use signalling_types::{Cause, Limits, PointCode};
 pub type Field = [u8; Limits::SIF_OCTETS];
 
 impl Udt<'_> {
-    /// Writes a signalling information field, the label and the message behind it, at the front of
-    /// the buffer, and answers how many octets it has. The parts stand in the order called, calling,
-    /// data, without gaps; spare bits are 0. The buffer behind the field may hold anything afterwards
-    /// (Q.713 §4.10).
+    /// Writes a signalling information field, the label and the message after it, at the front of the buffer, and
+    /// returns how many octets it has. The parts are in the order called, calling, data, without gaps; spare bits are
+    /// 0. The buffer after the field may hold anything afterwards (Q.713 §4.10).
     ///
-    /// Refused TooLong exactly where a pointer or the length of a part is over 255, or the field
-    /// over 272 octets; then the buffer is unchanged.
+    /// Refused TooLong exactly when a pointer or the length of a part is over 255, or the field over 272 octets; then
+    /// the buffer is unchanged.
     pub fn write(&self, label: [u8; LABEL_OCTETS], field: &mut Field) -> Result<usize, Cause>
         ensures fits { IsOk result ↔ IsWritable (parts_value self.now.parts) }
         ensures cause { IfErr result (λ cause. cause ≡ Cause.TooLong) }
@@ -37,13 +36,12 @@ impl Udt<'_> {
 }
 
 impl Udts<'_> {
-    /// Writes a signalling information field, the label and the message behind it, at the front of
-    /// the buffer, and answers how many octets it has. The parts stand in the order called, calling,
-    /// data, without gaps; spare bits are 0. The buffer behind the field may hold anything afterwards
-    /// (Q.713 §4.11).
+    /// Writes a signalling information field, the label and the message after it, at the front of the buffer, and
+    /// returns how many octets it has. The parts are in the order called, calling, data, without gaps; spare bits are
+    /// 0. The buffer after the field may hold anything afterwards (Q.713 §4.11).
     ///
-    /// Refused TooLong exactly where a pointer or the length of a part is over 255, or the field
-    /// over 272 octets; then the buffer is unchanged.
+    /// Refused TooLong exactly when a pointer or the length of a part is over 255, or the field over 272 octets; then
+    /// the buffer is unchanged.
     pub fn write(&self, label: [u8; LABEL_OCTETS], field: &mut Field) -> Result<usize, Cause>
         ensures fits { IsOk result ↔ IsWritable (parts_value self.now.parts) }
         ensures cause { IfErr result (λ cause. cause ≡ Cause.TooLong) }
@@ -57,7 +55,7 @@ impl Udts<'_> {
     }
 }
 
-/// Writes the label and a message of this type, with this octet behind it and these parts.
+/// Writes the label and a message of this type, with this octet after it and these parts.
 fn write_message(
     start: [u8; 2],
     parts: &Parts<'_>,
@@ -84,7 +82,7 @@ fn write_message(
     Ok(write_parts(parts, &layout, at, field))
 }
 
-/// The lengths of the parts, and the pointers behind the first: an octet each.
+/// The lengths of the parts, and the pointers after the first: an octet each.
 #[derive(Clone, Copy)]
 struct Layout {
     called: u8,
@@ -95,7 +93,7 @@ struct Layout {
 }
 
 impl Layout {
-    /// How such parts are laid out. None where a length or a pointer is over 255.
+    /// How such parts are laid out. None if a length or a pointer is over 255.
     fn of(parts: &Parts<'_>) -> Option<Layout>
         ensures fits { IsSome result ↔ HasOctets (parts_value parts.now) }
         ensures value { IfSome result (LaysOut (parts_value parts.now)) }
@@ -124,7 +122,7 @@ impl Layout {
     }
 }
 
-/// The number as an octet, where it is one.
+/// The number as an octet, if it is one.
 fn one_octet(number: usize) -> Option<u8>
     ensures fits { IsSome result ↔ (number < 2 ^ 8) }
     ensures value { IfSome result (λ octet. octet ≡ number) }
@@ -136,7 +134,7 @@ fn one_octet(number: usize) -> Option<u8>
     }
 }
 
-/// The octets of an address, where one octet can say them.
+/// The octets of an address, if one octet can say them.
 fn octets_of_address(address: &Address<'_>) -> Option<u8>
     ensures fits { IsSome result ↔ (length (address_octets 0 (address_of address.now)) < 2 ^ 8) }
     ensures value { IfSome result (λ octets. octets ≡ length (address_octets 0 (address_of address.now))) }
@@ -146,7 +144,7 @@ fn octets_of_address(address: &Address<'_>) -> Option<u8>
     one_octet(1 + point + ssn + address.title.len())
 }
 
-/// Writes the pointers and the parts from a place on, and answers the place behind them.
+/// Writes the pointers and the parts at an offset, and returns the offset after them.
 fn write_parts(parts: &Parts<'_>, layout: &Layout, at: usize, field: &mut Field) -> usize
     requires lengths { LaysOut (parts_value parts.now) layout.now }
     requires room { at + length (pointed (parts_value parts.now)) ≤ Limits.SIF_OCTETS }
@@ -162,7 +160,7 @@ fn write_parts(parts: &Parts<'_>, layout: &Layout, at: usize, field: &mut Field)
     write_at(field, at, parts.data)
 }
 
-/// Writes an address behind its length from a place on, and answers the place behind it.
+/// Writes an address after its length at an offset, and returns the offset after it.
 fn write_address(field: &mut Field, at: usize, octets: u8, address: &Address<'_>) -> usize
     requires length { octets ≡ length (address_octets 0 (address_of address.now)) }
     requires room { at + 1 + octets ≤ Limits.SIF_OCTETS }
@@ -202,7 +200,6 @@ fn write_ssn(field: &mut Field, at: usize, ssn: Option<u8>) -> usize
     }
 }
 
-/// The indicator octet of an address.
 fn indicator_octet(address: &Address<'_>) -> u8
     ensures octet { result ≡ indicator_octet (address_of address.now) }
     ensures fits { address.now.title_indicator < 2 ^ 4 }
@@ -222,7 +219,7 @@ fn bit(set: bool, number: u32) -> u8
     if set { 1 << number } else { 0 }
 }
 
-/// Writes the octets from a place on, and answers the place behind them.
+/// Writes the octets at an offset, and returns the offset after them.
 fn write_at(field: &mut Field, at: usize, octets: &[u8]) -> usize
     requires { at + length octets.now ≤ Limits.SIF_OCTETS }
     ensures count { result ≡ at + length octets.now }

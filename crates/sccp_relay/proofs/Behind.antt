@@ -1,4 +1,4 @@
--- What stands behind digits is what stands from the node that they lead to.
+-- What is after digits is what is from the node that they lead to.
 use Rattle.sccp_relay.proofs.Basics.{◌≡◌, ℕ, zero, suc, Bool, true, false, cond, List, [], ◌∷◌, ◌++◌, Option, Some, None, length, refl, sym, ap, ◌∙◌, arith, ne_eqb, Node, DigitMap, behind, found_at, longest, longest_within, child, node_of, reached, root, stored, stored_from, value, value_there}
 use Rattle.sccp_relay.proofs.Walking.{further, reached-append}
 

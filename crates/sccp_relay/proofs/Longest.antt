@@ -1,4 +1,4 @@
--- The longest digits at which something stands, as a walk finds them.
+-- The longest digits at which something is, as a walk finds them.
 use Rattle.sccp_relay.proofs.Basics.{◌≡◌, ℕ, zero, suc, ◌<◌, ◌≤◌, ◌+◌, ◌-◌, true, List, ◌∷◌, ◌++◌, length, take, drop, Option, Some, None, refl, sym, ap, ◌∙◌, inl, inr, [], arith, cases_eq, length-take-le, take-take, get_or-take, nat_eq, Node, DigitMap, found_at, longest, longest_within, child, reached, stored_from, value, value_there}
 use Rattle.sccp_relay.proofs.Walking.{digit_at, no-more, split}
 

@@ -1,4 +1,4 @@
--- Rows in their order, before a place, at it and behind it.
+-- Rows in their order, before a place, at it and after it.
 use Rattle.sccp_relay.proofs.Basics.{◌≡◌, ℕ, zero, suc, ◌<◌, ◌≤◌, Bool, true, false, not, List, [], ◌∷◌, ◌++◌, length, get_or, take, drop, refl, sym, ap, subst, ◌∙◌, ◌⊎◌, inl, inr, cond, drop-cons, arith, take-append-drop, append-nil, drop_all, filter-append, list_any-append, nat_list_cmp_total, IsTotalOrder, AllByRecursion, AllWithin, filter, insert, remove, IsPartitionedBy, IsPartitionPoint, is_lt, is_eq, is_gt, ordering_reverse, Ordering, Less, Equal, Greater, TitleEntry, row_place, place_order, is_before, is_at, is_behind, IsOrdered, has_row, with_row, StandsAt, FitsAt}
 
 -- ---- the order of places

@@ -1,4 +1,4 @@
--- Nodes in a row: one more behind them, one of which a digit leads on, and one at which something else stands.
+-- Nodes in a row: one more after them, one of which a digit leads on, and one at which something else is.
 use Rattle.sccp_relay.proofs.Basics.{◌≡◌, ◌≢◌, ℕ, zero, suc, ◌<◌, ◌+◌, List, [], ◌∷◌, ◌++◌, length, get_or, replicate, Option, Some, None, refl, ap, ◌∙◌, inl, inr, arith, cases_eq, cases_lt, length-set, length-append, get_or-set_same, get_or-set_other, get_or_append_left, Node, NodeId, IsTree, KeepsWays, bare, none, node_at, child, value, linked, reached, root, stored, value_there}
 use Rattle.sccp_relay.proofs.Linking.{IsLinked, kept, same}
 

@@ -1,4 +1,4 @@
--- Nodes stay a tree: with one more, and where something else stands at one.
+-- Nodes stay a tree: with one more, and if something else is at one.
 use Rattle.sccp_relay.proofs.Basics.{◌≡◌, ◌≢◌, ℕ, ◌<◌, ◌+◌, Bool, true, false, cond, List, [], ◌∷◌, ◌++◌, length, Option, Some, None, refl, sym, ap, ◌∙◌, inl, inr, arith, cases_eq, eq-eqb, ne_eqb, get_or-set_same, get_or-set_other, bytes_decides, nat_eq, bytes_eq, without, Node, IsTree, child, value, reached, root, stored, with_value_at, value_there}
 use Rattle.sccp_relay.proofs.Walking.{same-digits}
 use Rattle.sccp_relay.proofs.Linking.{IsLinked}

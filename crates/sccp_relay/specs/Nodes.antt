@@ -1,4 +1,4 @@
--- A trie as nodes in a row: what stands at each, and where each digit leads from it.
+-- A trie as nodes in a row: what is stored at each, and where each digit leads from it.
 use Rattle.std.specs.Prelude.{◌≡◌, ◌≢◌, ℕ, ◌<◌, List, [], ◌∷◌, ◌++◌, if◌then◌else◌, nat_eq, length, replicate, slice_index_or, slice_set, Option, Some, None}
 use Rattle.sccp_relay.specs.Digits.{DigitMap}
 use Rattle.sccp_relay.specs.declared.node.Node.{Node}
@@ -12,7 +12,7 @@ root = 0
 abbrev pub none : NodeId
 none = record { number = 0 }
 
--- a node at which nothing stands, and from which no digit leads anywhere
+-- a node at which nothing is stored, and from which no digit leads anywhere
 abbrev pub bare : Node
 bare = record { value = None; children = replicate 16 none }
 
@@ -20,15 +20,15 @@ bare = record { value = None; children = replicate 16 none }
 abbrev pub node_at : List Node → ℕ → Node
 node_at nodes at = slice_index_or nodes at (record { value = None; children = [] })
 
--- what stands at a node
+-- what is stored at a node
 abbrev pub value : List Node → ℕ → Option ℕ
 value nodes at = (node_at nodes at).value
 
--- the node that a digit leads to from a node; 0 where it leads to none
+-- the node that a digit leads to from a node; 0 if it leads to none
 abbrev pub child : List Node → ℕ → ℕ → ℕ
 child nodes at digit = (slice_index_or (node_at nodes at).children digit none).number
 
--- a child, where there is one
+-- a child, if there is one
 abbrev pub if_there : ℕ → Option ℕ
 if_there id = if nat_eq id 0 then None else Some id
 
@@ -39,7 +39,7 @@ linked nodes at digit to =
       children = slice_set (node_at nodes at).children digit (record { number = to });
     })
 
--- this stands at a node
+-- this is stored at a node
 abbrev pub with_value_at : List Node → ℕ → Option ℕ → List Node
 with_value_at nodes at value = slice_set nodes at (record (node_at nodes at) { value = value })
 
@@ -49,16 +49,16 @@ reached child at [] = Some at
 reached child at (digit ∷ digits) =
     if nat_eq (child at digit) 0 then None else reached child (child at digit) digits
 
--- what stands at a node, where there is one
+-- what is stored at a node, if there is one
 abbrev pub value_there : (value : ℕ → Option ℕ) → Option ℕ → Option ℕ
 value_there value None = None
 value_there value (Some at) = value at
 
--- what stands at the digits behind those that lead to a node
+-- what is stored at the digits after those that lead to a node
 abbrev pub stored_from : List Node → ℕ → DigitMap
 stored_from nodes at digits = value_there (value nodes) (reached (child nodes) at digits)
 
--- what stands at digits: what stands at the node that they lead to from the root
+-- what is stored at digits: what is stored at the node that they lead to from the root
 abbrev pub stored : List Node → DigitMap
 stored nodes = stored_from nodes root
 
@@ -72,8 +72,8 @@ pub record KeepsWays (old new : List Node) : Type 0 where
       (at : ℕ) (digits : List ℕ) (to : ℕ) → reached (child old) at digits ≡ Some to →
       reached (child new) at digits ≡ Some to
 
--- each node has a place for each digit, and is led to from one node alone: it has digits of its own, which are those
--- of that node, and the one that leads on
+-- each node has a place for each digit, and is led to from one node alone. So it has its own digits: those of that
+-- node, and the one that leads on
 pub record IsTree (nodes : List Node) : Type 0 where
   pub path : ℕ → List ℕ
   pub at_root : path root ≡ []

@@ -1,5 +1,5 @@
--- What an address is translated to: among all rows of its key whose digits begin its digits, the longest (Q.714 §2.4;
--- that the longest is taken is this node's choice).
+-- SCRC, SCCP routing control (Q.714 §2.3, §2.4): what an address is translated to, and what becomes of a message. Among
+-- all rows of its key whose digits begin those of the address, the longest wins; that choice is this node's.
 use Rattle.std.specs.Prelude.{ℕ, ◌≤◌, Bool, IsTrue, ◌&&◌, ◌==◌, if◌then◌else◌, nat_eq, nat_lt, List, [], ◌∷◌, length, filter, All, Contains, Option, Some, None, Result, Ok, Err, ◌+◌, ◌%◌, ◌^◌, true, false, nat_le, ◌++◌, take, drop, is_none, ◌/◌, unwrap_or}
 use Rattle.std.specs.List.{starts_with, list_any}
 use Rattle.settings_rows.specs.Configuration.{TitleEntry}
@@ -58,10 +58,11 @@ pub record IsTranslation (rows : List TitleEntry) (key : TitleKey) (digits : Lis
   pub leading : IsTrue (leads key digits row)
   pub longest : All (λ other. IsTrue (leads key digits other) → length other.digits ≤ length row.digits) rows
 
--- ---- What becomes of an SCCP message for this point: by its called address it is for a subsystem here, or goes on, written
--- anew (Q.714 §2.3, §2.4).
+-- ---- What becomes of an SCCP message for this point: by its called address it is for a subsystem here, or goes on,
+-- written
+-- again (Q.714 §2.3, §2.4).
 
--- the point that a node is, and the numbers of the subsystems that stand there
+-- the point that a node is, and the numbers of the subsystems that are there
 pub record OwnValue : Type 0 where
   pub point : ℕ
   pub subsystems : List ℕ
@@ -75,7 +76,7 @@ pub data RelayedValue : Type 0 where
 
 -- ---- for this point
 
--- whether a subsystem of this number stands here; none does without a number
+-- whether a subsystem of this number is here; none does without a number
 abbrev pub is_equipped : OwnValue → Option ℕ → Bool
 is_equipped own None = false
 is_equipped own (Some ssn) = list_any (λ subsystem. nat_eq subsystem ssn) own.subsystems
@@ -95,8 +96,8 @@ row_of_title rows (Ok title) =
 abbrev pub row_of : List TitleEntry → AddressValue → Result TitleEntry Cause
 row_of rows address = row_of_title rows (read_title address.title_indicator address.title)
 
--- by what the address is routed at the point that a row leads to, and the subsystem number there: that of the row,
--- where it has one, else that of the address, where it has one
+-- what the address is routed by at the point that a row leads to, and the subsystem number there: that of the row if it
+-- has one, else that of the address if it has one
 abbrev pub routing_by : TitleRoute → Routing
 routing_by (route.Title ssn) = routing.Title
 routing_by (route.Ssn ssn) = routing.Ssn
@@ -117,14 +118,14 @@ translated row address = record address {
   ssn = ssn_by row.route address.ssn;
 }
 
--- the calling address, as a point further on has to see it: where it is by subsystem number and names no point, that of
--- the sender is put in (Q.714 §2.7)
+-- the calling address, as a further point must see it: if it is routed by subsystem number and names no point, it gets
+-- that of the sender (Q.714 §2.7)
 abbrev pub from_point : ℕ → AddressValue → AddressValue
 from_point sender address =
     if is_by_ssn address.routing && is_none address.point then record address { point = Some sender } else address
 
--- whether such parts can be written: the pointers and the length of the data are an octet each, and the field isn't too
--- long
+-- whether such parts can be written: the pointers and the length of the data take an octet each, and the field isn't
+-- too long
 abbrev pub is_writable : PartsValue → Bool
 is_writable parts =
     nat_lt (3 + length (address_octets 0 parts.called) + length (address_octets 0 parts.calling)) (2 ^ 8)
@@ -135,7 +136,7 @@ is_writable parts =
 abbrev pub label_to : (point own : ℕ) → Label → Label
 label_to point own label = record { dpc = point; opc = own; sls = label.sls }
 
--- the field of a message for another point, where it can be written
+-- the field of a message for another point, if it can be written
 abbrev pub written : (point own : ℕ) → Label → UnitdataValue → Option (List ℕ)
 written point own label unitdata =
     if is_writable (parts_of unitdata) then Some (label_octets (label_to point own label) ++ spelled unitdata) else None
@@ -204,7 +205,7 @@ return_cause NoRoute = Some 5
 return_cause TooLong = Some 7
 return_cause _ = None
 
--- a UDTS goes to another point, where it can be written
+-- a UDTS goes to another point, if it can be written
 abbrev pub return_to : (own : ℕ) → Label → ℕ → UnitdataValue → Option (List ℕ)
 return_to own label point udts = if nat_eq point own then None else written point own label udts
 
@@ -221,14 +222,14 @@ return_by_row own label number parts (Err cause) = None
 return_by_row own label number parts (Ok row) =
     return_to own.point label row.point (UdtsValue number (led_back row parts))
 
--- a UDTS goes to the address that called: by subsystem number to the point that it names, else back where the message
--- came from; by title to where a row leads
+-- a UDTS goes to the address that called. By subsystem number that is the point that it names, else the point that the
+-- message came from; by title it is where a row leads
 abbrev pub return_by : Routing → OwnValue → List TitleEntry → Label → ℕ → PartsValue → Option (List ℕ)
 return_by Ssn own rows label number parts =
     return_to own.point label (unwrap_or parts.calling.point label.opc) (UdtsValue number (sent_back parts))
 return_by Title own rows label number parts = return_by_row own label number parts (row_of rows parts.calling)
 
--- a UDT is returned where it asks for a return on error and there is a return cause; a UDTS never is
+-- a UDT is returned if it asks for a return on error and there is a return cause; a UDTS never is
 abbrev pub return_read : OwnValue → List TitleEntry → Label → Option ℕ → Result UnitdataValue SccpFault
     → Option (List ℕ)
 return_read own rows label (Some number) (Ok (UdtValue class_octet parts)) =

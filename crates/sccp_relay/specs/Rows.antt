@@ -20,7 +20,6 @@ place_of key digits = key.translation ∷ key.plan ∷ key.nature ∷ digits
 abbrev pub key_of : TitleEntry → TitleKey
 key_of row = record { translation = row.translation; plan = row.plan; nature = row.nature }
 
--- the place of a row
 abbrev pub row_place : TitleEntry → List ℕ
 row_place row = row.translation ∷ row.plan ∷ row.nature ∷ row.digits
 
@@ -28,7 +27,7 @@ row_place row = row.translation ∷ row.plan ∷ row.nature ∷ row.digits
 abbrev pub place_order : List ℕ → List ℕ → Ordering
 place_order = slice_cmp nat_cmp
 
--- the row comes before the place, stands at it, or comes behind it
+-- the row comes before the place, is at it, or comes after it
 abbrev pub is_before : List ℕ → TitleEntry → Bool
 is_before place row = is_lt (place_order (row_place row) place)
 
@@ -38,13 +37,13 @@ is_at place row = is_eq (place_order (row_place row) place)
 abbrev pub is_behind : List ℕ → TitleEntry → Bool
 is_behind place row = is_gt (place_order (row_place row) place)
 
--- each row comes before all that follow it, so no two stand at one place
+-- each row comes before all that follow it, so no two are at one place
 abbrev pub IsOrdered : List TitleEntry → Type 0
 IsOrdered [] = ⊤
 IsOrdered (row ∷ rows) =
     AllByRecursion (λ other. place_order (row_place row) (row_place other) ≡ Less) rows × IsOrdered rows
 
--- whether a row stands at the place
+-- whether a row is at the place
 abbrev pub has_row : List TitleEntry → List ℕ → Bool
 has_row rows place = list_any (is_at place) rows
 
@@ -52,7 +51,7 @@ has_row rows place = list_any (is_at place) rows
 abbrev pub with_row : TitleEntry → List TitleEntry → List TitleEntry
 with_row row rows = filter (is_before (row_place row)) rows ++ row ∷ filter (is_behind (row_place row)) rows
 
--- whether two rows stand at one place
+-- whether two rows are at one place
 abbrev pub is_same_place : TitleEntry → TitleEntry → Bool
 is_same_place row other = bytes_eq (row_place row) (row_place other)
 
@@ -65,7 +64,7 @@ table_of (row ∷ rows) = with_row row (table_of rows)
 abbrev pub without_row : List ℕ → List TitleEntry → List TitleEntry
 without_row place rows = filter (λ row. not (is_at place row)) rows
 
--- why a row is refused: one stands at its place already; else there are as many as there may be
+-- why a row is refused: one is at its place already; else there are as many as there may be
 abbrev pub add_refusal : List TitleEntry → TitleEntry → Option Cause
 add_refusal rows row =
     if has_row rows (row_place row) then Some DuplicateRow

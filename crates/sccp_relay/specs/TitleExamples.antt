@@ -1,5 +1,5 @@
--- The law of translation at two rows of which one begins the other, where a definition that takes another prefix than
--- the longest makes it false.
+-- The law of translation at two rows, one of which begins the other: a definition that takes another prefix than the
+-- longest makes it false here.
 use Rattle.std.specs.Prelude.{◌≡◌, ℕ, List, [], ◌∷◌, Ok, None}
 use Rattle.settings_rows.specs.Configuration.{TitleEntry}
 use Rattle.settings_rows.specs.declared.title_row.TitleRoute.TheVariants.{Title}

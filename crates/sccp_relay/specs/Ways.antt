@@ -17,7 +17,7 @@ key_digits key = key.translation / 16 ∷ key.translation % 16 ∷ key.plan ∷ 
 abbrev pub way_of : TitleEntry → List ℕ
 way_of row = key_digits (key_of row) ++ row.digits
 
--- how a row is routed, as a number: that of the subsystem, or 0, and 256 more where it is routed by this number
+-- how a row is routed, as a number: that of the subsystem, or 0, and 256 more if it is routed by this number
 abbrev pub ssn_number : Option ℕ → ℕ
 ssn_number None = 0
 ssn_number (Some ssn) = ssn

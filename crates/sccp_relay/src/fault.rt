@@ -6,7 +6,7 @@ ghost use Rattle.sccp_relay.specs.Faults.{fault_number};
 /// Why a value isn't stored. The numbers are part of the interface.
 #[derive(Clone, Copy, Debug, PartialEq, Eq)]
 pub enum TrieFault {
-    /// A value stands at these digits.
+    /// A value is stored at these digits.
     Present = 1,
     /// There is no memory for it.
     NoMemory = 2,

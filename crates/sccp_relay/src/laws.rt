@@ -1,5 +1,4 @@
-//! Laws of translation tables, for whoever keeps one. Each function says its law by its contract, and
-//! does nothing.
+//! Laws of translation tables, for whoever keeps one. Each function states its law in its contract, and does nothing.
 
 ghost use Rattle.std.specs.Prelude.{◌≡◌, ℕ, List, Ok};
 ghost use Rattle.settings_rows.specs.Configuration.{TitleEntry};
@@ -15,7 +14,7 @@ pub fn one_translation()
         → IsTranslation rows key digits row → translation rows key digits ≡ Ok row }
 {}
 
-/// A row that is added stands at its place, and every other row stays.
+/// A row that is added is at its place, and every other row stays.
 pub fn adding_a_row_leaves_the_others()
     ensures own { added_stands }
     ensures others { added_leaves }
@@ -27,8 +26,8 @@ pub fn removing_a_row_leaves_the_others()
     ensures others { removed_leaves }
 {}
 
-/// A message that goes on has the class or the return cause, the data, the selection and the title of the one that came,
-/// and its addresses say at the point of its row what they are to say there (Q.714 §2.3, §2.4, §2.7).
+/// A message that goes on has the class or the return cause, the data, the selection and the title of the one that
+/// came, and its addresses read at the point of its row as they should (Q.714 §2.3, §2.4, §2.7).
 pub fn what_goes_on_reads_back()
     ensures { led.what_goes_on_reads_back }
 {}

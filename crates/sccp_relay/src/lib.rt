@@ -1,6 +1,6 @@
-//! The relay of connectionless SCCP: unitdata for this point is delivered, sent on by the title of its
-//! called address, or refused, and a refused one is returned (Q.714 §2.3, §4.2). Global titles are translated by
-//! rows that lead addresses by their first digits to a point (Q.714 §2.4), which a trie finds.
+//! SCRC and SCLC, SCCP routing and connectionless control (Q.714 §2.3, §4.2): unitdata for this point is delivered,
+//! sent on by the global title of its called address, or refused, and a refused message may be returned. Translation
+//! rows lead global titles to a point by their first digits (Q.714 §2.4), and a trie finds the row.
 #![tactic(auto)]
 
 pub mod fault;

@@ -7,8 +7,8 @@ ghost use Rattle.sccp_relay.specs.Nodes.{bare, node_at, child, value, if_there, 
 /// How many digits there are.
 const DIGITS: usize = 16;
 
-/// The number of a node. The root has number 0. It is the child of no node, so where a child is named, 0
-/// says that there is none.
+/// The number of a node. The root has number 0. It is the child of no node, so if a child is named, 0 says that there
+/// is none.
 #[derive(Clone, Copy)]
 pub(crate) struct NodeId {
     number: u32,
@@ -19,7 +19,7 @@ impl NodeId {
     const NONE: NodeId = NodeId { number: 0 };
 }
 
-/// A node: what stands at the digits that lead to it, and the node that each digit leads on to.
+/// A node: what is stored at the digits that lead to it, and the node that each digit leads on to.
 #[derive(Clone, Copy, Drop)]
 pub(crate) struct Node {
     value: Option<u32>,
@@ -27,7 +27,7 @@ pub(crate) struct Node {
 }
 
 impl Node {
-    /// A node at which nothing stands, and which leads nowhere.
+    /// A node at which nothing is stored, and which leads nowhere.
     pub(crate) fn bare() -> Node
         ensures { result ≡ bare }
     {
@@ -49,7 +49,7 @@ pub(crate) fn child_of(nodes: &[Node], at: usize, digit: u8) -> Option<usize>
     }
 }
 
-/// What stands at a node.
+/// What is stored at a node.
 pub(crate) fn value_at(nodes: &[Node], at: usize) -> Option<u32>
     requires { at < length nodes.now }
     ensures { result ≡ value nodes.now at }
@@ -57,7 +57,7 @@ pub(crate) fn value_at(nodes: &[Node], at: usize) -> Option<u32>
     nodes[at].value
 }
 
-/// Lets a digit lead from a node to a new one, behind the others, and returns its number.
+/// Lets a digit lead from a node to a new one, after the others, and returns its number.
 pub(crate) fn add_child(nodes: &mut Vec<Node>, at: usize, digit: u8) -> usize
     requires at { at < length nodes.old.items }
     requires digit { digit < 16 }
@@ -76,7 +76,7 @@ pub(crate) fn add_child(nodes: &mut Vec<Node>, at: usize, digit: u8) -> usize
     child
 }
 
-/// Lets this value stand at a node, or nothing.
+/// Stores this value at a node, or nothing.
 pub(crate) fn put(nodes: &mut Vec<Node>, at: usize, value: Option<u32>)
     requires { at < length nodes.old.items }
     ensures { nodes.new.items ≡ with_value_at nodes.old.items at value }

@@ -6,7 +6,7 @@ ghost use Rattle.sccp_relay.specs.Values.{own_value};
 
 use signalling_types::PointCode;
 
-/// The point that a node is, and the subsystems that stand there.
+/// The point that a node is, and the subsystems that are there.
 #[derive(Clone, Copy)]
 pub struct Own<'a> {
     /// Its point code.
@@ -16,7 +16,7 @@ pub struct Own<'a> {
 }
 
 impl Own<'_> {
-    /// Whether a subsystem of this number stands here; none does without a number.
+    /// Whether a subsystem of this number is here; none does without a number.
     pub(crate) fn is_equipped(&self, ssn: Option<u8>) -> bool
         ensures { result ≡ is_equipped (own_value self.now) ssn }
     {

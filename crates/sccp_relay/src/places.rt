@@ -1,4 +1,4 @@
-//! Where rows stand in their order.
+//! Where rows are in their order.
 
 ghost use Rattle.std.specs.Prelude.{◌≡◌, ◌≤◌, ◌<◌, ◌^◌, [], length, true, false, IfOk, IfErr};
 ghost use Rattle.std.specs.List.{list_any, IsDistinct};
@@ -11,7 +11,6 @@ use sccp_codec::TitleKey;
 use settings_rows::TitleRow;
 use std::cmp::Ordering;
 
-/// The key of a row.
 pub(crate) fn key_of(row: &TitleRow) -> TitleKey
     ensures key { result ≡ key_of row.now }
     ensures translation { row.now.translation < 2 ^ 8 }
@@ -25,7 +24,7 @@ pub(crate) fn key_of(row: &TitleRow) -> TitleKey
     }
 }
 
-/// How a row stands to the place of this key and these digits.
+/// How a row compares with the place of this key and these digits.
 fn order(row: &TitleRow, key: TitleKey, digits: &[u8]) -> Ordering
     ensures { result ≡ place_order (row_place row.now) (place_of key digits.now) }
 {
@@ -47,8 +46,7 @@ fn count_before(rows: &[TitleRow], key: TitleKey, digits: &[u8]) -> usize
     rows.partition_point(|row| order(row, key, digits).is_lt())
 }
 
-/// The number of the row of this key and these digits, or that of the place where it would stand, as an
-/// error.
+/// The number of the row of this key and these digits, or that of the place where it would be, as an error.
 pub(crate) fn place(rows: &[TitleRow], key: TitleKey, digits: &[u8]) -> Result<usize, usize>
     requires { IsOrdered rows.now }
     ensures found { IfOk result (StandsAt rows.now (place_of key digits.now)) }
@@ -65,7 +63,6 @@ pub(crate) fn place(rows: &[TitleRow], key: TitleKey, digits: &[u8]) -> Result<u
     }
 }
 
-/// Whether the row is of this key.
 fn is_of_key(row: &TitleRow, key: TitleKey) -> bool
     ensures { result ≡ has_key key row.now }
 {

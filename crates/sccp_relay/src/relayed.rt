@@ -5,9 +5,9 @@ use signalling_types::Cause;
 /// What becomes of an SCCP message for this point (Q.714 §2.3).
 #[derive(Clone, Copy, Debug, PartialEq, Eq)]
 pub enum Relayed {
-    /// It is for a subsystem that stands here.
+    /// It is for a subsystem that is here.
     Delivered,
-    /// It goes on, written anew: so many octets of the field that was lent, from its front.
+    /// It goes on, rewritten: this many octets of the field that was lent, from its front.
     Onward(usize),
     /// It is refused for this cause.
     Refused(Cause),

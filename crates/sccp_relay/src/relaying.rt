@@ -19,18 +19,17 @@ use signalling_types::{Cause, Limits, PointCode};
 /// The highest protocol class without a connection (Q.713 §3.6).
 const LAST_CONNECTIONLESS_CLASS: u8 = 1;
 
-/// Octets of the routing label, which stands before the message (Q.704 §2.2).
+/// Octets of the routing label, which comes before the message (Q.704 §2.2).
 const LABEL_OCTETS: usize = 4;
 
-/// What becomes of the message of a signalling information field that came for this point. Where it goes
-/// on it is written anew, each octet once, at the front of the field that is lent; whatever stands behind
-/// it may change, and so may all of that field where it doesn't go on (Q.714 §2.3).
+/// What becomes of the message of a signalling information field that came for this point. If it goes on, it is
+/// rewritten at the front of the field that is lent, each octet once. What follows it there may change, and so may all
+/// of that field if it doesn't go on (Q.714 §2.3).
 ///
-/// Refused, in this order: NotInProfile where it is neither a UDT nor a UDTS, and BadSccp where it can't be
-/// read; NotInProfile where it is a UDT of a class above 1; as `Address::global_title` and then
-/// `Translations::translate` refuse the title of its called address, where it is routed by title;
-/// Unequipped where it is for a subsystem that doesn't stand here; TooLong where it goes on and a
-/// pointer is over 255, or the field over 272 octets.
+/// Refused, in this order: NotInProfile if it is neither a UDT nor a UDTS, and BadSccp if it can't be read;
+/// NotInProfile if it is a UDT of a class above 1; if it is routed by title, as `Address::global_title` and then
+/// `Translations::translate` refuse the title of its called address; Unequipped if it is for a subsystem that isn't
+/// here; TooLong if it goes on and a pointer is over 255, or the field over 272 octets.
 #[tactic(auto, unfolding(crate::specs::Relay::relay))]
 pub fn relay(sif: &[u8], rows: &Translations, own: &Own<'_>, field: &mut Field) -> Relayed
     requires label { 4 ≤ length sif.now }
@@ -45,7 +44,7 @@ pub fn relay(sif: &[u8], rows: &Translations, own: &Own<'_>, field: &mut Field) 
     }
 }
 
-/// The message behind the label.
+/// The message after the label.
 pub(crate) fn behind_label(sif: &[u8]) -> &[u8]
     requires { 4 ≤ length sif.now }
     ensures { result.now ≡ drop 4 sif.now }
@@ -163,8 +162,8 @@ fn led_on<'a>(row: &TitleRow, sender: PointCode, parts: &Parts<'a>) -> Parts<'a>
     }
 }
 
-/// The calling address, as a point further on has to see it: where it is routed by subsystem number and
-/// names no point, that of the sender is put in (Q.714 §2.7).
+/// The calling address, as a further point must see it: if it is routed by subsystem number and names no point, it gets
+/// that of the sender (Q.714 §2.7).
 fn from_point<'a>(sender: PointCode, address: &Address<'a>) -> Address<'a>
     ensures { address_of result ≡ rule.from_point sender (address_of address.now) }
 {

@@ -14,15 +14,14 @@ use sccp_codec::{Field, Parts, Routing, Udt, Udts, Unitdata};
 use settings_rows::TitleRow;
 use signalling_types::{Cause, Limits, PointCode};
 
-/// Writes the UDTS that returns a message with this signalling information field, which came for this
-/// point and was refused for this cause, at the front of the field that is lent, each octet once, and
-/// answers how many octets it has. Its called address is the calling one of the message, and the other
-/// way round; by title that is translated as in a relayed message. Without an answer the field that is
-/// lent may hold anything (Q.714 §4.2).
+/// Writes the UDTS that returns the message of this signalling information field, which came for this point and was
+/// refused for this cause. It is written at the front of the field that is lent, each octet once. Returns how many
+/// octets it has. Its addresses are those of the message, exchanged; a called address by title is translated as in a
+/// relayed message. If there is no UDTS, the field that is lent may hold anything (Q.714 §4.2).
 ///
-/// None where the message isn't a UDT, or doesn't ask for a return on error; where the cause is none of
-/// NoNature, NoDigits, Unequipped, UnknownDestination, NoRoute and TooLong; and where the UDTS would
-/// go to this point, finds no translation, or would be too long.
+/// None if the message isn't a UDT, or doesn't ask for a return on error; if the cause is none of NoNature, NoDigits,
+/// Unequipped, UnknownDestination, NoRoute and TooLong; and if the UDTS would go to this point, finds no translation,
+/// or would be too long.
 #[tactic(auto, unfolding(crate::specs::Relay::returned))]
 pub fn returned(
     sif: &[u8],
@@ -80,8 +79,8 @@ fn return_read(
     }
 }
 
-/// The UDTS goes to the address that called: by subsystem number to the point that it names, else back
-/// where the message came from; by title to where a row leads.
+/// The UDTS goes to the address that called. By subsystem number that is the point that it names, else the point that
+/// the message came from; by title it is where a row leads.
 fn return_by(
     number: u8,
     parts: &Parts<'_>,

@@ -20,7 +20,7 @@ use std::marker::Model;
 
 /// A table of at most 65,535 translation rows. No two have one key and the same digits.
 ///
-/// The rows stand in their order, and a trie leads to each of them by the digits of its key and its own.
+/// The rows are in their order, and a trie leads to each of them by the digits of its key and its own.
 #[derive(Drop)]
 pub struct Translations {
     rows: Vec<TitleRow>,
@@ -79,11 +79,11 @@ impl Translations {
         self.rows.is_empty()
     }
 
-    /// Adds a row at its place: by translation type, plan, nature, then digit by digit, a prefix before
-    /// what it begins. It looks for the place by halves, and moves the rows behind it.
+    /// Adds a row at its place: by translation type, plan, nature, then digit by digit, a prefix before what it begins.
+    /// It looks for the place by halves, and moves the rows after it.
     ///
-    /// Refused DuplicateRow where a row of its key and digits is there; else TableFull where 65,535
-    /// rows are; else NoMemory where room for it is refused. A refusal leaves the table as it was.
+    /// Refused DuplicateRow if a row of its key and digits is there; else TableFull if 65,535 rows are; else NoMemory
+    /// if room for it is refused. A refusal leaves the table as it was.
     pub fn add(&mut self, row: TitleRow) -> Result<(), Cause>
         ensures added { OnOk result (self.new ≡ with_row row self.old) }
         ensures unchanged { OnErr result (self.new ≡ self.old) }
@@ -102,10 +102,10 @@ impl Translations {
         }
     }
 
-    /// Removes the row of this key and these digits, all of them. It looks for it by halves, and moves
-    /// the rows behind it.
+    /// Removes the row of this key and these digits, all of them. It looks for it by halves, and moves the rows after
+    /// it.
     ///
-    /// Refused NoSuchName where there is none; then the table stays as it was.
+    /// Refused NoSuchName if there is none; then the table stays as it was.
     pub fn remove(&mut self, key: TitleKey, digits: &[u8]) -> Result<(), Cause>
         ensures found { IsOk result ↔ IsTrue (has_row self.old (place_of key digits.now)) }
         ensures removed { OnOk result (self.new ≡ without_row (place_of key digits.now) self.old) }
@@ -128,12 +128,11 @@ impl Translations {
         self.rows.get(index).copied()
     }
 
-    /// The row that an address of this key and these digits is translated by: among the rows of the key
-    /// whose digits begin these, the one with the most. It takes a step for each digit, however many rows
-    /// there are; where none begins them, it looks for a row of the key by halves.
+    /// The row that translates an address of this key and these digits: of the rows of the key whose digits begin
+    /// these, the one with the most. It takes a step for each digit, however many rows there are. If none begins them,
+    /// it looks for a row of the key by binary search.
     ///
-    /// Refused NoNature where there is no row of the key; else NoDigits where none of these begins the
-    /// digits (Q.714 §2.6).
+    /// Refused NoNature if there is no row of the key; else NoDigits if none of these begins the digits (Q.714 §2.6).
     pub fn translate(&self, key: TitleKey, digits: &[u8]) -> Result<TitleRow, Cause>
         // What the rows say.
         ensures exact { result ≡ translation self.now key digits.now }

@@ -18,7 +18,7 @@ const NODES: usize = 1 << 32;
 
 /// Values by lists of digits, each 0 to 15: one at most at each list.
 ///
-/// It stands as nodes in one vector: a node for each list that begins one that was ever stored. So each call takes a
+/// It is stored as nodes in one vector: a node for each list that begins one that was ever stored. So each call takes a
 /// step for each digit, however many lists are stored, and what is removed leaves its nodes for what comes later.
 #[derive(Drop)]
 pub struct Trie {
@@ -50,8 +50,8 @@ impl Trie {
 
     /// Stores a value at digits.
     ///
-    /// Refused Present where one stands there; else NoMemory where room for its nodes is refused, of which
-    /// there are 2^32 at most. A refusal leaves all as it was.
+    /// Refused Present if one is stored there; else NoMemory if room for its nodes is refused, of which there are 2^32
+    /// at most. A refusal leaves all as it was.
     pub fn insert(&mut self, digits: &[u8], value: u32) -> Result<(), TrieFault>
         requires { All (λ digit. digit < 16) digits.now }
         ensures added { OnOk result (stored self.new ≡ with_value (stored self.old) digits.now value) }
@@ -73,7 +73,7 @@ impl Trie {
         Ok(())
     }
 
-    /// Removes the value at digits, and returns it. None, and nothing changed, where there is none.
+    /// Removes the value at digits, and returns it. None, and nothing changed, if there is none.
     pub fn remove(&mut self, digits: &[u8]) -> Option<u32>
         ensures value { result ≡ stored self.old digits.now }
         ensures removed { stored self.new ≡ without (stored self.old) digits.now }
@@ -84,15 +84,15 @@ impl Trie {
         value
     }
 
-    /// The most digits that begin these and at which a value stands, how many they are, and the value. It takes a step
-    /// for each digit.
+    /// The most digits that begin these and at which a value is stored, how many they are, and the value. It takes a
+    /// step for each digit.
     pub fn longest(&self, digits: &[u8]) -> Option<(usize, u32)>
         ensures { result ≡ longest (stored self.now) digits.now }
     {
         self.longest_behind(&[], digits)
     }
 
-    /// The same, among the digits that stand behind these first ones, which are not counted.
+    /// The same, among the digits that are stored after these first ones, which are not counted.
     pub fn longest_behind(&self, front: &[u8], digits: &[u8]) -> Option<(usize, u32)>
         ensures { result ≡ longest (behind (stored self.now) front.now) digits.now }
     {
@@ -117,7 +117,7 @@ fn node_of(nodes: &[Node], digits: &[u8]) -> Option<usize>
     Some(at)
 }
 
-/// What stands at these digits.
+/// What is stored at these digits.
 fn value_of(nodes: &[Node], digits: &[u8]) -> Option<u32>
     requires { IsTree nodes.now }
     ensures { result ≡ stored nodes.now digits.now }
@@ -125,7 +125,7 @@ fn value_of(nodes: &[Node], digits: &[u8]) -> Option<u32>
     value_at(nodes, node_of(nodes, digits)?)
 }
 
-/// The node that these digits lead to from the root. Nodes are put behind the others where they lead nowhere.
+/// The node that these digits lead to from the root. Nodes are put after the others if they lead nowhere.
 fn way_to(nodes: &mut Vec<Node>, digits: &[u8]) -> usize
     requires tree { IsTree nodes.old.items }
     requires digits { All (λ digit. digit < 16) digits.now }
@@ -144,7 +144,7 @@ fn way_to(nodes: &mut Vec<Node>, digits: &[u8]) -> usize
     at
 }
 
-/// Makes the root, where there are no nodes.
+/// Makes the root, if there are no nodes.
 fn plant(nodes: &mut Vec<Node>)
     requires tree { IsTree nodes.old.items }
     requires room { vec_len nodes.old < vec_capacity nodes.old }
@@ -159,7 +159,7 @@ fn plant(nodes: &mut Vec<Node>)
     }
 }
 
-/// The node that a digit leads to from a node: where it leads nowhere, one that is put behind the others.
+/// The node that a digit leads to from a node; if it leads nowhere, a new one that is put after the others.
 fn next(nodes: &mut Vec<Node>, at: usize, digit: u8) -> usize
     requires tree { IsTree nodes.old.items }
     requires at { at < length nodes.old.items }
@@ -181,7 +181,7 @@ fn next(nodes: &mut Vec<Node>, at: usize, digit: u8) -> usize
     add_child(nodes, at, digit)
 }
 
-/// The most digits, behind those that lead to a node, at which something stands.
+/// The most digits, after those that lead to a node, at which something is stored.
 fn longest_from(nodes: &[Node], start: usize, digits: &[u8]) -> Option<(usize, u32)>
     requires tree { IsTree nodes.now }
     requires start { start < length nodes.now }
@@ -199,7 +199,7 @@ fn longest_from(nodes: &[Node], start: usize, digits: &[u8]) -> Option<(usize, u
     best
 }
 
-/// So many digits and what stands there; or what was found at fewer.
+/// This many digits and what is stored there; or what was found at fewer.
 fn found_at(count: usize, value: Option<u32>, fewer: Option<(usize, u32)>) -> Option<(usize, u32)>
     ensures { result ≡ found_at count value fewer }
 {

@@ -72,7 +72,7 @@ fn route_number(route: TitleRoute) -> u32
     }
 }
 
-/// The number of a subsystem, or 0 where there is none.
+/// The number of a subsystem, or 0 if there is none.
 fn ssn_number(ssn: Option<Ssn>) -> u32
     ensures number { result ≡ ssn_number ssn }
     ensures fits { result < 2 ^ 8 }
@@ -102,7 +102,6 @@ fn point_of(lead: u32) -> PointCode
     PointCode::new((lead % POINTS) as u16).unwrap()
 }
 
-/// The row of this key and these digits that leads there.
 pub(crate) fn row_led(key: TitleKey, digits: &[u8], lead: u32) -> TitleRow
     requires { HasTitleRanges key.plan key.nature digits.now }
     ensures { result ≡ row_led key digits.now lead }
@@ -118,8 +117,8 @@ pub(crate) fn row_led(key: TitleKey, digits: &[u8], lead: u32) -> TitleRow
     .unwrap()
 }
 
-/// Lets a trie lead to a row. Refused Present where it leads to one of this way; else NoMemory where there is no room
-/// for its way. A refusal leaves it as it was.
+/// Lets a trie lead to a row. Refused Present if it leads to one of this way; else NoMemory if there is no room for
+/// its way. A refusal leaves it as it was.
 pub(crate) fn enter(trie: &mut Trie, row: &TitleRow) -> Result<(), TrieFault>
     ensures entered { OnOk result (stored trie.new ≡ with_value (stored trie.old) (way_of row.now) (lead_of row.now)) }
     ensures free { OnOk result (stored trie.old (way_of row.now) ≡ None) }

@@ -1,4 +1,4 @@
-//! Messages written anew.
+//! Messages rewritten.
 
 ghost use Rattle.std.specs.Prelude.{◌≡◌, ◌≤◌, Some, None, IfSome, if◌then◌else◌};
 ghost use Rattle.sccp_codec.specs.Values.{address_of, parts_value, udt_of, udts_of};
@@ -10,8 +10,8 @@ use sccp_codec::{Address, Field, Routing, Udt, Udts};
 use settings_rows::{TitleRoute, TitleRow};
 use signalling_types::{Limits, PointCode, Ssn};
 
-/// Writes a UDT for another point behind a label from this one, which keeps the link selection, at the
-/// front of the field, and answers how many octets it has. None where it would be too long.
+/// Writes a UDT for another point at the front of the field, after a label from this one with the same link selection,
+/// and returns how many octets it has. None if it would be too long.
 pub(crate) fn write_udt(
     point: PointCode,
     own: PointCode,
@@ -58,8 +58,8 @@ fn label_to(point: PointCode, own: PointCode, label: Label) -> Label
     }
 }
 
-/// The subsystem number at the point that a row leads to: that of the row, where it has one, else that
-/// of the address, where it has one (Q.714 §2.4).
+/// The subsystem number at the point that a row leads to: that of the row, if it has one, else that of the address, if
+/// it has one (Q.714 §2.4).
 pub(crate) fn ssn_by(route: TitleRoute, ssn: Option<u8>) -> Option<u8>
     ensures { result ≡ rule.ssn_by route ssn }
 {
@@ -69,7 +69,7 @@ pub(crate) fn ssn_by(route: TitleRoute, ssn: Option<u8>) -> Option<u8>
     }
 }
 
-/// The number of a subsystem, where there is one, else the other.
+/// The number of a subsystem, if there is one, else the other.
 fn number_or(ssn: Option<Ssn>, other: Option<u8>) -> Option<u8>
     ensures { result ≡ rule.number_or ssn other }
 {
@@ -101,7 +101,6 @@ pub(crate) fn translated<'a>(row: &TitleRow, address: &Address<'a>) -> Address<'
     }
 }
 
-/// The same address.
 pub(crate) fn same<'a>(address: &Address<'a>) -> Address<'a>
     ensures { address_of result ≡ address_of address.now }
 {

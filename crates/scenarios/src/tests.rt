@@ -43,7 +43,7 @@ impl Folder for Files {
     }
 }
 
-/// Runs the program with these words, each behind a comma. The links of its lab are joined so.
+/// Runs the program with these words, each after a comma. The links of its lab are joined so.
 fn run<J: Joiner, R: Source, W: Sink, E: Sink>(
     rt: &HostRuntime,
     words: &str,
@@ -59,7 +59,6 @@ fn run<J: Joiner, R: Source, W: Sink, E: Sink>(
     Ok(run_program(rt, list.as_slice(), &Files, joiner, reader, writer, errors))
 }
 
-/// The first lines of a text.
 fn first_lines(text: &str, count: usize) -> &str {
     let mut end: usize = 0;
     for line in text.split_inclusive('\n').take(count) {

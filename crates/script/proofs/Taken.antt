@@ -1,4 +1,4 @@
--- Octets that were taken, and those behind them.
+-- Octets that were taken, and those after them.
 use Rattle.script.proofs.Basics.{◌≡◌, ℕ, Bool, ◌+◌, ◌≤◌, ◌<◌, get_or, drop, drop-cons, add-one, suc, List, [], ◌∷◌, ◌++◌, Option, Result, Ok, Err, length, refl, sym, ◌∙◌, ap, arith, append_assoc, length-append, subst, drop_all, Appends, Kept, KeptQueues, AppendsAtLeast, Reached, onto, LineSoFar, rest_run, HasTaken, LINE_OCTETS, ScriptFault, Read, Write, Line, TooManyReads, NoMemory}
 use Rattle.script.proofs.Appending.{appends-appends, appends-least, appends-nothing}
 use Rattle.script.proofs.OneOctet.{line-first}

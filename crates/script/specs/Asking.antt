@@ -39,7 +39,7 @@ show_named points word =
     else if bytes_eq word (codes "flags") then Some Flags
     else None
 
--- a command with one word behind it
+-- a command with one word after it
 abbrev pub asked_with_one : PointFormat → Command → List ℕ → Option Asked
 asked_with_one points command.Up word = if is_some_word word then Some (AskUp word) else None
 asked_with_one points command.Down word = if is_some_word word then Some (AskDown word) else None
@@ -53,13 +53,13 @@ asked_with_one points command.Deactivate word = if is_some_word word then Some (
 asked_with_one points command.Title word = None
 asked_with_one points command.Show word = option_map (λ what. AskShow what) (show_named points word)
 
--- a command with two words behind it
+-- a command with two words after it
 abbrev pub asked_with_two : Command → List ℕ → List ℕ → Option Asked
 asked_with_two command.Frame first second =
     if is_some_word first && is_octets second then Some (AskFrame first (octets_of second)) else None
 asked_with_two _ first second = None
 
--- the words behind a command; with three and more it is an order
+-- the words after a command; with three and more it is an order
 abbrev pub asked_behind : PointFormat → Option Command → List (List ℕ) → Option Asked
 asked_behind points (Some command) (first ∷ []) = asked_with_one points command first
 asked_behind points (Some command) (first ∷ second ∷ []) = asked_with_two command first second
@@ -68,7 +68,7 @@ asked_behind points (Some command) (first ∷ second ∷ third ∷ more) =
     option_map (λ order. AskOrder order) (instructed_by points command (first ∷ second ∷ third ∷ more))
 asked_behind points None behind = None
 
--- what the words of a line ask for: nothing where they are no line of a script
+-- what the words of a line ask for: nothing if they are no line of a script
 abbrev pub asked_by : PointFormat → List (List ℕ) → Option Asked
 asked_by points [] = None
 asked_by points (word ∷ behind) = asked_behind points (command_named word) behind

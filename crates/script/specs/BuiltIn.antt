@@ -1,4 +1,4 @@
--- The settings that a node runs with where it is given none.
+-- The settings that a node runs with if it is given none.
 use Rattle.std.specs.Prelude.{◌≡◌, ℤ, pos, false, List, [], ◌∷◌, map, codes, string_bytes}
 use Rattle.settings_rows.specs.Configuration.{Configuration}
 use Rattle.settings_rows.specs.declared.draft.Draft.{Draft}

@@ -22,7 +22,7 @@ use Rattle.script.specs.Showing.{shown_text}
 use Rattle.script.specs.declared.line.Show.{Show}
 use Rattle.script.specs.Texts.{outcome_line, frame_line, none_line, wants_line}
 
--- what a line means at a node: a call of its exchange, ticks that pass, a text that is shown, or a refusal before any
+-- what a line means to a node: a call of its exchange, ticks that pass, a text that is shown, or a refusal before any
 -- call
 pub data Meaning : Type 0 where
   Calls : Asking → Meaning
@@ -30,7 +30,7 @@ pub data Meaning : Type 0 where
   Shows : Show → Meaning
   Refuses : Cause → Meaning
 
--- a call for the link of a name, where there is one
+-- a call for the link of a name, if there is one
 abbrev pub at_link : Option ℕ → (ℕ → Asking) → Meaning
 at_link None asking = Refuses NoSuchName
 at_link (Some link) asking = Calls (asking link)
@@ -43,12 +43,12 @@ message_written octets = record { sio = slice_index octets 0; sif = drop 1 octet
 abbrev pub submission : Message → Meaning
 submission m = (if nat_lt SIF_OCTETS (length m.sif) then Refuses TooLong else Calls (Happens (Submitted m)))
 
--- an order to the node, where the link that it is about is there
+-- an order to the node, if the link that it is about is there
 abbrev pub given : (lacks_memory : Bool) → Option Order → Meaning
 given lacks_memory None = Refuses NoSuchName
 given lacks_memory (Some order) = Calls (Happens (ordered order lacks_memory))
 
--- what a line means with these settings, and where memory is refused for a translation row that it adds, if it is
+-- what a line means with these settings and, if memory is refused for a translation row that it adds, with that
 abbrev pub meaning : Configuration → (lacks_memory : Bool) → Asked → Meaning
 meaning c lacks_memory (AskUp name) = at_link (link_place c name) (λ link. Happens (CameUp link))
 meaning c lacks_memory (AskFrame name octets) = at_link (link_place c name) (λ link. Happens (FrameCame link octets))
@@ -69,7 +69,7 @@ named_link c outcome = []
 abbrev pub report : Configuration → Outcome → List ℕ
 report c outcome = outcome_line (named_link c outcome) outcome
 
--- the line of a frame that was asked for, where there is one
+-- the line of a frame that was asked for, if there is one
 abbrev pub taken_text : List ℕ → Option (List ℕ) → List ℕ
 taken_text name None = none_line
 taken_text name (Some octets) = frame_line name octets
@@ -86,12 +86,12 @@ answer_text c asking (Stepped outcome) = report c outcome
 answer_text c asking (Taken frame) = taken_text (name_asked c asking) frame
 answer_text c asking (Wanted wants) = wants_line wants
 
--- the state after so many ticks
+-- the state after this many ticks
 abbrev pub after_ticks : {Q : Type 0} → QueueKind Q → ℕ → State Q → State Q
 after_ticks q zero s = s
 after_ticks q (suc more) s = after_ticks q more (after q Ticked s)
 
--- what is printed of a meaning, and the state after it
+-- what is printed for a meaning, and the state after it
 abbrev pub meaning_printed : {Q : Type 0} → QueueKind Q → Meaning → State Q → List ℕ
 meaning_printed q (Calls asking) s = answer_text s.settings asking (answer_to_call q asking s)
 meaning_printed q (Passes ticks) s = report s.settings Handled
@@ -104,7 +104,7 @@ meaning_done q (Passes ticks) s = after_ticks q ticks s
 meaning_done q (Shows what) s = s
 meaning_done q (Refuses cause) s = s
 
--- what is printed of a line, and the state after it
+-- what is printed for a line, and the state after it
 abbrev pub printed : {Q : Type 0} → QueueKind Q → (lacks_memory : Bool) → Asked → State Q → List ℕ
 printed q lacks_memory asked s = meaning_printed q (meaning s.settings lacks_memory asked) s
 

@@ -5,7 +5,6 @@ use Rattle.script.specs.declared.fault.TheConstants.{READS}
 use Rattle.script.specs.declared.fault.ScriptFault.{ScriptFault}
 use Rattle.script.specs.declared.fault.ScriptFault.TheVariants.{Read, Write, Line, TooManyReads, NoMemory}
 
--- a fault's number
 abbrev pub fault_number : ScriptFault → ℕ
 fault_number Read = 1
 fault_number Write = 2
@@ -30,13 +29,13 @@ EndsAtLine (Err (Line line)) = Unit {0}
 EndsAtLine (Err Write) = Unit {0}
 EndsAtLine (Err other) = ⊥
 
--- no more than 4,194,304 reads (READS) were made, and all of them where the script's end wasn't found (a count of 64
--- bits stays at its greatest value)
+-- at most 4,194,304 reads (READS) were made, and exactly that many if the script's end wasn't found (a count of 64 bits
+-- stays at its greatest value)
 abbrev pub MakesReads : {A : Type 0} → Result A ScriptFault → ℕ → ℕ → Type 0
 MakesReads (Err TooManyReads) old new = (new ≤ old + READS) × (min (old + READS) (2 ^ 64 - 1) ≤ new)
 MakesReads result old new = new ≤ old + READS
 
--- the calls of the streams in a run that ended so
+-- the calls of the streams in a run that ended like this
 pub record Counts (result : Result Unit ScriptFault) (input input_new : Input) (output output_new : Output)
     : Type 0 where
   pub reads_made : MakesReads result input.reads input_new.reads

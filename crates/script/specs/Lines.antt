@@ -6,7 +6,7 @@ use Rattle.hex.specs.Hex.{decode_of, is_hex_digit}
 use Rattle.console.specs.Words.{parted}
 use Rattle.signalling_types.specs.declared.limits.TheConstants.Limits.{FRAME_OCTETS}
 
--- the lines of a text: what its line feeds (10) part, so the last has no line feed behind it
+-- the lines of a text: its parts between line feeds (10), so no line feed ends the last
 abbrev pub lines : List ℕ → List (List ℕ)
 lines text = parted 10 text
 

@@ -1,4 +1,4 @@
--- What is printed of a line that was done.
+-- What is printed for a line that was done.
 use Rattle.std.specs.Prelude.{ℕ, Bool, false, List}
 use Rattle.exchange.specs.Calls.{is_memory_refused}
 use Rattle.exchange_rules.specs.State.{QueueKind, State}

@@ -28,28 +28,27 @@ silent s = record { text = []; state = s; fault = None }
 abbrev pub stopped : {Q : Type 0} → ℕ → State Q → Reached Q
 stopped number s = record { text = line_fault number; state = s; fault = Some number }
 
--- what is read in a line that has its line feed, where points are numbers: one of more than 8,300 octets (LINE_OCTETS)
--- is malformed
+-- what a line that has its line feed is read as, with points as numbers; one of more than 8,300 octets (LINE_OCTETS) is
+-- malformed
 abbrev pub whole_line : List ℕ → Reading
 whole_line line = if nat_lt LINE_OCTETS (length line) then IsMalformed else parsed_line Plain line
 
--- what such a line prints, and the state after it, and where memory is refused for a translation row that it adds, if
--- it is
+-- what such a line prints, and the state after it; memory may be refused for a translation row that it adds
 abbrev pub line_run : {Q : Type 0} → QueueKind Q → ℕ → (lacks_memory : Bool) → Reading → State Q → Reached Q
 line_run q number lacks_memory Skips s = silent s
 line_run q number lacks_memory IsMalformed s = stopped number s
 line_run q number lacks_memory (Asks asked) s =
     record { text = printed q lacks_memory asked s; state = done q lacks_memory asked s; fault = None }
 
--- a line that has no line feed yet ends the script where it has more than so many octets
+-- a line that has no line feed yet ends the script if it has more than this many octets
 abbrev pub open_run : {Q : Type 0} → (most : ℕ) → ℕ → List ℕ → State Q → Reached Q
 open_run most number line s = (if nat_lt most (length line) then stopped number s else silent s)
 
--- a text in front of what is printed
+-- a text before what is printed
 abbrev pub onto : {Q : Type 0} → List ℕ → Reached Q → Reached Q
 onto text r = record r { text = text ++ r.text }
 
--- what comes behind, unless a line ended the script
+-- what comes after, unless a line ended the script
 abbrev pub unless_ended : {Q : Type 0} → Option ℕ → Reached Q → (State Q → Reached Q) → Reached Q
 unless_ended None r next = onto r.text (next r.state)
 unless_ended (Some number) r next = r
@@ -57,8 +56,7 @@ unless_ended (Some number) r next = r
 abbrev pub behind : {Q : Type 0} → Reached Q → (State Q → Reached Q) → Reached Q
 behind r next = unless_ended r.fault r next
 
--- of lines in a row, whether memory is refused at the first of them, and at those behind it; none is where the list
--- ends
+-- for lines in a row, whether memory is refused at the first of them, and at the later ones; at none once the list ends
 abbrev pub first_of : List Bool → Bool
 first_of [] = false
 first_of (refused ∷ later) = refused
@@ -80,18 +78,18 @@ lines_run q most number refused (line ∷ next ∷ more) s =
 abbrev pub run_so_far : {Q : Type 0} → QueueKind Q → (refused : List Bool) → List ℕ → State Q → Reached Q
 run_so_far q refused octets s = lines_run q LINE_OCTETS 1 refused (lines octets) s
 
--- a whole script: behind its last line feed nothing stands
+-- a whole script: nothing follows its last line feed
 abbrev pub whole_run : {Q : Type 0} → QueueKind Q → (refused : List Bool) → List ℕ → State Q → Reached Q
 whole_run q refused octets s = lines_run q 0 1 refused (lines octets) s
 
--- where these octets lead, of a script of which so many more were read: its end counts where nothing is left to be read
+-- where these octets lead, in a script of which this many more were read; its end counts if nothing is left to be read
 abbrev pub LeadsTo : {Q : Type 0} → QueueKind Q → (refused : List Bool) → (octets more : List ℕ)
     → (left : Option (List ℕ)) → State Q → Reached Q → Type 0
 LeadsTo q refused octets more left s r =
     (r ≡ run_so_far q refused octets s) ⊎ ((more ≡ []) × IsAtEnd left × (r ≡ whole_run q refused octets s))
 
--- What was done of lines that lead there: all, and what they print was written; or a write failed, and the first octets
--- of what they print were written.
+-- What was done of lines that lead there: all of it, and what they print was written; or a write failed, and the first
+-- octets of what they print were written.
 abbrev pub Does : {Q : Type 0} → Reached Q → Result Unit ScriptFault → (after : State Q)
     → (written written_new : Option (List ℕ)) → Type 0
 Does r (Ok x) after written written_new = (r.fault ≡ None) × (r.state ≡ after) × Appends written written_new r.text
@@ -100,14 +98,14 @@ Does r (Err (Line number)) after written written_new =
 Does r (Err Write) after written written_new = (r.state ≡ after) × AppendsFirst written written_new r.text
 Does r (Err other) after written written_new = ⊥
 
--- at least so many octets were read, and the whole lines of all of them were done
+-- at least this many octets were read, and the whole lines of all of them were done
 abbrev pub RunsSoFar : {Q : Type 0} → QueueKind Q → (refused : List Bool) → (least : ℕ) → (before after : State Q)
     → (left left_new written written_new : Option (List ℕ)) → Type 0
 RunsSoFar q refused least before after left left_new written written_new =
     (octets : List ℕ) × (least ≤ length octets) × Consumes left left_new octets
     × Does (run_so_far q refused octets before) (Ok tt) after written written_new
 
--- what a run of a script did, where memory was refused at these of its lines
+-- what a run of a script did, if memory was refused at these of its lines
 abbrev pub RunsBy : {Q : Type 0} → QueueKind Q → (refused : List Bool) → Result Unit ScriptFault
     → (before after : State Q) → (left left_new written written_new : Option (List ℕ)) → Type 0
 RunsBy q refused (Ok x) before after left left_new written written_new =
@@ -128,13 +126,13 @@ RunsBy q refused (Err TooManyReads) before after left left_new written written_n
     RunsSoFar q refused READS before after left left_new written written_new
 RunsBy q refused (Err NoMemory) before after left left_new written written_new = ⊥
 
--- What a run of a script did, from a state to another. On Ok the octets that were read are the whole script, and it was
--- done. On Line they hold a malformed line, its line feed included, or more of a line than it may have, or they end in
--- the midst of a line and nothing is left to be read; the lines before that one were done. On Write the first of these
--- octets lead to the state: all that `front` prints went out, and the beginning of what the octet behind it adds, an
--- outcome or a fault, or of the fault at the script's end. On Read and TooManyReads their whole lines were done, and
--- after TooManyReads they are no fewer than the reads (READS). Whether memory was refused for a translation row that a
--- line adds is a choice; the line that it prints tells it.
+-- What a run of a script did, from one state to another. On Ok the octets that were read are the whole script, and it
+-- was done. On Line they hold a malformed line with its line feed, or more of a line than it may have, or they end in
+-- the middle of a line and nothing is left to be read; the lines before that one were done. On Write the first of these
+-- octets lead to the state: all that `front` prints went out, and the beginning of what the next octet adds, an outcome
+-- or a fault, or of the fault at the script's end. On Read and TooManyReads their whole lines were done, and after
+-- TooManyReads they are no fewer than the reads (READS). Whether memory was refused for a translation row that a line
+-- adds is a choice, and the line that is printed says it.
 abbrev pub Runs : {Q : Type 0} → QueueKind Q → Result Unit ScriptFault → (before after : State Q)
     → (left left_new written written_new : Option (List ℕ)) → Type 0
 Runs q result before after left left_new written written_new =

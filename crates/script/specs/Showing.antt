@@ -22,7 +22,7 @@ most_lines (Titles points) s = length s.node.parts.titles
 most_lines (Notices points) s = length s.node.parts.notices.last
 most_lines Flags s = FLAGS
 
--- a line with its line feed, where there is one
+-- a line with its line feed, if there is one
 abbrev pub ended : Option (List ℕ) → List ℕ
 ended (Some line) = line ++ codes "\n"
 ended None = []

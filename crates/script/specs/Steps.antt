@@ -1,4 +1,4 @@
--- How a script is gone through: the line that is open, and the octets that come behind.
+-- How a script is worked through: the line that is open, and the octets that come after.
 use Rattle.std.specs.Prelude.{◌≡◌, ◌≢◌, ℕ, Bool, ◌≤◌, List, [], ◌∷◌, ◌++◌, length, Option, Some, Result, Ok, Err}
 use Rattle.std.specs.Io.KnownBytes.{Appends}
 use Rattle.exchange.specs.KeptQueues.{KeptQueues, kept}
@@ -29,12 +29,12 @@ Grows Open octet line next = (octet ≢ 10) × (next ≡ record line { octets = 
 Grows TooLong octet line next = (octet ≢ 10) × (LINE_OCTETS ≤ length line.octets) × (next ≡ line)
 Grows Whole octet line next = (octet ≡ 10) × (next ≡ line)
 
--- the open line, and the octets behind it
+-- the open line, and the octets after it
 abbrev pub rest_run : (most : ℕ) → (refused : List Bool) → LineSoFar → List ℕ → Kept → Reached KeptQueues
 rest_run most refused line octets s = lines_run kept most line.number refused (begun line.octets (lines octets)) s
 
--- these octets were taken: what they print went out, and what comes behind is run from the next line and the next state
--- on, whatever is refused then
+-- these octets were taken: what they print went out, and what follows is run from the next line and the next state,
+-- whatever is refused then
 pub record GoesOn (octets : List ℕ) (line next : LineSoFar) (s after : Kept)
     (written written_new : Option (List ℕ)) : Type 0 where
   pub text : List ℕ
@@ -43,7 +43,7 @@ pub record GoesOn (octets : List ℕ) (line next : LineSoFar) (s after : Kept)
   pub rest : (most : ℕ) (later : List Bool) (behind : List ℕ) → most ≤ LINE_OCTETS
       → rest_run most (refused ++ later) line (octets ++ behind) s ≡ onto text (rest_run most later next behind after)
 
--- a line in these octets ended the script, whatever comes behind
+-- a line in these octets ended the script, whatever comes after
 pub record StopsAt (number : ℕ) (octets : List ℕ) (line : LineSoFar) (s after : Kept)
     (written written_new : Option (List ℕ)) : Type 0 where
   pub text : List ℕ
@@ -52,7 +52,7 @@ pub record StopsAt (number : ℕ) (octets : List ℕ) (line : LineSoFar) (s afte
   pub rest : (most : ℕ) (behind : List ℕ) → most ≤ LINE_OCTETS
       → rest_run most refused line (octets ++ behind) s ≡ record { text = text; state = after; fault = Some number }
 
--- a write failed at one of these octets, behind which none was taken: what those in front of it print went out
+-- a write failed at one of these octets, after which none was taken; what those before it print went out
 pub record BreaksOff (octets : List ℕ) (line : LineSoFar) (s after : Kept)
     (written written_new : Option (List ℕ)) : Type 0 where
   pub front : List ℕ

@@ -3,14 +3,14 @@ use Rattle.std.specs.Prelude.{ℕ, ◌+◌, ◌-◌, ◌^◌, ◌==◌, ◌≤�
 use Rattle.std.specs.Prelude.{if◌then◌else◌}
 use Rattle.std.specs.Io.KnownBytes.{Appends}
 
--- of a source: the octets that reads give from here on, where they are known; how many reads were made, and how many
--- of them failed
+-- a source: the octets that reads give from here on, if they are known; how many reads were made, and how many of them
+-- failed
 pub record Input : Type 0 where
   pub remaining : Option (List ℕ)
   pub reads : ℕ
   pub failures : ℕ
 
--- of a sink: the octets that were written, where they are known; and how many writes failed
+-- a sink: the octets that were written, if they are known, and how many writes failed
 pub record Output : Type 0 where
   pub written : Option (List ℕ)
   pub failures : ℕ
@@ -28,16 +28,16 @@ failures_after n (Err e) = counted n
 abbrev pub AppendsFirst : Option (List ℕ) → Option (List ℕ) → List ℕ → Type 0
 AppendsFirst old new octets = (count : ℕ) × Appends old new (take count octets)
 
--- the known octets grew by the first of these, however many but at least so many
+-- the known octets grew by the first of these, however many but at least this many
 abbrev pub AppendsAtLeast : (least : ℕ) → Option (List ℕ) → Option (List ℕ) → List ℕ → Type 0
 AppendsAtLeast least old new octets = (count : ℕ) × (least ≤ count) × Appends old new (take count octets)
 
--- which call fails, after one more call: the one after a call fewer, or none any more
+-- which call fails, after one more call: the one after one call fewer, or none any more
 abbrev pub plan_after : Option ℕ → Option ℕ
 plan_after None = None
 plan_after (Some calls) = if calls == 0 then None else Some (calls - 1)
 
--- octets that are given so many a read, with at most one read to come that fails, after so many others
+-- octets that are given this many a read, with at most one read to come that fails, after this many others
 pub record PlannedSource : Type 0 where
   pub rest : List ℕ
   pub most : ℕ
@@ -45,7 +45,7 @@ pub record PlannedSource : Type 0 where
   pub reads : ℕ
   pub failures : ℕ
 
--- octets that were written, with at most one write to come that fails, after so many others
+-- octets that were written, with at most one write to come that fails, after this many others
 pub record PlannedSink : Type 0 where
   pub written : List ℕ
   pub until_failure : Option ℕ

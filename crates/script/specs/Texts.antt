@@ -27,7 +27,7 @@ wants_line Nothing = codes "nothing\n"
 wants_line Open = codes "open\n"
 wants_line Close = codes "close\n"
 
--- where no frame goes out
+-- if no frame goes out
 abbrev pub none_line : List ℕ
 none_line = codes "none\n"
 

@@ -33,7 +33,6 @@ pub fn built_in(alloc: Global) -> Result<Draft, AllocError>
     })
 }
 
-/// One number.
 fn one(alloc: Global, number: i64) -> Result<Vec<i64>, AllocError>
     ensures { IfOk result (λ numbers. numbers.items ≡ number ∷ []) }
 {
@@ -73,7 +72,6 @@ fn sets(alloc: Global) -> Result<Vec<SetDraft>, AllocError>
     Ok(sets)
 }
 
-/// The one link.
 fn links(alloc: Global) -> Result<Vec<LinkDraft>, AllocError>
     ensures { IfOk result (λ links. IsLinks links.items) }
 {

@@ -48,7 +48,7 @@ impl ScriptFault {
 pub enum LineFault {
     /// It is no line of a script.
     Malformed,
-    /// It has more than so many octets.
+    /// It has more than this many octets.
     TooLong(usize),
     /// The script ends before the line feed that ends the line.
     Unended,

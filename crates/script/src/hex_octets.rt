@@ -50,7 +50,6 @@ fn decode_whole(digits: &[u8], octets: &mut [u8])
     let _whole = hex::decode_to_slice(digits, octets);
 }
 
-/// Whether the text is one of octets.
 fn is_octets(text: &[u8]) -> bool
     ensures { result ≡ is_octets text.now }
 {

@@ -1,5 +1,5 @@
-//! Scripts: lines in, lines out. Also the streams that they are read from and that their output
-//! goes to, and the settings that a node has where it is given none.
+//! Scripts: lines in, lines out. Also the streams that they are read from and that their output goes to, and the
+//! settings of a node that is given none.
 #![tactic(auto)]
 
 pub mod defaults;

@@ -55,7 +55,7 @@ pub enum Line<'a> {
         /// The frame.
         octets: HexOctets<'a>,
     },
-    /// `tick N`: so many ticks of the clock pass.
+    /// `tick N`: this many ticks of the clock pass.
     Tick {
         /// How many, 1 to 65,535.
         ticks: u16,
@@ -72,7 +72,7 @@ pub enum Line<'a> {
     },
     /// `submit HEX`: a user part hands over a message.
     Submit {
-        /// The service information octet, and the signalling information field behind it.
+        /// The service information octet, and the signalling information field after it.
         octets: HexOctets<'a>,
     },
     /// `activate LINK`, `deactivate LINK`, `title add ..` or `title remove ..`: an order of the operator.
@@ -132,7 +132,7 @@ fn asked(line: &[u8], points: PointFormat) -> Option<Line<'_>>
     }
 }
 
-/// What a command with one word behind it asks for. Points are shown in this format.
+/// What a command with one word after it asks for. Points are shown in this format.
 pub fn line_with_one_word(command: Command, word: &[u8], points: PointFormat) -> Option<Line<'_>>
     ensures { asked_of result ≡ asked_with_one points command word.now }
 {
@@ -165,7 +165,7 @@ pub fn line_with_one_word(command: Command, word: &[u8], points: PointFormat) ->
     }
 }
 
-/// What a command with two words behind it asks for.
+/// What a command with two words after it asks for.
 fn asked_with_two<'a>(command: Command, first: &'a [u8], second: &'a [u8]) -> Option<Line<'a>>
     ensures { asked_of result ≡ asked_with_two command first.now second.now }
 {

@@ -15,7 +15,7 @@ use console::{OrderText, link_name};
 use exchange::{BUFFER_OCTETS, Event, Exchange};
 use settings::{Cause, Limits, LinkId, Msu, Outcome};
 
-/// What is printed of a line that was done.
+/// What is printed for a line that was done.
 #[derive(Drop)]
 pub enum Reply {
     /// The line of this outcome.
@@ -29,7 +29,7 @@ pub enum Reply {
 /// Does what a line asks for, and returns what to print for it.
 ///
 /// A link name that isn't in the settings is refused NoSuchName, and a message whose signalling information field is
-/// too long, TooLong; neither reaches the exchange.
+/// too long is refused TooLong; neither reaches the exchange.
 pub fn perform(exchange: &mut Exchange, line: Line<'_>) -> Reply
     ensures text { reply_text kept result exchange.new
         ≡ printed kept (lacks_memory result) (asked_line line.entry) exchange.old }
@@ -68,7 +68,7 @@ pub fn perform(exchange: &mut Exchange, line: Line<'_>) -> Reply
     Reply::Became(outcome)
 }
 
-/// Gives an order, about the link of a name where it is about one.
+/// Gives an order, about the link of a name if it is about one.
 fn obey(exchange: &mut Exchange, order: OrderText<'_>) -> Outcome
     ensures text { report exchange.new.settings result
         ≡ printed kept (is_memory_refused result) (AskOrder (instruction order.entry)) exchange.old }
@@ -81,7 +81,7 @@ fn obey(exchange: &mut Exchange, order: OrderText<'_>) -> Outcome
     }
 }
 
-/// Lets so many ticks pass.
+/// Lets this many ticks pass.
 fn pass(exchange: &mut Exchange, ticks: u16) -> Outcome
     ensures outcome { result ≡ Outcome.Handled }
     ensures state { exchange.new ≡ after_ticks kept ticks exchange.old }
@@ -127,7 +127,7 @@ pub(crate) fn report(exchange: &Exchange, outcome: Outcome) -> Text
     }
 }
 
-/// The name of a link; nothing where no link has this number.
+/// The name of a link; nothing if no link has this number.
 fn name_of(exchange: &Exchange, link: LinkId) -> &[u8]
     ensures name { result.now ≡ name_in exchange.now.settings link }
     ensures fits { length result.now ≤ Limits.NAME_OCTETS }

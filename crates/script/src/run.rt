@@ -59,14 +59,14 @@ impl Model for OpenLine {
     ghost invariant = { λ l. length l.octets.items ≤ LINE_OCTETS };
 }
 
-/// Does the lines of a script, in order, and prints what becomes of each: a line, but for `show`, which prints a text.
+/// Does the lines of a script, in order, and prints one line for each, or for `show` a text.
 ///
 /// Empty lines, and lines that begin with `#`, are skipped and print nothing. A line that is malformed, longer than
-/// 8,300 octets, or without a line feed at the end of the script, prints `fault` and its number and ends the script
+/// 8,300 octets, or without a line feed at the end of the script prints `fault` and its number, and ends the script
 /// with `Line`; nothing of it is done. Returns `Read` or `Write` exactly if a read or a write failed. After `Write` the
 /// lines up to some line were taken: the output of those before it was written in full, and the beginning of its own.
-/// At most 4,194,304 reads are made; where each of them found an octet, the lines that are whole by then are done, and
-/// the script ends with `TooManyReads`. It allocates no memory.
+/// At most 4,194,304 reads are made. If each of them found an octet, the lines that are whole by then are done, and the
+/// script ends with `TooManyReads`. It allocates no memory.
 pub fn run_script<R: Source, W: Sink>(
     exchange: &mut Exchange,
     reader: &mut R,
@@ -135,7 +135,7 @@ impl OpenLine {
         self.octets.as_slice()
     }
 
-    /// What is wrong with the line, where it ended the script.
+    /// What is wrong with the line, if it ended the script.
     pub fn wrong(&self) -> LineFault {
         self.wrong
     }
@@ -161,7 +161,7 @@ impl OpenLine {
         Ok(())
     }
 
-    /// Takes the next octet, and does the line where it ends.
+    /// Takes the next octet, and does the line if that ends it.
     fn take<W: Sink>(
         &mut self,
         octet: u8,
@@ -186,7 +186,7 @@ impl OpenLine {
         }
     }
 
-    /// Takes the next octet, which isn't part of the line where it ends it, or where the line has no room for it.
+    /// Takes the next octet, which isn't part of the line if it ends the line, or if the line has no room for it.
     pub fn add(&mut self, octet: u8) -> Grown
         ensures line { Grows result octet self.old self.new }
         ensures short { length self.new.octets ≤ LINE_OCTETS }
@@ -203,7 +203,7 @@ impl OpenLine {
         Grown::Open
     }
 
-    /// Begins the line behind this one.
+    /// Begins the line after this one.
     pub fn begin_next(&mut self)
         requires { self.old.number + 1 < 2 ^ 64 }
         ensures { self.new ≡ record { octets = []; number = self.old.number + 1 } }

@@ -45,7 +45,7 @@ fn show_text<W: Sink>(exchange: &Exchange, what: Show, writer: &mut W) -> Result
     Ok(())
 }
 
-/// Prints a line of a text, where there is one.
+/// Prints a line of a text, if there is one.
 #[tactic(auto, using(crate::proofs::Shown::line_steps))]
 fn show_line<W: Sink>(
     exchange: &Exchange,
@@ -66,7 +66,7 @@ fn show_line<W: Sink>(
     writer.write(console_line(line.as_str()).as_slice())
 }
 
-/// Writes a line of a text to the buffer, where there is one.
+/// Writes a line of a text to the buffer, if there is one.
 fn write_line(
     exchange: &Exchange,
     what: Show,

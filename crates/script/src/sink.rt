@@ -9,15 +9,15 @@ use std::alloc::Global;
 use std::io::Write;
 use std::marker::Model;
 
-/// A write failed. Some of the octets, from the first on, may have been written.
+/// A write failed. Some of the octets, from the first, may have been written.
 #[derive(Clone, Copy, Debug, PartialEq, Eq)]
 pub struct WriteFailed;
 
 /// What a script's output is written to.
 ///
-/// It counts its failures, and knows, where it can, the octets that were written.
+/// It counts its failures, and knows, if it can, the octets that were written.
 pub trait Sink {
-    // The octets that were written, where they are known, and the count of the writes that failed.
+    // The octets that were written, if they are known, and the count of the writes that failed.
     ghost output: { Self → Output };
 
     /// Writes all the octets. After `WriteFailed` only the first of them were written, however many.
@@ -110,7 +110,7 @@ impl MemorySink {
         }
     }
 
-    /// The same, but the write after so many more fails, and nothing of it is written.
+    /// The same, but the write after this many more fails, and nothing of it is written.
     pub fn failing_after(self, writes: u64) -> MemorySink
         ensures { result ≡ record self { until_failure = Some writes } }
     {

@@ -14,10 +14,10 @@ pub struct ReadFailed;
 
 /// What a script is read from.
 ///
-/// It counts its failures, and tells the octets that are still to be read where it knows them: what
-/// was read is what they lost at their front.
+/// It counts its failures and, if it knows them, says which octets are still to be read; what was read is what they
+/// lost at their front.
 pub trait Source {
-    // The octets that reads give from here on, where they are known, and the counts of its reads.
+    // The octets that reads give from here on, if they are known, and the counts of its reads.
     ghost input: { Self → Input };
 
     /// Reads the next octets to the front of the buffer, and returns how many: 0 only at the end, or if the buffer is
@@ -117,7 +117,7 @@ impl<'a> MemorySource<'a> {
         }
     }
 
-    /// The same, but with at most so many octets a read, and at least one.
+    /// The same, but with at most this many octets a read, and at least one.
     pub fn in_pieces_of(self, most: usize) -> MemorySource<'a>
         ensures { result ≡ record self.entry { most = max most 1 } }
     {
@@ -130,7 +130,7 @@ impl<'a> MemorySource<'a> {
         }
     }
 
-    /// The same, but the read after so many more fails.
+    /// The same, but the read after this many more fails.
     pub fn failing_after(self, reads: u64) -> MemorySource<'a>
         ensures { result ≡ record self.entry { until_failure = Some reads } }
     {
@@ -150,7 +150,7 @@ impl<'a> MemorySource<'a> {
         self.failures
     }
 
-    /// Moves the next octets to the front of the buffer, and answers how many.
+    /// Moves the next octets to the front of the buffer, and returns how many.
     fn give(&mut self, buffer: &mut [u8]) -> usize
         ensures bound { result ≤ length buffer.new }
         ensures count { result ≡ min (min (length self.old.rest) (length buffer.old)) self.old.most }

@@ -46,7 +46,7 @@ impl Text {
         let _fits = self.octets.try_extend_from_slice(octets);
     }
 
-    /// Puts a number behind what is there, in decimal digits.
+    /// Appends a number, in decimal digits.
     fn push_number(&mut self, number: u64)
         requires { length self.old + 20 ≤ TEXT_OCTETS }
         ensures text { self.new ≡ self.old ++ decimal number }
@@ -56,7 +56,7 @@ impl Text {
         self.push(buffer.format(number).as_bytes());
     }
 
-    /// Puts octets behind what is there, in two digits each.
+    /// Appends octets, in two digits each.
     fn push_hex(&mut self, octets: &[u8])
         requires few { length octets.now ≤ BUFFER_OCTETS }
         requires room { length self.old + 2 * length octets.now ≤ TEXT_OCTETS }

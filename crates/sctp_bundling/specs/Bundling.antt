@@ -17,7 +17,7 @@ pub record Bundle : Type 0 where
   pub full : List (List ChunkValue)
   pub waiting : List ChunkValue
 
--- a chunk doesn't fit behind those that wait
+-- a chunk doesn't fit after those that wait
 abbrev pub is_full_for : List ChunkValue → ChunkValue → Bool
 is_full_for waiting chunk =
     is_some waiting && nat_lt PACKET_OCTETS (HEADER_OCTETS + sum_by size_of waiting + size_of chunk)
@@ -25,7 +25,7 @@ is_full_for waiting chunk =
 abbrev pub behind_packet : List ChunkValue → Bundle → Bundle
 behind_packet packet b = record { full = packet ∷ b.full; waiting = b.waiting }
 
--- chunks behind those that wait, as many as fit into a packet
+-- chunks after those that wait, as many as fit into a packet
 unfoldable pub bundle : (waiting : List ChunkValue) → List ChunkValue → Bundle
 bundle waiting [] = record { full = []; waiting = waiting }
 bundle waiting (chunk ∷ chunks) =
@@ -33,7 +33,7 @@ bundle waiting (chunk ∷ chunks) =
     then behind_packet waiting (bundle (chunk ∷ []) chunks)
     else bundle (waiting ++ chunk ∷ []) chunks
 
--- what waits once so many octets more fit behind it
+-- what waits once this many octets more fit after it
 abbrev pub room_for : List ChunkValue → (octets : ℕ) → Bundle
 room_for waiting octets =
     if is_some waiting && nat_lt PACKET_OCTETS (HEADER_OCTETS + sum_by size_of waiting + octets)
@@ -56,7 +56,7 @@ pub record IsBundled {W : Type 0} (has : W → List Sent → List Told → Type 
   pub text_is : text ≡ draft_of w b.waiting
   pub full_out : Puts has before after (map (packet_on w) b.full)
 
--- there is room for so many octets more, whatever waits in the packet that is written
+-- there is room for this many octets more, whatever waits in the packet that is written
 pub record HasMadeRoom {W : Type 0} (has : W → List Sent → List Told → Type 0) (w : Way) (before after : W)
     (old new : List ℕ) (octets : ℕ) : Type 0 where
   pub made : (waiting : List ChunkValue) → old ≡ draft_of w waiting

@@ -30,7 +30,7 @@ chunk_of (HeartbeatAck information) = value.HeartbeatAckChunk information.now
 abbrev pub size_of : ChunkValue → ℕ
 size_of chunk = length (chunk_octets chunk)
 
--- a last chunk, where there is one
+-- a last chunk, if there is one
 abbrev pub last_of : Option (Bor Reply) → List ChunkValue
 last_of None = []
 last_of (Some chunk) = chunk_of chunk.now ∷ []
@@ -39,7 +39,7 @@ abbrev pub size_of_last : Option (Bor Reply) → ℕ
 size_of_last None = 0
 size_of_last (Some chunk) = size_of (chunk_of chunk.now)
 
--- ERROR with parameters that are to be reported, where there are any
+-- ERROR with parameters that are to be reported, if there are any
 abbrev pub complaint_of : List ItemValue → List ChunkValue
 complaint_of [] = []
 complaint_of (item ∷ items) = value.ErrorChunk (unrecognized_parameters (item ∷ items) ∷ []) ∷ []

@@ -17,7 +17,7 @@ use std::marker::Model;
 /// Octets of an ERROR whose cause has no parameters.
 const EMPTY_ERROR_OCTETS: usize = 8;
 
-/// Chunks in the order in which they go out, 1,188 octets at most: those of a packet behind its header.
+/// Chunks in the order in which they go out, 1,188 octets at most: those of a packet after its header.
 #[derive(Drop)]
 pub struct Chunks {
     octets: PacketBuffer,
@@ -81,7 +81,7 @@ impl Chunks {
         self.end = chunk.write(&mut self.octets, self.end);
     }
 
-    /// Puts COOKIE ACK in front of them.
+    /// Puts COOKIE ACK before them.
     pub fn add_cookie_ack_first(&mut self)
         requires { sum_by size_of self.old + 4 ≤ 1188 }
         ensures { self.new ≡ CookieAckChunk ∷ self.old }
@@ -92,7 +92,7 @@ impl Chunks {
         self.octets = octets;
     }
 
-    /// Appends an ERROR with the parameters of an INIT ACK that are to be reported, where there are any.
+    /// Appends an ERROR with the parameters of an INIT ACK that are to be reported, if there are any.
     pub fn complain(&mut self, parameters: Items<'_>)
         requires { sum_by size_of self.old + 520 ≤ 1188 }
         ensures { self.new ≡ self.old ++ complaint_of (complained_of (items_of parameters.entry)) }
@@ -104,7 +104,7 @@ impl Chunks {
         }
     }
 
-    /// The echo of a cookie, and behind it what INIT ACK had that isn't known.
+    /// The echo of a cookie, and after it what INIT ACK had that isn't known.
     pub fn echoing(cookie: &[u8], parameters: Items<'_>) -> Chunks
         requires { length cookie.now ≤ 660 }
         ensures { result ≡ echo_of cookie.now (complained_of (items_of parameters.entry)) }

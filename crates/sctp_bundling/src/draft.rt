@@ -37,8 +37,8 @@ const NUMBER_OCTETS: usize = 4;
 /// Octets of a SHUTDOWN chunk.
 const SHUTDOWN_OCTETS: usize = 8;
 
-/// A packet that is written. Chunks are bundled into it (RFC 9260 §6.10): where the next one doesn't fit behind those
-/// that wait in it, it goes out, and another one begins.
+/// A packet being written. Chunks are bundled into it (RFC 9260 §6.10). If the next one doesn't fit after those that
+/// wait in it, it goes out, and another one begins.
 #[derive(Drop)]
 pub struct Draft {
     out: PacketBuffer,
@@ -61,7 +61,7 @@ impl Model for Draft {
 }
 
 impl Draft {
-    /// A packet that hasn't begun: `begin_with` has to be called first. It is made in its place, and not moved.
+    /// A packet that hasn't begun: `begin_with` must be called first. It is made in its place, and not moved.
     #[inline(never)]
     pub fn new(way: Way) -> Draft
         ensures { result.way ≡ way_of way }
@@ -74,7 +74,7 @@ impl Draft {
         }
     }
 
-    /// It goes another way from now on: `begin_with` has to be called next.
+    /// It goes another way from now on: `begin_with` must be called next.
     pub fn turn(&mut self, way: Way)
         ensures { self.new.way ≡ way_of way }
     {
@@ -96,7 +96,7 @@ impl Draft {
         self.end = end;
     }
 
-    /// A message goes out behind what waits, as DATA.
+    /// A message goes out after what waits, as DATA.
     pub fn add_message<W: Watch>(&mut self, carried: &sctp_sending::Data<'_>, watch: &mut W)
         requires { length carried.now.message.octets.now ≤ 290 }
         ensures { Adds W.has watch.old watch.new self.old self.new
@@ -117,7 +117,7 @@ impl Draft {
         self.end = write_data(&mut self.out, self.end, &chunk);
     }
 
-    /// SACK goes out behind what waits: what a receiver has.
+    /// SACK goes out after what waits: what a receiver has.
     pub fn add_sack<W: Watch>(&mut self, receiver: &Receiver, watch: &mut W)
         ensures { Adds W.has watch.old watch.new self.old self.new (sack_of receiver.now ∷ []) }
     {
@@ -128,7 +128,7 @@ impl Draft {
         }
     }
 
-    /// The same where no chunk is held.
+    /// The same if no chunk is held.
     fn add_sack_without_gaps<W: Watch>(&mut self, receiver: &Receiver, watch: &mut W)
         requires { blocks receiver.now ≡ [] }
         ensures { Adds W.has watch.old watch.new self.old self.new (sack_of receiver.now ∷ []) }
@@ -164,7 +164,7 @@ impl Draft {
         );
     }
 
-    /// SHUTDOWN goes out behind what waits.
+    /// SHUTDOWN goes out after what waits.
     pub fn add_shutdown<W: Watch>(&mut self, cumulative: u32, watch: &mut W)
         ensures { Adds W.has watch.old watch.new self.old self.new (ShutdownChunk cumulative ∷ []) }
     {
@@ -205,7 +205,7 @@ impl Draft {
         );
     }
 
-    /// Where so many octets more don't fit, the packet goes out, and another one begins.
+    /// If this many octets more don't fit, the packet goes out, and another one begins.
     fn make_room<W: Watch>(&mut self, octets: usize, watch: &mut W)
         requires { octets ≤ 1188 }
         ensures way { self.new.way ≡ self.old.way }

@@ -10,10 +10,10 @@ use sctp_codec::Block;
 use sctp_receiving::Receiver;
 use sctp_receiving::limits::BLOCKS;
 
-/// What stands where no gap block was written.
+/// What is where no gap block was written.
 pub(crate) const NO_BLOCK: Block = Block { start: 0, end: 0 };
 
-/// Writes the gap blocks of a SACK, and answers how many there are.
+/// Writes the gap blocks of a SACK, and returns how many there are.
 pub(crate) fn write_gaps(out: &mut [Block; BLOCKS], receiver: &Receiver) -> usize
     ensures most { result ≤ BLOCKS }
     ensures blocks { map value.block_of (take result out.new) ≡ map block_of (blocks receiver.now) }
@@ -21,7 +21,7 @@ pub(crate) fn write_gaps(out: &mut [Block; BLOCKS], receiver: &Receiver) -> usiz
     write_blocks(out, &receiver.blocks())
 }
 
-/// Writes gap blocks as those of a chunk, and answers how many there are.
+/// Writes gap blocks as those of a chunk, and returns how many there are.
 fn write_blocks(out: &mut [Block; BLOCKS], blocks: &[sctp_receiving::Block]) -> usize
     requires { length blocks.now ≤ BLOCKS }
     ensures count { result ≡ length blocks.now }

@@ -15,7 +15,7 @@ use crate::way::Way;
 use sctp_codec::{Items, Offer, PACKET_OCTETS, PacketBuffer, begin, finish, write_init_ack};
 use sctp_cookie::COOKIE_OCTETS;
 
-/// A packet with chunks of these octets, and a last one behind them, goes out.
+/// A packet with chunks of these octets, and a last one after them, goes out.
 pub fn put_packet<W: Watch>(way: &Way, front: &[u8], last: Option<&Reply<'_>>, watch: &mut W)
     requires { length front.now + size_of_last last ≤ 1188 }
     ensures { (chunks : List ChunkValue) → front.now ≡ row_of chunks
@@ -47,7 +47,7 @@ pub fn put_init_answer<W: Watch>(
     watch.send(&out[..end], &way.to);
 }
 
-/// Writes the last chunk, where there is one, and answers the place behind it.
+/// Writes the last chunk, if there is one, and returns the offset after it.
 fn write_last(out: &mut PacketBuffer, at: usize, last: Option<&Reply<'_>>) -> usize
     requires { at + size_of_last last ≤ 1200 }
     ensures count { result ≡ at + size_of_last last.entry }
@@ -59,7 +59,7 @@ fn write_last(out: &mut PacketBuffer, at: usize, last: Option<&Reply<'_>>) -> us
     }
 }
 
-/// Writes octets from a place on, and answers the place behind them. Mostly there are none.
+/// Writes octets at an offset, and returns the offset after them. Usually there are none.
 pub(crate) fn write_at(out: &mut PacketBuffer, at: usize, octets: &[u8]) -> usize
     requires { at + length octets.now ≤ 1200 }
     ensures count { result ≡ at + length octets.now }

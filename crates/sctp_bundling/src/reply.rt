@@ -38,7 +38,7 @@ pub enum Reply<'a> {
 }
 
 impl Reply<'_> {
-    /// Writes it from a place on, and answers the place behind it.
+    /// Writes it at an offset, and returns the offset after it.
     pub fn write(&self, out: &mut PacketBuffer, at: usize) -> usize
         requires { at + size_of (chunk_of self.now) ≤ 1200 }
         ensures count { result ≡ at + size_of (chunk_of self.now) }

@@ -6,7 +6,7 @@ use Rattle.sctp_codec.specs.declared.items.Items.{Items}
 use Rattle.sctp_codec.specs.Items.{read_items}
 use Rattle.sctp_codec.specs.Packets.{lone}
 
--- this is the only one of the items, and there is none where they are several, or none
+-- this is the only one of the items, and there is none if they are several, or none
 abbrev pub IsAlone : Option Item → Items → Type 0
 IsAlone alone items =
     lone (unwrap_or (read_items items.octets.now) [])

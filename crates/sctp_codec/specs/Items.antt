@@ -1,11 +1,11 @@
--- Items: a number of 16 bits, a length of 16 bits, and a value behind them. Chunks, parameters and error causes have
--- this form (RFC 9260 §3.2, §3.2.1).
+-- Items: a 16-bit number, a length of 16 bits, and a value after them. Chunks, parameters and error causes have this
+-- form (RFC 9260 §3.2, §3.2.1).
 use Rattle.std.specs.Prelude.{◌≡◌, ℕ, zero, suc, ◌+◌, ◌-◌, ◌%◌, ◌^◌, ◌<◌, ◌≤◌, ◌⊎◌, Bool, ◌&&◌}
 use Rattle.std.specs.Prelude.{if◌then◌else◌, nat_le, List, []}
 use Rattle.std.specs.Prelude.{◌∷◌, ◌++◌, length, drop, replicate, slice_index, slice_range, Option, Some, None}
 use Rattle.std.specs.Int.{w16, w32, from_be_bytes, to_be_bytes}
 
--- the number of 16 bits at a place, and that of 32 bits, most significant octet first (RFC 9260 §3)
+-- the 16-bit number at an offset, and the 32-bit one, most significant octet first (RFC 9260 §3)
 abbrev pub number16_at : List ℕ → ℕ → ℕ
 number16_at octets at = from_be_bytes w16 (slice_index octets at ∷ slice_index octets (at + 1) ∷ [])
 
@@ -22,7 +22,7 @@ pub record ItemValue : Type 0 where
 
 -- ---- reading
 
--- how many octets of padding stand behind so many octets, to a multiple of four
+-- how many octets of padding are after this many octets, to a multiple of four
 abbrev pub padding_behind : ℕ → ℕ
 padding_behind count = (4 - count % 4) % 4
 
@@ -38,7 +38,7 @@ begins_whole octets =
 abbrev pub first_item : List ℕ → ItemValue
 first_item octets = record { kind = number16_at octets 0; value = slice_range octets 4 (length_field octets) }
 
--- what stands behind the first item and its padding, which may be anything; behind the last item it may be missing
+-- what is after the first item and its padding, which may be anything; after the last item it may be missing
 abbrev pub behind_first : List ℕ → List ℕ
 behind_first octets = drop (length_field octets + padding_behind (length_field octets)) octets
 
@@ -46,7 +46,7 @@ abbrev pub with_first : ItemValue → Option (List ItemValue) → Option (List I
 with_first item None = None
 with_first item (Some items) = Some (item ∷ items)
 
--- the items that the octets are, so many at most; None where they aren't whole items to their end
+-- the items that the octets are, this many at most; None if they aren't whole items to their end
 unfoldable pub read_up_to : ℕ → List ℕ → Option (List ItemValue)
 read_up_to zero [] = Some []
 read_up_to zero (octet ∷ octets) = None
@@ -56,7 +56,7 @@ read_up_to (suc most) (octet ∷ octets) =
     then with_first (first_item (octet ∷ octets)) (read_up_to most (behind_first (octet ∷ octets)))
     else None
 
--- the items that the octets are; None where they aren't whole items to their end
+-- the items that the octets are; None if they aren't whole items to their end
 abbrev pub read_items : List ℕ → Option (List ItemValue)
 read_items octets = read_up_to (length octets) octets
 
@@ -66,11 +66,10 @@ read_items octets = read_up_to (length octets) octets
 abbrev pub item_octets : ItemValue → List ℕ
 item_octets item = to_be_bytes w16 item.kind ++ to_be_bytes w16 (4 + length item.value) ++ item.value
 
--- the item's octets, and zeros behind them
+-- the item's octets, and zeros after them
 abbrev pub padded_item : ItemValue → List ℕ
 padded_item item = item_octets item ++ replicate (padding_behind (length item.value)) 0
 
--- items, each padded
 abbrev pub padded_items : List ItemValue → List ℕ
 padded_items [] = []
 padded_items (item ∷ items) = padded_item item ++ padded_items items
@@ -89,7 +88,7 @@ pub record IsItem (item : ItemValue) : Type 0 where
 
 -- ---- the grammar
 
--- what stands behind an item of so many octets: its padding, or less of it at the end of all
+-- what is after an item of this many octets: its padding, or less of it at the end of all
 pub record IsPadding (padding rest : List ℕ) (count : ℕ) : Type 0 where
   pub most : length padding ≤ padding_behind count
   pub all : (length padding ≡ padding_behind count) ⊎ (rest ≡ [])

@@ -98,12 +98,12 @@ kind_of (ShutdownCompleteChunk is_reflected) = 14
 kind_of (UnknownChunk kind flags value) = kind
 kind_of (MalformedChunk kind) = kind
 
--- the only one, where there is one alone
+-- the only one, if there is one alone
 abbrev pub lone : {A : Type 0} → List A → Option A
 lone (one ∷ []) = Some one
 lone others = None
 
--- a chunk as DATA, and as SACK, where it is one
+-- a chunk as DATA, and as SACK, if it is one
 abbrev pub data_alone : Option ChunkValue → Option DataValue
 data_alone (Some (DataChunk carried)) = Some carried
 data_alone other = None

@@ -1,5 +1,5 @@
--- The parameters of INIT and INIT ACK, and what is done about each; the causes of ABORT and ERROR
--- (RFC 9260 §3.2.1, §3.3.2, §3.3.3, §3.3.10).
+-- The parameters of INIT and INIT ACK, and what is done about each; the causes of ABORT and ERROR (RFC 9260 §3.2.1,
+-- §3.3.2, §3.3.3, §3.3.10).
 use Rattle.std.specs.Prelude.{ℕ, ◌+◌, ◌-◌, ◌*◌, ◌/◌, ◌%◌, ◌^◌, Bool, true, false, ◌==◌, ◌||◌, ◌&&◌, not}
 use Rattle.std.specs.Prelude.{if◌then◌else◌, nat_le, List, []}
 use Rattle.std.specs.Prelude.{◌∷◌, ◌++◌, length, map, replicate, Option, Some, None}
@@ -26,14 +26,14 @@ host_name_address = 11
 abbrev pub is_known : ℕ → Bool
 is_known kind = kind == 5 || kind == 6 || kind == 7 || kind == 8 || kind == 9 || kind == 12
 
--- the upper two bits of a type that isn't known: whether the parameters behind it count, and whether it is reported
+-- the upper two bits of a type that isn't known: whether the parameters after it count, and whether it is reported
 abbrev pub is_skipped : ℕ → Bool
 is_skipped kind = kind / 2 ^ 15 % 2 == 1
 
 abbrev pub is_reported : ℕ → Bool
 is_reported kind = not (is_known kind || kind == host_name_address) && kind / 2 ^ 14 % 2 == 1
 
--- nothing behind a parameter of this type counts
+-- nothing after a parameter of this type counts
 abbrev pub is_last : ℕ → Bool
 is_last kind = not (is_known kind || is_skipped kind)
 
@@ -86,7 +86,7 @@ abbrev pub report_of : Bool → ItemValue → ItemValue
 report_of true item = reporting item
 report_of false item = item
 
--- items, each behind the padding of the one before it
+-- items, each after the padding of the one before it
 abbrev pub following : ℕ → List ItemValue → List ℕ
 following padding [] = []
 following padding (item ∷ items) =

@@ -16,7 +16,7 @@ is_set octet bit = octet / 2 ^ bit % 2 == 1
 
 -- ---- chunks
 
--- the number of 16 bits that is a chunk's type, and its flags
+-- the 16-bit number that is a chunk's type, and its flags
 abbrev pub type_of : ItemValue → ℕ
 type_of item = item.kind / 2 ^ 8
 
@@ -39,7 +39,7 @@ data_in flags value =
       octets = drop 12 value;
     })
 
--- what an INIT or an INIT ACK says; nothing where it is too short, or its parameters aren't whole (RFC 9260 §3.3.2)
+-- what an INIT or an INIT ACK says; nothing if it is too short, or its parameters aren't whole (RFC 9260 §3.3.2)
 abbrev pub init_with : List ℕ → Option (List ItemValue) → Option InitValue
 init_with value None = None
 init_with value (Some parameters) = Some (record {
@@ -54,12 +54,12 @@ init_with value (Some parameters) = Some (record {
 abbrev pub init_in : List ℕ → Option InitValue
 init_in value = if nat_lt (length value) 16 then None else init_with value (read_items (drop 16 value))
 
--- the chunk of what a value says, where it says something
+-- the chunk of what a value says, if it says something
 abbrev pub chunk_or_malformed : {V : Type 0} → ℕ → (V → ChunkValue) → Option V → ChunkValue
 chunk_or_malformed kind chunk None = MalformedChunk kind
 chunk_or_malformed kind chunk (Some value) = chunk value
 
--- gap blocks, four octets each, and numbers of 32 bits; fewer than four octets are none
+-- gap blocks, four octets each, and 32-bit numbers; fewer than four octets are none
 abbrev pub blocks_in : List ℕ → List BlockValue
 blocks_in (a ∷ b ∷ c ∷ d ∷ rest) =
     record { start = from_be_bytes w16 (a ∷ b ∷ []); end = from_be_bytes w16 (c ∷ d ∷ []) } ∷ blocks_in rest
@@ -76,7 +76,7 @@ block_count value = number16_at value 8
 abbrev pub duplicate_count : List ℕ → ℕ
 duplicate_count value = number16_at value 10
 
--- SACK: behind twelve octets the blocks, and behind them the duplicates (RFC 9260 §3.3.4)
+-- SACK: after twelve octets the blocks, and after them the duplicates (RFC 9260 §3.3.4)
 abbrev pub sack_in : List ℕ → ChunkValue
 sack_in value =
     if nat_lt (length value) 12 then MalformedChunk 3

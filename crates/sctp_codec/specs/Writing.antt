@@ -48,7 +48,6 @@ flags_in (ShutdownCompleteChunk is_reflected) = bit is_reflected 0
 flags_in (UnknownChunk kind flags value) = flags
 flags_in chunk = 0
 
--- the value of a chunk
 abbrev pub value_octets : ChunkValue → List ℕ
 value_octets (DataChunk carried) = data_octets carried
 value_octets (InitChunk init) = init_octets init
@@ -66,7 +65,6 @@ value_octets (ShutdownCompleteChunk is_reflected) = []
 value_octets (UnknownChunk kind flags value) = value
 value_octets (MalformedChunk kind) = []
 
--- the chunk as an item
 abbrev pub chunk_item : ChunkValue → ItemValue
 chunk_item chunk = record { kind = kind_of chunk * 2 ^ 8 + flags_in chunk; value = value_octets chunk }
 

@@ -1,4 +1,4 @@
-//! What a packet has behind its header.
+//! What a packet has after its header.
 
 ghost use Rattle.sctp_codec.specs.Alone.{IsAlone};
 
@@ -10,7 +10,7 @@ use crate::items::Items;
 #[derive(Clone, Copy)]
 pub(crate) struct Body<'a> {
     pub items: Items<'a>,
-    /// None where there are several, or none.
+    /// None if there are several, or none.
     pub alone: Option<Item<'a>>,
     ghost is_alone: { IsAlone alone items },
 }
@@ -18,7 +18,6 @@ pub(crate) struct Body<'a> {
 impl<'a> Body<'a> {
     ghost use Rattle.std.specs.Prelude.{◌≡◌};
 
-    /// These items.
     #[inline(always)]
     pub(crate) fn of(items: Items<'a>) -> Body<'a>
         ensures { result.items ≡ items.entry }

@@ -12,7 +12,7 @@ use crate::layout::{HOST_NAME_ADDRESS, ITEM_HEADER_OCTETS};
 /// A cause that is sent.
 #[derive(Clone, Copy)]
 pub enum Cause<'a> {
-    /// DATA came on a stream that there isn't (RFC 9260 §3.3.10.1).
+    /// DATA came on a stream that doesn't exist (RFC 9260 §3.3.10.1).
     NoStream(StreamId),
     /// The cookie is too old (RFC 9260 §3.3.10.3).
     StaleCookie {
@@ -30,7 +30,7 @@ pub enum Cause<'a> {
         /// Its value.
         value: &'a [u8],
     },
-    /// A parameter that there must be is missing or wrong (RFC 9260 §3.3.10.7).
+    /// A required parameter is missing or wrong (RFC 9260 §3.3.10.7).
     InvalidParameter,
     /// A DATA chunk of this number has no user data (RFC 9260 §3.3.10.9).
     NoUserData(Tsn),
@@ -42,7 +42,7 @@ pub enum Cause<'a> {
     ProtocolViolation(&'a [u8]),
 }
 
-/// A cause as it is written: its code, four octets of its value, if they aren't a slice, and those behind them.
+/// A cause as it is written: its code, four octets of its value, if they aren't a slice, and those after them.
 #[derive(Clone, Copy)]
 pub(crate) struct CauseParts<'a> {
     pub(crate) code: u16,

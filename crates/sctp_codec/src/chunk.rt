@@ -251,7 +251,6 @@ impl<'a> Chunk<'a> {
     }
 }
 
-/// The DATA chunk of these flags and this value.
 #[inline(always)]
 pub(crate) fn read_data(flags: u8, value: &[u8]) -> Chunk<'_>
     ensures { chunk_value result ≡ data_in flags value.now }
@@ -272,7 +271,7 @@ pub(crate) fn read_data(flags: u8, value: &[u8]) -> Chunk<'_>
     })
 }
 
-/// What an INIT or INIT ACK chunk of this value says. None where it is too short, or its parameters aren't whole.
+/// What an INIT or INIT ACK chunk of this value says. None if it is too short, or its parameters aren't whole.
 fn read_init(value: &[u8]) -> Option<Init<'_>>
     ensures { Gives init_of result (init_in value.now) }
 {
@@ -290,7 +289,6 @@ fn read_init(value: &[u8]) -> Option<Init<'_>>
     Some(Init { offer, parameters })
 }
 
-/// The SACK chunk of this value.
 #[inline(always)]
 pub(crate) fn read_sack(value: &[u8]) -> Chunk<'_>
     ensures { chunk_value result ≡ sack_in value.now }
@@ -316,7 +314,6 @@ pub(crate) fn read_sack(value: &[u8]) -> Chunk<'_>
     })
 }
 
-/// The SHUTDOWN chunk of this value.
 fn read_shutdown(value: &[u8]) -> Chunk<'_>
     ensures { chunk_value result ≡ shutdown_in value.now }
 {
@@ -337,7 +334,7 @@ fn is_set(octet: u8, bit: u32) -> bool
     (octet >> bit) % 2 == 1
 }
 
-/// The number of 16 bits at a place.
+/// The 16-bit number at an offset.
 #[inline(always)]
 pub(crate) fn number16_at(octets: &[u8], at: usize) -> u16
     requires { at + 2 ≤ length octets.now }
@@ -346,7 +343,7 @@ pub(crate) fn number16_at(octets: &[u8], at: usize) -> u16
     u16::from_be_bytes([octets[at], octets[at + 1]])
 }
 
-/// The number of 32 bits at a place.
+/// The 32-bit number at an offset.
 #[inline(always)]
 pub(crate) fn number32_at(octets: &[u8], at: usize) -> u32
     requires { at + 4 ≤ length octets.now }

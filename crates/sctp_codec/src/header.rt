@@ -6,7 +6,7 @@ ghost use Rattle.sctp_codec.specs.Headers.{remainder_behind};
 
 use crc32c::{INITIAL, remainder};
 
-/// The ports and the tag of a packet, and the remainder of the division behind its header. Most packets have the header
+/// The ports and the tag of a packet, and the remainder of the division after its header. Most packets have the header
 /// of the one before: then its octets aren't divided again.
 #[derive(Clone, Copy)]
 pub struct Header {
@@ -43,7 +43,7 @@ impl Header {
         }
     }
 
-    /// The remainder behind it.
+    /// The remainder after it.
     #[inline(always)]
     pub(crate) fn remainder(&self) -> u32
         ensures { result ≡ remainder_behind self.now.front }
@@ -60,7 +60,7 @@ fn front_of(octets: &[u8; 8]) -> u64
     u64::from_le_bytes(*octets)
 }
 
-/// The remainder behind a header that begins with these octets, with zeros in the checksum's place.
+/// The remainder after a header that begins with these octets, with zeros in the checksum's place.
 fn remainder_behind(front: u64) -> u32
     ensures { result ≡ remainder_behind front }
 {

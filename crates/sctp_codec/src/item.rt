@@ -15,7 +15,7 @@ pub struct Item<'a> {
     pub value: &'a [u8],
 }
 
-/// The first item of the octets, and what stands behind its padding. None where they don't begin with a whole item.
+/// The first item of the octets, and what is after its padding. None if they don't begin with a whole item.
 #[inline(always)]
 pub(crate) fn first(octets: &[u8]) -> Option<(Item<'_>, &[u8])>
     ensures { MatchOption result (begins_whole octets.now ≡ false) (λ found.
@@ -37,7 +37,7 @@ pub(crate) fn first(octets: &[u8]) -> Option<(Item<'_>, &[u8])>
     Some((item, &octets[end..]))
 }
 
-/// How many octets of padding stand behind so many octets.
+/// How many octets of padding are after this many octets.
 #[inline(always)]
 pub(crate) fn padding_behind(count: usize) -> usize
     ensures value { result ≡ padding_behind count }

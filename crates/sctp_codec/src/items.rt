@@ -23,8 +23,8 @@ impl<'a> Items<'a> {
         Items { octets: &[] }
     }
 
-    /// The items that the octets are. None where they aren't whole items to their end; the padding behind the last
-    /// may be missing.
+    /// The items that the octets are. None if they aren't whole items to their end; the padding after the last may be
+    /// missing.
     #[inline]
     pub fn read(octets: &'a [u8]) -> Option<Items<'a>>
         ensures { Gives items_of result (read_items octets.now) }
@@ -42,7 +42,7 @@ impl<'a> Items<'a> {
         Some(Items { octets })
     }
 
-    /// The item that they are by themselves. None where there are several, or none.
+    /// The item that they are by themselves. None if there are several, or none.
     #[inline(always)]
     pub(crate) fn alone(self) -> Option<Item<'a>>
         ensures { Gives item_of result (lone (items_of self.entry)) }

@@ -1,4 +1,4 @@
-//! Laws of packets, for whoever reads and writes them. Each function says its law by its contract, and does nothing.
+//! Laws of packets, for whoever reads and writes them. Each function states its law in its contract, and does nothing.
 
 ghost use Rattle.std.specs.Prelude.{◌≡◌, ◌↔◌, ℕ, List, Some, All};
 ghost use Rattle.sctp_codec.specs.Items.{ItemValue, IsItem, AreItems, AreOctets, read_items};
@@ -12,7 +12,7 @@ pub fn packets_read_back()
     ensures { (p : PacketValue) → IsPacket p → read_packet (packet_octets p) ≡ Some p }
 {}
 
-/// What is written for a chunk reads back as it, whatever stands around it.
+/// What is written for a chunk reads back as it, whatever is around it.
 pub fn chunks_read_back()
     ensures { (chunk : ChunkValue) → IsChunk chunk → chunk_in (chunk_item chunk) ≡ chunk }
 {}
@@ -23,7 +23,7 @@ pub fn items_read_back()
     ensures joined { (items : List ItemValue) → All IsItem items → read_items (joined_items items) ≡ Some items }
 {}
 
-/// Octets are items exactly where reading them gives these.
+/// Octets are items exactly when reading them gives these.
 pub fn items_are_what_is_read()
     ensures { (octets : List ℕ) (items : List ItemValue) → AreOctets octets
         → AreItems octets items ↔ (read_items octets ≡ Some items) }

@@ -1,15 +1,15 @@
 //! The numbers of chunks, and how many octets the fields have (RFC 9260 §3).
 
-/// Octets of a number and a length, in front of each value (RFC 9260 §3.2).
+/// Octets of a number and a length, before each value (RFC 9260 §3.2).
 pub(crate) const ITEM_HEADER_OCTETS: usize = 4;
 
-/// Values are padded to a multiple of so many octets (RFC 9260 §3.2).
+/// Values are padded to a multiple of this many octets (RFC 9260 §3.2).
 pub(crate) const WORD_OCTETS: usize = 4;
 
 /// Octets of the common header (RFC 9260 §3.1).
 pub(crate) const HEADER_OCTETS: usize = 12;
 
-/// Where the checksum stands in it, behind the ports and the tag.
+/// Where the checksum is in it, after the ports and the tag.
 pub(crate) const CHECKSUM_AT: usize = 8;
 
 /// Octets of the fields of a DATA chunk, before the user data (RFC 9260 §3.3.1).
@@ -21,7 +21,7 @@ pub(crate) const INIT_OCTETS: usize = 16;
 /// Octets of the fields of a SACK chunk, before the gap blocks (RFC 9260 §3.3.4).
 pub(crate) const SACK_OCTETS: usize = 12;
 
-/// Octets of a gap block, and of a number of 32 bits.
+/// Octets of a gap block, and of a 32-bit number.
 pub(crate) const BLOCK_OCTETS: usize = 4;
 
 pub(crate) const DATA: u8 = 0;

@@ -28,9 +28,9 @@ pub struct Packet<'a> {
 }
 
 impl<'a> Packet<'a> {
-    /// The packet that the octets are. None, as if the network had lost it, unless it has 16 octets at least, the
-    /// right checksum, and whole chunks to its end, where the padding behind the last one may be missing; INIT and
-    /// INIT ACK stand alone, and INIT has the tag 0 (RFC 9260 §3, §6.8, §6.10, §8.5.1).
+    /// The packet that the octets are. None, as if the network had lost it, unless it has at least 16 octets, the right
+    /// checksum, and whole chunks to its end, with or without the padding of the last one. INIT and INIT ACK must stand
+    /// alone, and INIT must have the tag 0 (RFC 9260 §3, §6.8, §6.10, §8.5.1).
     pub fn read(octets: &'a [u8]) -> Option<Packet<'a>>
         ensures { Gives packet_of result (read_packet octets.now) }
     {
@@ -60,7 +60,7 @@ impl<'a> Packet<'a> {
         })
     }
 
-    /// The DATA that it is by itself. None where it is another chunk, or several.
+    /// The DATA that it is by itself. None if it is another chunk, or several.
     #[inline(always)]
     #[tactic(auto, unfolding(crate::specs::Reading::chunk_of))]
     pub fn lone_data(&self) -> Option<Data<'a>>
@@ -74,7 +74,7 @@ impl<'a> Packet<'a> {
         as_data(read_data(flags, item.value))
     }
 
-    /// The SACK that it is by itself. None where it is another chunk, or several.
+    /// The SACK that it is by itself. None if it is another chunk, or several.
     #[inline(always)]
     #[tactic(auto, unfolding(crate::specs::Reading::chunk_of))]
     pub fn lone_sack(&self) -> Option<Sack<'a>>
@@ -119,7 +119,7 @@ impl<'a> Iterator for Chunks<'a> {
     }
 }
 
-/// What a chunk is as DATA. None where it is another one.
+/// What a chunk is as DATA. None if it is another one.
 #[inline(always)]
 fn as_data(chunk: Chunk<'_>) -> Option<Data<'_>>
     ensures { Gives data_of result (data_alone (Some (chunk_value chunk.entry))) }
@@ -130,7 +130,7 @@ fn as_data(chunk: Chunk<'_>) -> Option<Data<'_>>
     }
 }
 
-/// What a chunk is as SACK. None where it is another one.
+/// What a chunk is as SACK. None if it is another one.
 #[inline(always)]
 fn as_sack(chunk: Chunk<'_>) -> Option<Sack<'_>>
     ensures { Gives sack_of result (sack_alone (Some (chunk_value chunk.entry))) }

@@ -77,7 +77,7 @@ fn is_known(kind: u16) -> bool
     )
 }
 
-/// Whether no parameter behind one of this type counts: the highest bit of a type that isn't known (RFC 9260 §3.2.1).
+/// Whether no parameter after one of this type counts: the highest bit of a type that isn't known (RFC 9260 §3.2.1).
 pub(crate) fn is_last(kind: u16) -> bool
     ensures { result ≡ is_last kind }
 {

@@ -58,8 +58,8 @@ impl<'a> Iterator for Reports<'a> {
     }
 }
 
-/// Writes an INIT ACK chunk from a place on, and answers the place behind it: what is offered, the cookie, and the
-/// parameters of the INIT that are to be reported, as many of the first of them as 512 octets hold (RFC 9260 §3.3.3).
+/// Writes an INIT ACK chunk at an offset, and returns the offset after it: what is offered, the cookie, and the
+/// parameters of the INIT that are to be reported, as many of the first as 512 octets hold (RFC 9260 §3.3.3).
 pub fn write_init_ack(
     out: &mut PacketBuffer,
     at: usize,
@@ -83,8 +83,8 @@ pub fn write_init_ack(
     write_item(out, at, numbered(INIT_ACK, 0), &value[..end])
 }
 
-/// Writes an ERROR chunk from a place on, and answers the place behind it: the parameters of an INIT ACK that are to be
-/// reported, as many of the first of them as 512 octets hold (RFC 9260 §3.3.10.8).
+/// Writes an ERROR chunk at an offset, and returns the offset after it: the parameters of an INIT ACK that are to be
+/// reported, as many of the first as 512 octets hold (RFC 9260 §3.3.10.8).
 pub fn write_unrecognized_parameters(
     out: &mut PacketBuffer,
     at: usize,
@@ -103,8 +103,8 @@ pub fn write_unrecognized_parameters(
     write_item(out, at, UNRECOGNIZED_PARAMETERS, &reports[..end])
 }
 
-/// Writes reported parameters from a place on, each behind the padding of what stands before it, as many
-/// of the first of them as there is room for, and answers the place behind them.
+/// Writes reported parameters at an offset, each after the padding of the one before, as many of the first as there is
+/// room for, and returns the offset after them.
 fn write_reports(
     out: &mut PacketBuffer,
     at: usize,
@@ -137,7 +137,7 @@ fn write_reports(
     end
 }
 
-/// How many octets a parameter has where it is reported, without padding.
+/// How many octets a parameter has if it is reported, without padding.
 fn octets_of_report(item: &Item<'_>, is_wrapped: bool) -> usize
     ensures { result ≡ length (item_octets (report_of is_wrapped (item_of item.now))) }
 {
@@ -145,7 +145,7 @@ fn octets_of_report(item: &Item<'_>, is_wrapped: bool) -> usize
     headers * ITEM_HEADER_OCTETS + item.value.len()
 }
 
-/// Writes a parameter as it is reported from a place on, without padding, and answers the place behind it.
+/// Writes a parameter as it is reported at an offset, without padding, and returns the offset after it.
 fn write_report(out: &mut PacketBuffer, at: usize, item: &Item<'_>, is_wrapped: bool) -> usize
     requires { at + length (item_octets (report_of is_wrapped (item_of item.now))) ≤ 1200 }
     ensures count { result ≡ at + length (item_octets (report_of is_wrapped (item_of item.now))) }

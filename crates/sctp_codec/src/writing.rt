@@ -29,10 +29,10 @@ use crc32c::crc32c;
 /// Octets of the longest packet that is written.
 pub const PACKET_OCTETS: usize = 1200;
 
-/// A packet that is being written, from its front on. What stands behind it may be anything.
+/// A packet that is being written, from its front on. What is after it may be anything.
 pub type PacketBuffer = [u8; PACKET_OCTETS];
 
-/// Writes the header of a packet, with no checksum yet, and answers the place behind it (RFC 9260 §3.1).
+/// Writes the header of a packet, with no checksum yet, and returns the offset after it (RFC 9260 §3.1).
 pub fn begin(out: &mut PacketBuffer, source: u16, destination: u16, tag: Tag) -> usize
     ensures count { result ≡ 12 }
     ensures text { take result out.new ≡ header_octets source destination tag 0 }
@@ -43,7 +43,7 @@ pub fn begin(out: &mut PacketBuffer, source: u16, destination: u16, tag: Tag) ->
     write_at(out, at, &[0; 4])
 }
 
-/// Writes the checksum of a packet that ends at this place, into its header (RFC 9260 §6.8).
+/// Writes the checksum of a packet that ends at this offset, into its header (RFC 9260 §6.8).
 pub fn finish(out: &mut PacketBuffer, end: usize)
     requires front { 12 ≤ end }
     requires room { end ≤ 1200 }
@@ -68,7 +68,7 @@ pub fn finish_behind(out: &mut PacketBuffer, end: usize, header: &mut Header)
     out[CHECKSUM_AT..HEADER_OCTETS].copy_from_slice(&checksum.to_le_bytes());
 }
 
-/// Writes a DATA chunk from a place on, and answers the place behind it (RFC 9260 §3.3.1).
+/// Writes a DATA chunk at an offset, and returns the offset after it (RFC 9260 §3.3.1).
 pub fn write_data(out: &mut PacketBuffer, at: usize, carried: &Data<'_>) -> usize
     requires { at + length (chunk_octets (value.DataChunk (data_of carried.now))) ≤ 1200 }
     ensures count { result ≡ at + length (chunk_octets (value.DataChunk (data_of carried.now))) }
@@ -92,7 +92,7 @@ fn octets_of_data(carried: &Data<'_>) -> usize
     DATA_OCTETS + carried.octets.len()
 }
 
-/// Writes the value of a DATA chunk from a place on, and answers the place behind it.
+/// Writes the value of a DATA chunk at an offset, and returns the offset after it.
 #[inline(always)]
 fn write_data_value(out: &mut PacketBuffer, at: usize, carried: &Data<'_>) -> usize
     requires { at + length (data_octets (data_of carried.now)) ≤ 1200 }
@@ -106,7 +106,7 @@ fn write_data_value(out: &mut PacketBuffer, at: usize, carried: &Data<'_>) -> us
     write_at(out, at, carried.octets)
 }
 
-/// Writes an INIT chunk without parameters from a place on, and answers the place behind it (RFC 9260 §3.3.2).
+/// Writes an INIT chunk without parameters at an offset, and returns the offset after it (RFC 9260 §3.3.2).
 pub fn write_init(out: &mut PacketBuffer, at: usize, offer: &Offer) -> usize
     requires { at + 20 ≤ 1200 }
     ensures count { result ≡ at + 20 }
@@ -116,7 +116,7 @@ pub fn write_init(out: &mut PacketBuffer, at: usize, offer: &Offer) -> usize
     write_offer(out, at, offer)
 }
 
-/// Writes the fields of an INIT or an INIT ACK chunk from a place on, and answers the place behind them.
+/// Writes the fields of an INIT or an INIT ACK chunk at an offset, and returns the offset after them.
 pub(crate) fn write_offer(out: &mut PacketBuffer, at: usize, offer: &Offer) -> usize
     requires { at + 16 ≤ 1200 }
     ensures count { result ≡ at + 16 }
@@ -129,8 +129,8 @@ pub(crate) fn write_offer(out: &mut PacketBuffer, at: usize, offer: &Offer) -> u
     write_at(out, at, &offer.first_tsn.to_be_bytes())
 }
 
-/// Writes a SACK chunk with these gap blocks and duplicates from a place on, and answers the place behind it
-/// (RFC 9260 §3.3.4).
+/// Writes a SACK chunk with these gap blocks and duplicates at an offset, and returns the offset after it (RFC 9260
+/// §3.3.4).
 pub fn write_sack(
     out: &mut PacketBuffer,
     at: usize,
@@ -158,7 +158,7 @@ pub fn write_sack(
     write_numbers(out, at, duplicates)
 }
 
-/// Writes gap blocks from a place on, and answers the place behind them.
+/// Writes gap blocks at an offset, and returns the offset after them.
 fn write_blocks(out: &mut PacketBuffer, at: usize, blocks: &[Block]) -> usize
     requires { at + 4 * length blocks.now ≤ 1200 }
     ensures count { result ≡ at + 4 * length blocks.now }
@@ -171,7 +171,7 @@ fn write_blocks(out: &mut PacketBuffer, at: usize, blocks: &[Block]) -> usize
     end
 }
 
-/// Writes a gap block from a place on, and answers the place behind it.
+/// Writes a gap block at an offset, and returns the offset after it.
 #[inline(always)]
 fn write_block(out: &mut PacketBuffer, at: usize, block: Block) -> usize
     requires { at + 4 ≤ 1200 }
@@ -182,7 +182,7 @@ fn write_block(out: &mut PacketBuffer, at: usize, block: Block) -> usize
     write_at(out, at, &block.end.to_be_bytes())
 }
 
-/// Writes numbers of 32 bits from a place on, and answers the place behind them.
+/// Writes 32-bit numbers at an offset, and returns the offset after them.
 fn write_numbers(out: &mut PacketBuffer, at: usize, numbers: &[u32]) -> usize
     requires { at + 4 * length numbers.now ≤ 1200 }
     ensures count { result ≡ at + 4 * length numbers.now }
@@ -195,7 +195,7 @@ fn write_numbers(out: &mut PacketBuffer, at: usize, numbers: &[u32]) -> usize
     end
 }
 
-/// Writes a number of 32 bits from a place on, and answers the place behind it.
+/// Writes a 32-bit number at an offset, and returns the offset after it.
 #[inline(always)]
 fn write_number(out: &mut PacketBuffer, at: usize, number: u32) -> usize
     requires { at + 4 ≤ 1200 }
@@ -205,7 +205,7 @@ fn write_number(out: &mut PacketBuffer, at: usize, number: u32) -> usize
     write_at(out, at, &number.to_be_bytes())
 }
 
-/// Writes an ABORT chunk with this cause from a place on, and answers the place behind it (RFC 9260 §3.3.7).
+/// Writes an ABORT chunk with this cause at an offset, and returns the offset after it (RFC 9260 §3.3.7).
 pub fn write_abort(out: &mut PacketBuffer, at: usize, cause: &Cause<'_>) -> usize
     requires { at + length (chunk_octets (value.AbortChunk false (item_octets (cause_item (cause_of cause.now)))))
         ≤ 1200 }
@@ -217,8 +217,8 @@ pub fn write_abort(out: &mut PacketBuffer, at: usize, cause: &Cause<'_>) -> usiz
     write_cause(out, at, numbered(ABORT, 0), cause)
 }
 
-/// Writes an ABORT chunk without a cause, whose tag is reflected, from a place on, and answers the place behind it
-/// (RFC 9260 §3.3.7, §8.4).
+/// Writes an ABORT chunk without a cause, whose tag is reflected, at an offset, and returns the offset after it (RFC
+/// 9260 §3.3.7, §8.4).
 pub fn write_reflected_abort(out: &mut PacketBuffer, at: usize) -> usize
     requires { at + 4 ≤ 1200 }
     ensures count { result ≡ at + 4 }
@@ -227,7 +227,7 @@ pub fn write_reflected_abort(out: &mut PacketBuffer, at: usize) -> usize
     write_item(out, at, numbered(ABORT, bit(true, REFLECTED_BIT)), &[])
 }
 
-/// Writes an ERROR chunk with this cause from a place on, and answers the place behind it (RFC 9260 §3.3.10).
+/// Writes an ERROR chunk with this cause at an offset, and returns the offset after it (RFC 9260 §3.3.10).
 pub fn write_error(out: &mut PacketBuffer, at: usize, cause: &Cause<'_>) -> usize
     requires { at + length (chunk_octets (value.ErrorChunk (cause_item (cause_of cause.now) ∷ []))) ≤ 1200 }
     ensures count { result ≡ at + length (chunk_octets (value.ErrorChunk (cause_item (cause_of cause.now) ∷ []))) }
@@ -237,7 +237,7 @@ pub fn write_error(out: &mut PacketBuffer, at: usize, cause: &Cause<'_>) -> usiz
     write_cause(out, at, numbered(ERROR, 0), cause)
 }
 
-/// Writes a chunk of this number whose value is this cause, and answers the place behind it.
+/// Writes a chunk of this number whose value is this cause, and returns the offset after it.
 fn write_cause(out: &mut PacketBuffer, at: usize, kind: u16, cause: &Cause<'_>) -> usize
     requires { at + length (padded_item (record { kind = kind; value = item_octets (cause_item (cause_of cause.now)) }))
         ≤ 1200 }
@@ -264,7 +264,7 @@ fn write_cause(out: &mut PacketBuffer, at: usize, kind: u16, cause: &Cause<'_>) 
     write_padding(out, at, octets)
 }
 
-/// Writes a SHUTDOWN chunk from a place on, and answers the place behind it (RFC 9260 §3.3.8).
+/// Writes a SHUTDOWN chunk at an offset, and returns the offset after it (RFC 9260 §3.3.8).
 pub fn write_shutdown(out: &mut PacketBuffer, at: usize, cumulative: Tsn) -> usize
     requires { at + 8 ≤ 1200 }
     ensures count { result ≡ at + 8 }
@@ -273,7 +273,7 @@ pub fn write_shutdown(out: &mut PacketBuffer, at: usize, cumulative: Tsn) -> usi
     write_item(out, at, numbered(SHUTDOWN, 0), &cumulative.to_be_bytes())
 }
 
-/// Writes a SHUTDOWN ACK chunk from a place on, and answers the place behind it (RFC 9260 §3.3.9).
+/// Writes a SHUTDOWN ACK chunk at an offset, and returns the offset after it (RFC 9260 §3.3.9).
 pub fn write_shutdown_ack(out: &mut PacketBuffer, at: usize) -> usize
     requires { at + 4 ≤ 1200 }
     ensures count { result ≡ at + 4 }
@@ -282,7 +282,7 @@ pub fn write_shutdown_ack(out: &mut PacketBuffer, at: usize) -> usize
     write_item(out, at, numbered(SHUTDOWN_ACK, 0), &[])
 }
 
-/// Writes a SHUTDOWN COMPLETE chunk from a place on, and answers the place behind it (RFC 9260 §3.3.13).
+/// Writes a SHUTDOWN COMPLETE chunk at an offset, and returns the offset after it (RFC 9260 §3.3.13).
 pub fn write_shutdown_complete(out: &mut PacketBuffer, at: usize, is_reflected: bool) -> usize
     requires { at + 4 ≤ 1200 }
     ensures count { result ≡ at + 4 }
@@ -296,7 +296,7 @@ pub fn write_shutdown_complete(out: &mut PacketBuffer, at: usize, is_reflected: 
     )
 }
 
-/// Writes a COOKIE ECHO chunk from a place on, and answers the place behind it (RFC 9260 §3.3.11).
+/// Writes a COOKIE ECHO chunk at an offset, and returns the offset after it (RFC 9260 §3.3.11).
 pub fn write_cookie_echo(out: &mut PacketBuffer, at: usize, cookie: &[u8]) -> usize
     requires { at + length (chunk_octets (value.CookieEchoChunk cookie.now)) ≤ 1200 }
     ensures count { result ≡ at + length (chunk_octets (value.CookieEchoChunk cookie.now)) }
@@ -305,7 +305,7 @@ pub fn write_cookie_echo(out: &mut PacketBuffer, at: usize, cookie: &[u8]) -> us
     write_item(out, at, numbered(COOKIE_ECHO, 0), cookie)
 }
 
-/// Writes a COOKIE ACK chunk from a place on, and answers the place behind it (RFC 9260 §3.3.12).
+/// Writes a COOKIE ACK chunk at an offset, and returns the offset after it (RFC 9260 §3.3.12).
 pub fn write_cookie_ack(out: &mut PacketBuffer, at: usize) -> usize
     requires { at + 4 ≤ 1200 }
     ensures count { result ≡ at + 4 }
@@ -314,7 +314,7 @@ pub fn write_cookie_ack(out: &mut PacketBuffer, at: usize) -> usize
     write_item(out, at, numbered(COOKIE_ACK, 0), &[])
 }
 
-/// Writes a HEARTBEAT chunk from a place on, and answers the place behind it (RFC 9260 §3.3.5).
+/// Writes a HEARTBEAT chunk at an offset, and returns the offset after it (RFC 9260 §3.3.5).
 pub fn write_heartbeat(out: &mut PacketBuffer, at: usize, information: &[u8]) -> usize
     requires { at + length (chunk_octets (value.HeartbeatChunk information.now)) ≤ 1200 }
     ensures count { result ≡ at + length (chunk_octets (value.HeartbeatChunk information.now)) }
@@ -323,7 +323,7 @@ pub fn write_heartbeat(out: &mut PacketBuffer, at: usize, information: &[u8]) ->
     write_item(out, at, numbered(HEARTBEAT, 0), information)
 }
 
-/// Writes a HEARTBEAT ACK chunk from a place on, and answers the place behind it (RFC 9260 §3.3.6).
+/// Writes a HEARTBEAT ACK chunk at an offset, and returns the offset after it (RFC 9260 §3.3.6).
 pub fn write_heartbeat_ack(out: &mut PacketBuffer, at: usize, information: &[u8]) -> usize
     requires { at + length (chunk_octets (value.HeartbeatAckChunk information.now)) ≤ 1200 }
     ensures count { result ≡ at + length (chunk_octets (value.HeartbeatAckChunk information.now)) }
@@ -342,7 +342,7 @@ fn bit(set: bool, number: u32) -> u8
     if set { 1 << number } else { 0 }
 }
 
-/// Writes an item with this number and value, padded, from a place on, and answers the place behind it.
+/// Writes an item with this number and value, padded, at an offset, and returns the offset after it.
 #[inline(always)]
 pub(crate) fn write_item(out: &mut PacketBuffer, at: usize, kind: u16, value: &[u8]) -> usize
     requires { at + 4 + length value.now + padding_behind (length value.now) ≤ 1200 }
@@ -354,7 +354,7 @@ pub(crate) fn write_item(out: &mut PacketBuffer, at: usize, kind: u16, value: &[
     write_padding(out, at, value.len())
 }
 
-/// Writes the number of an item and its length, for a value of so many octets, and answers the place behind them.
+/// Writes the number of an item and its length, for a value of this many octets, and returns the offset after them.
 #[inline(always)]
 pub(crate) fn write_front(out: &mut PacketBuffer, at: usize, kind: u16, octets: usize) -> usize
     requires { at + 4 + octets ≤ 1200 }
@@ -366,7 +366,7 @@ pub(crate) fn write_front(out: &mut PacketBuffer, at: usize, kind: u16, octets: 
     write_at(out, at, &length.to_be_bytes())
 }
 
-/// Writes the zeros behind a value of so many octets, and answers the place behind them.
+/// Writes the zeros after a value of this many octets, and returns the offset after them.
 #[inline(always)]
 fn write_padding(out: &mut PacketBuffer, at: usize, octets: usize) -> usize
     requires { at + padding_behind octets ≤ 1200 }
@@ -376,7 +376,7 @@ fn write_padding(out: &mut PacketBuffer, at: usize, octets: usize) -> usize
     write_zeros(out, at, padding_behind(octets))
 }
 
-/// Writes fewer than four zeros, and answers the place behind them.
+/// Writes fewer than four zeros, and returns the offset after them.
 #[inline(always)]
 pub(crate) fn write_zeros(out: &mut PacketBuffer, at: usize, count: usize) -> usize
     requires few { count < 4 }
@@ -386,7 +386,7 @@ pub(crate) fn write_zeros(out: &mut PacketBuffer, at: usize, count: usize) -> us
 {
     let zeros = [0; WORD_OCTETS];
     if at + WORD_OCTETS <= PACKET_OCTETS {
-        // One store takes less than a copy of so many octets, and what stands behind them may be anything.
+        // One store takes less than a copy of this many octets, and what is after them may be anything.
         write_at(out, at, &zeros);
         at + count
     } else {
@@ -394,7 +394,7 @@ pub(crate) fn write_zeros(out: &mut PacketBuffer, at: usize, count: usize) -> us
     }
 }
 
-/// Writes the octets from a place on, and answers the place behind them.
+/// Writes the octets at an offset, and returns the offset after them.
 #[inline(always)]
 pub(crate) fn write_at(out: &mut PacketBuffer, at: usize, octets: &[u8]) -> usize
     requires { at + length octets.now ≤ 1200 }

@@ -1,4 +1,4 @@
--- Lists are the same where no XOR of two of their elements leaves a bit.
+-- Lists are the same if no XOR of two of their elements leaves a bit.
 use Rattle.std.proofs.Common.{◌≡◌, ◌↔◌, ℕ, ◌+◌, ◌<◌, List, length, take, get_or, refl, sym, ap, ◌∙◌, arith}
 use Rattle.std.specs.Prelude.{bit_or, bit_xor}
 use Rattle.std.specs.Int.Bits.{xor_assoc, xor_self, xor_zero_r}

@@ -78,6 +78,6 @@ cookie_in octets = record {
   peer_port = number16 octets 84;
 }
 
--- the cookie that octets are under a key, where they are those of one
+-- the cookie that octets are under a key, if they are those of one
 unfoldable pub opened : (key octets : List ℕ) → Option Cookie
 opened key octets = if bytes_eq octets (signed key (cookie_in octets)) then Some (cookie_in octets) else None

@@ -6,7 +6,7 @@ use Rattle.sha2.specs.Sha256.{sha256}
 abbrev pub block_octets : ℕ
 block_octets = 64
 
--- the key, with zeros behind it up to a block
+-- the key, with zeros after it up to a block
 abbrev pub padded : List ℕ → List ℕ
 padded key = key ++ replicate (block_octets - length key) 0
 

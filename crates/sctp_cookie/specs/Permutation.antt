@@ -1,4 +1,4 @@
--- A Feistel network over the two halves of a number of 32 bits: a permutation, whatever its rounds compute.
+-- A Feistel network over the two halves of a 32-bit number: a permutation, whatever its rounds compute.
 use Rattle.std.specs.Prelude.{ℕ, ◌+◌, ◌*◌, ◌/◌, ◌%◌, ◌^◌, bit_xor}
 
 -- the halves of a number, of 16 bits each, and the number that two halves make
@@ -19,7 +19,7 @@ round f n = joined (low_half n) (bit_xor (high_half n) (f (low_half n) % 2 ^ 16)
 unfoldable pub round_back : (ℕ → ℕ) → ℕ → ℕ
 round_back f n = joined (bit_xor (low_half n) (f (high_half n) % 2 ^ 16)) (high_half n)
 
--- four rounds, the one of number 0 first; f gives by the number of a round and a half what the other half is altered by
+-- four rounds, from number 0 on; f gives, by the number of a round and one half, what the other half is altered by
 abbrev pub permuted : (ℕ → ℕ → ℕ) → ℕ → ℕ
 permuted f n = round (f 3) (round (f 2) (round (f 1) (round (f 0) n)))
 

@@ -10,7 +10,7 @@ use Rattle.sctp_cookie.specs.Permutation.{permuted}
 unfoldable pub half_given : (key : List ℕ) (number half : ℕ) → ℕ
 half_given key number half = from_be_bytes w16 (take 2 (sha256 (key ++ number ∷ to_be_bytes w16 half)))
 
--- the permutation of the numbers of 32 bits under a key
+-- the permutation of the 32-bit numbers under a key
 unfoldable pub permutation : (key : List ℕ) → ℕ → ℕ
 permutation key n = permuted (half_given key) n
 
@@ -36,11 +36,11 @@ drawn d = tags_below (permutation d.key) d.used
 abbrev pub numbers : ℕ
 numbers = 2 ^ 32
 
--- what the next number gives, where there is one
+-- what the next number gives, if there is one
 abbrev pub next_given : Drawing → Option ℕ
 next_given d = if nat_lt d.used numbers then Some (permutation d.key d.used) else None
 
--- one more number is used, where there is one
+-- one more number is used, if there is one
 abbrev pub after_one : Drawing → Drawing
 after_one d = if nat_lt d.used numbers then record { key = d.key; used = d.used + 1 } else d
 
@@ -49,7 +49,7 @@ abbrev pub is_passed : Option ℕ → Bool
 is_passed None = false
 is_passed (Some tag) = tag == 0
 
--- the next tag, where there is one
+-- the next tag, if there is one
 abbrev pub next_tag : Drawing → Option ℕ
 next_tag d = if is_passed (next_given d) then next_given (after_one d) else next_given d
 

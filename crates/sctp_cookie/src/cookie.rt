@@ -15,7 +15,7 @@ pub const COOKIE_KEY_OCTETS: usize = 32;
 pub struct Cookie {
     /// When it was made, in milliseconds of the endpoint's clock.
     pub made: u64,
-    /// How often by then an association of the endpoint had opened or ended, and a try of one begun anew or ended.
+    /// How often by then an association of the endpoint had opened or ended, and a try of one restarted or ended.
     pub generation: u64,
     /// The endpoint's tag, if an association opens by it.
     pub own_tag: u32,
@@ -31,7 +31,7 @@ pub struct Cookie {
     pub peer_outgoing_streams: u16,
     /// How many streams the peer takes at most.
     pub peer_incoming_streams: u16,
-    /// The endpoint's tag of the association that there was when it was made, or of the try of one; or 0.
+    /// The endpoint's tag of the association that existed when it was made, or of the try of one; or 0.
     pub tie_own_tag: u32,
     /// The peer's tag of that association or try, or 0.
     pub tie_peer_tag: u32,

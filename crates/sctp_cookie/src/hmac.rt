@@ -38,7 +38,7 @@ fn hash(first: &[u8; BLOCK_OCTETS], second: &[u8]) -> [u8; MAC_OCTETS]
     hasher.finalize()
 }
 
-/// The key, with zeros behind it up to a block, each octet altered by this one.
+/// The key, with zeros after it up to a block, each octet altered by this one.
 fn masked(key: &[u8], mask: u8) -> [u8; BLOCK_OCTETS]
     requires { length key.now ≤ block_octets }
     ensures { result ≡ masked mask (padded key.now) }
@@ -48,7 +48,7 @@ fn masked(key: &[u8], mask: u8) -> [u8; BLOCK_OCTETS]
     block
 }
 
-/// The key, with zeros behind it up to a block.
+/// The key, with zeros after it up to a block.
 fn padded(key: &[u8]) -> [u8; BLOCK_OCTETS]
     requires { length key.now ≤ block_octets }
     ensures { result ≡ padded key.now }

@@ -1,11 +1,11 @@
-//! Laws of tags and of the permutation that gives them. Each function says its law by its contract, and does nothing.
+//! Laws of tags and of the permutation that gives them. Each function states its law in its contract, and does nothing.
 
 ghost use Rattle.std.specs.Prelude.{◌≡◌, ◌≢◌, ℕ, ◌<◌, ◌≤◌, ◌^◌, All};
 ghost use Rattle.std.specs.List.{AllPairs};
 ghost use Rattle.sctp_cookie.specs.Permutation.{permuted, permuted_back};
 ghost use Rattle.sctp_cookie.specs.Tags.{Drawing, drawn, numbers};
 
-/// Whatever the rounds compute, the network is a permutation of the numbers of 32 bits.
+/// Whatever the rounds compute, the network is a permutation of the 32-bit numbers.
 pub fn the_network_is_a_permutation()
     ensures fits { (f : ℕ → ℕ → ℕ) (n : ℕ) → n < 2 ^ 32 → permuted f n < 2 ^ 32 }
     ensures fits_back { (f : ℕ → ℕ → ℕ) (n : ℕ) → n < 2 ^ 32 → permuted_back f n < 2 ^ 32 }

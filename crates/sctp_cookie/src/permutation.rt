@@ -1,4 +1,4 @@
-//! The permutation of the numbers of 32 bits that gives an endpoint's tags.
+//! The permutation of the 32-bit numbers that gives an endpoint's tags.
 
 ghost use Rattle.std.specs.Prelude.{◌≡◌, ◌<◌};
 ghost use Rattle.sctp_cookie.specs.Permutation.{round};

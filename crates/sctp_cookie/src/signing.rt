@@ -20,8 +20,8 @@ impl Cookie {
         signed(self, key)
     }
 
-    /// The cookie of which these are the octets under this key. None where there is no such cookie: there are more
-    /// or fewer octets than 88, or the code isn't that of the body, or the body doesn't end in two zeros.
+    /// The cookie of which these are the octets under this key. None if there is no such cookie: if there are more or
+    /// fewer octets than 88, if the code isn't that of the body, or if the body doesn't end in two zeros.
     pub fn open(octets: &[u8], key: &[u8; COOKIE_KEY_OCTETS]) -> Option<Cookie>
         // What opens was signed.
         ensures signed { IfSome result (λ cookie. IsSigned key.now octets.now cookie) }
@@ -60,7 +60,6 @@ fn fits(cookie: Cookie)
     let _ = cookie;
 }
 
-/// The body of a cookie.
 fn body(cookie: Cookie) -> [u8; BODY_OCTETS]
     ensures { result ≡ body_of cookie }
 {
@@ -82,7 +81,7 @@ fn body(cookie: Cookie) -> [u8; BODY_OCTETS]
     out
 }
 
-/// Writes the octets from a place on, and answers the place behind them.
+/// Writes the octets at an offset, and returns the offset after them.
 fn write_at<const N: usize>(out: &mut [u8; N], at: usize, octets: &[u8]) -> usize
     requires { at + length octets.now ≤ N }
     ensures count { result ≡ at + length octets.now }
@@ -116,7 +115,7 @@ fn read(octets: &[u8; COOKIE_OCTETS]) -> Cookie
     }
 }
 
-/// The number in the eight octets from a place on.
+/// The number in the eight octets at an offset.
 fn number64(octets: &[u8; COOKIE_OCTETS], at: usize) -> u64
     requires { at + 8 ≤ 88 }
     ensures { result ≡ number64 octets.now at }
@@ -127,7 +126,7 @@ fn number64(octets: &[u8; COOKIE_OCTETS], at: usize) -> u64
     u64::from_be_bytes(*eight)
 }
 
-/// The number in the four octets from a place on.
+/// The number in the four octets at an offset.
 fn number32(octets: &[u8; COOKIE_OCTETS], at: usize) -> u32
     requires { at + 4 ≤ 88 }
     ensures { result ≡ number32 octets.now at }
@@ -138,7 +137,7 @@ fn number32(octets: &[u8; COOKIE_OCTETS], at: usize) -> u32
     u32::from_be_bytes(*four)
 }
 
-/// The number in the two octets from a place on.
+/// The number in the two octets at an offset.
 fn number16(octets: &[u8; COOKIE_OCTETS], at: usize) -> u16
     requires { at + 2 ≤ 88 }
     ensures { result ≡ number16 octets.now at }

@@ -9,9 +9,9 @@ use std::marker::Model;
 /// Octets of the key that tags are drawn under.
 pub const KEY_OCTETS: usize = 32;
 
-/// What an endpoint draws its verification tags from (RFC 9260 §5.3.1): the n-th one is that of the n-th number,
-/// by a permutation of the numbers of 32 bits under a key. So no tag comes twice, and whoever doesn't know the key
-/// can't guess the next one.
+/// What an endpoint draws its verification tags from (RFC 9260 §5.3.1): the n-th one is that of the n-th number, by a
+/// permutation of the 32-bit numbers under a key. So no tag comes twice, and whoever doesn't know the key can't guess
+/// the next one.
 #[derive(Drop)]
 pub struct Tags {
     key: [u8; KEY_OCTETS],
@@ -54,7 +54,7 @@ impl Tags {
         self.next_tag()
     }
 
-    /// The next tag, where one is left; it isn't drawn by that.
+    /// The next tag, if one is left; it isn't drawn by that.
     pub fn peek(&self) -> Option<u32>
         ensures { result ≡ next_tag self.now }
     {
@@ -77,7 +77,7 @@ impl Tags {
         }
     }
 
-    /// What the next number gives, where there is one; it counts as used from now on.
+    /// What the next number gives, if there is one; it counts as used from now on.
     fn use_number(&mut self) -> Option<u32>
         ensures given { result ≡ next_given self.old }
         ensures drawing { self.new ≡ after_one self.old }

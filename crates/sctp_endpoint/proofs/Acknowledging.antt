@@ -1,4 +1,4 @@
--- SACK that goes out, and SHUTDOWN in front of it.
+-- SACK that goes out, and SHUTDOWN before it.
 use Rattle.std.proofs.Common.{◌≡◌, ◌≢◌, ℕ, true, false, List, [], ◌∷◌, ◌++◌, refl, subst}
 use Rattle.sctp_codec.specs.Packets.{ShutdownChunk}
 use Rattle.sctp_rules.specs.declared.phase.Phase.{Phase}

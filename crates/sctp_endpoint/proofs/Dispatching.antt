@@ -1,4 +1,4 @@
--- Whether the chunks behind one count.
+-- Whether the chunks after one count.
 use Rattle.std.proofs.Common.{◌≡◌, ℕ, Bool, true, false, List, [], ◌∷◌, Option, Some, None, refl, ap, ◌∙◌, subst}
 use Rattle.std.specs.Prelude.{not, ◌&&◌, nat_eq, if◌then◌else◌}
 use Rattle.sctp_codec.specs.Packets as packets

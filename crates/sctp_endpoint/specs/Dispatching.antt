@@ -7,7 +7,7 @@ use Rattle.sctp_rules.specs.Sending.{is_established}
 use Rattle.sctp_rules.specs.Opening.{is_closed, heard_cookie_echo}
 use Rattle.sctp_rules.specs.Packets.{is_skipped, after_echo, heard}
 
--- the packet that a datagram is, where it is one
+-- the packet that a datagram is, if it is one
 abbrev pub heard_datagram : Option PacketValue → Settings → Secrets → (now : ℕ) → Address → State → Done
 heard_datagram None c k now source s = silent s
 heard_datagram (Some packet) c k now source s = heard c k now source packet s
@@ -18,7 +18,7 @@ abbrev pub heard_echo :
 heard_echo c k now source tag cookie more s =
     after_echo c k now source tag more (heard_cookie_echo c k now tag source cookie s)
 
--- whether the chunks behind this one count, by what it left
+-- whether the chunks after this one count, by what it left
 abbrev pub counts_behind : ChunkValue → (tag : ℕ) → State → Bool
 counts_behind (AbortChunk is_reflected causes) tag left = false
 counts_behind (UnknownChunk kind flags value) tag left = is_skipped kind

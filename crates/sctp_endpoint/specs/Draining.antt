@@ -34,7 +34,7 @@ told_step c step s = record {
 abbrev pub heard_piece : Settings → (tsn : ℕ) → Piece → State → Handled
 heard_piece c tsn piece s = told_step c (hear s.association.receiver tsn piece) s
 
--- the next chunk, where it is held
+-- the next chunk, if it is held
 abbrev pub told_next : Settings → State → Handled
 told_next c s =
     if is_some (next_held s.association.receiver)

@@ -61,5 +61,5 @@ pub record IsEndpoint (e : Inside) : Type 0 where
   pub initial : e.settings.bounds.initial ≤ e.settings.bounds.most
   pub least : e.settings.bounds.least ≤ e.settings.bounds.most
   pub most : e.settings.bounds.most ≤ 2 ^ 24
-  -- the answers that wait leave room for a chunk behind them
+  -- the answers that wait leave room for a chunk after them
   pub control : sum_by size_of e.control ≤ 1024

@@ -38,7 +38,7 @@ impl Beginnings {
         }
     }
 
-    /// Draws the next tag, where one is left.
+    /// Draws the next tag, if one is left.
     pub fn draw(&mut self) -> Option<u32>
         ensures tag { result ≡ next_tag (drawing_after self.old.key self.old.count) }
         ensures drawn { self.new ≡ record {

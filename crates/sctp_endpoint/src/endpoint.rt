@@ -149,8 +149,8 @@ impl Model for Endpoint {
 }
 
 impl Endpoint {
-    /// A new endpoint, without an association. The keys, under which tags are drawn and cookies are signed, are to be
-    /// drawn at random, and no two of them may be the same. The error means that memory ran out.
+    /// A new endpoint, without an association. Draw the keys for tags and cookies at random, no two of them the same.
+    /// The error means that memory ran out.
     pub fn new(
         alloc: Global,
         settings: Settings,

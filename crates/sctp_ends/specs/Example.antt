@@ -42,7 +42,7 @@ second_message = record { stream = 1; protocol = 5; octets = 2 ∷ 3 ∷ [] }
 abbrev pub no_packet : Emitted
 no_packet = record { packet = record { source = 0; destination = 0; tag = 0; chunks = [] }; made = 0 }
 
--- the packet that was put out so many before the latest one
+-- the packet that was put out this many before the latest one
 abbrev pub packet_at : Site → (place : ℕ) → PacketValue
 packet_at site place = (slice_index_or site.packets place no_packet).packet
 
@@ -52,7 +52,7 @@ near_does what w = record w { near = happened near_make what w.near }
 abbrev pub far_does : Happening → World → World
 far_does what w = record w { far = happened far_make what w.far }
 
--- at the moment 10 the packet comes that the other end put out, so many before its latest one
+-- at the moment 10 the packet comes that the other end put out, this many before its latest one
 abbrev pub near_hears : (place : ℕ) → World → World
 near_hears place w = near_does (Came 10 address (packet_at w.far place)) w
 

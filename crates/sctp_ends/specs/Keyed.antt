@@ -9,7 +9,7 @@ use Rattle.sctp_rules.specs.Settings.{Beginning, Secrets}
 use Rattle.sctp_rules.specs.WrittenPackets.{AreFit}
 use Rattle.sctp_ends.specs.Shown.{AreGood}
 
--- what tags are drawn from after so many draws
+-- what tags are drawn from after this many draws
 unfoldable pub drawing_after : (key : List ℕ) → ℕ → Drawing
 drawing_after key zero = first_drawing key
 drawing_after key (suc n) = after_draw (drawing_after key n)

@@ -46,8 +46,8 @@ pub record Age : Type 1 where
   pub chunk : Chunk → Type 0
   pub ack : Acknowledgement → Type 0
 
--- they were made when the load of their end was as marked, or later: with the messages since then added, DATA was in
--- the window, and an acknowledgement of all that was received
+-- they were made when the load of their end was as marked, or later: if the messages since then are added, DATA was in
+-- the window, and an acknowledgement was of all that was received
 abbrev pub since : (mark : ℕ) → End → Age
 since mark e = record {
   chunk = λ d.
@@ -58,7 +58,7 @@ since mark e = record {
       length epoch.received + mark ≤ a.count + load e.epochs;
 }
 
--- their end sent, or received, fewer than all numbers but those of a window since
+-- since then their end sent, or received, fewer messages than there are numbers, less a window
 abbrev pub young : End → Age
 young e = record {
   chunk = λ d.
@@ -93,7 +93,7 @@ text_in d = record { stream = d.stream; protocol = d.protocol; octets = d.octets
 abbrev pub chunk_in : (tag : ℕ) → DataValue → (place : ℕ) → Chunk
 chunk_in tag d place = record { to = tag; number = d.tsn; message = text_in d; place = place }
 
--- a DATA chunk that the end put out: a whole message, of a stream that there is
+-- a DATA chunk that the end put out: a whole message, of an existing stream
 pub record IsData (age : Age) (e : End) (tag : ℕ) (d : DataValue) : Type 0 where
   pub begins : d.begins ≡ true
   pub ends : d.ends ≡ true
@@ -112,7 +112,7 @@ pub record IsAck (age : Age) (e : End) (tag cumulative : ℕ) : Type 0 where
   pub there : Contains e.acks (ack_in tag cumulative count)
   pub aged : age.ack (ack_in tag cumulative count)
 
--- a chunk that stands in a packet with others, with this tag. Those of no kind of `End` say nothing
+-- a chunk that is in a packet with others, with this tag. Those of no kind of `End` say nothing
 abbrev pub Bundles : Age → End → (tag : ℕ) → ChunkValue → Type 0
 Bundles age e tag (InitChunk init) = ⊥
 Bundles age e tag (InitAckChunk init) = ⊥

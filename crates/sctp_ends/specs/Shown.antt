@@ -79,12 +79,12 @@ texts messages = map given_as messages
 abbrev pub course_of : Sending → List Message → (acked : ℕ) → Course
 course_of s messages acked = record { half = s; messages = texts messages; confirmed = acked; chunks = [] }
 
--- a message that was taken has a stream that there is, and fits into a chunk
+-- a message that was taken has an existing stream, and fits into a chunk
 pub record IsTaken (m : Message) : Type 0 where
   pub stream : nat_lt m.stream STREAMS ≡ true
   pub octets : length m.octets ≤ most_octets
 
--- the sending half keeps what was sent and isn't confirmed; of an association that is shut down the first of it. All
+-- the sending half keeps what was sent and isn't confirmed; of an association that is shut down, the first of it. All
 -- that was sent counts as put out. In ESTABLISHED, which is open, nothing is dropped
 pub record SendsOut (e : End) (epoch : Epoch) (is_open : Bool) (s : Sending) : Type 0 where
   pub given : List Message
@@ -103,7 +103,7 @@ pub record IsWhole (p : Piece) : Type 0 where
   pub stream : nat_lt p.stream STREAMS ≡ true
   pub octets : length p.octets ≤ most_octets
 
--- the piece so far ahead of the cumulative TSN is one that was heard
+-- the piece this far ahead of the cumulative TSN is one that was heard
 pub record IsHeard (epoch : Epoch) (ahead : ℕ) (p : Piece) : Type 0 where
   pub whole : IsWhole p
   pub heard : Contains epoch.heard (record { place = length epoch.received + (ahead - 1); message = text_of p })
@@ -147,7 +147,7 @@ pub record IsEchoing (e : End) (wanted : Bool) (a : Association) : Type 0 where
   pub wants : e.wanted ≡ true
   pub wanted_is : wanted ≡ true
 
--- what the end shows of an association, and of whether the user wants one
+-- what the end shows of an association, and whether the user wants one
 abbrev pub IsIn : Stage → End → (wanted : Bool) → Association → Type 0
 IsIn Off e wanted a = IsOff e wanted
 IsIn Waiting e wanted a = IsWaiting e wanted a

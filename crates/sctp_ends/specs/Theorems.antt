@@ -33,9 +33,9 @@ abbrev pub begins : Happening → Bool
 begins (Opens now is_active) = true
 begins what = false
 
--- what a rule does are moves: they lead to an end that shows the state that it leaves, and that put out what it puts
--- out. Its epochs are what the user was told and gave: Up begins one, and the messages behind it are those it received.
--- Unless the user asks for it, an end that tries nothing begins no try
+-- what a rule does are moves. They lead to an end that shows the state after it, and that put out what it puts out. Its
+-- epochs are what the user was told and gave: Up begins one, and the messages after it are those it received. Unless
+-- the user asks for it, an end that tries nothing begins no try
 pub record AreMovesOf (own far : Secrets) (mark : ℕ) (other e : End) (what : Happening) (s : State) (d : Done) :
     Type 0 where
   pub list : List End
@@ -108,7 +108,7 @@ worlds_are_shown = (near far : Make) → Always near far (IsShown near far)
 
 -- ---- what was told was given
 
--- what was told is the beginning of what was given in the association in this place
+-- what was told is the beginning of what was given in the association at this index
 pub record IsGiven (given : List (List Message)) (place : ℕ) (told : List Message) : Type 0 where
   pub whole : List Message
   pub is : slice_get given place ≡ Some whole
@@ -131,15 +131,15 @@ pub record DeliverBoth (w : World) : Type 0 where
   pub there : Delivers (told_by [] w.near.told) w.far.given
   pub back : Delivers (told_by [] w.far.told) w.near.given
 
--- what one end was told in an association is the beginning of what the other was given in one, which is matched with no
--- other: so each message is told once, in order
+-- what one end was told in an association is the beginning of what the other was given in one that is matched with no
+-- other; so each message is told once, in order
 abbrev pub told_messages_were_given : Type 0
 told_messages_were_given = (near far : Make) → Always near far DeliverBoth
 
 -- ---- the laws of associations
 
--- an endpoint has just opened an association, and this is the other one. If that has one, it is the same. Else, if it
--- tries by the tag of that one, it waits for COOKIE ACK of it, and its user wants it
+-- an endpoint has just opened an association, and this is the other endpoint. If it has one, that is the same. Else, if
+-- it tries with the tag of that one, it waits for COOKIE ACK of it, and its user wants it
 pub record AreTogether (opened other : State) : Type 0 where
   pub there :
       stage_of other.association.phase ≡ There →
@@ -161,7 +161,7 @@ pub record OpensTogether (w v : World) : Type 0 where
   pub near : HasOpened w.near v.near → AreTogether v.near.state v.far.state
   pub far : HasOpened w.far v.far → AreTogether v.far.state v.near.state
 
--- the associations of two endpoints have the laws of `sctp_moves`; those of openings at the next step
+-- the associations of two endpoints have the laws of `sctp_moves`, and those of openings at the next step
 pub record AreAssociated (near far : Make) (w : World) : Type 0 where
   pub shown : IsShown near far w
   pub carries : BothWays CarriesOver shown.ends

@@ -7,7 +7,7 @@ use Rattle.sctp_rules.specs.Sending.{may_send}
 use Rattle.sctp_rules.specs.Endpoint.{Happening, Sends}
 use Rattle.sctp_moves.specs.Ends.{Message}
 
--- a message behind those of the latest association
+-- a message after those of the latest association
 abbrev pub with_last : Message → List (List Message) → List (List Message)
 with_last message [] = []
 with_last message (latest ∷ past) = (latest ++ message ∷ []) ∷ past
@@ -34,7 +34,7 @@ opened_by lists (Heard message ∷ more) = opened_by lists more
 opened_by lists (Down why ∷ more) = opened_by lists more
 opened_by lists (Failed why ∷ more) = opened_by lists more
 
--- a message counts as given where it is taken
+-- a message counts as given if it is taken
 abbrev pub given_by : Happening → State → List (List Message) → List (List Message)
 given_by (Sends message) s lists = if may_send message s then with_last (text_given message) lists else lists
 given_by what s lists = lists

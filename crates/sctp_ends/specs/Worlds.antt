@@ -9,8 +9,8 @@ use Rattle.sctp_moves.specs.Numbers.{modulus, window}
 use Rattle.sctp_moves.specs.Ends.{Message}
 use Rattle.sctp_ends.specs.Told.{told_by, opened_by, given_by}
 
--- a packet that was put out; and how many messages its endpoint had been given and had told when packets were asked for
--- last before that: what the packet says was made since
+-- a packet that was put out, and how many messages its endpoint had been given and had told when packets were asked for
+-- last before that; what the packet says was made since
 pub record Emitted : Type 0 where
   pub packet : PacketValue
   pub made : ℕ
@@ -65,8 +65,8 @@ pub record Make : Type 0 where
 abbrev pub new_world : (near far : Make) → World
 new_world near far = record { near = new_site near.settings; far = new_site far.settings }
 
--- a packet comes that the other end put out. Since it was made, that end was given and told no more messages than
--- there are numbers, but for two windows
+-- a packet comes that the other end put out. Since it was made, that end was given and told no more messages than there
+-- are numbers, less two windows
 pub record Arrives (other : Site) (packet : PacketValue) : Type 0 where
   pub one : Emitted
   pub there : Contains other.packets one

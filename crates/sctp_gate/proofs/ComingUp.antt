@@ -1,4 +1,4 @@
--- Where a link wants to open, its association comes up.
+-- If a link wants to open, its association comes up.
 use Rattle.std.proofs.Common.{◌≡◌, ◌∙◌, ◌<◌, ℕ, arith, Bool, true, false, List, [], ◌∷◌, Option, Some, None, refl, ap, length}
 use Rattle.std.specs.Prelude.{◌&&◌, not, slice_index_or, if◌then◌else◌}
 use Rattle.std.proofs.lemmas.Bool.Decides.{nat_tests}

@@ -1,5 +1,5 @@
--- No AssociationUp of a gate is refused: its endpoint tells Up only while its standing is that it seeks one, and then, once
--- it is settled, the link wants to open.
+-- No AssociationUp of a gate is refused: its endpoint tells Up only while its standing is that it seeks one, and then,
+-- once it is settled, the link wants to open.
 use Rattle.std.proofs.Common.{◌≡◌, ◌∙◌, ℕ, zero, suc, Bool, true, false, List, [], ◌∷◌, ◌++◌, Option, Some, None, refl, sym, ap, subst}
 use Rattle.std.specs.Prelude.{◌+◌, ◌&&◌, length, if◌then◌else◌}
 use Rattle.sctp_receiving.specs.Pieces.{Message}

@@ -168,7 +168,8 @@ module _ {Q : Type 0} (q : QueueKind Q) where
   taken_by rest None g s = nothing g (taken q s g.link)
   taken_by rest (Some frame) g s = followed_by (given frame g (taken q s g.link)) (rest frame)
 
-  -- frames are taken one after another, so many at most, while each can go out with those before it, of so many octets
+  -- frames are taken one after another, this many at most, while each can go out with those before it, of this many
+  -- octets
   unfoldable pub taken_all : (most octets : ℕ) → Gate → State Q → Did Q
   taken_all zero octets g s = nothing g s
   taken_all (suc most) octets g s =
@@ -177,7 +178,7 @@ module _ {Q : Type 0} (q : QueueKind Q) where
       else nothing g s
 
 module _ {Q : Type 0} (q : QueueKind Q) (now : ℕ) where
-  -- none is taken where something else still waits to go out
+  -- none is taken if something else still waits to go out
   abbrev pub taken_if : Gate → State Q → Did Q
   taken_if g s =
       if is_lasting now g.endpoint && has_room g.endpoint.state then taken_all q MOST_FRAMES 0 g s else nothing g s

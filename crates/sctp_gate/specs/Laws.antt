@@ -10,7 +10,7 @@ use Rattle.sctp_gate.specs.Gates.{Gate, is_lasting, settled, filled, with_given,
 
 -- ---- the endpoint does what the link wants
 
--- where an association is up the link asks for nothing, and one is wanted only where the link wants to open
+-- if an association is up the link asks for nothing, and one is wanted only if the link wants to open
 pub record Agrees {Q : Type 0} (g : Gate) (s : State Q) : Type 0 where
   pub up : g.standing.is_up ≡ true → wants_of s g.link ≡ Nothing
   pub seeking : g.standing.is_seeking ≡ true → wants_of s g.link ≡ Open
@@ -27,12 +27,12 @@ settling_agrees {Q = Q} q =
 abbrev pub IsAllOut : Gate → Type 0
 IsAllOut g = g.endpoint.state.association.sender.went ≡ length g.endpoint.state.association.sender.out
 
--- where a fill took a frame, or saw anything else, all that was ever given and isn't confirmed went out behind it
+-- if a fill took a frame, or saw anything else, all that was ever given and isn't confirmed went out after it
 abbrev pub taken_frames_go_out : {Q : Type 0} → QueueKind Q → Type 0
 taken_frames_go_out {Q = Q} q =
     (now : ℕ) (g : Gate) (s : State Q) → ((filled q now g s).seen ≡ []) ⊎ IsAllOut (filled q now g s).gate
 
--- a frame that finds room is given, behind all others
+-- a frame that finds room is given, after all others
 abbrev pub taken_frames_are_given : Type 0
 taken_frames_are_given =
     (frame : List ℕ) (octets : ℕ) (g : Gate) → has_room_behind g.endpoint.state octets ≡ true →

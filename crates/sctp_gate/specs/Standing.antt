@@ -16,8 +16,8 @@ seeking p = record p { is_seeking = true }
 abbrev pub idle : Standing → Standing
 idle p = record p { is_up = false; is_seeking = false }
 
--- by what is told. Behind a try that failed there is a wait, and the next one is twice as long; once an association was
--- up the waits begin anew
+-- by what is told. After a try that failed there is a wait, and the next one is twice as long; once an association was
+-- up the waits start over
 abbrev pub stands_by : (now : ℕ) → Told → Standing → Standing
 stands_by now Up p = record p { is_up = true; is_seeking = false; wait = FIRST_WAIT }
 stands_by now (Heard message) p = p

@@ -16,7 +16,7 @@ pub data Sight : Type 0 where
   Fell : (why : Loss) → Sight
   -- no association came to be
   Failed : (why : Loss) → Sight
-  -- this frame was taken to go out, behind those before it
+  -- this frame was taken to go out, after those before it
   WentOut : (frame : List ℕ) → Sight
 
 -- these datagrams went out and these were seen, whatever a watch had

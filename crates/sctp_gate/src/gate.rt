@@ -62,9 +62,8 @@ impl Model for Gate {
 }
 
 impl Gate {
-    /// A gate without an association. It tries to open one, or waits for its peer to do so. The keys, under which tags
-    /// are drawn and cookies are signed, are to be drawn at random, and no two of them may be the same. The error means
-    /// that memory ran out.
+    /// A gate without an association. It tries to open one, or waits for its peer to do so. Draw the keys for tags and
+    /// cookies at random, no two of them the same. The error means that memory ran out.
     pub fn new(
         alloc: Global,
         link: LinkId,
@@ -88,8 +87,8 @@ impl Gate {
     }
 
     /// A datagram came from an address: what the endpoint tells is handed in. An association that came up is
-    /// AssociationUp, a message is a frame, and one that went down is AssociationDown, each once and in order. A message
-    /// that isn't M2PA's by its payload protocol identifier is dropped, and the watch sees it.
+    /// AssociationUp, a message is a frame, and one that went down is AssociationDown, each once and in order. A
+    /// message that isn't M2PA's by its payload protocol identifier is dropped, and the watch sees it.
     pub fn hear<W: Watch>(
         &mut self,
         exchange: &mut Exchange,
@@ -121,8 +120,8 @@ impl Gate {
     }
 
     /// The endpoint is set to what the link wants. Close ends the association. Open wants one: this end waits for its
-    /// peer, and tries to open one if it is an end that tries and the wait behind the last try that failed is over.
-    /// Nothing ends the try of one, and the wish for one. To be called after each event of the exchange.
+    /// peer and, if it is an end that tries and the wait after the last failed try is over, tries to open one. Nothing
+    /// ends the try of one, and the wish for one. Call it after each event of the exchange.
     pub fn settle<W: Watch>(&mut self, exchange: &mut Exchange, now: u64, watch: &mut W)
         ensures kept { Makes W.has watch.old watch.new self.new exchange.new (settled kept now self.old exchange.old) }
         ensures whole { (a : Abstract) → StandsFor exchange.old a → MakesWhole W.has watch.old watch.new self.new
@@ -131,8 +130,8 @@ impl Gate {
         self.do_as_link_wants(exchange, now, watch);
     }
 
-    /// This end ends the association by ABORT, or the try of one, or the wish for one. What is called behind it begins
-    /// anew, if the link wants that.
+    /// This end ends the association by ABORT, or the try of one, or the wish for one. A later call begins again, if
+    /// the link wants that.
     pub fn close<W: Watch>(&mut self, exchange: &mut Exchange, now: u64, watch: &mut W)
         ensures kept { Makes W.has watch.old watch.new self.new exchange.new (aborted kept now self.old exchange.old) }
         ensures whole { (a : Abstract) → StandsFor exchange.old a → MakesWhole W.has watch.old watch.new self.new
@@ -182,8 +181,8 @@ impl Gate {
         self.act_as(self.standing.idle(), Doing::Abort, exchange, now, watch);
     }
 
-    /// When to call `tick` or `settle` next, in milliseconds: when the endpoint's next timer runs out; or, while it waits
-    /// for its peer, when a try may begin. None where there is nothing to wait for.
+    /// When to call `tick` or `settle` next, in milliseconds: when the endpoint's next timer runs out; or, while it
+    /// waits for its peer, when a try may begin. None if there is nothing to wait for.
     pub fn deadline(&self) -> Option<u64>
         ensures { result ≡ due self.now }
     {
@@ -208,8 +207,8 @@ impl Gate {
         self.standing
     }
 
-    /// Does something at the endpoint, and hands in what it tells. Nothing is done later than 2^63 ms, nor at an endpoint
-    /// that counted that far (`Endpoint::lasts`).
+    /// Does something at the endpoint, and hands in what it tells. Nothing is done later than 2^63 ms, nor at an
+    /// endpoint that counted that far (`Endpoint::lasts`).
     fn act<W: Watch>(&mut self, what: Doing<'_>, exchange: &mut Exchange, now: u64, watch: &mut W)
         ensures { Makes W.has watch.old watch.new self.new exchange.new
             (does kept now (λ e. done_by what.entry now e) self.old exchange.old) }

@@ -1,4 +1,4 @@
-//! Laws of gates. Each function says its law by its contract, and does nothing.
+//! Laws of gates. Each function states its law in its contract, and does nothing.
 
 ghost use Rattle.exchange.specs.KeptQueues.{kept};
 ghost use Rattle.exchange_rules.specs.Queues.{whole};
@@ -6,8 +6,8 @@ ghost use Rattle.sctp_gate.specs.Laws.{frames_have_their_streams, settling_agree
 ghost use Rattle.sctp_gate.specs.Laws.{taken_frames_are_given, taken_frames_go_out};
 ghost use Rattle.sctp_gate.specs.Rising.{associations_come_up, calls_are_seen};
 
-/// Behind each settling, with which each datagram and each tick ends: where an association is up, the link asks for
-/// nothing; and one is wanted, or a try goes on, only where the link wants to open. It holds whatever happened to the
+/// After each settling, with which each datagram and each tick ends: if an association is up, the link asks for
+/// nothing; and one is wanted, or a try goes on, only if the link wants to open. This holds whatever happened to the
 /// exchange before.
 pub fn settled_gates_do_what_their_links_want()
     ensures whole { settling_agrees whole }
@@ -15,9 +15,9 @@ pub fn settled_gates_do_what_their_links_want()
     ensures kept { settling_agrees kept }
 {}
 
-/// AssociationUp is never refused. Of a gate that was new, whatever was called at it since, and whatever happened to the
-/// exchange between the calls: each time that its association is seen to come up, the link wants to open at that very
-/// moment, AssociationUp is handled, and behind it the link has an association and isn't down.
+/// AssociationUp is never refused. Take a gate that was new, whatever was called at it since, and whatever happened to
+/// the exchange between the calls. Each time that its association is seen to come up, the link wants to open at that
+/// very moment, AssociationUp is handled, and after it the link has an association and isn't down.
 pub fn associations_come_up_at_their_links()
     ensures whole { associations_come_up whole }
     // The same on what is kept.
@@ -31,8 +31,8 @@ pub fn calls_do_what_is_seen_of_them()
     ensures kept { calls_are_seen kept }
 {}
 
-/// A frame is taken only where it goes out at once. Behind a fill that took one, all that was ever given and isn't
-/// confirmed went out; and a frame of 1 to 290 octets that finds room is given, behind all others.
+/// A frame is taken only if it goes out at once. After a fill that took one, all that was ever given and isn't
+/// confirmed has gone out; and a frame of 1 to 290 octets that finds room is given, after all others.
 pub fn frames_that_are_taken_go_out()
     ensures whole { taken_frames_go_out whole }
     // The same on what is kept.

@@ -6,7 +6,7 @@ ghost use Rattle.sctp_gate.specs.Standing.{first_standing, idle, seeking, stands
 
 use sctp_endpoint::Event;
 
-/// The first wait behind a try that failed, in milliseconds.
+/// The first wait after a try that failed, in milliseconds.
 pub const FIRST_WAIT: u64 = 1000;
 
 /// The longest wait, in milliseconds.
@@ -21,7 +21,7 @@ pub struct Standing {
     pub is_seeking: bool,
     /// When the next try may begin, in milliseconds.
     pub due: u64,
-    /// The wait behind the next try that fails, in milliseconds: 1, 2, 4, 8, 16 and then 30 seconds, and 1 again once an
+    /// The wait after the next try that fails, in milliseconds: 1, 2, 4, 8, 16 and then 30 seconds, and 1 again once an
     /// association was up.
     pub wait: u64,
 }

@@ -39,7 +39,7 @@ pub trait Watch {
     fn failed(&mut self, why: Loss)
         ensures { Gives has self.old self.new [] (Failed why ∷ []) };
 
-    /// A frame was taken, and goes out behind those before it.
+    /// A frame was taken, and goes out after those before it.
     fn went_out(&mut self, frame: &[u8])
         ensures { Gives has self.old self.new [] (WentOut frame.now ∷ []) };
 }

@@ -4,7 +4,7 @@ use Rattle.sctp_bundling.specs.Watching.{Sent}
 use Rattle.sctp_gate.specs.Watching.{Sight, Rose, CameIn, Dropped, Fell, Failed, WentOut}
 use Rattle.served_link.specs.Counting.{NodeCounters, DatagramWent, came, counted_at, counted_datagram, went}
 
--- frames that came in and went out are counted of the link, as over TCP
+-- frames that came in and went out are counted for the link, as over TCP
 abbrev pub counted_sight : (link : ℕ) → Sight → NodeCounters → NodeCounters
 counted_sight link Rose c = c
 counted_sight link (CameIn frame outcome) c = counted_at link (came frame outcome) c

@@ -9,7 +9,7 @@ abbrev pub word_of : Loss → List ℕ
 word_of Aborted = codes "peer"
 word_of Shutdown = codes "peer"
 word_of Refused = codes "peer"
--- it has begun anew
+-- it has restarted
 word_of Restart = codes "restart"
 -- it doesn't answer, or finds each cookie stale
 word_of NoAnswer = codes "silence"

@@ -24,6 +24,7 @@ abbrev pub place_by : List Peer → (host : List ℕ) → Option Ports → Optio
 place_by peers host None = None
 place_by peers host (Some ports) = position (is_of host ports) peers
 
--- the place of the first link that a datagram is of, by the host that it comes from and its octets; none of a stranger's
+-- the index of the first link that a datagram is for, by the host that it comes from and its octets; none for a
+-- stranger's
 abbrev pub link_of : List Peer → (host octets : List ℕ) → Option ℕ
 link_of peers host octets = place_by peers host (ports_in octets)

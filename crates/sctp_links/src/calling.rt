@@ -55,7 +55,6 @@ impl Model for SctpLink {
 }
 
 impl SctpLink {
-    /// A link with this gate.
     pub(crate) fn new(address: SocketAddr, gate: Gate) -> SctpLink
         ensures { result ≡ gate }
     {

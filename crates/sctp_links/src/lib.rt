@@ -1,5 +1,5 @@
 //! The links of a node over SCTP in UDP (RFC 6951), by their gates: which link a datagram is for, what is told and
-//! counted of what passes, when timers are due; and the rounds over the one socket of the node.
+//! counted of what passes, when timers are due, and the rounds over the one socket of the node.
 #![tactic(auto)]
 
 mod calling;

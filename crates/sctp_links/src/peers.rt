@@ -39,8 +39,8 @@ pub fn ports_in(octets: &[u8]) -> Option<Ports>
     }
 }
 
-/// The place of the link that a datagram is for: the first whose peer's host it comes from, and whose SCTP ports it
-/// has. The UDP port may be any (RFC 6951 §5.4). None where it is no link's, or too short to have ports.
+/// The index of the link that a datagram is for: the first whose peer's host it comes from, and whose SCTP ports it
+/// has. The UDP port may be any (RFC 6951 §5.4). None if it is no link's, or too short to have ports.
 pub fn link_of(peers: &[Peer], source: &Address, octets: &[u8]) -> Option<usize>
     ensures place { result ≡ link_of peers.now source.now.host octets.now }
     ensures fits { IfSome result (λ place. place < length peers.now) }

@@ -1,4 +1,4 @@
--- Lists of moves: of one end, and one behind another.
+-- Lists of moves: of one end, and one after another.
 use Rattle.std.proofs.Common.{◌≡◌, List, [], ◌∷◌, ◌++◌, map, refl, ◌∙◌, subst, sym}
 use Rattle.sctp_moves.specs.Ends.{End, Ends}
 use Rattle.sctp_moves.specs.Moves as moves

@@ -1,11 +1,10 @@
 -- Two ends of SCTP (RFC 9260), and all that they ever put out.
 --
--- An end draws names, tries to open associations, and opens them; in each it sends messages and
--- receives some. The network between them may lose, double, reorder and delay what they put out, and
--- invents nothing: so it is no more than the lists of what was put out, from which anything may come
--- at any time. There are no octets, clocks, timers or windows in octets here: when and why something
--- goes out is left free. Nor are there fragments: an end sends a message in one chunk. What an end has
--- made and not sent yet counts as put out.
+-- An end draws names, tries to open associations, and opens them; in each it sends and receives messages. The network
+-- between the ends may lose, double, reorder and delay what they put out, and invents nothing. So it is no more than
+-- the lists of what was put out, from which anything may come at any time. There are no octets, clocks, timers or
+-- windows in octets here: it is left open when and why something goes out. Nor are there fragments: an end sends a
+-- message in one chunk. What an end has made and not sent yet counts as put out.
 use Rattle.std.specs.Prelude.{ℕ, Bool, false, List, []}
 
 -- a message of the user: its stream, its payload protocol identifier, its octets
@@ -34,16 +33,16 @@ pub record Answer : Type 0 where
   pub own : Name
   pub cookie : Cookie
 
--- DATA: the tag that it is sent to, its TSN and its message; and the message's place among those that
--- its sender sent in the association, which isn't on the wire
+-- DATA: the tag that it is sent to, its TSN and its message; and, which isn't on the wire, the message's place among
+-- those that its sender sent in the association
 pub record Chunk : Type 0 where
   pub to : ℕ
   pub number : ℕ
   pub message : Message
   pub place : ℕ
 
--- SACK or SHUTDOWN: the tag that it is sent to, and its cumulative TSN; and how many messages its
--- sender had received in the association, which isn't on the wire
+-- SACK or SHUTDOWN: the tag that it is sent to, and its cumulative TSN; and, which isn't on the wire, how many messages
+-- its sender had received in the association
 pub record Acknowledgement : Type 0 where
   pub to : ℕ
   pub number : ℕ
@@ -51,7 +50,7 @@ pub record Acknowledgement : Type 0 where
 
 -- ---- an end
 
--- a message that an end heard, in the place that it reckons from its TSN
+-- a message that an end heard, with the place that it computes from its TSN
 pub record Piece : Type 0 where
   pub place : ℕ
   pub message : Message
@@ -69,8 +68,8 @@ pub record Epoch : Type 0 where
 abbrev pub new_epoch : (own far : Name) → Epoch
 new_epoch own far = record { own = own; far = far; sent = []; acked = 0; heard = []; received = [] }
 
--- CLOSED, COOKIE-WAIT, COOKIE-ECHOED, and ESTABLISHED with all that follow it. A try of an association
--- has a name of its own, and from COOKIE-ECHOED on it knows the far end's
+-- CLOSED, COOKIE-WAIT, COOKIE-ECHOED, and ESTABLISHED together with all states after it. A try of an association has a
+-- name of its own, and knows the far end's from COOKIE-ECHOED on
 pub data Phase : Type 0 where
   Closed : Phase
   CookieWait : (own : Name) → Phase
@@ -78,7 +77,7 @@ pub data Phase : Type 0 where
   Established : Phase
 
 pub record End : Type 0 where
-  -- how often an association opened or ended, and a try of one began anew or ended; it may grow as a try begins, too
+  -- how often an association opened or ended, and a try of one restarted or ended; it may grow as a try begins, too
   pub generation : ℕ
   -- an association is wanted, or there is one
   pub wanted : Bool
@@ -87,8 +86,8 @@ pub record End : Type 0 where
   pub phase : Phase
   -- all associations, the latest first. While it is established, the latest is the present one
   pub epochs : List Epoch
-  -- all that it put out, the latest first: the names in INIT, the INIT ACKs, the cookies in COOKIE ECHO,
-  -- the tags that a COOKIE ACK was sent to, DATA, acknowledgements. What is put out again is here already
+  -- all that it put out, the latest first: the names in INIT, the INIT ACKs, the cookies in COOKIE ECHO, the tags that
+  -- a COOKIE ACK was sent to, DATA, acknowledgements. What is put out again is here already
   pub inits : List Name
   pub answers : List Answer
   pub echoes : List Cookie

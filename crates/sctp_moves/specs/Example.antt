@@ -1,7 +1,7 @@
--- A run of the moves. The near end opens an association first, by a cookie, and the far end second, by
--- COOKIE ACK. The far end sends two messages, whose numbers go round: the second overtakes the first,
--- the first comes twice, and both are confirmed. What the near end sends is lost. The near end falls.
--- Its old cookie comes again and opens nothing; then a new association opens at both ends.
+-- A run of the moves. The near end opens an association first, by a cookie, and the far end second, by COOKIE ACK. The
+-- far end sends two messages, whose numbers wrap round: the second overtakes the first, the first comes twice, and both
+-- are confirmed. What the near end sends is lost. The near end falls. Its old cookie comes again and opens nothing.
+-- Then a new association opens at both ends.
 use Rattle.std.specs.Prelude.{◌≡◌, true, ◌-◌, ◌^◌, List, [], ◌∷◌}
 use Rattle.std.specs.List.{Contains}
 use Rattle.sctp_moves.specs.Ends.{Message, Name, Cookie, Chunk, Acknowledgement, Epoch, new_epoch}
@@ -93,7 +93,7 @@ nothing_received = record { to = 21; number = 2 ^ 32 - 2; count = 0 }
 abbrev pub other_cookie : Cookie
 other_cookie = record { generation = 1; own = far_name; far = next_near_name }
 
--- What an end doesn't do, for whatever reason: count what it heard behind a hole, or open by a cookie of another peer
+-- What an end doesn't do, for whatever reason: count what it heard after a hole, or open by a cookie of a peer other
 -- than the one that its try has found.
 pub record Refuses : Type 0 where
   pub hole : ack_of with_a_hole ≡ nothing_received

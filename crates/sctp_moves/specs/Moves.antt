@@ -1,8 +1,8 @@
 -- The moves of one end, given what the other put out; and lists of moves.
 --
--- A move is a record: what has to hold before it (`p`), what the network brings, and what the end
--- becomes (`after`, of `q`). Of the other end it reads nothing but what that put out. It never says
--- why or when: a timer, a call of the user, or nothing at all. An association opens in five moves:
+-- A move is a record: what must hold before it (`p`), what the network brings, and what the end becomes (`after`, of
+-- `q`). It reads nothing of the other end except what that put out. It never says why or when: a timer, a call of the
+-- user, or nothing at all. An association opens in five moves:
 --
 --     near end                                    far end
 --                                                 Begins: INIT, with the far name
@@ -13,9 +13,9 @@
 --     present generation; SendsCookieAck
 --                                                 OpensByAck
 --
--- Either end may give up between any two of them, and begin anew by another name. Both may begin at
--- once: then each answers with the name of its try. A datagram that says none of this changes nothing
--- here, and neither does one that is put out again.
+-- Either end may give up between any two of them, and restart with another name. Both may begin at once; then each
+-- answers with the name of its try. A datagram that says none of this changes nothing here, and neither does one that
+-- is put out again.
 use Rattle.std.specs.Prelude.{◌≡◌, ◌≢◌, ℕ, true, false, ◌+◌, ◌<◌, ◌≤◌, List, [], ◌∷◌, ◌++◌, length, slice_get, Some}
 use Rattle.std.specs.List.{Contains}
 use Rattle.sctp_moves.specs.Numbers.{modulus, window, number_of, cumulative, steps_between}
@@ -33,8 +33,8 @@ IsTrying (CookieWait own) name = name ≡ own
 IsTrying (CookieEchoed own far) name = name ≡ own
 IsTrying Established name = ⊥
 
--- a cookie may open an association in this phase: of a try it has its own tag, and of a try that knows
--- its peer also that tag. An end with an association opens none, since a restart of its peer is a loss
+-- a cookie may open an association in this phase: for a try it has its own tag, and for a try that knows its peer also
+-- that tag. An end with an association opens none, since a restart of its peer is a loss
 abbrev pub MayOpen : Phase → Cookie → Type 0
 MayOpen Closed cookie = Unit {0}
 MayOpen (CookieWait own) cookie = cookie.own.tag ≡ own.tag
@@ -49,7 +49,7 @@ answer_to generation own far = record {
   cookie = record { generation = generation; own = own; far = far };
 }
 
--- DATA with the message in this place of an epoch
+-- DATA with the message at this index of an epoch
 abbrev pub chunk_of : Epoch → (place : ℕ) → Message → Chunk
 chunk_of epoch place message = record {
   to = epoch.far.tag;
@@ -73,7 +73,7 @@ module _ (other p q : End) where
   pub record Wants : Type 0 where
     pub after : q ≡ record p { wanted = true }
 
-  -- a try begins: INIT with a fresh tag. The generation may grow
+  -- a try begins: INIT with a new tag. The generation may grow
   pub record Begins : Type 0 where
     pub closed : p.phase ≡ Closed
     pub wanted : p.wanted ≡ true
@@ -88,7 +88,7 @@ module _ (other p q : End) where
       inits = own ∷ p.inits;
     }
 
-  -- a try begins anew: INIT with another fresh tag
+  -- a try restarts: INIT with another new tag
   pub record Renews : Type 0 where
     pub old : Name
     pub trying : IsTrying p.phase old
@@ -103,7 +103,7 @@ module _ (other p q : End) where
       inits = own ∷ p.inits;
     }
 
-  -- INIT is answered with a fresh tag, and nothing is kept
+  -- INIT is answered with a new tag, and nothing is kept
   pub record AnswersAnew : Type 0 where
     pub init : Name
     pub there : Contains other.inits init
@@ -190,8 +190,8 @@ module _ (other p q : End) where
     pub taken : slice_get epoch.sent place ≡ Some message
     pub after : q ≡ record p { chunks = chunk_of epoch place message ∷ p.chunks }
 
-  -- DATA comes with the end's own tag, less than a window ahead of the next message. It isn't older
-  -- than all numbers but those of a window
+  -- DATA comes with the end's own tag, less than a window ahead of the next message. It isn't older than `modulus -
+  -- window` messages
   pub record HearsChunk : Type 0 where
     pub up : p.phase ≡ Established
     pub epoch : Epoch
@@ -228,8 +228,8 @@ module _ (other p q : End) where
     pub now : p.epochs ≡ epoch ∷ past
     pub after : q ≡ record p { acks = ack_of epoch ∷ p.acks }
 
-  -- an acknowledgement comes with the end's own tag, of no more than was sent. It isn't older than all
-  -- numbers but those of a window
+  -- an acknowledgement comes with the end's own tag, of no more than was sent. It isn't older than `modulus - window`
+  -- messages
   pub record HearsAck : Type 0 where
     pub up : p.phase ≡ Established
     pub epoch : Epoch
@@ -274,7 +274,6 @@ abbrev pub Moves : Ends → List Ends → Type 0
 Moves p [] = Unit {0}
 Moves p (q ∷ rest) = Move p q × Moves q rest
 
--- the last of them
 abbrev pub last_of : Ends → List Ends → Ends
 last_of p [] = p
 last_of p (q ∷ rest) = last_of q rest

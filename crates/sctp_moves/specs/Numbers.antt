@@ -1,5 +1,5 @@
--- The numbers of messages on the wire, TSNs (RFC 9260 §1.6, §3.3.1, §3.3.4): 32 bits, and behind the
--- last one comes 0. The first one of an association may be any.
+-- The numbers of messages on the wire, TSNs (RFC 9260 §1.6, §3.3.1, §3.3.4): 32 bits, and after the last one comes 0.
+-- The first one of an association may be any number.
 use Rattle.std.specs.Prelude.{ℕ, ◌+◌, ◌-◌, ◌%◌, ◌^◌}
 
 abbrev pub modulus : ℕ
@@ -10,12 +10,11 @@ modulus = 2 ^ 32
 abbrev pub window : ℕ
 window = 256
 
--- the TSN of the message in this place, counted from 0, where the message in place 0 has `first`
+-- the TSN of the message at this index, from 0, if the message at index 0 has `first`
 abbrev pub number_of : (first place : ℕ) → ℕ
 number_of first place = (first + place) % modulus
 
--- the cumulative TSN of an end that received so many: that of the last of them, or the one before the
--- first
+-- the cumulative TSN of an end that received this many: that of the last of them, or the one before the first
 abbrev pub cumulative : (first count : ℕ) → ℕ
 cumulative first count = (first + (modulus - 1) + count) % modulus
 

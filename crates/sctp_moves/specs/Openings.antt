@@ -1,4 +1,4 @@
--- Which end opened an association last, and whether the other one followed it; and which cookies may open one yet.
+-- Which end opened an association last, whether the other one followed it, and which cookies may still open one.
 use Rattle.std.specs.Prelude.{◌≡◌, ◌≢◌, suc, List, [], ◌∷◌, length}
 use Rattle.std.specs.List.{Contains}
 use Rattle.sctp_moves.specs.Ends.{Cookie, Epoch, Phase, Closed, CookieWait, CookieEchoed, Established, End, Ends, new_ends}
@@ -44,7 +44,7 @@ Stands FarAhead p = IsAhead p.far p.near
 
 -- ---- what may open an association yet
 
--- a cookie that an end echoed: by it the other end may open an association that the end doesn't have
+-- a cookie that an end echoed, by which the other end may open an association that the end doesn't have
 pub record IsReady (x y : End) : Type 0 where
   pub cookie : Cookie
   pub echoed : Contains x.echoes cookie
@@ -68,7 +68,7 @@ pub record Opened (x z : End) : Type 0 where
 pub record Unopened (x z : End) : Type 0 where
   pub same : length z.epochs ≡ length x.epochs
 
--- how a move goes on: an end opens an association first, by a cookie that the other one echoed; or second, and the
+-- how a move goes on: an end opens an association first, by a cookie that the other one echoed; or second, entering the
 -- other one's latest
 pub data Turn (st : Standing) (p q : Ends) : Standing → Type 0 where
   stays : Unopened p.near q.near → Unopened p.far q.far → Turn st p q st
@@ -93,7 +93,7 @@ IsCalm (CookieWait own) = ⊥
 IsCalm (CookieEchoed own far) = ⊥
 IsCalm Established = Unit {0}
 
--- from such an end on a move begins no try, and echoes no cookie
+-- from such an end on, a move begins no try and echoes no cookie
 abbrev pub IsQuietMove : End → End → Type 0
 IsQuietMove x z = IsCalm x.phase → (z.echoes ≡ x.echoes) × IsCalm z.phase
 

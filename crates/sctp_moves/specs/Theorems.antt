@@ -1,10 +1,10 @@
 -- What holds after every list of moves of two new ends.
 --
--- An association is two epochs, one of each end, with the same two tags. One end may have its epoch
--- and the other not yet, or never. Of each: what one received is the beginning of what the other sent
--- (prefix), no more is confirmed than came (confirmed), tags name it (one), the end that opens it
--- first finds the other waiting (first), the end that opens it second enters the other's latest one
--- (second), and associations follow one another in the same order at both ends (order).
+-- An association is two epochs, one of each end, with the same two tags. One end may have its epoch and the other not
+-- yet, or never. What one received is the beginning of what the other sent (prefix), no more is confirmed than came
+-- (confirmed), tags name the association (one), the end that opens it first finds the other waiting (first), the end
+-- that opens it second enters the other's latest one (second), and associations follow one another in the same order at
+-- both ends (order).
 use Rattle.std.specs.Prelude.{◌≡◌, ◌≢◌, ◌⊎◌, ℕ, true, ◌<◌, ◌≤◌, List, ◌∷◌, ◌++◌, length, take, map, slice_get, Some}
 use Rattle.std.specs.List.{Contains}
 use Rattle.sctp_moves.specs.Ends.{Name, Cookie, Epoch, CookieEchoed, Established, End, Ends, new_ends, turned}
@@ -24,8 +24,8 @@ pub record AreOne (e f : Epoch) : Type 0 where
   pub there : e.own.tag ≡ f.far.tag
   pub back : e.far.tag ≡ f.own.tag
 
--- what came by f is the beginning of what was sent by e: each message once, in order, whole; and what e
--- saw confirmed had come
+-- what came by f is the beginning of what was sent by e, each message once, in order, whole; and what e saw confirmed
+-- had come
 pub record Carries (e f : Epoch) : Type 0 where
   pub prefix : f.received ≡ take (length f.received) e.sent
   pub confirmed : e.acked ≤ length f.received
@@ -53,7 +53,7 @@ abbrev pub what_is_confirmed_was_received : Type 0
 what_is_confirmed_was_received =
     Always (λ p. (e : Epoch) → Contains p.near.epochs e → 0 < e.acked → HasOther p.far.epochs e)
 
--- ---- one: no two epochs of an end share the own tag, nor the far tag
+-- ---- one: no two epochs of an end have the same own tag, nor the same far tag
 
 abbrev pub OwnTagsDiffer : Ends → Type 0
 OwnTagsDiffer p =
@@ -81,8 +81,8 @@ pub record Opens (p : Ends) (q : End) (e : Epoch) : Type 0 where
   pub past : List Epoch
   pub now : q.epochs ≡ e ∷ past
 
--- an end waits for COOKIE ACK of an association that the other one opens, and its user wants it; or it
--- waited for that, and gave up since. Either way it isn't established
+-- an end waits for COOKIE ACK of an association that the other one opens, and its user wants it; or it waited for that,
+-- and has given up since. Either way it isn't established
 pub record Awaits (x : End) (e : Epoch) : Type 0 where
   pub down : x.phase ≢ Established
   pub cookie : Cookie
@@ -92,7 +92,7 @@ pub record Awaits (x : End) (e : Epoch) : Type 0 where
   pub waits : ((x.phase ≡ CookieEchoed e.far e.own) × (x.wanted ≡ true))
       ⊎ ((name : Name) → IsTrying x.phase name → name.tag ≢ e.far.tag)
 
--- the other end isn't established where an end opens an association first, and waits for it or gave up
+-- the other end isn't established if an end opens an association first, and waits for it or gave up
 abbrev pub first_finds_other_waiting : Type 0
 first_finds_other_waiting =
     Always (λ p.
@@ -138,7 +138,7 @@ far_moves_are_moves =
     (near far : End) (list : List End) → EndMoves near far list →
     AreMoves (both near far) (map (λ e. both near e) list) (both near (last_end far list))
 
--- and so are moves behind moves
+-- and so are moves after moves
 abbrev pub moves_join : Type 0
 moves_join =
     (p q r : Ends) (list more : List Ends) → AreMoves p list q → AreMoves q more r → AreMoves p (list ++ more) r

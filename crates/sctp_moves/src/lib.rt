@@ -1,5 +1,5 @@
-//! SCTP between two ends over a network that loses, doubles, reorders and delays datagrams: theorems
-//! over the moves of both ends. The crate has no code; docs/SCTP.md tells it.
+//! SCTP between two ends over a network that loses, doubles, reorders and delays datagrams: theorems over the moves of
+//! both ends. The crate has no code; docs/SCTP.md explains it.
 #![tactic(auto)]
 
 pub mod laws;

@@ -46,7 +46,7 @@ is_same false b = not b
 abbrev pub belongs : Partial → Piece → Bool
 belongs m p = nat_eq m.stream p.stream && nat_eq m.sequence p.sequence && is_same m.unordered p.unordered
 
--- a message of more octets than are put together is a violation; else it is told where it ends, or waits for the rest
+-- a message of more octets than are put together is a violation; else it is told if it ends, or waits for the rest
 abbrev pub carried_on : (before : Option Partial) → Bool → Partial → Consumed
 carried_on before ends m =
     if nat_lt MESSAGE_OCTETS (length m.octets)
@@ -55,7 +55,7 @@ carried_on before ends m =
     then record { left = None; told = Tells (message_of m) }
     else record { left = Some m; told = Nothing })
 
--- a message of a stream that there isn't is passed over, and a fragment of one is a violation
+-- a message of a stream that doesn't exist is passed over, and a fragment of one is a violation
 abbrev pub of_no_stream : Piece → Consumed
 of_no_stream p = record {
   left = None;
@@ -68,7 +68,7 @@ begin streams p None =
     if nat_lt p.stream streams then carried_on None p.ends (begun p) else of_no_stream p
 begin streams p (Some m) = record { left = Some m; told = Violates Misplaced }
 
--- any other comes behind one that has begun
+-- any other comes after one that has begun
 abbrev pub go_on : Piece → Option Partial → Consumed
 go_on p None = record { left = None; told = Violates Misplaced }
 go_on p (Some m) =

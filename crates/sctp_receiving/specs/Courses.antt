@@ -1,4 +1,4 @@
--- A receiver under any list of calls, of any peer whatever.
+-- A receiver under any list of calls, with any peer.
 use Rattle.std.specs.Prelude.{◌≡◌, ℕ, zero, suc, ◌+◌, ◌%◌, ◌<◌, ◌≤◌, List, [], ◌∷◌, ◌++◌, Option, Some, None}
 use Rattle.std.specs.Prelude.{All, length, map}
 use Rattle.std.specs.List.{Contains}
@@ -20,7 +20,7 @@ pub record Chunk : Type 0 where
 pub data Call : Type 0 where
   -- a chunk comes
   Hears : (chunk : Chunk) → Call
-  -- the next one is consumed, where it is held
+  -- the next one is consumed, if it is held
   TakesNext : Call
   -- what came again is reported
   Reports : Call
@@ -87,7 +87,7 @@ after_calls (call ∷ calls) c = after_calls calls (after_call call c)
 
 -- ---- the chunks that were consumed
 
--- TSNs one after another, so many
+-- TSNs one after another, this many
 abbrev pub tsns_from : (first many : ℕ) → List ℕ
 tsns_from first zero = []
 tsns_from first (suc many) = tsns_from first many ++ (first + many) % modulus ∷ []

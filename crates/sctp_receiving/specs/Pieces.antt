@@ -1,7 +1,7 @@
 -- What DATA chunks carry, and the messages that they make (RFC 9260 §3.3.1, §6.9).
 use Rattle.std.specs.Prelude.{ℕ, Bool, List}
 
--- what a DATA chunk says, but for its TSN: a message, or a fragment of one
+-- what a DATA chunk says except its TSN: a message, or a fragment of one
 pub record Piece : Type 0 where
   pub stream : ℕ
   -- the message's number in its stream

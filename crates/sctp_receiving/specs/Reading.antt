@@ -17,7 +17,7 @@ lent p = record {
   octets = p.octets.now;
 }
 
--- of a message that a piece is by itself, the octets are the piece's; of another they stand at the front of a buffer
+-- of a message that a piece is by itself, the octets are the piece's; of another they are at the front of a buffer
 abbrev pub told_by : pieces.Piece → (buffer : List ℕ) → Told → consuming.Told
 told_by p buffer Nothing = consuming.Nothing
 told_by p buffer Whole = consuming.Tells (consuming.message_of (consuming.begun p))

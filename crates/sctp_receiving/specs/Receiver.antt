@@ -62,12 +62,12 @@ window r = WINDOW - sum_by held_octets r.held - partial_octets r.partial
 
 -- ---- a chunk that comes
 
--- a chunk fits where it has no more octets than a place for it, and than the window
+-- a chunk fits if it has no more octets than a place for it, and than the window
 abbrev pub fits : Receiver → Piece → Bool
 fits r p = nat_le (length p.octets) CHUNK_OCTETS && nat_le (length p.octets) (window r)
 
 -- by how far its TSN is ahead of the cumulative one: one of the past comes again, and so does one that is held. The
--- next one is always taken, whatever the window; one behind it if it fits
+-- next one is always taken, whatever the window; one after it if it fits
 abbrev pub standing : Receiver → ℕ → Piece → Standing
 standing r tsn p =
     if nat_eq (ahead r tsn) 0 || nat_le half (ahead r tsn) || is_held r tsn
@@ -89,7 +89,7 @@ taken r p =
     let c = consume r.streams p r.partial in
     record { left = record r { cumulative = next_tsn r.cumulative; partial = c.left }; told = c.told }
 
--- a TSN that came again is reported, where there is a place
+-- a TSN that came again is reported, if there is a place
 abbrev pub repeated : Receiver → ℕ → Receiver
 repeated r tsn =
     if nat_lt (length r.duplicates) DUPLICATES
@@ -106,9 +106,9 @@ heard_as Beyond r tsn p = record { left = r; told = Nothing }
 abbrev pub hear : Receiver → ℕ → Piece → Step
 hear r tsn p = heard_as (standing r tsn p) r tsn p
 
--- ---- what is held behind a chunk that was consumed
+-- ---- what is held after a chunk that was consumed
 
--- the next chunk, where it is held
+-- the next chunk, if it is held
 abbrev pub next_held : Receiver → Option Piece
 next_held r = piece_at r (next_tsn r.cumulative)
 
@@ -141,7 +141,7 @@ and_then rest s =
     then record { left = s.left; told = s.told ∷ [] }
     else followed_by s.told (rest s.left)
 
--- what is held behind the cumulative TSN is consumed, up to a hole
+-- what is held after the cumulative TSN is consumed, up to a hole
 unfoldable pub drained : ℕ → Receiver → Steps
 drained zero r = record { left = r; told = [] }
 drained (suc many) r =
@@ -149,6 +149,6 @@ drained (suc many) r =
     then and_then (λ left. drained many left) (take_next r)
     else record { left = r; told = [] }
 
--- a chunk comes, and what is held behind it is consumed
+-- a chunk comes, and what is held after it is consumed
 abbrev pub received : Receiver → ℕ → Piece → Steps
 received r tsn p = and_then (λ left. drained CHUNKS left) (hear r tsn p)

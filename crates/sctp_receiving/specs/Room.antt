@@ -8,7 +8,7 @@ use Rattle.sctp_receiving.specs.declared.assembly.Assembly.TheInside.{Inside as 
 use Rattle.sctp_receiving.specs.declared.receiver.Receiver.TheInside.{Inside as ReceiverInside}
 use Rattle.sctp_receiving.specs.Receiver.{Receiver, held_octets}
 
--- a place for a chunk: the octets of one that is held stand at the front of a row
+-- a place for a chunk: the octets of one that is held are at the front of a row
 abbrev pub piece_in : PlaceInside → Option Piece
 piece_in p =
     if p.is_full
@@ -27,7 +27,7 @@ pub record IsPlace (p : PlaceInside) : Type 0 where
   pub row : length p.octets ≡ CHUNK_OCTETS
   pub fits : p.count ≤ CHUNK_OCTETS
 
--- the message that is put together, where one has begun
+-- the message that is put together, if one has begun
 abbrev pub partial_in : AssemblyInside → Option Partial
 partial_in a =
     if a.is_open

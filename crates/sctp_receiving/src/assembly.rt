@@ -13,7 +13,7 @@ use crate::violation::Violation;
 use std::alloc::{AllocError, Global};
 use std::marker::Model;
 
-/// What a fragment has to have that goes on with a message.
+/// What a fragment must have that goes on with a message.
 #[derive(Clone, Copy)]
 struct Head {
     protocol: u32,
@@ -183,7 +183,7 @@ impl Assembly {
     }
 }
 
-/// Writes octets to the front of a buffer; answers how many.
+/// Writes octets to the front of a buffer; returns how many.
 fn write(buffer: &mut [u8; MESSAGE_OCTETS], octets: &[u8]) -> usize
     requires { length octets.now ≤ MESSAGE_OCTETS }
     ensures { take result buffer.new ≡ octets.now }
@@ -192,7 +192,7 @@ fn write(buffer: &mut [u8; MESSAGE_OCTETS], octets: &[u8]) -> usize
     octets.len()
 }
 
-/// What a chunk of a stream tells that there isn't.
+/// What a chunk of a stream that doesn't exist tells.
 fn of_no_stream(piece: Piece<'_>) -> Told
     ensures { (buffer : List ℕ) → told_by (lent piece.entry) buffer result ≡ (of_no_stream (lent piece.entry)).told }
 {
@@ -203,7 +203,7 @@ fn of_no_stream(piece: Piece<'_>) -> Told
     }
 }
 
-/// Puts octets behind others, where there is room.
+/// Puts octets after others, if there is room.
 fn append(octets: &mut Vec<u8>, more: &[u8])
     requires { length octets.old.items + length more.now ≤ vec_capacity octets.old }
     ensures items { octets.new.items ≡ octets.old.items ++ more.now }

@@ -1,4 +1,4 @@
-//! Laws of the receiving half, of any peer whatever.
+//! Laws of the receiving half, with any peer.
 
 ghost use Rattle.sctp_receiving.specs.Courses.{consumed_in_order, nothing_held_is_dropped, next_is_taken};
 

@@ -1,6 +1,6 @@
 //! What a DATA chunk carries.
 
-/// What a DATA chunk says, but for its TSN: a message, or a fragment of one (RFC 9260 §3.3.1).
+/// What a DATA chunk says except its TSN: a message, or a fragment of one (RFC 9260 §3.3.1).
 #[derive(Clone, Copy)]
 pub struct Piece<'a> {
     /// The stream of its message.

@@ -37,7 +37,7 @@ use arrayvec::ArrayVec;
 use std::alloc::{AllocError, Global};
 use std::marker::Model;
 
-/// The receiving half of an association: the cumulative TSN, the chunks that are held behind it, and a message that is
+/// The receiving half of an association: the cumulative TSN, the chunks that are held after it, and a message that is
 /// put together.
 #[derive(Drop)]
 pub struct Receiver {
@@ -94,7 +94,7 @@ fn clear_all(places: &mut Vec<Place>)
 }
 
 impl Receiver {
-    /// A receiver of so many streams, whose peer begins with this TSN. It makes all its room here.
+    /// A receiver of this many streams, whose peer begins with this TSN. It makes all its room here.
     pub fn new(alloc: Global, streams: u16, first: u32) -> Result<Receiver, AllocError>
         ensures { IfOk result (λ r. r ≡ first_receiver streams first) }
     {
@@ -109,7 +109,7 @@ impl Receiver {
         })
     }
 
-    /// Begins anew: nothing came of a peer that begins with this TSN.
+    /// Begins again: nothing came of a peer that begins with this TSN.
     pub fn begin(&mut self, streams: u16, first: u32)
         ensures { self.new ≡ first_receiver streams first }
     {
@@ -178,7 +178,7 @@ impl Receiver {
         blocks
     }
 
-    // Adds the block that begins so far ahead, where one does, and there is a place.
+    // Adds the block that begins this far ahead, if one does, and there is a place.
     fn add_block(&self, blocks: &mut ArrayVec<Block, BLOCKS>, ahead: usize, is_before_held: bool)
         requires { ahead ≤ CHUNKS }
         ensures { blocks.new.items ≡ take BLOCKS (blocks.old.items
@@ -196,7 +196,7 @@ impl Receiver {
         blocks.push(self.block_from(ahead));
     }
 
-    // Whether a block begins so far ahead.
+    // Whether a block begins this far ahead.
     fn begins_at(&self, ahead: usize, is_before_held: bool) -> bool
         requires { ahead ≤ CHUNKS }
         ensures { result ≡ (is_held_ahead self.now ahead && not is_before_held) }
@@ -204,7 +204,7 @@ impl Receiver {
         self.is_held_ahead(ahead) && !is_before_held
     }
 
-    // The block that begins so far ahead.
+    // The block that begins this far ahead.
     fn block_from(&self, start: usize) -> Block
         requires { start ≤ CHUNKS }
         ensures { result ≡ block_from self.now start (CHUNKS - start) }
@@ -219,7 +219,7 @@ impl Receiver {
         }
     }
 
-    // Whether the chunk that is so far ahead is held.
+    // Whether the chunk that is this far ahead is held.
     fn is_held_ahead(&self, ahead: usize) -> bool
         requires { ahead ≤ CHUNKS }
         ensures { result ≡ is_held_ahead self.now ahead }
@@ -234,10 +234,10 @@ impl Receiver {
         self.duplicates.clear();
     }
 
-    /// A chunk comes. The next one in the order of TSNs is consumed, and answers what it tells; a message that it ends
-    /// is the chunk's own octets, or stands in the buffer. Any other is held, noted as come again, or dropped.
+    /// A chunk comes. The next one in the order of TSNs is consumed, and the answer is what it tells; a message that it
+    /// ends is the chunk's own octets, or is in the buffer. Any other chunk is held, noted as come again, or dropped.
     ///
-    /// After one that was consumed `take_next` has to be called until it gives none.
+    /// After one that was consumed `take_next` must be called until it gives none.
     #[inline(always)]
     pub fn hear(&mut self, tsn: u32, piece: Piece<'_>, buffer: &mut [u8; MESSAGE_OCTETS]) -> Told
         ensures told { told_by (lent piece.entry) buffer.new result ≡ (hear self.old tsn (lent piece.entry)).told }
@@ -257,8 +257,8 @@ impl Receiver {
         }
     }
 
-    /// Consumes the next chunk in the order of TSNs, where it is held; answers what it tells. A message that it ends
-    /// stands in the buffer.
+    /// Consumes the next chunk in the order of TSNs, if it is held; returns what it tells. A message that it ends is in
+    /// the buffer.
     #[inline(always)]
     pub fn take_next(&mut self, buffer: &mut [u8; MESSAGE_OCTETS]) -> Option<Told>
         ensures told { (p : pieces.Piece) → option_map (told_by p buffer.new) result
@@ -298,7 +298,7 @@ impl Receiver {
         tsn.wrapping_sub(self.cumulative) as usize <= CHUNKS && self.is_full(tsn)
     }
 
-    // Whether there is a chunk in the place of a TSN. Mostly there is none at all.
+    // Whether there is a chunk in the place of a TSN. Usually there is none at all.
     fn is_full(&self, tsn: u32) -> bool
         ensures { result ≡ is_some (piece_at self.now tsn) }
     {
@@ -364,7 +364,7 @@ impl Receiver {
         written(told, piece, buffer)
     }
 
-    // Notes a TSN that came again, where there is a place.
+    // Notes a TSN that came again, if there is a place.
     fn repeat(&mut self, tsn: u32)
         ensures { self.new ≡ repeated self.old tsn }
     {
@@ -374,7 +374,7 @@ impl Receiver {
     }
 }
 
-/// The same, with the octets of a message in the buffer also where it is a chunk by itself.
+/// The same, with the octets of a message in the buffer even if it is a chunk by itself.
 fn written(told: Told, piece: Piece<'_>, buffer: &mut [u8; MESSAGE_OCTETS]) -> Told
     requires { length piece.octets.now ≤ MESSAGE_OCTETS }
     ensures { (q : pieces.Piece) → told_by q buffer.new result ≡ told_by (lent piece.entry) buffer.old told }

@@ -9,7 +9,7 @@ pub enum Told {
     Nothing,
     /// A message, which it is by itself: the octets are the chunk's.
     Whole,
-    /// A message, by its stream and its protocol: so many octets at the front of the buffer.
+    /// A message, by its stream and its protocol: this many octets at the front of the buffer.
     Message(u16, u32, usize),
     /// That there is no stream of this number.
     NoStream(u16),

@@ -5,7 +5,7 @@
 pub enum Violation {
     /// A message begins before the one before it has ended, or a fragment comes that continues none.
     Misplaced,
-    /// A fragment is of a stream that there isn't.
+    /// A fragment is of a stream that doesn't exist.
     FragmentOfNoStream(u16),
     /// A fragment isn't of the message that it continues.
     Differs,

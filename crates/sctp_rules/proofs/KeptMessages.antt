@@ -57,7 +57,8 @@ numbered-messages before (m ∷ more) = ap (λ (ms : List Message). m ∷ ms) (n
 
 -- ---- what is kept
 
--- so many are confirmed, as the peer said; the others are there, but for what was dropped where the association isn't up
+-- so many are confirmed, as the peer said; the others are there, but for what was dropped where the association isn't
+-- up
 pub record IsKept (first : ℕ) (given : List Message) (acknowledged : List ℕ) (is_up : Bool) (h : Half) : Type 0 where
   pub confirmed : ℕ
   pub said : first < 2 ^ 32 → (confirmed ≡ 0) ⊎ IsSaid acknowledged first confirmed

@@ -144,8 +144,8 @@ pub record IsShut (s left : State) : Type 0 where
   pub was_there : opening.is_there s.association.phase ≡ true
   pub half : Same (stopped s.association.sender) left.association.sender
 
--- what may come: DATA, cumulative TSNs of SACK and SHUTDOWN, and tags; messages of the user; and whether packets are asked
--- for, and an association
+-- what may come: DATA, cumulative TSNs of SACK and SHUTDOWN, and tags; messages of the user; and whether packets are
+-- asked for, and an association
 pub record Arrivals : Type 1 where
   pub carried : DataValue → Type 0
   pub cumulative : ℕ → Type 0

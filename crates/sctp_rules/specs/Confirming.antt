@@ -1,4 +1,4 @@
--- What goes out of the sending half, and what a SACK or a SHUTDOWN does to it (RFC 9260 §6.1, §6.2.1).
+-- What goes out of the sending half, and what a SACK or a SHUTDOWN does to that half (RFC 9260 §6.1, §6.2.1).
 use Rattle.std.specs.Prelude.{ℕ, zero, suc, Bool, true, false, ◌&&◌, ◌||◌, List, [], ◌∷◌, Option, Some, None}
 use Rattle.std.specs.Prelude.{length, nat_lt, nat_le}
 use Rattle.sctp_sending.specs.Outgoing.{Message, Outgoing, outgoing_at, tsn_at}
@@ -47,7 +47,7 @@ pub record Gone : Type 0 where
 abbrev pub behind_chunk : DataValue → Gone → Gone
 behind_chunk chunk g = record g { chunks = chunk ∷ g.chunks }
 
--- one message after another goes out, so many at most, until none may
+-- one message after another goes out, at most n, until none may
 abbrev pub gone_from : (Sending → Gone) → (now : ℕ) → Option ℕ → Sending → Gone
 gone_from rest now None s = record { chunks = []; left = gone_next s now None }
 gone_from rest now (Some place) s = behind_chunk (data_at s place) (rest (gone_next s now (Some place)))

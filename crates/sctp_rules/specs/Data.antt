@@ -51,11 +51,11 @@ piece_of d = record {
   octets = d.octets;
 }
 
--- a stream that there isn't (§6.5)
+-- a stream that doesn't exist (§6.5)
 abbrev pub no_stream : ℕ → ChunkValue
 no_stream stream = ErrorChunk (cause_item (NoStream stream) ∷ [])
 
--- a violation ends the association; of a fragment of no stream the peer is told the stream, too
+-- a violation ends the association; the peer is also told the stream if a chunk is of none
 abbrev pub violated : Settings → Violation → State → Done
 violated c (violations.FragmentOfNoStream stream) s = aborted c Protocol violation (answered (no_stream stream) s)
 violated c violations.Misplaced s = aborted c Protocol violation s
@@ -116,7 +116,7 @@ takes_sack ShutdownSent = false
 takes_sack ShutdownReceived = true
 takes_sack ShutdownAckSent = false
 
--- a SACK that confirms something counts as an answer, and so does one of a peer whose window is shut
+-- a SACK that confirms something counts as an answer, and so does one from a peer whose window is shut
 abbrev pub answers : (now : ℕ) → SackValue → Sending → Bool
 answers now sack s = confirms_some now sack s || nat_lt sack.window SHUT_WINDOW
 

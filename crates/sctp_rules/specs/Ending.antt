@@ -23,7 +23,7 @@ chunk_size chunk = length (chunk_octets chunk)
 abbrev pub has_place : List ChunkValue → ChunkValue → Bool
 has_place control chunk = nat_le (sum_by chunk_size control + chunk_size chunk) CONTROL_OCTETS
 
--- one more, where there is a place; else it is dropped, as if it had been lost
+-- one more answer, if there is a place; else it is dropped, as if it had been lost
 abbrev pub with_answer : ChunkValue → Association → Association
 with_answer chunk a =
     if has_place a.control chunk then record a { control = a.control ++ chunk ∷ [] } else a
@@ -60,7 +60,7 @@ told_of_end why s =
     if s.association.is_up then Down why ∷ [] else (if s.is_wanted then Failed why ∷ [] else [])
 
 -- all timers stop, the generation grows, and what is held is dropped; the answers that wait go out, and these chunks
--- behind them
+-- after them
 abbrev pub ended_with : Settings → Loss → List ChunkValue → State → Done
 ended_with c why chunks s = record {
   sent = last_words c s.association (s.association.control ++ chunks);

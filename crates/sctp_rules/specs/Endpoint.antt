@@ -1,4 +1,4 @@
--- The endpoint: what becomes of all that can happen to it.
+-- The endpoint: what becomes of everything that can happen to it.
 use Rattle.std.specs.Prelude.{ℕ, Bool, List, [], ◌∷◌}
 use Rattle.sctp_sending.specs.Outgoing.{Message}
 use Rattle.sctp_codec.specs.Packets.{PacketValue}
@@ -21,7 +21,7 @@ pub data Happening : Type 0 where
   Ticked : (now : ℕ) → Happening
   -- the user sends a message
   Sends : (message : Message) → Happening
-  -- the user ends it, at once or once all is confirmed
+  -- the user ends it, at once or when all is confirmed
   Aborts : Happening
   ShutsDown : (now : ℕ) → Happening
   -- packets are asked for

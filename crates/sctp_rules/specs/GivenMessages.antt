@@ -1,4 +1,4 @@
--- The sending half under any list of calls, of any peer whatever: what goes out was given, and in order.
+-- The sending half under any list of calls, with any peer: what goes out was given, and in order.
 use Rattle.std.specs.Prelude.{◌≡◌, ℕ, ◌+◌, ◌%◌, ◌<◌, ◌^◌, Bool, All, List, [], ◌∷◌, ◌++◌, Option, Some, None, drop}
 use Rattle.std.specs.Prelude.{length}
 use Rattle.std.specs.Prelude.{map, slice_index_or}
@@ -15,7 +15,7 @@ use Rattle.sctp_rules.specs.Confirming.{data_at}
 pub data Call : Type 0 where
   -- the user gives a message
   Gives : (message : Message) → Call
-  -- a message goes out, where one may
+  -- a message goes out, if one may
   PutsOut : (now : ℕ) → Call
   -- a SACK comes, or a SHUTDOWN
   Hears : (now window cumulative : ℕ) (names : ℕ → Bool) → Call

@@ -109,7 +109,7 @@ begun_with c now failures address (Some b) s =
 abbrev pub begun : Settings → Secrets → (now failures : ℕ) → Address → State → Done
 begun c k now failures address s = begun_with c now failures address (k.beginning s.beginnings) s
 
--- a try begins anew: the generation grows
+-- a try restarts: the generation grows
 abbrev pub begun_anew_with : Settings → (now failures : ℕ) → Address → Option Beginning → State → Done
 begun_anew_with c now failures address None s = ended c NoTag s
 begun_anew_with c now failures address (Some b) s =
@@ -119,7 +119,7 @@ abbrev pub begun_anew : Settings → Secrets → (now failures : ℕ) → Addres
 begun_anew c k now failures address s = begun_anew_with c now failures address (k.beginning s.beginnings) s
 
 -- the user wants an association from now on, and this end tries to open one, or waits for its peer to do so. That is
--- refused where there is one, or a try of one; an end that waits may begin to try
+-- refused if there is one, or a try of one; an end that waits may begin to try
 abbrev pub may_open : (is_active : Bool) → State → Bool
 may_open is_active s = is_closed s.association.phase && (is_active || not s.is_wanted)
 
@@ -164,7 +164,7 @@ answered_with c k now source init b s =
     put c source init.tag
     (InitAckChunk (init_of b (answering (k.signed (cookie_for c now s b init)) init.parameters)) ∷ []) s
 
--- the same with a new tag and first TSN; nothing else is kept. Where no tag is left there is no answer
+-- the same with a new tag and first TSN; nothing else is kept. If no tag is left there is no answer
 abbrev pub answered_anew_with : Settings → Secrets → (now : ℕ) → Address → InitValue → Option Beginning → State → Done
 answered_anew_with c k now source init None s = silent s
 answered_anew_with c k now source init (Some b) s =
@@ -173,7 +173,7 @@ answered_anew_with c k now source init (Some b) s =
 abbrev pub answered_anew : Settings → Secrets → (now : ℕ) → Address → InitValue → State → Done
 answered_anew c k now source init s = answered_anew_with c k now source init (k.beginning s.beginnings) s
 
--- both ends began: the tag and the first TSN of the own INIT (§5.2.1)
+-- both ends began: the tag and the first TSN of its own INIT (§5.2.1)
 abbrev pub own_beginning : Association → Beginning
 own_beginning a = record { tag = a.own_tag; first = a.own_first }
 
@@ -184,8 +184,8 @@ abbrev pub answered_if_trying : Settings → Secrets → (now : ℕ) → Address
 answered_if_trying c k now source init s =
     if is_waiting s.association.phase then answered_alike c k now source init s else silent s
 
--- an INIT of the peer that this end has echoed the cookie of; or of one that has begun anew since, and may have had an
--- association with this end's tag: then this end begins anew, too
+-- an INIT of the peer whose cookie this end has echoed; or of one that has restarted since, and may have had an
+-- association with this end's tag: then this end restarts, too
 abbrev pub answered_echoed : Settings → Secrets → (now : ℕ) → Address → InitValue → State → Done
 answered_echoed c k now source init s =
     if nat_eq init.tag s.association.far_tag
@@ -225,7 +225,7 @@ heard_init c k now source init s =
 
 -- ---- INIT ACK comes (§5.1 C)
 
--- COOKIE ECHO, with an ERROR behind it where INIT ACK had what isn't known
+-- COOKIE ECHO, with an ERROR after it if INIT ACK had what isn't known
 abbrev pub echo_of : List ℕ → List ItemValue → List ChunkValue
 echo_of cookie [] = CookieEchoChunk cookie ∷ []
 echo_of cookie (item ∷ items) =
@@ -254,7 +254,7 @@ refused c init s =
 abbrev pub is_usable : InitValue → Bool
 is_usable init = not (nat_eq init.tag 0) && not (has_few_streams init) && is_none (host_name_in init.parameters)
 
--- there is a packet for the cookie, and an ERROR behind it
+-- there is a packet for the cookie, and an ERROR after it
 abbrev pub fits_echo : List ℕ → Bool
 fits_echo cookie = nat_le (length cookie) COOKIE_OCTETS
 
@@ -273,7 +273,7 @@ heard_init_ack c now init s =
 
 -- ---- the association is there
 
--- everything but the tags begins anew; heartbeats begin; Up is told
+-- everything but the tags is new; heartbeats begin; Up is told
 abbrev pub opened : Settings → (now : ℕ) → (own_tag far_tag own_first : ℕ) → Peer → Address → State → Done
 opened c now own_tag far_tag own_first peer address s = record {
   sent = [];
@@ -314,8 +314,8 @@ is_far cookie a = nat_eq cookie.peer_tag a.far_tag
 abbrev pub is_tied : Cookie → Association → Bool
 is_tied cookie a = nat_eq cookie.tie_own_tag a.own_tag && nat_eq cookie.tie_peer_tag a.far_tag
 
--- what becomes of a packet that begins with COOKIE ECHO: what the cookie does, and whether the chunks behind it belong
--- to the association
+-- the outcome of a packet that begins with COOKIE ECHO: what the cookie does, and whether the chunks after it belong to
+-- the association
 pub record Echo : Type 0 where
   pub does : Done
   pub goes_on : Bool
@@ -351,20 +351,20 @@ refused_in_shutdown c source cookie s =
     followed_by (put c s.association.address s.association.far_tag (ShutdownAckChunk ∷ []) s)
     (λ left. put c source cookie.peer_tag (ErrorChunk (cause_item CookieInShutdown ∷ []) ∷ []) left)
 
--- the peer has begun anew: the association is lost, and the user must want the next one first (case A)
+-- the peer has restarted: the association is lost, and the user must want the next one first (case A)
 abbrev pub restarted : Phase → Settings → Address → Cookie → State → Done
 restarted ShutdownAckSent c source cookie s = refused_in_shutdown c source cookie s
 restarted phase c source cookie s = followed_by (ended c Restart s) (stale c source 1 cookie)
 
--- where there is an association
+-- if there is an association
 abbrev pub echo_in_association : Phase → Settings → Address → Cookie → State → Echo
 echo_in_association phase c source cookie s =
     if not (is_own cookie s.association) && not (is_far cookie s.association) && is_tied cookie s.association
     then stops (restarted phase c source cookie s)
     else stops (silent s)
 
--- a good cookie, by the state (§5.2.4). In COOKIE-WAIT its own tag has to be that of the try, and in COOKIE-ECHOED the
--- peer's, too: another one is of a try that the peer gave up
+-- a good cookie, by the state (§5.2.4). In COOKIE-WAIT its own tag must be that of the try, and in COOKIE-ECHOED the
+-- peer's, too; any other is of a try that the peer gave up
 abbrev pub good_echo_in : Phase → Settings → (now : ℕ) → Address → Cookie → State → Echo
 good_echo_in Closed c now source cookie s =
     if s.is_wanted then opened_by c now source cookie s else stops (silent s)
@@ -383,7 +383,7 @@ is_there phase = not (is_closed phase || is_waiting phase || is_echoed phase)
 abbrev pub staleness : (now : ℕ) → Cookie → ℕ
 staleness now cookie = min (1000 * (now - cookie.made - cookie.life)) (2 ^ 32 - 1)
 
--- a cookie is good within its life, and in its generation: it opens one association at most
+-- a cookie is good within its life and its generation: it opens one association at most
 abbrev pub heard_cookie : Settings → (now : ℕ) → Address → Cookie → State → Echo
 heard_cookie c now source cookie s =
     if is_there s.association.phase && is_own cookie s.association && is_far cookie s.association
@@ -394,7 +394,7 @@ heard_cookie c now source cookie s =
     then good_echo_in s.association.phase c now source cookie s
     else stops (stale c source 1 cookie s)))
 
--- its signature has to be right, and its own tag and port have to be the packet's
+-- its signature must be right, and its own tag and port must be the packet's
 abbrev pub heard_echo_of : Option Cookie → Settings → (now tag : ℕ) → Address → State → Echo
 heard_echo_of None c now tag source s = stops (silent s)
 heard_echo_of (Some cookie) c now tag source s =
@@ -414,7 +414,7 @@ begun_after_stale c k now (Some t) s =
     then ended c StaleTooOften s
     else begun_anew c k now (t.failures + 1) c.address s
 
--- in COOKIE-ECHOED, that the cookie was stale: the try begins anew, and its failures count on. Other causes say nothing
+-- in COOKIE-ECHOED: that the cookie was stale. The try restarts, and its failures count on. Other causes say nothing
 -- here
 abbrev pub heard_error : Settings → Secrets → (now : ℕ) → List ItemValue → State → Done
 heard_error c k now causes s =

@@ -1,4 +1,4 @@
--- How often associations open, of any peer whatever; and packets with another tag.
+-- How often associations open, with any peer; and packets with another tag.
 use Rattle.std.specs.Prelude.{◌≡◌, ◌≢◌, ◌≤◌, ℕ, ◌+◌, Bool, true, false, List, [], ◌∷◌}
 use Rattle.sctp_cookie.specs.declared.cookie.Cookie.{Cookie}
 use Rattle.sctp_codec.specs.Packets.{ChunkValue, PacketValue, InitChunk, CookieEchoChunk}
@@ -16,15 +16,15 @@ openings (Heard message ∷ more) = openings more
 openings (Down why ∷ more) = openings more
 openings (Failed why ∷ more) = openings more
 
--- from any moment on, the generation grows by as many as associations open at least: so it never falls, and it is
--- another one behind each that opened
+-- from any moment on, the generation grows at least by as many as associations open: it never falls, and is another one
+-- after each that opened
 abbrev pub generations_grow : Type 0
 generations_grow =
     (c : Settings) (k : Secrets) (before happenings : List Happening) →
     let s = (after_all c k before (first_state c)).left in
     s.generation + openings (after_all c k happenings s).told ≤ (after_all c k happenings s).left.generation
 
--- and a cookie opens in its own generation alone
+-- and a cookie opens only in its own generation
 abbrev pub cookies_open_in_their_generation : Type 0
 cookies_open_in_their_generation =
     (c : Settings) (now : ℕ) (source : Address) (cookie : Cookie) (s : State) → cookie.generation ≢ s.generation →

@@ -33,13 +33,13 @@ has_tag a tag chunk =
     then not (nat_eq a.far_tag 0) && nat_eq tag a.far_tag
     else nat_eq tag a.own_tag
 
--- ---- one chunk, and whether those behind it in the packet are looked at
+-- ---- one chunk, and whether those after it in the packet are looked at
 
 pub record Handled : Type 0 where
   pub does : Done
   pub goes_on : Bool
 
--- those behind it count unless it ended the association, or its try began anew: they have the tag of the former one
+-- those after it count unless it ended the association, or its try restarted: they have the tag of the former one
 abbrev pub while_there : (tag : ℕ) → Done → Handled
 while_there tag d = record {
   does = d;
@@ -106,7 +106,7 @@ heard_chunks c k now tag (chunk ∷ chunks) s =
 
 -- ---- a packet for the association, or for a try of one
 
--- behind a right tag, the packet's source is where the next answer goes (RFC 6951 §5.4); in COOKIE-WAIT it stays
+-- after a right tag, the next answer goes to the packet's source (RFC 6951 §5.4); in COOKIE-WAIT that stays
 abbrev pub from_source : Address → State → State
 from_source source s =
     if is_waiting s.association.phase
@@ -119,7 +119,7 @@ heard_by_tag c k now source tag chunks s =
 
 -- ---- out of the blue (§8.4)
 
--- these aren't answered where there is no association, wherever they stand in the packet
+-- these aren't answered if there is no association, wherever they are in the packet
 abbrev pub is_quiet : ChunkValue → Bool
 is_quiet (AbortChunk is_reflected causes) = true
 is_quiet (InitAckChunk init) = true
@@ -145,7 +145,7 @@ out_of_the_blue c source tag first more s =
 
 -- ---- a packet
 
--- the chunks behind COOKIE ECHO are those of the association that it opened (§5.1.5)
+-- the chunks after COOKIE ECHO are those of the association that it opened (§5.1.5)
 abbrev pub after_echo : Settings → Secrets → (now : ℕ) → Address → (tag : ℕ) → List ChunkValue → Echo → Done
 after_echo c k now source tag more echo =
     if echo.goes_on
@@ -157,7 +157,7 @@ abbrev pub is_late_shutdown : Phase → ChunkValue → Bool
 is_late_shutdown phase ShutdownAckChunk = is_waiting phase || is_echoed phase
 is_late_shutdown phase chunk = false
 
--- behind a chunk with the peer's tag none is looked at: the packet isn't one with this end's tag
+-- after a chunk with the peer's tag none is looked at: the packet isn't one with this end's tag
 abbrev pub looked_at : ChunkValue → List ChunkValue → List ChunkValue
 looked_at first more = first ∷ (if has_peer_tag first then [] else more)
 

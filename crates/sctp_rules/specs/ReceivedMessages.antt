@@ -1,4 +1,4 @@
--- What an endpoint tells its user came in that association, of any peer whatever.
+-- What an endpoint tells its user came in that association, with any peer.
 use Rattle.std.specs.Prelude.{◌≡◌, ℕ, ◌<◌, ◌^◌, true, All, List, [], ◌∷◌, ◌++◌, nat_eq, if◌then◌else◌}
 use Rattle.std.specs.List.{Contains}
 use Rattle.sctp_receiving.specs.Pieces as pieces
@@ -50,7 +50,7 @@ tag_of what = 0
 abbrev pub new_epoch : Happening → Epoch
 new_epoch what = record { tag = tag_of what; came = came_with (tag_of what) what; heard = [] }
 
--- of the latest one: what comes, and what is told
+-- the latest one, with what comes and what is told
 abbrev pub with_come : Happening → List Epoch → List Epoch
 with_come what [] = []
 with_come what (latest ∷ past) = record latest { came = latest.came ++ came_with latest.tag what } ∷ past
@@ -83,14 +83,14 @@ messages_in (consuming.Tells message ∷ more) = message ∷ messages_in more
 messages_in (consuming.NoStream stream ∷ more) = messages_in more
 messages_in (consuming.Violates violation ∷ more) = messages_in more
 
--- a receiver to which chunks of an association came, counted from a TSN on: all that such a receiver does holds of it.
+-- a receiver that chunks of an association came to, counted from a TSN on: all that such a receiver does holds for it.
 -- What was told in the association, up to its end, is what it told
 pub record IsCourse (epoch : Epoch) (first : ℕ) (calls : List Call) : Type 0 where
   pub are : AreCalls calls
   pub chunks : All (λ chunk. Contains epoch.came chunk) (after_calls calls (first_course STREAMS first)).came
   pub heard_is : epoch.heard ≡ messages_in (after_calls calls (first_course STREAMS first)).told
 
--- from which TSN on is left open where the association is over
+-- from which TSN on is left open once the association is over
 pub record IsReceived (epoch : Epoch) : Type 0 where
   pub first : ℕ
   pub calls : List Call

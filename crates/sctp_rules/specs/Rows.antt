@@ -102,11 +102,9 @@ first_of (d ∷ ds) = d.packet
 abbrev pub packet : Done → PacketValue
 packet d = first_of d.sent
 
--- a packet comes
 abbrev pub comes : ℕ → PacketValue → Happening
 comes now p = Came now address p
 
--- a packet with one chunk
 abbrev pub of_chunk : ℕ → ChunkValue → PacketValue
 of_chunk tag chunk = record { source = 3565; destination = 3565; tag = tag; chunks = chunk ∷ [] }
 
@@ -133,7 +131,7 @@ acknowledges = far (Flushes 3) opens_first.left
 abbrev pub opens_second : Done
 opens_second = near (comes 4 (packet acknowledges)) echoes.left
 
--- what a step does: the state that it leaves, what goes out, and what is told
+-- what a step does: the state after it, what goes out, and what is told
 pub record Does (d : Done) (phase : Phase) (sent : List (List ℕ)) (told : List Told) : Type 0 where
   pub phase_is : phase_of d ≡ phase
   pub sent_is : kinds d ≡ sent
@@ -198,7 +196,7 @@ try_fails = Does (near (Ticked 900) tries_again.left) Closed [] (Failed NoAnswer
 abbrev pub try_is_refused : Type 0
 try_is_refused = Does (near (comes 1 (of_chunk 10 (AbortChunk false []))) tries.left) Closed [] (Failed Refused ∷ [])
 
--- the user gives up: in COOKIE-WAIT there is no tag yet that the peer takes an ABORT by
+-- the user gives up: in COOKIE-WAIT there is no tag yet by which the peer takes an ABORT
 abbrev pub giving_up_in_cookie_wait : Type 0
 giving_up_in_cookie_wait = Does (near Aborts tries.left) Closed [] (Failed Local ∷ [])
 
@@ -207,7 +205,7 @@ giving_up_in_cookie_echoed = Does (near Aborts echoes.left) Closed ((6 ∷ []) �
 
 -- ---- INIT and COOKIE ECHO that come again (§5.2)
 
--- of a peer that began anew: in COOKIE-ECHOED this end begins anew, too
+-- of a peer that restarted: in COOKIE-ECHOED this end restarts, too
 abbrev pub init_of_another_try : PacketValue
 init_of_another_try = of_chunk 0 (InitChunk (init_of (record { tag = 77; first = 5 }) []))
 
@@ -232,7 +230,7 @@ wants_again = far (Opens 6 false) (far Aborts acknowledges.left).left
 abbrev pub cookie_opens_once : Type 0
 cookie_opens_once = Does (far (comes 7 (packet echoes)) wants_again.left) Closed ((9 ∷ []) ∷ []) []
 
--- the peer has begun anew: the association is lost, and the cookie refused
+-- the peer has restarted: the association is lost, and the cookie refused
 abbrev pub other : Happening → State → Done
 other what s = after settings (secrets_from 30) what s
 
@@ -313,7 +311,7 @@ abbrev pub data_goes_out_again : Type 0
 data_goes_out_again =
     Does (near (Flushes 400) (near (Ticked 400) sends.left).left) Established ((0 ∷ []) ∷ []) []
 
--- for one time too many, and the association ends
+-- for one time too many: the association ends
 abbrev pub goes_out_thrice : Done
 goes_out_thrice = near (Flushes 1000) (near (Ticked 1000) (near (Flushes 400) (near (Ticked 400) sends.left).left).left).left
 
@@ -333,7 +331,7 @@ abbrev pub wrong_tag_is_dropped : Type 0
 wrong_tag_is_dropped =
     Does (near (comes 8 (of_chunk 11 too_much)) opens_second.left) Established [] []
 
--- behind a SHUTDOWN COMPLETE with the peer's tag, DATA isn't looked at
+-- after a SHUTDOWN COMPLETE with the peer's tag, DATA isn't looked at
 abbrev pub data_with_the_peers_tag : PacketValue
 data_with_the_peers_tag =
     record (packet sends) { tag = 10; chunks = ShutdownCompleteChunk true ∷ (packet sends).chunks }
@@ -352,7 +350,7 @@ abort_is_sent = Does aborts Closed ((6 ∷ []) ∷ []) (Down Local ∷ [])
 abbrev pub abort_is_a_loss : Type 0
 abort_is_a_loss = Does (far (comes 9 (packet aborts)) acknowledges.left) Closed [] (Down Aborted ∷ [])
 
--- and isn't answered, nor is what stands in front of it
+-- and isn't answered, nor is what comes before it
 abbrev pub behind_heartbeat : PacketValue → PacketValue
 behind_heartbeat p = record p { chunks = HeartbeatChunk (1 ∷ []) ∷ p.chunks }
 
@@ -408,7 +406,7 @@ far_tries = far (Opens 0 true) new
 abbrev pub answers_alike : Done
 answers_alike = far (comes 1 (packet tries)) far_tries.left
 
--- the INIT ACK has the tag of the own INIT
+-- the INIT ACK has the tag of its own INIT
 abbrev pub both_begin : Type 0
 both_begin = Does answers_alike CookieWait ((2 ∷ []) ∷ []) []
 
@@ -471,7 +469,7 @@ abbrev pub init_with_cookie : List ℕ → InitValue
 init_with_cookie cookie =
     init_of (record { tag = 20; first = 5 }) (record { kind = state_cookie; value = cookie } ∷ [])
 
--- chunks behind that ERROR are of the try that is over
+-- chunks after that ERROR are of the try that is over
 abbrev pub opening_behind : PacketValue → PacketValue
 opening_behind p = record p { chunks = p.chunks ++ InitAckChunk (init_with_cookie (1 ∷ [])) ∷ CookieAckChunk ∷ [] }
 
@@ -479,7 +477,7 @@ abbrev pub former_try_opens_nothing : Type 0
 former_try_opens_nothing =
     Does (near (comes 60003 (opening_behind (packet refuses_old_cookie))) echoes.left) CookieWait ((1 ∷ []) ∷ []) []
 
--- INIT ACK with one stream alone, without a cookie, or without a tag: to the last one no ABORT can be sent
+-- INIT ACK with only one stream, without a cookie, or without a tag; no ABORT can be sent to the last one
 abbrev pub init_ack_comes : InitValue → Done
 init_ack_comes init = near (comes 1 (of_chunk 10 (InitAckChunk init))) tries.left
 
@@ -532,7 +530,7 @@ abbrev pub silence_is_a_loss : Type 0
 silence_is_a_loss =
     Does (near (Ticked 8000) beats_thrice.left) Closed ((4 ∷ 4 ∷ 4 ∷ 6 ∷ []) ∷ []) (Down NoAnswer ∷ [])
 
--- an answer to the heartbeat begins the count anew
+-- after an answer to the heartbeat the count begins again
 abbrev pub heartbeat_of_near : ChunkValue
 heartbeat_of_near = HeartbeatAckChunk (information_of 0)
 
@@ -555,7 +553,7 @@ unknown_chunk_is_passed_over =
     Does (near (Flushes 5) (near (comes 5 (of_chunk 10 (UnknownChunk 128 0 []))) opens_second.left).left) Established
     [] []
 
--- the chunks behind an unknown one count or don't, by the upper two bits of its type (§3.2)
+-- the chunks after an unknown one count or don't, by the upper two bits of its type (§3.2)
 abbrev pub before_heartbeat : ChunkValue → Done
 before_heartbeat chunk =
     let p = record (of_chunk 10 chunk) { chunks = chunk ∷ HeartbeatChunk (1 ∷ []) ∷ [] } in
@@ -615,7 +613,7 @@ abbrev pub shutdown_goes_out_again : Type 0
 shutdown_goes_out_again =
     Does (near (Flushes 310) (near (Ticked 310) shutdown_goes_out.left).left) ShutdownSent ((7 ∷ []) ∷ []) []
 
--- for one time too many, and the association ends
+-- for one time too many: the association ends
 abbrev pub shutdown_again : Done
 shutdown_again = near (Ticked 910) (near (Flushes 310) (near (Ticked 310) shutdown_goes_out.left).left).left
 
@@ -623,7 +621,7 @@ abbrev pub unanswered_shutdown_is_a_loss : Type 0
 unanswered_shutdown_is_a_loss =
     Does (near (Ticked 1910) (near (Flushes 910) shutdown_again.left).left) Closed ((6 ∷ []) ∷ []) (Down NoAnswer ∷ [])
 
--- DATA that comes meanwhile is answered by SHUTDOWN and SACK, and T2 begins anew
+-- DATA that comes meanwhile is answered by SHUTDOWN and SACK, and T2 restarts
 abbrev pub far_sends : Done
 far_sends = far (Flushes 5) (far (Sends given) acknowledges.left).left
 
@@ -659,7 +657,7 @@ abbrev pub shutdown_ack_meets_shutdown_ack : Type 0
 shutdown_ack_meets_shutdown_ack =
     Does (near (comes 12 (of_chunk 10 ShutdownAckChunk)) both_shut_down.left) Closed ((14 ∷ []) ∷ []) (Down Shutdown ∷ [])
 
--- T2 in SHUTDOWN-ACK-SENT; of its end the user isn't told again
+-- T2 in SHUTDOWN-ACK-SENT; the user isn't told of its end again
 abbrev pub ack_goes_out_again : Done
 ack_goes_out_again = far (Flushes 311) (far (Ticked 311) shutdown_answered.left).left
 

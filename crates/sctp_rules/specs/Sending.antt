@@ -33,7 +33,7 @@ is_established ShutdownAckSent = false
 abbrev pub has_room : State → Bool
 has_room s = is_established s.association.phase && half.has_room s.association.sender
 
--- a message is taken where there is an association, and a place
+-- a message is taken if there is an association, and a place
 abbrev pub may_send : Message → State → Bool
 may_send m s = is_established s.association.phase && can_take s.association.sender m
 
@@ -52,7 +52,7 @@ data_of now a = if takes_sack a.phase then map DataChunk (all_gone now a.sender)
 abbrev pub with_data_sent : (now : ℕ) → Association → Association
 with_data_sent now a = if takes_sack a.phase then record a { sender = (all_gone now a.sender).left } else a
 
--- SACK, where DATA came; in SHUTDOWN-SENT behind a SHUTDOWN (§9.2)
+-- SACK, if DATA came; in SHUTDOWN-SENT after a SHUTDOWN (§9.2)
 abbrev pub is_acknowledging : Association → Bool
 is_acknowledging a = a.is_sack_due && takes_data a.phase
 
@@ -63,7 +63,7 @@ acknowledgement_in phase a = sack_of a.receiver ∷ []
 abbrev pub acknowledgement : Association → List ChunkValue
 acknowledgement a = if is_acknowledging a then acknowledgement_in a.phase a else []
 
--- a SHUTDOWN that goes out so starts T2-shutdown anew
+-- a SHUTDOWN that goes out so starts T2-shutdown again
 abbrev pub t2_in : Phase → (now : ℕ) → Association → Option ℕ
 t2_in ShutdownSent now a = Some (now + a.sender.round_trips.timeout)
 t2_in phase now a = a.t2
@@ -71,11 +71,11 @@ t2_in phase now a = a.t2
 abbrev pub with_acknowledged : (now : ℕ) → Association → Association
 with_acknowledged now a = if is_acknowledging a then record (sacked a) { t2 = t2_in a.phase now a } else a
 
--- answers stand in front of SACK, and SACK in front of DATA (§6.1)
+-- answers come before SACK, and SACK before DATA (§6.1)
 abbrev pub due_chunks : (now : ℕ) → Association → List ChunkValue
 due_chunks now a = a.control ++ acknowledgement a ++ data_of now a
 
--- chunks are bundled: as many as fit into a packet (§6.10). `waiting` are those of the packet that isn't full
+-- chunks are bundled, as many as fit into a packet (§6.10). `waiting` are those of the packet that isn't full
 abbrev pub closed : List ChunkValue → List (List ChunkValue)
 closed [] = []
 closed (chunk ∷ chunks) = (chunk ∷ chunks) ∷ []

@@ -1,4 +1,4 @@
--- What an endpoint puts out its user gave in that association, of any peer whatever.
+-- The user gave what an endpoint puts out in that association, with any peer.
 use Rattle.std.specs.Prelude.{◌≡◌, ◌≤◌, ◌<◌, ◌⊎◌, ℕ, ◌%◌, ◌^◌, true, false, All, List, [], ◌∷◌, ◌++◌}
 use Rattle.std.specs.Prelude.{length, take, drop, sum_by, nat_eq, slice_index_or, if◌then◌else◌}
 use Rattle.std.specs.List.{Contains}
@@ -32,8 +32,8 @@ acknowledged_with tag what = []
 
 -- ---- the latest association
 
--- both tags and the TSN that this end begins with, as it opened; what the user gave in it; and the cumulative TSNs of the
--- packet that opened it, whatever its tag, and of those that came with its tag since
+-- both tags and the TSN that this end begins with, as it opened; what the user gave in it; and the cumulative TSNs of
+-- the packet that opened it, whatever its tag, and of those that came with its tag since
 pub record Latest : Type 0 where
   pub own_tag : ℕ
   pub far_tag : ℕ
@@ -54,7 +54,7 @@ opened_by what a = record {
   acknowledged = acknowledged_by what;
 }
 
--- a message counts as given where it is taken
+-- a message counts as given if it is taken
 abbrev pub given_by : Happening → State → List Message → List Message
 given_by (Sends message) s given = if may_send message s then given ++ message ∷ [] else given
 given_by what s given = given
@@ -80,7 +80,7 @@ latest_after c k (what ∷ more) s latest =
 abbrev pub count_on : (stream : ℕ) → List Message → ℕ
 count_on stream messages = sum_by (λ m. if nat_eq m.stream stream then 1 else 0) messages
 
--- the chunk of the message at a place: whole, under the TSN of its place, and on its stream under the number of those
+-- the chunk of the message at an index: whole, under the TSN of that index, and on its stream under the number of those
 -- before it (RFC 9260 §3.3.1)
 abbrev pub chunk_at : (first : ℕ) → (given : List Message) → (place : ℕ) → DataValue
 chunk_at first given place =
@@ -115,14 +115,14 @@ AreGiven latest a d = All (IsGiven latest a d.packet.tag) d.packet.chunks
 
 -- ---- what is kept
 
--- a cumulative TSN that came is that of the last one of so many messages
+-- a cumulative TSN that came is that of the last one of this many messages
 pub record IsSaid (acknowledged : List ℕ) (first confirmed : ℕ) : Type 0 where
   pub cumulative : ℕ
   pub came : Contains acknowledged cumulative
   pub is : tsn_at cumulative 1 ≡ tsn_at first confirmed
 
 -- what isn't confirmed is what was given, without its beginning, and the peer said how much that is. While the user has
--- the association that is all of it; once the peer shuts it down, what went out
+-- the association that is all of it; once the peer shuts it down, it is what went out
 pub record IsRest (latest : Latest) (a : Association) : Type 0 where
   pub confirmed : ℕ
   pub within : confirmed ≤ length latest.given

@@ -35,6 +35,6 @@ pub record Secrets : Type 0 where
   pub beginning : ℕ → Option Beginning
   -- the numbers of its heartbeats, one after another
   pub nonce : ℕ → ℕ
-  -- a cookie, signed; and the cookie that was signed so, where the signature is right
+  -- a cookie, signed; and the cookie that was signed so, if the signature is right
   pub signed : Cookie → List ℕ
   pub cookie_in : List ℕ → Option Cookie

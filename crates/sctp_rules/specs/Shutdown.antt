@@ -32,7 +32,7 @@ shutdown_sent c now s =
 abbrev pub shutdown_answered : (now : ℕ) → State → State
 shutdown_answered now s = awaiting now ShutdownAckSent ShutdownAckChunk s
 
--- where all that was sent is confirmed, SHUTDOWN or SHUTDOWN ACK goes out
+-- if all that was sent is confirmed, SHUTDOWN or SHUTDOWN ACK goes out
 abbrev pub going_on_in : Phase → Settings → (now : ℕ) → State → State
 going_on_in ShutdownPending c now s = shutdown_sent c now s
 going_on_in ShutdownReceived c now s = shutdown_answered now s

@@ -31,7 +31,7 @@ pub record Association : Type 0 where
   pub phase : Phase
   -- whether Up was told
   pub is_up : Bool
-  -- the tag of this end, and that of the peer; 0 where there is none
+  -- the tag of this end, and that of the peer; 0 if there is none
   pub own_tag : ℕ
   pub far_tag : ℕ
   -- the TSN that this end begins with, and what the peer said of itself
@@ -56,7 +56,7 @@ pub record Association : Type 0 where
 pub record State : Type 0 where
   -- whether the user wants an association
   pub is_wanted : Bool
-  -- how often an association opened or ended, and a try of one began anew or ended
+  -- how often an association opened or ended, and a try of one restarted or ended
   pub generation : ℕ
   -- how many beginnings and heartbeat numbers were drawn
   pub beginnings : ℕ

@@ -1,10 +1,10 @@
--- What the user is told, of any peer whatever: each Down behind an Up, and messages between the two alone.
+-- What the user is told, with any peer: each Down after an Up, and messages only between the two.
 use Rattle.std.specs.Prelude.{◌≡◌, Bool, true, false, List, [], ◌∷◌, Option, Some, None}
 use Rattle.sctp_rules.specs.Settings.{Settings, Secrets}
 use Rattle.sctp_rules.specs.State.{Told, Up, Heard, Down, Failed, first_state}
 use Rattle.sctp_rules.specs.Endpoint.{Happening, after_all}
 
--- whether an association is up once this was told; None where it was told out of turn
+-- whether an association is up once this was told; None if it was told out of turn
 abbrev pub turned : (is_up : Bool) → Told → Option Bool
 turned false Up = Some true
 turned true Up = None
@@ -23,7 +23,7 @@ abbrev pub turned_by : List Told → (is_up : Bool) → Option Bool
 turned_by [] is_up = Some is_up
 turned_by (told ∷ more) is_up = and_then (λ up. turned_by more up) (turned is_up told)
 
--- whatever happens to an endpoint: Up and Down are told in turn, messages between them, and Failed outside
+-- whatever happens to an endpoint, Up and Down are told in turn, messages between them, and Failed outside
 abbrev pub told_in_turn : Type 0
 told_in_turn =
     (c : Settings) (k : Secrets) (happenings : List Happening) →

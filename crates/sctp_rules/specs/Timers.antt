@@ -20,7 +20,7 @@ abbrev pub is_due : (now : ℕ) → Option ℕ → Bool
 is_due now None = false
 is_due now (Some moment) = nat_le moment now
 
--- the peer didn't answer once more; for too many times in a row, and the association ends (§8.1)
+-- the peer didn't answer once more; after too many times in a row the association ends (§8.1)
 abbrev pub unanswered : Settings → (State → Done) → State → Done
 unanswered c rule s =
     if nat_lt c.retransmissions (s.association.failures + 1)

@@ -1,5 +1,5 @@
--- What the user of an endpoint wants, by its own calls and by what it is told: an association comes up only where the
--- user wants one.
+-- What the user of an endpoint wants, by its own calls and by what it is told: an association comes up only if the user
+-- wants one.
 use Rattle.std.specs.Prelude.{◌≡◌, true, false, List, [], ◌∷◌, Option, Some, None}
 use Rattle.sctp_rules.specs.Settings.{Settings, Secrets}
 use Rattle.sctp_rules.specs.State.{State, Told, Up, Heard, Down, Failed, first_state}
@@ -18,7 +18,7 @@ abbrev pub wish_by_call : Happening → Wish → Wish
 wish_by_call (Opens now is_active) Idle = Seeking
 wish_by_call what wish = wish
 
--- by what the user is told; None where that is told out of turn
+-- by what the user is told; None if that is told out of turn
 abbrev pub wish_by : Told → Wish → Option Wish
 wish_by Up Seeking = Some Served
 wish_by (Heard message) Served = Some Served
@@ -41,15 +41,15 @@ wish_after_all c k (what ∷ more) s wish =
     and_then (λ next. wish_after_all c k more (after c k what s).left next)
     (wish_after (after c k what s).told (wish_by_call what wish))
 
--- the endpoint is in it: one is up exactly where the user was told so, and tried or waited for only where it wants one
+-- the endpoint is in it: one is up exactly when the user was told so, and tried or waited for only if it wants one
 abbrev pub Fits : Option Wish → State → Type 0
 Fits None s = ⊥
 Fits (Some Idle) s = (s.association.is_up ≡ false) × (s.is_wanted ≡ false)
 Fits (Some Seeking) s = s.association.is_up ≡ false
 Fits (Some Served) s = s.association.is_up ≡ true
 
--- whatever happens: Up is told only where the user wants an association, which it does from a call of `open` on until Up
--- or Failed is told; and then Down is told before it may want the next one
+-- whatever happens, Up is told only if the user wants an association, that is, from a call of `open` until Up or Failed
+-- is told; and then Down is told before it may want the next one
 abbrev pub told_as_wished : Type 0
 told_as_wished =
     (c : Settings) (k : Secrets) (happenings : List Happening) →

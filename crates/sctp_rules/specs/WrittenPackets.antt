@@ -1,4 +1,4 @@
--- Each packet that an endpoint puts out can be written, and so reads back, of any peer whatever.
+-- Each packet that an endpoint puts out can be written, and so reads back, with any peer.
 use Rattle.std.specs.Prelude.{◌≡◌, ℕ, ◌<◌, ◌≤◌, ◌^◌, All, List, length, Option, Some, None}
 use Rattle.sctp_cookie.specs.declared.cookie.Cookie.{Cookie}
 use Rattle.sctp_codec.specs.Packets.{ChunkValue, DataChunk, InitChunk, InitAckChunk, PacketValue}
@@ -31,7 +31,7 @@ abbrev pub If : {X : Type 0} → (X → Type 0) → Option X → Type 0
 If P None = Unit {0}
 If P (Some x) = P x
 
--- what is drawn fits, and so does what a cookie that opens says; one that is signed isn't too long
+-- what is drawn fits, and so does what an accepted cookie says; a signed cookie isn't too long
 pub record AreFit (k : Secrets) : Type 0 where
   pub beginnings : (n : ℕ) → If IsBeginning (k.beginning n)
   pub cookies : (octets : List ℕ) → If HasTags (k.cookie_in octets)

@@ -1,4 +1,4 @@
-//! Laws of the abstract endpoint, of any peer whatever.
+//! Laws of the abstract endpoint, with any peer.
 
 ghost use Rattle.sctp_rules.specs.GivenMessages.{given_messages_go_out};
 ghost use Rattle.sctp_rules.specs.Openings.{generations_grow, cookies_open_in_their_generation, other_tags_are_dropped};
@@ -13,44 +13,45 @@ pub fn users_are_told_in_turn()
     ensures { told_in_turn }
 {}
 
-/// Whatever happens, Up is told only where the user wants an association: it called for one since the last Down, Failed
-/// or Up. And while it wants none and has none, the endpoint neither tries to open one nor waits for its peer to do so.
+/// Whatever happens, Up is told only if the user wants an association: it called for one since the last Down, Failed or
+/// Up. And while it wants none and has none, the endpoint neither tries to open one nor waits for its peer to do so.
 pub fn associations_come_up_where_wanted()
     ensures { told_as_wished }
 {}
 
-/// Whatever happens: all that the user is told in an association, from Up to Down, is what a receiver tells to which
-/// DATA came that came with the tag of the packet that opened it, in that packet or later, counted from some TSN on. And
-/// while DATA counts that receiver is the endpoint's, the tag is the association's own, and the TSN is the peer's first.
+/// Whatever happens: all that the user is told in an association, from Up to Down, is what a receiver tells that got
+/// the DATA that came with the tag of the packet that opened it, in that packet or later, counted from some TSN. While
+/// DATA counts that receiver is the endpoint's, the tag is the association's own, and the TSN is the peer's first.
 pub fn what_is_told_was_received()
     ensures { messages_are_received }
 {}
 
-/// Whatever happens: each DATA chunk in a packet that goes out carries a message that the user gave in that association,
-/// whole, under its first TSN and the place of the message, on the stream that it was given for and under its number
-/// there, and goes to the association's peer. What isn't confirmed is what was given without its beginning, and the peer
-/// said how much that is, in the packet that opened the association or in one with its tag since. A sending half alone does so under any list of calls.
+/// Whatever happens: each DATA chunk in a packet that goes out carries a message that the user gave in that
+/// association, whole, under its first TSN and the index of the message, on the stream that it was given for and under
+/// its number there. It goes to the association's peer. What isn't confirmed is what was given without its beginning,
+/// and the peer said how much that is, in the packet that opened the association or in one with its tag since. A
+/// sending half alone does so under any list of calls.
 pub fn what_goes_out_was_given()
     ensures sent { given_messages_are_sent }
     ensures kept { given_messages_are_kept }
     ensures half { given_messages_go_out }
 {}
 
-/// From any moment on, the generation grows by as many as associations open at least; and a cookie of another
-/// generation than that of now opens nothing. So a cookie opens once at most.
+/// From any moment on, the generation grows at least by as many as associations open, and a cookie of any generation
+/// but the present one opens nothing. So a cookie opens once at most.
 pub fn a_cookie_opens_once()
     ensures generations { generations_grow }
     ensures cookies { cookies_open_in_their_generation }
 {}
 
-/// While there is an association, a packet with another tag changes nothing, where it is no INIT, no COOKIE ECHO and no
+/// While there is an association, a packet with another tag changes nothing, if it is no INIT, no COOKIE ECHO and no
 /// ABORT or SHUTDOWN COMPLETE with the peer's tag.
 pub fn packets_with_other_tags_are_dropped()
     ensures { other_tags_are_dropped }
 {}
 
-/// Whatever comes, each packet that goes out can be written in full, and what is written for it reads back as it: if
-/// the ports, and the tags that are drawn and signed, have as many bits as on the wire.
+/// Whatever comes, each packet that goes out can be written in full, and reads back as it was, if the ports, and the
+/// tags that are drawn and signed, have as many bits as on the wire.
 pub fn what_goes_out_reads_back()
     ensures written { packets_are_written }
     ensures read { packets_are_read }

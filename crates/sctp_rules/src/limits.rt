@@ -6,10 +6,10 @@ pub const PACKET_OCTETS: usize = 1200;
 /// Octets of the common header of a packet (RFC 9260 §3.1).
 pub const HEADER_OCTETS: usize = 12;
 
-/// Octets of answers that wait for the next packet, at most: an answer more is dropped, and asked for again.
+/// Octets of answers that wait for the next packet, at most: one answer more is dropped, and will be asked for again.
 pub const CONTROL_OCTETS: usize = 1024;
 
-/// Octets of a peer's cookie, at most: COOKIE ECHO, and an ERROR behind it, are one packet.
+/// Octets of a peer's cookie, at most: COOKIE ECHO, and an ERROR after it, are one packet.
 pub const COOKIE_OCTETS: usize = 660;
 
 /// Octets of a host name that is sent back, at most (RFC 1035 §2.3.4).
@@ -18,5 +18,5 @@ pub const HOST_NAME_OCTETS: usize = 255;
 /// Streams each way.
 pub const STREAMS: u16 = 2;
 
-/// A peer that tells a smaller window than this has shut it, in octets.
+/// A peer that announces a smaller window than this, in octets, has shut it.
 pub const SHUT_WINDOW: usize = 300;

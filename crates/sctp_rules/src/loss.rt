@@ -9,7 +9,7 @@ pub enum Loss {
     Aborted,
     /// The peer shut it down.
     Shutdown,
-    /// The peer has begun anew.
+    /// The peer has restarted.
     Restart,
     /// The peer doesn't answer.
     NoAnswer,

@@ -1,4 +1,4 @@
--- Messages that are given while there is room behind those before them go out with them.
+-- Messages that are given while there is room after those before them go out with them.
 use Rattle.std.proofs.Common.{◌≡◌, ◌≤◌, ◌<◌, ℕ, zero, suc, ◌+◌, ◌-◌, Bool, true, false, cond, not, nat_lt, nat_le, eqb, ◌&&◌, ◌||◌, List, [], ◌∷◌, ◌++◌, length, take, drop, set, length-append, Option, Some, None, refl, sym, ap, subst, ◌∙◌, inl, inr, arith}
 use Rattle.std.specs.Prelude.{◌⊎◌, is_some, slice_index, sum_by}
 use Rattle.std.proofs.Math.Seq.{drop-cons}

@@ -6,7 +6,7 @@ use Rattle.sctp_sending.specs.declared.confirmation.Confirmation.TheVariants.{Ol
 use Rattle.sctp_sending.specs.Sending.{Sending, confirmed, makes_progress, acknowledged}
 use Rattle.sctp_sending.specs.Gaps.{names_in}
 
--- which messages blocks name once so many are confirmed, by how far each is ahead of the cumulative TSN
+-- which messages blocks name once this many are confirmed, by how far each is ahead of the cumulative TSN
 abbrev pub names_behind : List BlockValue → Sending → (count now : ℕ) → ℕ → Bool
 names_behind blocks s count now = names_in blocks (length (confirmed s count now).out)
 

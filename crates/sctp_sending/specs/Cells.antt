@@ -15,7 +15,7 @@ cells_of_ring = 256
 abbrev pub place_at : (start distance : ℕ) → ℕ
 place_at start distance = (start + distance) % cells_of_ring
 
--- what so many cells hold, from a place on
+-- what this many cells hold, from an index on
 unfoldable pub window : (cells : List Outgoing) (start count : ℕ) → List Outgoing
 window cells start zero = []
 window cells start (suc n) = window cells start n ++ outgoing_at cells (place_at start n) ∷ []

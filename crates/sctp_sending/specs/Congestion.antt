@@ -16,7 +16,7 @@ pub record Congestion : Type 0 where
   pub threshold : ℕ
   -- what was confirmed since it grew last, partial_bytes_acked
   pub summed : ℕ
-  -- how many of the messages that are under way have to be confirmed until fast recovery ends; 0 outside of it
+  -- how many of the messages that are under way must be confirmed until fast recovery ends; 0 outside of it
   pub recovering : ℕ
 
 -- before anything is sent to a peer with this window (§7.2.1)
@@ -54,11 +54,11 @@ grown c octets full =
     else if nat_le c.window c.threshold then grown_slowly c octets full
     else grown_evenly c octets full
 
--- so many of the messages under way were confirmed
+-- this many of the messages under way were confirmed
 abbrev pub after_confirmed : Congestion → ℕ → Congestion
 after_confirmed c count = record c { recovering = c.recovering - count }
 
--- a message under way is taken as lost, while so many are; once in each fast recovery (§7.2.4)
+-- a message under way is taken as lost, while this many are; once in each fast recovery (§7.2.4)
 abbrev pub after_loss : Congestion → ℕ → Congestion
 after_loss c under_way =
     if nat_lt 0 c.recovering then c

@@ -11,7 +11,7 @@ pub record Outbox : Type 0 where
 abbrev pub under_way_in : Outbox → ℕ
 under_way_in b = sum_by under_way_of (take b.went b.out)
 
--- the message at a place is changed
+-- the message at an index is changed
 abbrev pub changed : Outbox → ℕ → (Outgoing → Outgoing) → Outbox
 changed b place f = record { out = slice_set b.out place (f (outgoing_at b.out place)); went = b.went }
 

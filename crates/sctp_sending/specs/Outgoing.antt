@@ -30,7 +30,7 @@ new_outgoing message sequence =
 abbrev pub no_message : Message
 no_message = record { stream = 0; protocol = 0; octets = [] }
 
--- the message at a place
+-- the message at an index
 abbrev pub outgoing_at : List Outgoing → ℕ → Outgoing
 outgoing_at out place = slice_index_or out place (new_outgoing no_message 0)
 
@@ -67,7 +67,7 @@ named_or_not named o = record {
   lost = o.lost && not named;
 }
 
--- a message behind it was named for the first time. When that happens for the third time it is lost, if it went out once
+-- a message after it was named for the first time. When that happens for the third time it is lost, if it went out once
 abbrev pub passed_over : Outgoing → Outgoing
 passed_over o =
     if o.named || o.lost then o else record {
@@ -98,7 +98,7 @@ tsn_at tsn distance = (tsn + distance) % 2 ^ 32
 abbrev pub ahead_of : ℕ → ℕ → ℕ
 ahead_of tsn other = (tsn + 2 ^ 32 - other) % 2 ^ 32
 
--- the first lost one of so many, from a place on
+-- the first lost one of this many, from an index on
 unfoldable pub lost_from : List Outgoing → (place left : ℕ) → Option ℕ
 lost_from out place zero = None
 lost_from out place (suc left) = if (outgoing_at out place).lost then Some place else lost_from out (place + 1) left

@@ -101,7 +101,7 @@ abbrev pub may_begin : Sending → Bool
 may_begin s =
     nat_lt s.went (length s.out) && has_credit s && finds_window s (octets_of (outgoing_at s.out s.went))
 
--- the place of the message that goes out next: the first lost one, and else the first new one, if it may
+-- the index of the message that goes out next: the first lost one, and else the first new one, if it may
 abbrev pub next_of : Sending → Option ℕ → Option ℕ
 next_of s (Some place) = if may_repeat s place then Some place else None
 next_of s None = if may_begin s then Some s.went else None
@@ -109,7 +109,6 @@ next_of s None = if may_begin s then Some s.went else None
 unfoldable pub next_place : Sending → Option ℕ
 next_place s = next_of s (lost_from s.out 0 s.went)
 
--- the octets that are left of a burst
 abbrev pub burst_left : (burst octets : ℕ) → ℕ
 burst_left burst octets = if nat_le octets burst then burst - octets else burst
 
@@ -150,15 +149,15 @@ gone_first s now = record s {
 abbrev pub gone : Sending → (place now : ℕ) → Sending
 gone s place now = if nat_lt place s.went then gone_again s place now else gone_first s now
 
--- the next message goes out; where there is none, a burst is over
+-- the next message goes out; if there is none, a burst is over
 abbrev pub gone_next : Sending → (now : ℕ) → Option ℕ → Sending
 gone_next s now None = record s { burst = 0 }
 gone_next s now (Some place) = gone s place now
 
 -- ---- messages are confirmed
 
--- how many messages a cumulative TSN confirms: Old where it is behind what is confirmed, Beyond where it confirms one
--- that didn't go out
+-- how many messages a cumulative TSN confirms: Old if it is behind what is confirmed, Beyond if it confirms one that
+-- didn't go out
 unfoldable pub confirmation : Sending → (cumulative : ℕ) → Confirmation
 confirmation s cumulative =
     let count = ahead_of (tsn_at cumulative 1) s.first in
@@ -184,7 +183,7 @@ confirmed s count now = record s {
   timed = timed_behind s.timed count;
 }
 
--- T3 stops where nothing is out any more, and begins anew where something was confirmed (RFC 9260 §6.3.2, R2 and R3)
+-- T3 stops if nothing is out any more, and restarts if something was confirmed (RFC 9260 §6.3.2, R2 and R3)
 unfoldable pub settled : Sending → (count now : ℕ) → Sending
 settled s count now =
     if s.went == 0 then record s { t3 = None; congestion = after_all s.congestion }
@@ -203,13 +202,14 @@ stopped s = record s { out = take s.went s.out }
 
 -- ---- messages are named
 
--- the messages after some places were looked at; the octets that were named for the first time; the last place of these
+-- the messages after some indexes were looked at; the octets that were named for the first time; the last index of
+-- these
 pub record Naming : Type 0 where
   pub out : List Outgoing
   pub octets : ℕ
   pub reach : ℕ
 
--- whether the message at a place is named by what names offsets from the cumulative TSN. The first one never is
+-- whether the message at an index is named by what names offsets from the cumulative TSN. The first one never is
 abbrev pub is_named : (ℕ → Bool) → ℕ → Bool
 is_named names place = nat_lt 0 place && names (place + 1)
 
@@ -223,12 +223,12 @@ named_one names n place =
       reach = if first_time then place else n.reach;
     }
 
--- the places below one were looked at
+-- the indexes below one were looked at
 unfoldable pub named_below : (ℕ → Bool) → List Outgoing → ℕ → Naming
 named_below names out zero = record { out = out; octets = 0; reach = 0 }
 named_below names out (suc place) = named_one names (named_below names out place) place
 
--- the messages after some places were passed over, and whether one was lost by that
+-- the messages after some indexes were passed over, and whether one was lost by that
 pub record Passing : Type 0 where
   pub out : List Outgoing
   pub any : Bool
@@ -241,7 +241,7 @@ passed_one p place =
       any = p.any || ((passed_over o).lost && not o.lost);
     }
 
--- the places below one were passed over
+-- the indexes below one were passed over
 unfoldable pub passed_below : List Outgoing → ℕ → Passing
 passed_below out zero = record { out = out; any = false }
 passed_below out (suc place) = passed_one (passed_below out place) place
@@ -251,7 +251,7 @@ abbrev pub is_timed_named : List Outgoing → Option Timed → Bool
 is_timed_named out None = false
 is_timed_named out (Some t) = (outgoing_at out t.place).named
 
--- where a SACK named it, its round trip is measured
+-- if a SACK named it, its round trip is measured
 abbrev pub with_named_measured : Sending → (now : ℕ) → Sending
 with_named_measured s now =
     let measured = is_timed_named s.out s.timed in
@@ -267,14 +267,14 @@ abbrev pub congestion_by : Congestion → (lost : Bool) (under_way count octets 
 congestion_by c lost went count octets full =
     if lost then after_loss c went else if nat_lt 0 count then grown c octets full else c
 
--- the messages that are left after it: named or not, and those before the last one named anew passed over
+-- the messages that are left after it: named or not, and those before the last one named again passed over
 abbrev pub naming_of : (ℕ → Bool) → Sending → Naming
 naming_of names s = named_below names s.out s.went
 
 abbrev pub passing_of : Naming → Passing
 passing_of n = passed_below n.out n.reach
 
--- a SACK that confirms so many messages, names some, and tells the peer's window
+-- a SACK that confirms this many messages, names some, and tells the peer's window
 unfoldable pub acknowledged : Sending → (now window count : ℕ) → (ℕ → Bool) → Sending
 acknowledged s now window count names =
     let full = nat_le s.congestion.window (under_way s) in

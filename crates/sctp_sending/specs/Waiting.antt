@@ -8,7 +8,7 @@ use Rattle.sctp_sending.specs.Sending.{Sending, most_messages, most_octets, unde
 abbrev pub waiting_octets : Sending → ℕ
 waiting_octets s = sum_by octets_of (drop s.went s.out)
 
--- behind so many octets that didn't go out yet, a message that is given now goes out with them
+-- after this many octets that didn't go out yet, a message that is given now goes out with them
 unfoldable pub has_room_behind : Sending → (octets : ℕ) → Bool
 has_room_behind s octets =
     nat_lt (length s.out) most_messages
@@ -16,7 +16,7 @@ has_room_behind s octets =
     && nat_lt (under_way s + octets) s.congestion.window
     && (nat_le (octets + most_octets) s.peer_window || ((under_way s + octets) == 0))
 
--- so many go out one after another, as far as they may
+-- this many go out one after another, as far as they may
 unfoldable pub after_going : (many now : ℕ) → Sending → Sending
 after_going zero now s = s
 after_going (suc more) now s = after_going more now (gone_next s now (next_place s))

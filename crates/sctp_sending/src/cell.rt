@@ -162,7 +162,7 @@ impl Cell {
         self.lost = self.lost && !named;
     }
 
-    /// A message behind it was named for the first time.
+    /// A message after it was named for the first time.
     pub fn pass_over(&mut self)
         ensures { self.new ≡ passed_over self.old }
     {

@@ -7,6 +7,6 @@ pub enum Confirmation {
     Old,
     /// A message that didn't go out: no peer that received what was sent says so.
     Beyond,
-    /// So many messages more than before.
+    /// This many messages more than before.
     Of(u32),
 }

@@ -48,7 +48,7 @@ impl Model for Congestion {
 }
 
 impl Congestion {
-    /// The window before anything is sent to a peer that takes so many octets.
+    /// The window before anything is sent to a peer that takes this many octets.
     pub fn new(peer_window: u32) -> Congestion
         ensures { result ≡ first_congestion peer_window }
     {
@@ -69,7 +69,7 @@ impl Congestion {
         self.window
     }
 
-    /// So many of the messages under way were confirmed.
+    /// This many of the messages under way were confirmed.
     pub fn confirm(&mut self, count: usize)
         ensures { self.new ≡ after_confirmed self.old count }
     {
@@ -118,7 +118,7 @@ impl Congestion {
         }
     }
 
-    /// A message is taken as lost while so many are under way: fast recovery begins, unless it lasts already.
+    /// A message is taken as lost while this many are under way: fast recovery begins, unless it lasts already.
     pub fn lose(&mut self, under_way: usize)
         ensures { self.new ≡ after_loss self.old under_way }
     {

@@ -1,4 +1,4 @@
-//! Laws of what an end sends. Each function says its law by its contract, and does nothing.
+//! Laws of what an end sends. Each function states its law in its contract, and does nothing.
 
 ghost use Rattle.std.specs.Prelude.{◌≡◌, ◌≤◌, ◌+◌, ℕ, ◌∷◌, ◌++◌, [], drop, length, Bool, true, Option, Some};
 ghost use Rattle.sctp_sending.specs.declared.confirmation.Confirmation.{Confirmation};
@@ -18,8 +18,8 @@ ghost use Rattle.sctp_sending.specs.Sending.{
 };
 ghost use Rattle.sctp_sending.specs.Waiting.{waiting_octets, has_room_behind, after_going};
 
-/// A message that is given goes behind the others, and only a cumulative TSN takes messages away: as many as it
-/// confirms, from the front. Nothing else changes which messages there are.
+/// A message that is given goes after the others, and only a cumulative TSN takes messages away: from the front, as
+/// many as it confirms. Nothing else changes which messages there are.
 pub fn messages_leave_from_the_front()
     ensures given { (s : Sending) (m : Message) → messages_of (given s m) ≡ messages_of s ++ m ∷ [] }
     ensures gone { (s : Sending) (now : ℕ) (place : Option ℕ) → messages_of (gone_next s now place) ≡ messages_of s }
@@ -30,14 +30,14 @@ pub fn messages_leave_from_the_front()
         → messages_of (after_sack s now window names c) ≡ drop (count_of c) (messages_of s) }
 {}
 
-/// Where there is room, a message of at most 290 octets that is given is the one that goes out next.
+/// If there is room, a message of at most 290 octets that is given is the one that goes out next.
 pub fn a_message_that_finds_room_goes_out_next()
     ensures { (s : Sending) (m : Message) → has_room s ≡ true → length m.octets ≤ most_octets
         → next_place (given s m) ≡ Some (length s.out) }
 {}
 
-/// Where there is room behind what didn't go out yet, a message of at most 290 octets that is given goes out behind it,
-/// and nothing holds any of it up: as packets are asked for next, all goes out in order, one message after another.
+/// If there is room after what didn't go out yet, a message of at most 290 octets that is given goes out after it, and
+/// nothing holds any of it up: when packets are next asked for, all goes out in order, one message after another.
 pub fn messages_that_find_room_behind_others_go_out_with_them()
     ensures { (s : Sending) (m : Message) (octets now place : ℕ) → waiting_octets s ≤ octets
         → has_room_behind s octets ≡ true → length m.octets ≤ most_octets → s.went + place ≤ length s.out

@@ -14,10 +14,10 @@ const DISTANCES: usize = CELLS + 1;
 /// Which messages are named, by how far each is ahead of the cumulative TSN.
 pub type Marks = [bool; DISTANCES];
 
-/// The least distance that a block names: the message behind the cumulative TSN isn't there (RFC 9260 §3.3.4).
+/// The least distance that a block names: the message after the cumulative TSN isn't there (RFC 9260 §3.3.4).
 const LEAST_DISTANCE: u16 = 2;
 
-/// What blocks name of so many messages.
+/// What blocks name of this many messages.
 pub fn marks_of(blocks: Blocks<'_>, many: usize) -> Marks
     requires { many ≤ 256 }
     ensures { (ahead : ℕ) → marked result ahead ≡ names_in (blocks_of blocks.entry) many ahead }
@@ -44,7 +44,7 @@ pub fn are_none(blocks: Blocks<'_>) -> bool
     rest.next().is_none()
 }
 
-/// Marks what a block names of so many messages.
+/// Marks what a block names of this many messages.
 fn mark(marks: &mut Marks, block: Block, many: usize)
     requires { many ≤ 256 }
     ensures { (ahead : ℕ) → marked marks.new ahead
@@ -55,7 +55,7 @@ fn mark(marks: &mut Marks, block: Block, many: usize)
     }
 }
 
-/// Whether a block counts, of so many messages.
+/// Whether a block counts, of this many messages.
 fn counts(block: Block, many: usize) -> bool
     ensures { result ≡ is_block many (block_of block) }
 {
@@ -73,7 +73,7 @@ fn mark_between(marks: &mut Marks, start: usize, end: usize)
     }
 }
 
-/// Whether the message at a place is named.
+/// Whether the message at an index is named.
 pub fn is_named(marks: &Marks, place: usize) -> bool
     requires { place < 256 }
     ensures { result ≡ is_named (marked marks.now) place }

@@ -5,6 +5,6 @@
 pub struct Named {
     /// How many octets.
     pub octets: u32,
-    /// The place of the last message of these; 0 if there is none.
+    /// The index of the last message of these; 0 if there is none.
     pub reach: usize,
 }

@@ -92,7 +92,7 @@ impl Outbox {
         self.tally.under_way
     }
 
-    /// The message at a place.
+    /// The message at an index.
     pub fn get(&self, place: usize) -> &Cell
         requires { place < length self.now.out }
         ensures { result.now ≡ outgoing_at self.now.out place }
@@ -100,7 +100,7 @@ impl Outbox {
         self.ring.get(place)
     }
 
-    /// Copies a message behind the others, with this number on its stream. It didn't go out yet.
+    /// Copies a message after the others, with this number on its stream. It didn't go out yet.
     pub fn push(&mut self, message: Message<'_>, sequence: u16)
         requires room { length self.old.out < 256 }
         requires fits { length message.octets.now ≤ 290 }
@@ -112,7 +112,7 @@ impl Outbox {
         self.ring.push(message, sequence);
     }
 
-    /// The place of the first lost message.
+    /// The index of the first lost message.
     pub fn first_lost(&self) -> Option<usize>
         ensures place { result ≡ lost_from self.now.out 0 self.now.went }
         ensures within { IfSome result (λ place. place < self.now.went) }
@@ -145,7 +145,7 @@ impl Outbox {
         self.tally.named > 0
     }
 
-    /// The message at a place goes out again.
+    /// The message at an index goes out again.
     pub fn put_out_again(&mut self, place: usize)
         requires { place < self.old.went }
         ensures { self.new ≡ changed self.old place (gone_out true) }
@@ -165,7 +165,7 @@ impl Outbox {
         self.went += 1;
     }
 
-    /// A SACK names the message at a place or doesn't.
+    /// A SACK names the message at an index or doesn't.
     pub fn name(&mut self, place: usize, named: bool)
         requires { place < self.old.went }
         ensures { self.new ≡ changed self.old place (named_or_not named) }
@@ -175,7 +175,7 @@ impl Outbox {
         self.tally = self.tally.with(self.ring.get(place));
     }
 
-    /// A message behind the one at a place was named for the first time.
+    /// A message after the one at an index was named for the first time.
     pub fn pass_over(&mut self, place: usize)
         requires { place < self.old.went }
         ensures { self.new ≡ changed self.old place passed_over }
@@ -185,7 +185,7 @@ impl Outbox {
         self.tally = self.tally.with(self.ring.get(place));
     }
 
-    /// T3 ran out for the message at a place.
+    /// T3 ran out for the message at an index.
     pub fn time_out(&mut self, place: usize)
         requires { place < self.old.went }
         ensures { self.new ≡ changed self.old place timed_out }
@@ -214,7 +214,7 @@ impl Outbox {
         self.ring.truncate(self.went);
     }
 
-    /// The first messages leave, all of which went out. Answers how many octets that adds to what is confirmed.
+    /// The first messages leave, all of which went out. Returns how many octets that adds to what is confirmed.
     pub fn confirm(&mut self, count: usize) -> u32
         requires { count ≤ self.old.went }
         ensures octets { result ≡ newly_confirmed_in self.old count }
@@ -228,7 +228,7 @@ impl Outbox {
         octets
     }
 
-    /// How many octets the first messages add, and what is counted of the others that went out.
+    /// How many octets the first messages add, and what is counted for the others that went out.
     fn leaving(&self, count: usize) -> (u32, Tally)
         requires { count ≤ self.now.went }
         ensures octets { result.0 ≡ newly_confirmed_in self.now count }

@@ -19,7 +19,7 @@ use std::marker::Model;
 /// Messages that a ring holds at most.
 pub const CELLS: usize = 256;
 
-/// Messages on their way, in cells that lie one behind another, the first behind the last. A message stays in its cell.
+/// Messages on their way, in cells that lie one after another, the first after the last. A message stays in its cell.
 #[derive(Drop)]
 pub struct Ring {
     cells: Vec<Cell>,
@@ -61,7 +61,7 @@ impl Ring {
         self.count
     }
 
-    /// The message at a place.
+    /// The message at an index.
     pub fn get(&self, place: usize) -> &Cell
         requires { place < length self.now }
         ensures { result.now ≡ outgoing_at self.now place }
@@ -69,7 +69,7 @@ impl Ring {
         &self.cells[index(self.start, place)]
     }
 
-    /// Copies a message behind the others, with this number on its stream.
+    /// Copies a message after the others, with this number on its stream.
     pub fn push(&mut self, message: Message<'_>, sequence: u16)
         requires room { length self.old < cells_of_ring }
         requires fits { length message.octets.now ≤ 290 }
@@ -97,7 +97,7 @@ impl Ring {
         self.count = count;
     }
 
-    /// The message at a place goes out, for the first time or again.
+    /// The message at an index goes out, for the first time or again.
     pub fn go_out(&mut self, place: usize, again: bool)
         requires { place < length self.old }
         ensures { self.new ≡ slice_set self.old place (gone_out again (outgoing_at self.old place)) }
@@ -106,7 +106,7 @@ impl Ring {
         self.cells[index].go_out(again);
     }
 
-    /// A SACK names the message at a place or doesn't.
+    /// A SACK names the message at an index or doesn't.
     pub fn name(&mut self, place: usize, named: bool)
         requires { place < length self.old }
         ensures { self.new ≡ slice_set self.old place (named_or_not named (outgoing_at self.old place)) }
@@ -115,7 +115,7 @@ impl Ring {
         self.cells[index].name(named);
     }
 
-    /// A message behind the one at a place was named for the first time.
+    /// A message after the one at an index was named for the first time.
     pub fn pass_over(&mut self, place: usize)
         requires { place < length self.old }
         ensures { self.new ≡ slice_set self.old place (passed_over (outgoing_at self.old place)) }
@@ -124,7 +124,7 @@ impl Ring {
         self.cells[index].pass_over();
     }
 
-    /// T3 ran out for the message at a place.
+    /// T3 ran out for the message at an index.
     pub fn time_out(&mut self, place: usize)
         requires { place < length self.old }
         ensures { self.new ≡ slice_set self.old place (timed_out (outgoing_at self.old place)) }

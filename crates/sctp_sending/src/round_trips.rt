@@ -56,7 +56,7 @@ impl RoundTrips {
         self.timeout
     }
 
-    /// Takes a round trip of so many milliseconds into account. One that took longer than RTO.Max counts as that.
+    /// Takes a round trip of this many milliseconds into account. One that took longer than RTO.Max counts as that.
     pub fn measure(&mut self, round_trip: u64)
         ensures { self.new ≡ after_measured self.old round_trip }
     {

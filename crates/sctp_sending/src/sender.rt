@@ -114,8 +114,8 @@ impl Sender {
             && self.finds_window(MOST_OCTETS)
     }
 
-    /// Whether a message that is sent now goes out as soon as packets are asked for, behind those that didn't go out yet
-    /// and have so many octets, or fewer.
+    /// Whether a message that is sent now goes out as soon as packets are asked for, after those that didn't go out yet
+    /// and have at most this many octets.
     #[tactic(auto, unfolding(crate::specs::Waiting::has_room_behind))]
     pub fn has_room_behind(&self, octets: u32) -> bool
         ensures { result ≡ has_room_behind self.now octets }
@@ -142,7 +142,7 @@ impl Sender {
         self.outbox.under_way() < self.congestion.window()
     }
 
-    /// Whether the peer's window takes so many octets, or nothing is under way.
+    /// Whether the peer's window takes this many octets, or nothing is under way.
     fn finds_window(&self, octets: u32) -> bool
         ensures { result ≡ finds_window self.now octets }
     {
@@ -163,7 +163,7 @@ impl Sender {
         self.sequences[stream] = sequence.wrapping_add(1);
     }
 
-    /// The message at a place, as it goes out.
+    /// The message at an index, as it goes out.
     pub fn data(&self, place: usize) -> Data<'_>
         requires { place < length self.now.out }
         ensures tsn { result.tsn ≡ tsn_at self.now.first place }
@@ -204,7 +204,7 @@ impl Sender {
         self.round_trips = RoundTrips::new(bounds);
     }
 
-    /// Takes a round trip of so many milliseconds into account, as that of a heartbeat.
+    /// Takes a round trip of this many milliseconds into account, as that of a heartbeat.
     pub fn measure(&mut self, round_trip: u64)
         ensures { self.new ≡ record self.old { round_trips = after_measured self.old.round_trips round_trip } }
     {

@@ -1,19 +1,18 @@
 //! Datagrams that are harmed or made up at random, handed to an `Endpoint` in each of its phases.
 //!
 //! Two ends hold a session until the near one is in a phase; 12,500 datagrams are handed to it in each of eight, those
-//! of RFC 9260 §4. After twenty, or once an association or a try of one began or ended, both begin anew. `in another
+//! of RFC 9260 §4. After twenty, or once an association or a try of one began or ended, both restart. `in another
 //! phase` counts beginnings at which the near end wasn't in the phase, by what it put out last and whether it takes a
-//! message. A datagram is one that either end put
-//! out, harmed once or twice: one to four octets are changed; it is cut short, or random octets are behind it; it has
-//! another tag; its chunks, and those of another datagram, stand in another order; a length or a count is at its limit;
-//! or a chunk of random octets is behind a good header. Some stay as they are. Seven of eight get the right checksum
-//! again.
+//! message. A datagram is one that either end put out, harmed once or twice. One to four octets are changed; it is cut
+//! short, or random octets follow it; it has another tag; its chunks, and those of another datagram, are in another
+//! order; a length or a count is at its limit; or a chunk of random octets follows a good header. Some stay as they
+//! are. Seven of eight get the right checksum again.
 //!
 //! Each returns. One that is no packet does nothing. One whose ports or whose tag aren't those that its first chunk
-//! needs is `foreign`: nothing is told, `deadline` and `has_room` stay, and at most ABORT or SHUTDOWN COMPLETE goes out,
-//! with the tag that came. The tag of COOKIE ECHO is the one in its cookie. INIT tells nothing. `opened or ended without
-//! its tags` counts those that did more. This and `in another phase` are 0; all other numbers follow from the dice, and
-//! are from a run.
+//! needs is `foreign`: nothing is told, `deadline` and `has_room` stay, and at most ABORT or SHUTDOWN COMPLETE goes
+//! out, with the tag that came. The tag of COOKIE ECHO is the one in its cookie. INIT tells nothing. `opened or ended
+//! without its tags` counts those that did more. This and `in another phase` are 0; all other numbers follow from the
+//! dice, and are from a run.
 
 mod counts;
 mod harm;

@@ -1,8 +1,8 @@
 //! Endpoints of SCTP under trial: sessions that were recorded with an SCTP of other authors, two endpoints under random
 //! schedules, and datagrams that are harmed or made up.
 //!
-//! Its words are the names of recorded sessions, files in `data/`, and a number, of the schedules that are played, if
-//! those are not to be 200.
+//! Its arguments are the names of recorded sessions, files in `data/`, and how many schedules are played, 200 if that
+//! is left out.
 #![tactic(auto)]
 
 mod dice;

@@ -1,4 +1,4 @@
-//! Plays sessions that were recorded between usrsctp 0.9.5, an SCTP of other authors, and another endpoint: hands an
+//! Plays sessions that were recorded between usrsctp 0.9.5, an SCTP of other authors, and another endpoint. It hands an
 //! `Endpoint` what usrsctp sent, at the time when it came, and does the same calls. `stdout` was written from what the
 //! user of the recorded end was told, so a session goes wrong at the first line that differs.
 //!

@@ -1,4 +1,4 @@
--- What happens at an endpoint in code is a step of the world that it stands in.
+-- What happens at an endpoint in code is a step of the world that it is in.
 use Rattle.std.proofs.Common.{◌≡◌, ℕ, suc, List, [], ◌∷◌, ◌++◌, Option, Some, map, refl, sym, ap, subst, ◌∙◌, arith}
 use Rattle.std.specs.Prelude.{All}
 use Rattle.std.specs.List.{Contains}

@@ -22,7 +22,7 @@ told_by_entry (entries.Heard text) = Heard (message_of text)
 told_by_entry (entries.Down why) = Down why
 told_by_entry (entries.Failed why) = Failed why
 
--- whether what was told in a place is Up
+-- whether what was told at an index is Up
 abbrev pub is_up : Option Told → Bool
 is_up None = false
 is_up (Some Up) = true
@@ -50,7 +50,7 @@ pub record KeptSite : Type 0 where
   pub log : KeptLog
   pub given : List (List Message)
 
--- the octets in a place of all that an endpoint put out
+-- the octets at an index of all that an endpoint put out
 abbrev pub octets_of : Option Sent → List ℕ
 octets_of None = []
 octets_of (Some sent) = sent.octets
@@ -65,7 +65,7 @@ first_kept c tag_key cookie_key = record {
   given = [];
 }
 
--- what a rule does at an endpoint, where the user gave these
+-- what a rule does at an endpoint, if the user gave these
 abbrev pub with_done : Done → List (List Message) → KeptSite → KeptSite
 with_done d given s = record {
   endpoint = record s.endpoint { state = d.left };

@@ -73,7 +73,7 @@ impl Site {
         self.log.sent()
     }
 
-    /// The octets of the datagram in a place of these; none where there is no such datagram.
+    /// The octets of the datagram at an index of these; none if there is no such datagram.
     pub(crate) fn octets_at(&self, place: usize) -> &[u8]
         ensures { result.now ≡ octets_at self.now place }
     {
@@ -173,7 +173,7 @@ impl Site {
         self.begin_lists(from);
     }
 
-    /// The user sends a message; answers whether it was taken.
+    /// The user sends a message; returns whether it was taken.
     pub(crate) fn send(&mut self, message: Message<'_>) -> bool
         ensures taken { result ≡ may_send (given_as message.entry) self.old.endpoint.state }
         ensures left { Keeps self.old (kept_happened (Sends (given_as message.entry)) self.old) self.new }
@@ -198,7 +198,7 @@ impl Site {
         }
     }
 
-    /// The same, where there is memory for it.
+    /// The same, if there is memory for it.
     fn keep(&mut self, message: Message<'_>) -> Result<(), AllocError>
         ensures given { OnOk result (self.new ≡ record self.old {
           given = with_last (text_given (given_as message.entry)) self.old.given;
@@ -218,7 +218,7 @@ impl Site {
         Ok(())
     }
 
-    /// For each association that opened, by what was told from a place on, the user gives messages of its own.
+    /// For each association that opened, by what was told from an index on, the user gives messages of its own.
     fn begin_lists(&mut self, from: usize)
         ensures { Keeps self.old (record self.old { given = opened_by self.old.given (drop from self.old.log.told) })
             self.new }
@@ -230,7 +230,7 @@ impl Site {
         }
     }
 
-    /// Whether what was told at a place is Up.
+    /// Whether what was told at an index is Up.
     fn is_opening(&self, place: usize) -> bool
         ensures { result ≡ is_up_at self.now.log.told place }
     {

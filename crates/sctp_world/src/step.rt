@@ -27,6 +27,6 @@ pub enum Doing<'a> {
     Tick,
     /// Packets are asked for.
     Flush,
-    /// The datagram in this place of all that the other end ever put out comes, from an address.
+    /// The datagram at this index of all that the other end ever put out comes, from an address.
     Hear(usize, Address),
 }

@@ -25,11 +25,11 @@ const LATEST: u64 = 1 << 63;
 /// Two endpoints, all datagrams that either ever put out, all that their users were told, and all that they gave.
 ///
 /// The network is no more than these datagrams: any of them may come to the other end, at any moment, any number of
-/// times, in any order, or never. It stands for two endpoints of the rules to which steps led from two new ones on
-/// (`StandsFor`): `new` makes it so, and each `act` keeps it, but one by which a datagram comes that is too old
-/// (`MayCome`), and unless memory runs out for what is put out, told or given. Then it isn't whole any more
-/// (`is_whole`), and only its endpoints go on by their rules. No contract says that it is whole as long as there is
-/// memory, since none can speak of memory.
+/// times, in any order, or never. It stands for two endpoints of the rules, as steps from two new ones lead to them
+/// (`StandsFor`). `new` makes it so, and each `act` keeps it so, unless a datagram comes that is too old (`MayCome`),
+/// or memory runs out for what is put out, told or given. Then it is no longer whole (`is_whole`), and only its
+/// endpoints go on by their rules. No contract says that it is whole as long as there is memory, since none can speak
+/// of memory.
 #[derive(Drop)]
 pub struct World {
     near: Site,
@@ -79,8 +79,8 @@ impl World {
         })
     }
 
-    /// Does something at an end, at a time in milliseconds. Answers whether it was done: not where the time is over
-    /// 2^63 ms, where the endpoint doesn't last (`Endpoint::lasts`), or where there is no such datagram.
+    /// Does something at an end, at a time in milliseconds. Returns whether it was done: not if the time is over 2^63
+    /// ms, if the endpoint doesn't last (`Endpoint::lasts`), or if there is no such datagram.
     pub fn act(&mut self, end: End, what: Doing<'_>, now: u64) -> bool
         ensures answer { result ≡ is_done what.entry now (other_kept end self.old) (kept_at end self.old) }
         // What it does is the rule's: at the endpoint in any case, and in all that is kept of it if that is whole.
@@ -134,13 +134,12 @@ impl World {
     }
 
     /// The associations of both ends have the laws of `sctp_ends`: no two of an end share a tag, no more is confirmed
-    /// than came, and where one opens the other end waits for it or has it. Does nothing.
+    /// than came, and if one opens, the other end waits for it or has it. Does nothing.
     pub fn associations_have_the_laws(&self)
         ensures { (w : worlds.World) → StandsFor self.now w →
             AreAssociated (make_of self.now.near) (make_of self.now.far) w }
     {}
 
-    /// An end.
     fn site(&self, end: End) -> &Site
         ensures { result.now ≡ kept_at end self.now }
     {
@@ -173,7 +172,7 @@ fn has_numbers(what: Doing<'_>)
     }
 }
 
-/// Does something at an endpoint, where the other one put out some datagrams.
+/// Does something at an endpoint, given the datagrams that the other one put out.
 fn act_at(site: &mut Site, other: &Site, what: Doing<'_>, now: u64) -> bool
     ensures answer { result ≡ is_done what.entry now other.now site.old }
     ensures did { result ≡ true → Keeps site.old (kept_did what.entry now other.now site.old) site.new }

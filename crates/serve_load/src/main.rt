@@ -1,11 +1,11 @@
 //! A load on served nodes: how long messages take from one process to another, or through a node between two peers.
 //!
-//! `serve_load send PORT COUNT OCTETS` and `serve_load receive PORT COUNT OCTETS`, beside each other, are two nodes
-//! with three links, at PORT and the two ports behind it. The first submits COUNT messages of OCTETS octets as fast as
-//! its node takes them, and the second counts them.
+//! `serve_load send PORT COUNT OCTETS` and `serve_load receive PORT COUNT OCTETS`, side by side, are two nodes with
+//! three links, at PORT and the two ports after it. The first submits COUNT messages of OCTETS octets as fast as its
+//! node takes them, and the second counts them.
 //!
 //! `serve_load settings PORT` prints the settings of a node between two peers, whose links listen at PORT and the port
-//! behind it. `serve_load through PORT COUNT OCTETS` is both peers: one submits messages to the other, which come by
+//! after it. `serve_load through PORT COUNT OCTETS` is both peers: one submits messages to the other, which come by
 //! that node.
 #![tactic(auto)]
 
@@ -36,7 +36,7 @@ enum Verb {
 #[derive(Clone, Copy)]
 struct Task {
     verb: Verb,
-    /// The port of the first link; the others have those behind it.
+    /// The port of the first link; the others have those after it.
     port: u16,
     /// How many messages are sent.
     count: u32,
@@ -57,7 +57,7 @@ fn main(rt: HostRuntime) -> io::Result<()> {
     }
 }
 
-/// The port of the node whose settings the words ask for; None where they ask for something else.
+/// The port of the node whose settings the words ask for; None if they ask for something else.
 fn port_of_settings(words: &[String]) -> Option<u16> {
     let [verb, port] = words else {
         return None;
@@ -68,7 +68,7 @@ fn port_of_settings(words: &[String]) -> Option<u16> {
     port.as_str().parse::<u16>().ok()
 }
 
-/// What the words behind the program's name ask for; None where they ask for nothing that there is.
+/// What the program's arguments ask for; None if they ask for nothing that exists.
 fn task_of(words: &[String]) -> Option<Task> {
     let [verb, port, count, octets] = words else {
         return None;
@@ -85,7 +85,7 @@ fn task_of(words: &[String]) -> Option<Task> {
     })
 }
 
-/// What a run is by this word, where it is one.
+/// What a run is by this word, if it is one.
 fn verb_of(word: &str) -> Option<Verb> {
     match word {
         "send" => Some(Verb::Send),

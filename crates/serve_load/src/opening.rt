@@ -73,13 +73,13 @@ impl Place {
     }
 }
 
-/// The node of a place, whose messages have so many octets. None where a socket or memory can't be had.
+/// The node of a place, whose messages have this many octets. None if a socket or memory can't be had.
 pub(crate) fn open(rt: &HostRuntime, place: Place, octets: usize) -> Option<Station> {
     let (settings, serve) = read(rt.alloc(), place)?;
     Station::open(rt, settings, &serve, octets)
 }
 
-/// Its settings. None where there are no such ports.
+/// Its settings. None if there are no such ports.
 fn read(alloc: Global, place: Place) -> Option<(Settings, ServeSettings)> {
     let text = text(alloc, place).ok()?;
     serve_settings::read(alloc, text.as_str()).ok()

@@ -31,7 +31,6 @@ struct Run<'a> {
 }
 
 impl<'a> Run<'a> {
-    /// A run begins.
     fn begin(rt: &'a HostRuntime) -> io::Result<Run<'a>> {
         Ok(Run {
             rt,
@@ -103,7 +102,7 @@ impl<'a> Run<'a> {
         Ok(())
     }
 
-    /// Submits so many messages, as fast as they are taken.
+    /// Submits this many messages, as fast as they are taken.
     fn submit_all(&mut self, station: &mut Station, count: u32) -> io::Result<()> {
         for _ in 0..u64::MAX {
             let left = count.saturating_sub(station.taken);
@@ -116,8 +115,8 @@ impl<'a> Run<'a> {
         Ok(())
     }
 
-    /// Submits so many messages at a peer, and makes rounds until they came to the other. No more than so many are on
-    /// their way. Returns how long it took from the first to the last.
+    /// Submits this many messages at a peer, and makes rounds until they came to the other. No more than this many are
+    /// on their way. Returns how long it took from the first to the last.
     fn pass_all(
         &mut self,
         near: &mut Station,
@@ -139,7 +138,7 @@ impl<'a> Run<'a> {
         Ok(self.now()?.saturating_sub(first))
     }
 
-    /// Round after round, until so many messages came. Returns how long it took from the first to the last.
+    /// Round after round, until this many messages came. Returns how long it took from the first to the last.
     fn receive_all(&mut self, station: &mut Station, count: u32) -> io::Result<Duration> {
         let mut first = None;
         for _ in 0..u64::MAX {
@@ -202,7 +201,7 @@ impl<'a> Run<'a> {
     }
 }
 
-/// Submits messages, at most so many, until one isn't taken.
+/// Submits messages, at most this many, until one isn't taken.
 fn submit(station: &mut Station, most: u32, now: Duration) {
     for _ in 0..most {
         if !station.submit(now) {

@@ -62,7 +62,7 @@ impl Model for Station {
 }
 
 impl Station {
-    /// A node with these settings, whose messages have so many octets. None where a socket or memory can't be had.
+    /// A node with these settings, whose messages have this many octets. None if a socket or memory can't be had.
     pub(crate) fn open(
         rt: &HostRuntime,
         settings: Settings,
@@ -93,7 +93,7 @@ impl Station {
         drop(self);
     }
 
-    /// Submits the next message. False where the node doesn't take it.
+    /// Submits the next message. False if the node doesn't take it.
     pub(crate) fn submit(&mut self, now: Duration) -> bool {
         let Some(front) = front_of(self.taken) else {
             return false;
@@ -118,7 +118,7 @@ impl Station {
         self.server.wait(now, most)
     }
 
-    /// Lets a tick pass, where one is due, and does what there is to do on each socket.
+    /// Lets a tick pass, if one is due, and does what there is to do on each socket.
     pub(crate) fn turn(&mut self, rt: &HostRuntime, now: Duration, is_due: bool) {
         if is_due {
             self.server.tick(now, &mut Unlogged);
@@ -158,8 +158,8 @@ impl Station {
     }
 }
 
-/// The front of the signalling information field of the message behind so many others: one of each flow in turn, with
-/// its number in the flow.
+/// The front of the signalling information field of the message after this many others. The flows take turns, and each
+/// message has its number in the flow.
 fn front_of(others: u32) -> Option<[u8; FRONT_OCTETS]> {
     let label = Label {
         dpc: PointCode::new(u16::from(RECEIVER))?,

@@ -23,7 +23,7 @@ is_loopback (V6 a) = bytes_eq (ipv6_segments (v6_ip a)) (0 ∷ 0 ∷ 0 ∷ 0 ∷
 abbrev pub is_same : SocketAddr → SocketAddr → Bool
 is_same = (same.ghosts).eq
 
--- this is the address, where there is one
+-- this is the address, if there is one
 abbrev pub is_address_of : Option SocketAddr → SocketAddr → Bool
 is_address_of None a = false
 is_address_of (Some b) a = is_same b a

@@ -86,11 +86,11 @@ unfoldable pub reached : Option SocketAddr → ℕ → SocketAddr → Result Soc
 reached None i a = Err (Missing key.Udp)
 reached (Some own) i a = if is_same_version own a then Ok a else Err (Range (key.LinkRemote i))
 
--- an SCTP port, from 1 on: 3565, the registered port of M2PA, where the key is left out
+-- an SCTP port, from 1 on: 3565, the registered port of M2PA, if the key is left out
 unfoldable pub sctp_port_at : List ℕ → ServeKey → Members → Result ℕ ServeFault
 sctp_port_at name key t = number_or key 1 65535 3565 (get_member name t)
 
--- whether an end sends INIT, which it does where the key is left out
+-- whether an end sends INIT, which it does if the key is left out
 unfoldable pub tries_at : ℕ → Members → Result Bool ServeFault
 tries_at i t = truth_or (key.LinkTries i) true (get_member (codes "tries") t)
 
@@ -124,18 +124,18 @@ endpoint_at s own before i t =
     endpoint_of s own before i t (get_member (codes "listen") t) (get_member (codes "connect") t)
     (get_member (codes "remote") t)
 
--- how the association of the link behind these comes about
+-- how the association of the link after these comes about
 unfoldable pub endpoint_in : Spelling → OwnAddresses → List Endpoint → Data → Result Endpoint ServeFault
 endpoint_in s own before d =
     and_then (table_in (Settings (found.Kind (node.LinkEntry (length before)))) d) (endpoint_at s own before (length before))
 
--- the same of each link, behind those that are read
+-- the same of each link, after those that are read
 abbrev pub endpoints_behind : Spelling → OwnAddresses → List Endpoint → List Data → Result (List Endpoint) ServeFault
 endpoints_behind s own before [] = Ok before
 endpoints_behind s own before (d ∷ ds) =
     and_then (endpoint_in s own before d) (λ e. endpoints_behind s own (before ++ e ∷ []) ds)
 
--- the links of a file; where it has none, the node's settings have that fault
+-- the links of a file; if it has none, the node's settings have that fault
 unfoldable pub links_at : Members → Result (List Data) ServeFault
 links_at t =
     and_then (value_at (codes "link") (Settings (found.Missing node.Link)) t)

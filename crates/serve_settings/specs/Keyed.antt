@@ -26,12 +26,12 @@ abbrev pub number_in : ServeKey → (least most : ℕ) → ℤ → Result ℕ Se
 number_in key least most (pos n) = if nat_le least n && nat_le n most then Ok n else Err (Range key)
 number_in key least most (negsuc n) = Err (Range key)
 
--- the same of the value of a key, with this number where the key is left out
+-- the same of the value of a key, with this number if the key is left out
 abbrev pub number_or : ServeKey → (least most usual : ℕ) → Option Data → Result ℕ ServeFault
 number_or key least most usual None = Ok usual
 number_or key least most usual (Some d) = and_then (integer_in key d) (number_in key least most)
 
--- a truth value, with this one where the key is left out
+-- a truth value, with this one if the key is left out
 abbrev pub truth_or : ServeKey → (usual : Bool) → Option Data → Result Bool ServeFault
 truth_or key usual None = Ok usual
 truth_or key usual (Some d) = truth_in key d
@@ -42,7 +42,7 @@ tick_ms_at t =
     and_then (value_at (codes "tick_ms") (Missing key.TickMs) t)
     (λ d. and_then (integer_in key.TickMs d) (number_in key.TickMs 10 10000))
 
--- whether the console may listen on an address that other machines reach, which it may not where the key is left out
+-- whether the console may listen on an address that other machines reach, which it may not if the key is left out
 unfoldable pub console_open_at : Members → Result Bool ServeFault
 console_open_at t = truth_or key.ConsoleOpen false (get_member (codes "console_open") t)
 
@@ -50,11 +50,11 @@ abbrev pub is_open : Result Bool ServeFault → Bool
 is_open (Ok opened) = opened
 is_open (Err fault) = false
 
--- an address; where it isn't open, one that no other machine reaches
+-- an address that, unless it is open, no other machine reaches
 abbrev pub guarded : ServeKey → (opened : Bool) → SocketAddr → Result SocketAddr ServeFault
 guarded key opened a = if is_loopback a || opened then Ok a else Err (Range key)
 
--- where the console listens, if there is one: where it isn't open, on an address that no other machine reaches
+-- where the console listens, if there is one; unless it is open, no other machine reaches that
 abbrev pub console_in : Spelling → (opened : Bool) → Option Data → Result (Option SocketAddr) ServeFault
 console_in s opened None = Ok None
 console_in s opened (Some d) =
@@ -75,7 +75,7 @@ capture_in (Some d) = and_then (text_in key.Capture d) file_of
 unfoldable pub capture_at : Members → Result (Option (List ℕ)) ServeFault
 capture_at t = capture_in (get_member (codes "capture") t)
 
--- how point codes are shown: plain where the key is left out
+-- how point codes are shown: plain if the key is left out
 abbrev pub points_in : Option Data → Result PointFormat ServeFault
 points_in None = Ok Plain
 points_in (Some d) =
@@ -93,12 +93,12 @@ udp_in s (Some d) = and_then (address_in s key.Udp d) (λ a. Ok (Some a))
 unfoldable pub udp_at : Spelling → Members → Result (Option SocketAddr) ServeFault
 udp_at s t = udp_in s (get_member (codes "udp") t)
 
--- whether the status page may be at an address that other machines reach, which it may not where the key is left out
+-- whether the status page may be at an address that other machines reach, which it may not if the key is left out
 unfoldable pub page_open_at : Members → Result Bool ServeFault
 page_open_at t = truth_or key.PageOpen false (get_member (codes "page_open") t)
 
--- where the status page is, if there is one: where it isn't open, at an address that no other machine reaches; and
--- not where the console is
+-- where the status page is, if there is one: not where the console is and, unless it is open, at an address that no
+-- other machine reaches
 abbrev pub page_in : Spelling → (opened : Bool) → Option SocketAddr → Option Data
     → Result (Option SocketAddr) ServeFault
 page_in s opened console None = Ok None

@@ -29,7 +29,7 @@ key_front (key.LinkSctpPort i) = codes "link"
 key_front (key.LinkRemoteSctpPort i) = codes "link"
 key_front (key.LinkTries i) = codes "link"
 
--- the index of the link that a key stands in, from 0
+-- the index of the link that a key is in, from 0
 abbrev pub key_index : ServeKey → Option ℕ
 key_index (key.LinkListen i) = Some i
 key_index (key.LinkConnect i) = Some i
@@ -39,7 +39,7 @@ key_index (key.LinkRemoteSctpPort i) = Some i
 key_index (key.LinkTries i) = Some i
 key_index other = None
 
--- what stands behind the index: a dot and the key in its link, or nothing
+-- what is after the index: a dot and the key in its link, or nothing
 abbrev pub key_back : ServeKey → List ℕ
 key_back (key.LinkListen i) = codes ".listen"
 key_back (key.LinkConnect i) = codes ".connect"

@@ -49,7 +49,7 @@ document s t =
       links = links;
     }))))))))))))
 
--- a file has a table for a server, or what stands in its place
+-- a file has a table for a server, or some other value there
 abbrev pub is_of_server : Members → Bool
 is_of_server t = is_some (get_member (codes "serve") t)
 

@@ -8,11 +8,10 @@ use Rattle.serve_settings.specs.declared.key.ServeKey.{ServeKey}
 use Rattle.serve_settings.specs.declared.fault.ServeFault.{ServeFault}
 use Rattle.serve_settings.specs.declared.fault.ServeFault.TheVariants as kind
 
--- where a key of a server stands: `serve.tick_ms`, or `listen` of a link
+-- where a key of a server is: `serve.tick_ms`, or `listen` of a link
 abbrev pub key_place : ServeKey → KeyPlace
 key_place key = record { front = key_front key; entry = key_index key; back = key_back key }
 
--- the place that a fault is at
 abbrev pub place_of : ServeFault → Option KeyPlace
 place_of (kind.Settings found) = option_map settings.key_place (settings.key_of found)
 place_of (kind.Missing key) = Some (key_place key)

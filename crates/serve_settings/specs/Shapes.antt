@@ -1,4 +1,4 @@
--- The shapes of values in a server's settings, and the fault where a value has another.
+-- The shapes of values in a server's settings, and the fault if a value has another.
 use Rattle.std.specs.Prelude.{ℕ, ℤ, Bool, List, Result, Ok, Err}
 use Rattle.std.specs.Option.{ok_or, option_map}
 use Rattle.toml.specs.Data.{Data, Members, get_member, as_integer, as_bool, as_str, as_array, as_table}
@@ -7,16 +7,16 @@ use Rattle.serve_settings.specs.declared.key.ServeKey.{ServeKey}
 use Rattle.serve_settings.specs.declared.fault.ServeFault.{ServeFault}
 use Rattle.serve_settings.specs.declared.fault.ServeFault.TheVariants.{Kind}
 
--- what is read next, where nothing was wrong so far
+-- what is read next, if nothing was wrong so far
 abbrev pub and_then : {A B : Type 0} → Result A ServeFault → (A → Result B ServeFault) → Result B ServeFault
 and_then (Ok a) next = next a
 and_then (Err fault) next = Err fault
 
--- the value of a key that has to be there
+-- the value of a required key
 unfoldable pub value_at : List ℕ → (missing : ServeFault) → Members → Result Data ServeFault
 value_at name missing t = ok_or (get_member name t) missing
 
--- the integer, the truth value, the text, the table and the entries of the array that a value has to be
+-- the integer, the truth value, the text, the table and the entries of the array that a value must be
 unfoldable pub integer_in : ServeKey → Data → Result ℤ ServeFault
 integer_in key d = ok_or (as_integer d) (Kind key)
 

@@ -10,7 +10,7 @@ use Rattle.serve_settings.specs.declared.sctp.SctpTimes.{SctpTimes}
 use Rattle.serve_settings.specs.Shapes.{and_then, table_in}
 use Rattle.serve_settings.specs.Keyed.{number_or}
 
--- the times and tries where a file says nothing of them
+-- the times and tries if a file says nothing of them
 abbrev pub usual_times : SctpTimes
 usual_times = record {
   rto_initial_ms = 300;

@@ -22,7 +22,6 @@ fn spelled(text: &str, key: ServeKey) -> Result<SocketAddr, ServeFault>
     }
 }
 
-/// The address that a value is.
 #[tactic(auto, unfolding(crate::specs::Keyed::address_in))]
 pub(crate) fn address_in(value: &Value, key: ServeKey) -> Result<SocketAddr, ServeFault>
     ensures { (s : Spelling) → result ≡ address_in s key (view value.now) }
@@ -53,7 +52,7 @@ pub(crate) fn guarded(
     }
 }
 
-/// Whether this is the address, where there is one.
+/// Whether this is the address, if there is one.
 pub(crate) fn is_address_of(own: Option<SocketAddr>, address: SocketAddr) -> bool
     ensures { result ≡ is_address_of own address }
 {

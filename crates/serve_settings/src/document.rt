@@ -62,7 +62,7 @@ fn contents(alloc: Global, table: &Table) -> Result<ServeSettings, ServeFault>
     })
 }
 
-/// A text of its own, where there is one. The error means that memory ran out.
+/// The text, owned, if there is one. The error means that memory ran out.
 fn owned(alloc: Global, text: Option<&str>) -> Result<Option<String>, AllocError>
     ensures { IfOk result (λ owned. option_map (λ own. string_bytes own) owned
         ≡ option_map (λ text. text.now) text.entry) }
@@ -75,10 +75,9 @@ fn owned(alloc: Global, text: Option<&str>) -> Result<Option<String>, AllocError
 
 /// Reads the settings of a server from the document that a settings file is.
 ///
-/// Answers the settings, or the first fault of the keys `tick_ms`, `console`, `capture`,
-/// `console_open`, `points` and `udp` of `[serve]`, of the keys of `[serve.sctp]`, of `page_open` and
-/// `page`, then of the keys of each link, from the first on. Want of memory may stand in place of any
-/// other. Keys of other names are ignored.
+/// Returns the settings, or the first fault, in this order: the keys `tick_ms`, `console`, `capture`, `console_open`,
+/// `points` and `udp` of `[serve]`, those of `[serve.sctp]`, `page_open` and `page`, then the keys of each link, from
+/// the first. If memory runs out, that may be returned instead. Keys of other names are ignored.
 pub fn read_server(alloc: Global, document: &Table) -> Result<ServeSettings, ServeFault>
     ensures { (s : Spelling) (text : List ℕ) → parse_document text ≡ Some (table_view document.now)
         → AnswersOrNoMemory (λ settings. settings) (reading s text) result }
@@ -89,7 +88,7 @@ pub fn read_server(alloc: Global, document: &Table) -> Result<ServeSettings, Ser
 /// Checks the settings of a server in the document that a settings file is. A file without `serve` has
 /// none, so it has no fault.
 ///
-/// Answers the first fault, as `read_server` does. Want of memory may stand in place of any other.
+/// Returns the first fault, as `read_server` does. If memory runs out, that may be returned instead.
 #[tactic(auto, unfolding(crate::specs::Reading::checked))]
 pub fn check_server(alloc: Global, document: &Table) -> Result<(), ServeFault>
     ensures { (s : Spelling) → AnswersOrNoMemory (λ nothing. nothing)
@@ -107,8 +106,8 @@ pub fn check_server(alloc: Global, document: &Table) -> Result<(), ServeFault>
 /// Reads the settings of a node and those of its server from the text of a settings file, and
 /// checks both.
 ///
-/// Answers both, or the first fault: what `settings_file::read` finds, then what `read_server` finds. Want
-/// of memory may stand in place of any other. Keys of other names are ignored.
+/// Returns both, or the first fault: what `settings_file::read` finds, then what `read_server` finds. If memory runs
+/// out, that may be returned instead. Keys of other names are ignored.
 pub fn read(alloc: Global, text: &str) -> Result<(Settings, ServeSettings), ServeFault>
     ensures settings { IfOk result (λ read. IsReadAs text.now read.0) }
     ensures server { (s : Spelling) → IfOk result (λ read. reading s text.now ≡ Ok read.1) }

@@ -41,7 +41,7 @@ fn is_taken(own: OwnAddresses, before: &[Endpoint], address: SocketAddr) -> bool
         || is_link_on(before, address)
 }
 
-/// Where the link behind these listens, which is where nothing else does.
+/// Where the link after these listens, which is where nothing else does.
 #[tactic(auto, unfolding(crate::specs::Endpoints::listening_in))]
 fn listening_in(
     own: OwnAddresses,
@@ -80,7 +80,7 @@ fn without_sctp(link: &Table, i: usize) -> Result<(), ServeFault>
     without(link, "tries", ServeKey::LinkTries(i))
 }
 
-/// Where the link behind these listens, which has no other key of the three.
+/// Where the link after these listens, which has no other key of the three.
 #[tactic(auto, unfolding(crate::specs::Endpoints::listen_in))]
 fn listen_in(
     own: OwnAddresses,
@@ -121,7 +121,6 @@ fn reached(udp: Option<SocketAddr>, i: usize, address: SocketAddr) -> Result<Soc
     }
 }
 
-/// An SCTP port.
 #[tactic(auto, unfolding(crate::specs::Endpoints::sctp_port_at))]
 fn sctp_port(link: &Table, name: &str, key: ServeKey) -> Result<u16, ServeFault>
     ensures { result ≡ sctp_port_at name.now key (table_view link.now) }
@@ -144,7 +143,6 @@ fn tries(link: &Table, i: usize) -> Result<bool, ServeFault>
     truth_or(link, "tries", ServeKey::LinkTries(i), true)
 }
 
-/// Whether one of these links has this peer.
 fn has_peer(links: &[Endpoint], remote: Remote) -> bool
     ensures { result ≡ list_any (has_same_peer remote) links.now }
 {
@@ -162,7 +160,7 @@ fn apart(before: &[Endpoint], remote: Remote) -> Result<(), ServeFault>
     Ok(())
 }
 
-/// The link behind these over SCTP, whose peer is where this value says.
+/// The link after these over SCTP, whose peer is where this value says.
 #[tactic(auto, unfolding(crate::specs::Endpoints::remote_in))]
 fn remote_in(
     own: OwnAddresses,
@@ -190,7 +188,7 @@ fn remote_in(
     Ok(remote)
 }
 
-/// How the association of the link behind these comes about, whose table this is.
+/// How the association of the link after these comes about, whose table this is.
 #[tactic(auto, unfolding(crate::specs::Endpoints::endpoint_at))]
 fn endpoint_at(own: OwnAddresses, before: &[Endpoint], link: &Table) -> Result<Endpoint, ServeFault>
     ensures value { (s : Spelling) → result
@@ -214,7 +212,7 @@ fn endpoint_at(own: OwnAddresses, before: &[Endpoint], link: &Table) -> Result<E
     }
 }
 
-/// How the association of the link behind these comes about.
+/// How the association of the link after these comes about.
 #[tactic(auto, unfolding(crate::specs::Endpoints::endpoint_in))]
 fn endpoint_in(
     own: OwnAddresses,

@@ -86,7 +86,7 @@ impl ServeKey {
         }
     }
 
-    /// The index of the link that the key stands in.
+    /// The index of the link that the key is in.
     fn index(self) -> Option<usize>
         ensures { result ≡ key_index self }
     {
@@ -101,7 +101,7 @@ impl ServeKey {
         }
     }
 
-    /// What stands behind the index: a dot and the key in its link, or nothing.
+    /// What is after the index: a dot and the key in its link, or nothing.
     fn back(self) -> &'static str
         ensures { result.now ≡ key_back self }
     {

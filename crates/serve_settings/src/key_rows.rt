@@ -1,4 +1,4 @@
-//! What the value of each key of a server has to be.
+//! What the value of each key of a server must be.
 
 ghost use Rattle.std.specs.Prelude.{◌≡◌};
 ghost use Rattle.settings_file.specs.Sentences.{row_place};
@@ -33,7 +33,6 @@ const TRIES: &str = "1 to 100";
 
 const SCTP_PORT: &str = "1 to 65535";
 
-/// The row of a key.
 pub(crate) fn key_row(key: ServeKey) -> KeyRow
     ensures { row_place result ≡ key_place key }
 {

@@ -37,7 +37,7 @@ pub(crate) fn tick_ms(serve: &Table) -> Result<u16, ServeFault>
     }
 }
 
-/// The truth value of a key, with this one where the key is left out.
+/// The truth value of a key, with this one if the key is left out.
 pub(crate) fn truth_or(
     table: &Table,
     name: &str,
@@ -60,8 +60,8 @@ pub(crate) fn console_open(serve: &Table) -> Result<bool, ServeFault>
     truth_or(serve, "console_open", ServeKey::ConsoleOpen, false)
 }
 
-/// Where the console listens, if there is one: where it isn't open, on an address that no other
-/// machine reaches, since it asks for no password.
+/// Where the console listens, if there is one. It asks for no password, so unless it is open no other machine may reach
+/// the address.
 #[tactic(auto, unfolding(crate::specs::Keyed::console_at))]
 pub(crate) fn console(serve: &Table, opened: bool) -> Result<Option<SocketAddr>, ServeFault>
     ensures { (s : Spelling) → result ≡ console_at s opened (table_view serve.now) }
@@ -126,8 +126,8 @@ pub(crate) fn page_open(serve: &Table) -> Result<bool, ServeFault>
     truth_or(serve, "page_open", ServeKey::PageOpen, false)
 }
 
-/// Where the status page is, if there is one: where it isn't open, at an address that no other
-/// machine reaches, since it asks for no password; and not where the console is.
+/// Where the status page is, if there is one: not where the console is. It asks for no password, so unless it is open
+/// no other machine may reach the address.
 #[tactic(auto, unfolding(crate::specs::Keyed::page_at))]
 pub(crate) fn page(
     serve: &Table,

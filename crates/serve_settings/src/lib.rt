@@ -1,5 +1,5 @@
-//! The settings of a server: the keys of `[serve]`, and the address of each link, read from a
-//! settings file; and sentences that say what is wrong with them.
+//! The settings of a server: the keys of `[serve]` and the address of each link, read from a settings file, and
+//! sentences that say what is wrong with them.
 #![tactic(auto)]
 
 mod address;

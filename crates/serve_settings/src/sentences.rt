@@ -21,13 +21,11 @@ const NO_SOURCE: &str = "is missing, and a link has remote";
 /// What is wrong with an initial timeout that is left out.
 const NOT_USUAL: &str = "is missing, and 300 isn't from rto_min_ms to rto_max_ms";
 
-/// What the address of a console has to be.
 const LOOPBACK: &str = "a loopback address unless console_open is true";
 
-/// What the address of a page has to be.
 const LOOPBACK_PAGE: &str = "a loopback address unless page_open is true";
 
-/// What the address of a peer has to be.
+/// What the address of a peer must be.
 const OF_VERSION: &str = "an address of the same version of IP as serve.udp";
 
 /// What is wrong with an address that two listen on.
@@ -45,11 +43,11 @@ const CONNECTS: &str = "but the link has connect too";
 /// What is wrong with a peer that another link has.
 const SAME_PEER: &str = "whose host and SCTP ports another link has too";
 
-/// The sentence that says what is wrong with the document that a settings file of this name is, which has this fault,
-/// with a line feed: `node.toml: serve.tick_ms is 5, must be 10 to 10000`. Of a fault of the node's settings it is what
+/// The sentence that says what this fault is, in the document of a settings file of this name, with a line feed:
+/// `node.toml: serve.tick_ms is 5, must be 10 to 10000`. A fault of the node's settings gives what
 /// `settings_file::sentence` says.
 ///
-/// `AllocError` where memory ran out.
+/// `AllocError` if memory ran out.
 pub fn sentence(
     alloc: Global,
     file: &str,
@@ -126,7 +124,7 @@ fn wrong_with(
     }
 }
 
-/// What an address has to be that is one with a port from 1 on.
+/// What an address must be that is one with a port from 1 on.
 fn demand(key: ServeKey, row: &KeyRow) -> &'static str {
     match key {
         ServeKey::Console => LOOPBACK,
@@ -160,7 +158,6 @@ fn beside(document: &Table, i: usize) -> &'static str {
     }
 }
 
-/// Whether a key has a value.
 fn has_value(document: &Table, key: ServeKey) -> bool {
     value_at(document, &key_row(key)).is_some()
 }

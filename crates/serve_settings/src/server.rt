@@ -59,9 +59,9 @@ pub(crate) struct OwnAddresses {
     pub(crate) udp: Option<SocketAddr>,
 }
 
-/// The settings of a server: how long a tick is, where its console listens, what file it captures
-/// to, how it shows point codes, where its datagrams go out and by which times, where its status page
-/// is, and how the association of each link comes about.
+/// The settings of a server: the length of a tick, where its console listens, the capture file, how it shows point
+/// codes, where its datagrams go out and with which times, where its status page is, and how the association of each
+/// link comes about.
 #[derive(Drop)]
 pub struct ServeSettings {
     pub(crate) tick_ms: u16,
@@ -97,14 +97,14 @@ impl ServeSettings {
         self.tick_ms
     }
 
-    /// The address of the console, where there is to be one.
+    /// The address of the console, if there is to be one.
     pub fn console(&self) -> Option<SocketAddr>
         ensures { result ≡ self.now.console }
     {
         self.console
     }
 
-    /// The file that frames are captured to, where there is to be one.
+    /// The file that frames are captured to, if there is to be one.
     pub fn capture(&self) -> Option<&str>
         ensures { option_map (λ file. file.now) result ≡ self.now.capture }
     {
@@ -143,7 +143,7 @@ impl ServeSettings {
         self.sctp
     }
 
-    /// The address of the status page, where there is to be one.
+    /// The address of the status page, if there is to be one.
     pub fn page(&self) -> Option<SocketAddr>
         ensures { result ≡ self.now.page }
     {

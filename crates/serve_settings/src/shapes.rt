@@ -11,7 +11,7 @@ use crate::fault::ServeFault;
 use crate::key::ServeKey;
 use toml::{Table, Value};
 
-/// The value of a key, where it is there.
+/// The value of a key, if it is there.
 pub(crate) fn found<'a>(table: &'a Table, name: &str) -> Option<&'a Value>
     ensures { option_map (λ value. view value.now) result
         ≡ get_member name.now (table_view table.now) }
@@ -19,7 +19,7 @@ pub(crate) fn found<'a>(table: &'a Table, name: &str) -> Option<&'a Value>
     table.get(name)
 }
 
-/// The value of a key that has to be there, or this fault.
+/// The value of a required key, or this fault.
 #[tactic(auto, unfolding(crate::specs::Shapes::value_at))]
 pub(crate) fn value<'a>(
     table: &'a Table,
@@ -35,7 +35,6 @@ pub(crate) fn value<'a>(
     }
 }
 
-/// The integer that a value is.
 #[tactic(auto, unfolding(crate::specs::Shapes::integer_in))]
 pub(crate) fn integer_in(value: &Value, key: ServeKey) -> Result<i64, ServeFault>
     ensures { result ≡ integer_in key (view value.now) }
@@ -43,7 +42,6 @@ pub(crate) fn integer_in(value: &Value, key: ServeKey) -> Result<i64, ServeFault
     value.as_integer().ok_or(ServeFault::Kind(key))
 }
 
-/// The truth value that a value is.
 #[tactic(auto, unfolding(crate::specs::Shapes::truth_in))]
 pub(crate) fn truth_in(value: &Value, key: ServeKey) -> Result<bool, ServeFault>
     ensures { result ≡ truth_in key (view value.now) }
@@ -51,7 +49,6 @@ pub(crate) fn truth_in(value: &Value, key: ServeKey) -> Result<bool, ServeFault>
     value.as_bool().ok_or(ServeFault::Kind(key))
 }
 
-/// The text that a value is.
 #[tactic(auto, unfolding(crate::specs::Shapes::text_in))]
 pub(crate) fn text_in(value: &Value, key: ServeKey) -> Result<&str, ServeFault>
     ensures { Answers (λ text. text.now) (text_in key (view value.now)) result }
@@ -62,7 +59,6 @@ pub(crate) fn text_in(value: &Value, key: ServeKey) -> Result<&str, ServeFault>
     }
 }
 
-/// The table that a value is, or this fault.
 #[tactic(auto, unfolding(crate::specs::Shapes::table_in))]
 pub(crate) fn table_in(value: &Value, kind: ServeFault) -> Result<&Table, ServeFault>
     ensures { Answers (λ table. table_view table.now) (table_in kind (view value.now)) result }

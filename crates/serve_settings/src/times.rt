@@ -20,7 +20,6 @@ const SHORTEST_TIMEOUT: u32 = 10;
 /// The longest timeout, in milliseconds.
 const LONGEST_TIMEOUT: u32 = 60_000;
 
-/// The most tries.
 const MOST_TRIES: u32 = 100;
 
 /// The shortest time between heartbeats, in milliseconds.
@@ -29,7 +28,7 @@ const SHORTEST_HEARTBEAT: u32 = 100;
 /// The longest time between heartbeats, in milliseconds.
 const LONGEST_HEARTBEAT: u32 = 600_000;
 
-/// The times and tries where a file says nothing of them.
+/// The times and tries if a file says nothing of them.
 const USUAL: SctpTimes = SctpTimes {
     rto_initial_ms: 300,
     rto_min_ms: 100,
@@ -39,7 +38,7 @@ const USUAL: SctpTimes = SctpTimes {
     heartbeat_ms: 5_000,
 };
 
-/// What a number has to be, and what it is where its key is left out.
+/// What a number must be, and what it is if its key is left out.
 #[derive(Clone, Copy)]
 struct Limits {
     least: u32,

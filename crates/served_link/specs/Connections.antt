@@ -17,7 +17,7 @@ pub record Connection : Type 0 where
   pub is_up : Bool
   -- the octets that came and aren't handed in yet
   pub held : List ℕ
-  -- the octets of the frames that were taken, one after another, but for those that are written
+  -- the octets of the frames that were taken, one after another, without those that are written
   pub pending : List ℕ
 
 -- a new connection, over which the association isn't up yet
@@ -52,12 +52,12 @@ text_to_take q s link = option_map spelled (frame_to_take q s link)
 abbrev pub is_pending : List ℕ → Bool
 is_pending pending = nat_lt 0 (length pending)
 
--- the longest frame finds room behind those that aren't written
+-- the longest frame finds room after those that aren't written
 abbrev pub has_room : (pending : List ℕ) → Bool
 has_room pending = nat_le (length pending) (OUTPUT_OCTETS - LONGEST_FRAME)
 
--- These frames were taken of a link, one after another, each while the longest would have found room: each was the next
--- of the link, and its octets stand behind those before.
+-- These frames of a link were taken, one after another, each while the longest would have found room. Each was the next
+-- of the link, and its octets come after those before.
 abbrev pub TakesEach : {Q : Type 0} → QueueKind Q → (link : ℕ) → (frames : List (List ℕ))
     → (pending pending_new : List ℕ) → (s s_new : State Q) → Type 0
 TakesEach q link [] pending pending_new s s_new = (pending_new ≡ pending) × (s_new ≡ s)
@@ -76,7 +76,7 @@ pub record Takes {W Q : Type 0} (sees : W → Sight → W → Type 0) (q : Queue
   pub each : TakesEach q link frames pending pending_new s s_new
   pub seen : SeesEach sees (sights_of_frames link frames) w w_new
 
--- a take that gives nothing ends it, unless there is no more room
+-- a take that gives nothing ends it, unless there is no room any more
 abbrev pub after_last : {Q : Type 0} → QueueKind Q → (link : ℕ) → (pending : List ℕ) → State Q → State Q
 after_last q link pending s = if has_room pending then taken q s link else s
 

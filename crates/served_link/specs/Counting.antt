@@ -1,4 +1,4 @@
--- What is counted of a link, and what it adds to each counter.
+-- What is counted for a link, and what it adds to each counter.
 use Rattle.std.specs.Prelude.{ℕ, ◌+◌, ◌-◌, ◌^◌, min, Bool, false, not, if◌then◌else◌, Option, None, Some}
 use Rattle.std.specs.Prelude.{List, length, replicate, slice_index, slice_index_or, slice_set}
 use Rattle.signalling_types.specs.Causes.{cause_number}
@@ -17,11 +17,11 @@ use Rattle.served_link.specs.declared.counter.Counter.TheVariants.{Failed, Retri
 use Rattle.served_link.specs.declared.row.LinkCounters.{LinkCounters}
 use Rattle.served_link.specs.declared.datagrams.DatagramCounters.{DatagramCounters}
 
--- what is counted of a link
+-- what is counted for a link
 pub data Counted : Type 0 where
-  -- a frame of so many octets came in, with a user message or without one, and was handed in with this outcome
+  -- a frame of this many octets came in, with a user message or without one, and was handed in with this outcome
   FrameCame : (octets : ℕ) (has_user_message : Bool) (outcome : Outcome) → Counted
-  -- a frame of so many octets went out
+  -- a frame of this many octets went out
   FrameWent : (octets : ℕ) → Counted
   -- the link failed for this reason
   Failure : (reason : FailureReason) → Counted
@@ -37,14 +37,14 @@ is_users (Some message) = not (is_management message)
 abbrev pub has_user_message : List ℕ → Bool
 has_user_message frame = is_users (message_in frame)
 
--- what is counted of a frame that came in, and of one that went out
+-- what is counted for a frame that came in, and of one that went out
 abbrev pub came : (frame : List ℕ) → Outcome → Counted
 came frame outcome = FrameCame (length frame) (has_user_message frame) outcome
 
 abbrev pub went : (frame : List ℕ) → Counted
 went frame = FrameWent (length frame)
 
--- the place of a reason among all
+-- the index of a reason among all
 abbrev pub reason_number : FailureReason → ℕ
 reason_number Association = 0
 reason_number Timer = 1
@@ -54,7 +54,7 @@ reason_number Length = 4
 reason_number Changeover = 5
 reason_number Operator = 6
 
--- a count of 64 bits and so many more, which stays at its greatest value
+-- a count of 64 bits and this many more, which stays at its greatest value
 abbrev pub saturated : ℕ → ℕ
 saturated n = min n (2 ^ 64 - 1)
 
@@ -75,7 +75,7 @@ no_counts = record {
 abbrev pub one_more_at : ℕ → List ℕ → List ℕ
 one_more_at place counts = slice_set counts place (saturated (slice_index counts place + 1))
 
--- a message was queued or held; of a user, it is forwarded
+-- a message was queued or held; if it is a user's, it is forwarded
 abbrev pub sent_on : (has_user_message : Bool) → LinkCounters → LinkCounters
 sent_on has_user_message row =
     record row { forwarded = if has_user_message then saturated (row.forwarded + 1) else row.forwarded }
@@ -106,7 +106,7 @@ counted Retry row = record row { retries = saturated (row.retries + 1) }
 abbrev pub row_at : List LinkCounters → ℕ → LinkCounters
 row_at rows link = slice_index_or rows link no_counts
 
--- in the counters of all links, one thing more is counted of a link; of a link that isn't there nothing is
+-- in the counters of all links, one thing more is counted for a link; for a link that isn't there nothing is
 abbrev pub row_counted_at : (link : ℕ) → Counted → List LinkCounters → List LinkCounters
 row_counted_at link what rows = slice_set rows link (counted what (row_at rows link))
 
@@ -121,11 +121,11 @@ pub record NodeCounters : Type 0 where
 abbrev pub no_datagrams : DatagramCounters
 no_datagrams = record { incoming = 0; outgoing = 0; strangers = 0 }
 
--- nothing is counted yet of so many links
+-- nothing is counted yet for this many links
 abbrev pub first_counters : (links : ℕ) → NodeCounters
 first_counters links = record { links = replicate links no_counts; datagrams = no_datagrams }
 
--- one thing more is counted of a link
+-- one thing more is counted for a link
 abbrev pub counted_at : (link : ℕ) → Counted → NodeCounters → NodeCounters
 counted_at link what counters = record counters { links = row_counted_at link what counters.links }
 

@@ -56,7 +56,7 @@ adds counter Retry = 0
 
 -- ---- of many
 
--- the counters of a link after some things are counted of it
+-- the counters of a link after some things are counted for it
 abbrev pub counted_each : List Counted → LinkCounters → LinkCounters
 counted_each [] row = row
 counted_each (what ∷ more) row = counted_each more (counted what row)
@@ -66,18 +66,17 @@ abbrev pub counted_all : List (ℕ × Counted) → List LinkCounters → List Li
 counted_all [] rows = rows
 counted_all (entry ∷ more) rows = counted_all more (row_counted_at entry.0 entry.1 rows)
 
--- what is counted of one link
 abbrev pub adds_of : (link : ℕ) → Counter → ℕ × Counted → ℕ
 adds_of link counter entry = if entry.0 == link then adds counter entry.1 else 0
 
 -- ---- the laws
 
--- each counter of a link is the sum of what was added to it, or 2^64 - 1 where the sum is above
+-- each counter of a link is the sum of what was added to it, or 2^64 - 1 if the sum is above
 abbrev pub counters_are_sums : Type 0
 counters_are_sums = (counter : Counter) (whats : List Counted)
     → value_of counter (counted_each whats no_counts) ≡ saturated (sum_by (adds counter) whats)
 
--- so is each counter of each of the links, of what was counted of that link
+-- so is each counter of each link, for what was counted for that link
 abbrev pub counters_of_links_are_sums : Type 0
 counters_of_links_are_sums = (links link : ℕ) (counter : Counter) (whats : List (ℕ × Counted)) → link < links
     → value_of counter (row_at (counted_all whats (replicate links no_counts)) link)

@@ -29,7 +29,7 @@ reads_are_one {W = W} {Q = Q} sees q = (link : ℕ) (pieces : List (List ℕ)) (
     (w w_new : W) → ReadsEach sees q link pieces [] held s s_new w w_new
     → Reads sees q link (concat pieces) unbroken [] held s s_new w w_new
 
--- so they are where the last of them is Broken
+-- they are so if the last of them is Broken
 abbrev pub last_reads_are_one : {W Q : Type 0} → (W → Sight → W → Type 0) → QueueKind Q → Type 0
 last_reads_are_one {W = W} {Q = Q} sees q = (link : ℕ) (pieces : List (List ℕ)) (last : List ℕ)
     (answer : Result (Unit {0}) Broken) (held held_new : List ℕ) (s t s_new : State Q) (w x w_new : W)

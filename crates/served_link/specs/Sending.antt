@@ -5,11 +5,11 @@ use Rattle.exchange_rules.specs.State.{QueueKind, State}
 use Rattle.served_link.specs.Watching.{Sight}
 use Rattle.served_link.specs.Connections.{Takes}
 
--- what an association is called for, as frames go out
+-- the calls of an association, as frames go out
 pub data Call : Type 0 where
   -- these frames are taken
   Fill : (frames : List (List ℕ)) → Call
-  -- so many octets are written
+  -- this many octets are written
   Write : (count : ℕ) → Call
 
 -- what came of some calls: the frames that were taken, the octets that were written, and those that aren't yet

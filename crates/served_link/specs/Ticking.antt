@@ -15,7 +15,7 @@ ticks_left c elapsed = elapsed / c.tick_ms - c.handed
 abbrev pub is_due : ClockState → (elapsed : ℕ) → Bool
 is_due c elapsed = nat_lt 0 (ticks_left c elapsed) && nat_le (c.tick_ms / 2) (elapsed - c.last)
 
--- the clock after a call, which hands out a tick where one is due
+-- the clock after a call, which hands out a tick if one is due
 abbrev pub after_call : ClockState → (elapsed : ℕ) → ClockState
 after_call c elapsed =
     if is_due c elapsed then record c { handed = c.handed + 1; last = elapsed } else c

@@ -5,7 +5,7 @@ use Rattle.signalling_types.specs.declared.outcome.Outcome.{Outcome}
 pub data Sight : Type 0 where
   -- this frame came in on a link and was handed in, with this outcome
   CameIn : (link : ℕ) (frame : List ℕ) (outcome : Outcome) → Sight
-  -- this frame was taken to go out on a link, behind those before it
+  -- this frame was taken to go out on a link, after those before it
   WentOut : (link : ℕ) (frame : List ℕ) → Sight
 
 -- a watch saw these one after another, and no others

@@ -18,12 +18,12 @@ use exchange::{Event, Exchange, Framer};
 use settings::{Limits, LinkId, Outcome};
 use std::marker::Model;
 
-/// The octets that came begin, where a frame is due, with a length field that no frame has: under 8, or above 4,096.
+/// The octets that came begin, if a frame is due, with a length field that no frame has: under 8, or above 4,096.
 #[derive(Clone, Copy, Debug, PartialEq, Eq)]
 pub struct Broken;
 
 /// One connection of a link: whether the link's association is up over it, the octets that came and aren't a whole
-/// frame yet, and the frames that were taken and aren't written yet, in a buffer of 65,536 octets.
+/// frame yet, and, in a buffer of 65,536 octets, the frames that were taken and aren't written yet.
 ///
 /// It begins when the connection is there, and ends with it: octets that are held then, and frames that aren't written,
 /// are gone. No message is lost with them: one that was taken stays in the node until it is confirmed. It allocates no
@@ -71,7 +71,7 @@ impl Association {
         }
     }
 
-    /// A connection that this end accepted: the association comes up at once, where the link wants that. If it isn't up
+    /// A connection that this end accepted: the association comes up at once, if the link wants that. If it isn't up
     /// then, close the connection.
     pub fn accepted(link: LinkId, exchange: &mut Exchange) -> Association
         ensures up { (a : Abstract) → StandsFor exchange.old a → result ≡ risen whole (silent link) a }
@@ -143,9 +143,9 @@ impl Association {
     /// Takes octets that came, and hands in each frame that is whole, once and in order; the beginning of the next one
     /// is held. Any number of octets may come at once, and a frame in any number of pieces.
     ///
-    /// Broken where a frame is due and a length field comes that no frame has: under 8, or above 4,096 (RFC 4165
-    /// §2.1.5). Frames before it are handed in. Octets behind it are dropped, and each later call is Broken too: close
-    /// the connection, and hand in AssociationDown.
+    /// Broken if a frame is due and a length field comes that no frame has: under 8, or above 4,096 (RFC 4165 §2.1.5).
+    /// Frames before it are handed in. Octets after it are dropped, and each later call is Broken too: close the
+    /// connection, and hand in AssociationDown.
     pub fn read<W: Watch>(
         &mut self,
         exchange: &mut Exchange,
@@ -173,8 +173,8 @@ impl Association {
         )
     }
 
-    /// Takes frames of the link, one after another, while the longest would find room behind those that aren't written
-    /// yet; the others stay in the node, for a changeover. The watch is told of each. Returns whether octets are left
+    /// Takes frames of the link, one after another, while the longest would find room after those that aren't written
+    /// yet. The others stay in the node, for a changeover. The watch is told of each. Returns whether octets are left
     /// to write.
     pub fn fill<W: Watch>(&mut self, exchange: &mut Exchange, watch: &mut W) -> bool
         requires up { self.old.is_up ≡ true }
@@ -193,14 +193,14 @@ impl Association {
         self.outgoing.is_pending()
     }
 
-    /// The octets of the frames that were taken, one after another, but for those that are written.
+    /// The octets of the frames that were taken, one after another, without those that are written.
     pub fn pending(&self) -> &[u8]
         ensures { result.now ≡ self.now.pending }
     {
         self.outgoing.pending()
     }
 
-    /// So many of the pending octets were written, from the first on.
+    /// This many of the pending octets were written, from the first.
     pub fn written(&mut self, count: usize)
         requires { count ≤ length self.old.pending }
         ensures { self.new ≡ record self.old { pending = drop count self.old.pending } }
@@ -209,7 +209,7 @@ impl Association {
     }
 }
 
-/// An association of a link comes up. True where the exchange handles that.
+/// An association of a link comes up. True if the exchange handles that.
 fn come_up(link: LinkId, exchange: &mut Exchange) -> bool
     ensures up { (a : Abstract) → StandsFor exchange.old a → result ≡ is_handled (outcome_of whole (CameUp link) a) }
     ensures state { (a : Abstract) → StandsFor exchange.old a → StandsFor exchange.new (after whole (CameUp link) a) }

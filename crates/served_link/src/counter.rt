@@ -6,7 +6,7 @@ ghost use Rattle.served_link.specs.Counting.{reason_number};
 
 use signalling_types::{Cause, FailureReason};
 
-/// What is counted of each link.
+/// What is counted for each link.
 #[derive(Clone, Copy)]
 pub enum Counter {
     /// Frames that came in.
@@ -77,7 +77,7 @@ pub(crate) const CAUSES: usize = 22;
 /// Reasons of failures.
 pub(crate) const REASONS: usize = 7;
 
-/// The place of a cause among all.
+/// The index of a cause among all.
 pub(crate) fn cause_place(cause: Cause) -> usize
     ensures place { result + 1 ≡ cause_number cause }
     ensures fits { result < CAUSES }
@@ -85,7 +85,7 @@ pub(crate) fn cause_place(cause: Cause) -> usize
     usize::from(cause.number()) - 1
 }
 
-/// The place of a reason among all.
+/// The index of a reason among all.
 pub(crate) fn reason_place(reason: FailureReason) -> usize
     ensures place { result ≡ reason_number reason }
     ensures fits { result < REASONS }

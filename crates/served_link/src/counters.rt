@@ -13,7 +13,7 @@ use std::alloc::{AllocError, Global};
 use std::marker::Model;
 use trace::ObservedFrame;
 
-/// The counters of a node since start: of each link, and of datagrams. What is counted of a link that isn't there is
+/// The counters of a node since start: of each link, and of datagrams. What is counted for a link that isn't there is
 /// ignored.
 #[derive(Drop)]
 pub struct Counters {

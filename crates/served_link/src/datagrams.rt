@@ -33,8 +33,8 @@ impl DatagramCounters {
         }
     }
 
-    /// Writes their lines, each with a line feed: `counter NAME VALUE`, where NAME is `datagrams_in`, `datagrams_out` or
-    /// `strangers`.
+    /// Writes their lines, each with a line feed: `counter NAME VALUE`, where NAME is `datagrams_in`, `datagrams_out`
+    /// or `strangers`.
     pub fn write(&self, out: &mut ArrayString<DATAGRAMS_OCTETS>)
         ensures { out.new.bytes ≡ datagrams_text self.now }
     {
@@ -45,7 +45,7 @@ impl DatagramCounters {
     }
 }
 
-/// Puts the line of a counter behind what is there.
+/// Appends the line of a counter.
 fn push_line(name: &str, value: u64, out: &mut ArrayString<DATAGRAMS_OCTETS>)
     requires { length out.old.bytes + length name.now + 30 ≤ DATAGRAMS_OCTETS }
     ensures line { out.new.bytes ≡ out.old.bytes ++ datagram_line name.now value }

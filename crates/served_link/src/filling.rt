@@ -30,7 +30,7 @@ pub(crate) fn fill_all<W: Watch>(
     }
 }
 
-/// Puts a frame behind those before it, and tells the watch of it.
+/// Puts a frame after those before it, and tells the watch of it.
 fn put<W: Watch>(link: LinkId, frame: &[u8], outgoing: &mut Outgoing, watch: &mut W)
     requires { length (pending_in outgoing.old) + length frame.now ≤ OUTPUT_OCTETS }
     ensures behind { pending_in outgoing.new ≡ pending_in outgoing.old ++ frame.now }

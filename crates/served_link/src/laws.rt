@@ -1,4 +1,4 @@
-//! Laws of associations and of counters. Each function says its law by its contract, and does nothing.
+//! Laws of associations and of counters. Each function states its law in its contract, and does nothing.
 
 ghost use Rattle.std.specs.Prelude.{◌≡◌, List, true};
 ghost use Rattle.m2pa_codec.specs.Frames.{FrameValue, spelled};
@@ -12,34 +12,33 @@ ghost use Rattle.served_link.specs.Laws.{counters_are_sums, counters_of_links_ar
 
 use crate::watch::Watch;
 
-/// Whatever frames are taken and however many octets are written at a time: what goes out is the frames that were
+/// Whatever frames are taken, and however many octets are written at a time, what goes out is the frames that were
 /// taken, in order, up to the octets that aren't written yet.
 pub fn frames_go_out_in_order()
     ensures { (calls : List Call) → GoesOutInOrder (sent_by calls) }
 {}
 
-/// Frames that are taken stand, in order, behind the octets that aren't written yet.
+/// Frames that are taken come, in order, after the octets that aren't written yet.
 pub fn taken_frames_go_behind<W: Watch>()
     ensures whole { taken_frames_go_behind W.sees whole }
     // The same on what is kept.
     ensures kept { taken_frames_go_behind W.sees kept }
 {}
 
-/// Octets are left to write of each frame that was just taken.
+/// A frame that was just taken leaves octets to write.
 pub fn every_frame_has_octets()
     ensures { (frame : FrameValue) → is_pending (spelled frame) ≡ true }
 {}
 
-/// For every way in which octets are cut into pieces, reads of these by a new association, one after another, are
-/// together one read of all the octets: they are the texts that were handed in, each once and in order, and a rest,
-/// which is held.
+/// However octets are cut into pieces, reads of these by a new association, one after another, are together one read of
+/// all the octets. These are the texts that were handed in, each once and in order, and a rest, which is held.
 pub fn reads_are_one<W: Watch>()
     ensures whole { reads_are_one W.sees whole }
     // The same on what is kept.
     ensures kept { reads_are_one W.sees kept }
 {}
 
-/// So they are where the last of them is Broken.
+/// They are so if the last of them is Broken.
 pub fn last_reads_are_one<W: Watch>()
     ensures whole { last_reads_are_one W.sees whole }
     ensures kept { last_reads_are_one W.sees kept }
@@ -57,8 +56,8 @@ pub fn broken_stays_broken<W: Watch>()
     ensures kept { broken_stays_broken W.sees kept }
 {}
 
-/// Each counter is the sum of what the frames, failures and retries of its link add to it; 2^64 - 1 where the sum is
-/// above that.
+/// Each counter is the sum of what the frames, failures and retries of its link add to it; 2^64 - 1 if the sum is above
+/// that.
 pub fn counters_are_sums_of_what_was_counted()
     ensures row { counters_are_sums }
     ensures rows { counters_of_links_are_sums }

@@ -1,6 +1,6 @@
-//! A served link without its socket: octets that come are cut into frames, which are handed in; frames are taken while
-//! there is room, and written in as many pieces as it takes; when ticks are due, when a connection is tried again, and
-//! the counters of the link.
+//! A served link without its socket. Octets that come are cut into frames, which are handed in; frames are taken while
+//! there is room, and written in as many pieces as it takes. Also when ticks are due, when a connection is tried again,
+//! and the counters of the link.
 #![tactic(auto)]
 
 pub mod association;

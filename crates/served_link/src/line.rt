@@ -28,7 +28,7 @@ pub fn write_counter(counter: Counter, link: &str, value: u64, out: &mut ArraySt
     out.push_str(digits.format(value));
 }
 
-/// Puts the name of a counter behind what is there.
+/// Appends the name of a counter.
 fn push_name(counter: Counter, out: &mut ArrayString<LINE_OCTETS>)
     requires { length out.old.bytes ≤ 8 }
     ensures name { out.new.bytes ≡ out.old.bytes ++ counter_name counter }

@@ -8,7 +8,7 @@ use exchange::LONGEST_FRAME;
 /// Octets of frames that are taken and aren't written yet, at most.
 pub const OUTPUT_OCTETS: usize = 65_536;
 
-/// The octets of the frames that were taken, one after another, but for those that are written: they lie from `start`
+/// The octets of the frames that were taken, one after another, without those that are written. They lie from `start`
 /// to `end` of the buffer.
 #[derive(Drop)]
 pub(crate) struct Outgoing {
@@ -54,8 +54,8 @@ impl Outgoing {
         self.pending().len() <= OUTPUT_OCTETS - LONGEST_FRAME
     }
 
-    /// Puts a frame behind those before it. What is left moves to the front of the buffer first where the room behind
-    /// it is too little.
+    /// Adds a frame after those before it. If the room after what is left is too little, that moves to the front of the
+    /// buffer first.
     pub(crate) fn push(&mut self, frame: &[u8])
         requires { length (pending_in self.old) + length frame.now ≤ OUTPUT_OCTETS }
         ensures { pending_in self.new ≡ pending_in self.old ++ frame.now }
@@ -66,7 +66,7 @@ impl Outgoing {
         self.write_behind(frame);
     }
 
-    /// So many more octets are written.
+    /// This many more octets are written.
     pub(crate) fn advance(&mut self, count: usize)
         requires { count ≤ length (pending_in self.old) }
         ensures { pending_in self.new ≡ drop count (pending_in self.old) }
@@ -85,7 +85,7 @@ impl Outgoing {
         self.end = end - start;
     }
 
-    /// Writes octets into the room behind those that are left.
+    /// Writes octets into the room after those that are left.
     fn write_behind(&mut self, more: &[u8])
         requires { length more.now ≤ room_behind self.old }
         ensures { pending_in self.new ≡ pending_in self.old ++ more.now }

@@ -65,7 +65,7 @@ impl LinkCounters {
         }
     }
 
-    /// A frame of so many octets came in, with a user message or without one, and was handed in with this outcome.
+    /// A frame of this many octets came in, with a user message or without one, and was handed in with this outcome.
     pub fn count_in(&mut self, octets: usize, has_user_message: bool, outcome: &Outcome)
         ensures { self.new ≡ counted (FrameCame octets has_user_message outcome.now) self.old }
     {
@@ -81,7 +81,7 @@ impl LinkCounters {
         }
     }
 
-    /// A frame of so many octets went out.
+    /// A frame of this many octets went out.
     pub fn count_out(&mut self, octets: usize)
         ensures { self.new ≡ counted (FrameWent octets) self.old }
     {
@@ -104,7 +104,7 @@ impl LinkCounters {
     }
 }
 
-/// One more is counted at a place.
+/// One more is counted at an index.
 fn count_one(counts: &mut [u64], place: usize)
     requires { place < length counts.old }
     ensures { counts.new ≡ one_more_at place counts.old }

@@ -44,8 +44,8 @@ impl TickClock {
         }
     }
 
-    /// Hands out a tick, and returns true, where one is due: it passed by now, and half of a tick's time is over since
-    /// the last one.
+    /// Hands out a tick, and returns true, if one is due: its time has passed, and half a tick's time is over since the
+    /// last one.
     pub fn is_due(&mut self, elapsed_ms: u64) -> bool
         ensures tick { result ≡ is_due self.old elapsed_ms }
         ensures state { self.new ≡ after_call self.old elapsed_ms }

@@ -14,8 +14,8 @@ pub trait Watch {
     fn came_in(&mut self, link: LinkId, frame: &ObservedFrame<'_>, outcome: &Outcome)
         ensures { sees self.old (CameIn link frame.now outcome.now) self.new };
 
-    /// A frame of these octets was taken to go out on the link, after those before it. Who wants to know what they say
-    /// reads them.
+    /// A frame of these octets was taken to go out on the link, after those before it. Whoever wants to know what they
+    /// say must read them.
     fn went_out(&mut self, link: LinkId, frame: &[u8])
         ensures { sees self.old (WentOut link frame.now) self.new };
 }

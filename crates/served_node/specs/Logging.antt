@@ -10,6 +10,6 @@ Writes octets old new =
     ((new.failures ≡ old.failures) × Appends old.written new.written octets)
     ⊎ ((new.failures ≡ counted old.failures) × AppendsFirst old.written new.written octets)
 
--- a text of at most so many octets was written, with a line feed behind it
+-- a text of at most this many octets was written, with a line feed after it
 abbrev pub TellsALine : Output → Output → Type 0
 TellsALine old new = (text : List ℕ) × (length text ≤ TEXT_OCTETS) × Writes (text ++ 10 ∷ []) old new

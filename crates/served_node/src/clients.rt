@@ -24,8 +24,8 @@ const MOST_CLIENTS: usize = 16;
 /// Clients that are taken in one round, at most.
 const ACCEPTS: usize = 16;
 
-/// Has the poll tell of a client's socket, if there is a place for it. The log is told of the client, and the client if
-/// there is none. False if it has no place.
+/// Registers a client's socket with the poll, if there is a place for it. The log is told of the client, and the client
+/// if there is none. False if it has no place.
 fn is_seated<W: Sink>(
     free: usize,
     stream: &mut TcpStream,
@@ -76,7 +76,7 @@ pub struct ConsoleClients {
     pub(crate) asked: Asked,
 }
 
-/// Which news any client asked for, so that nobody has to be asked for each frame.
+/// Which news any client asked for, so that nobody must be asked for each frame.
 #[derive(Clone, Copy)]
 pub(crate) struct Asked {
     pub(crate) messages: bool,

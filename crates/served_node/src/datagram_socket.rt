@@ -14,7 +14,7 @@ use std::net::{Net, SocketAddr};
 /// What was received of a socket for datagrams.
 #[derive(Clone, Copy)]
 pub enum Received {
-    /// A datagram of so many octets, from this address.
+    /// A datagram of this many octets, from this address.
     Datagram(usize, SocketAddr),
     /// None is there: the socket tells when one may be.
     NoDatagram,
@@ -22,7 +22,7 @@ pub enum Received {
     Error,
 }
 
-/// A socket for datagrams of which a poll tells, and whether it may be read and written.
+/// A socket for datagrams registered with a poll, and whether it may be read and written.
 #[derive(Drop)]
 pub struct DatagramSocket {
     socket: UdpSocket,
@@ -32,10 +32,10 @@ pub struct DatagramSocket {
 }
 
 impl DatagramSocket {
-    /// A socket at an address, of which the poll tells, and the address that it has: with the port that the system gave
-    /// it, where none was asked for.
+    /// A socket at an address, registered with the poll, and the address that it has: with the port that the system
+    /// gave it if none was asked for.
     ///
-    /// Listen where the system refuses the address, Poll where the poll takes no further socket.
+    /// Listen if the system refuses the address, Poll if the poll takes no further socket.
     pub fn open<N: Net>(
         net: &N,
         registry: &Registry,

@@ -15,7 +15,7 @@ const STANDARD_OUTPUT: RawFd = 1;
 const LINE_OCTETS: usize = 64;
 
 /// A log over standard output. A line that it doesn't take at once, since its reader is slow, is dropped, and so is one
-/// whose write fails; the next line that is taken follows one that tells how many were missed.
+/// whose write fails. The next line that is taken follows one that says how many were missed.
 #[derive(Drop)]
 pub struct DroppingLog<'a, W> {
     sink: &'a mut W,

@@ -48,7 +48,7 @@ impl HeldFile {
         })
     }
 
-    /// Whether so many octets more find room.
+    /// Whether this many octets more find room.
     pub(crate) fn has_room(&self, octets: usize) -> bool
         ensures { result ≡ (nat_le octets HELD_OCTETS && nat_le (length self.now) (HELD_OCTETS - octets)) }
     {

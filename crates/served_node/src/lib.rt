@@ -1,5 +1,5 @@
-//! A node that is served, without the connections of its links: the node and who is told what happens in it, which are
-//! its log, its counters, its capture and the clients of its console on their sockets; and the sockets of a poll.
+//! A served node, without the connections of its links: the node, the sockets of a poll, and those who are told what
+//! happens in it, which are its log, its counters, its capture and the clients of its console.
 #![tactic(auto)]
 
 mod client_socket;

@@ -10,7 +10,7 @@ use mio::{Interest, Registry};
 use std::marker::Model;
 use std::net::{Net, SocketAddr};
 
-/// A listener of which a poll tells, if there is one, and whether a connection may have come to it.
+/// A listener registered with a poll, if there is one, and whether a connection may have come to it.
 #[derive(Drop)]
 pub struct Listener {
     listener: Option<TcpListener>,
@@ -37,10 +37,10 @@ impl Listener {
         }
     }
 
-    /// A listener at an address, of which the poll tells under this name, and the address that it has: with the port
-    /// that the system gave it, where none was asked for. A connection may have come at once.
+    /// A listener at an address, registered with the poll under this name, and the address that it has: with the port
+    /// that the system gave it if none was asked for. A connection may have come at once.
     ///
-    /// Listen where the system refuses the address, Poll where the poll takes no further socket.
+    /// Listen if the system refuses the address, Poll if the poll takes no further socket.
     pub fn open<N: Net>(
         net: &N,
         registry: &Registry,
@@ -87,8 +87,8 @@ impl Listener {
         self.may_accept
     }
 
-    /// The next connection that came, and where it leads. If there is none, nothing is asked of the system until
-    /// the next `mark`.
+    /// The next connection that came, and where it leads. If there is none, the system isn't asked again until the next
+    /// `mark`.
     pub fn accept(&mut self) -> Option<(TcpStream, SocketAddr)>
         ensures state { self.new ≡ record self.old { may_accept = is_some result } }
         ensures none { self.old.may_accept ≡ false → IsNone result }

@@ -64,7 +64,7 @@ impl SocketName {
         }
     }
 
-    /// Has the poll tell when this connection may be read or written, under this name. False if the poll doesn't.
+    /// Registers this connection with the poll, under this name. False if the poll refuses.
     pub fn is_registered(self, registry: &Registry, stream: &mut TcpStream) -> bool {
         let interests = Interest::READABLE | Interest::WRITABLE;
         registry.register(stream, self.token(), interests).is_ok()

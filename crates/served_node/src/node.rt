@@ -17,8 +17,8 @@ use settings::{FailureReason, Outcome, Settings};
 use std::alloc::Global;
 use trace::PointFormat;
 
-/// A node, and who is told what happens in it. Behind a call of its exchange that isn't one of these, `look` tells
-/// what is new.
+/// A node, and who is told what happens in it. After a call of its exchange that isn't one of these, `look` tells what
+/// is new.
 pub struct Node {
     /// The node itself.
     pub exchange: Exchange,
@@ -99,7 +99,7 @@ impl Node {
         self.observers.seen.note_up(&self.exchange);
     }
 
-    /// Tells the log and the clients that watch them of new notices, if there are any, and the log of flags that were
+    /// Tells the log and the clients that watch them of new notices, if there are any, tells the log of flags that were
     /// raised, and counts failures. A failure whose notice was dropped for later ones is counted as one for this
     /// reason.
     pub fn look<W: Sink>(&mut self, dropped: FailureReason, log: &mut Log<'_, W>)

@@ -15,7 +15,8 @@ pub(crate) struct Seen {
     links: [SeenLink; Limits::LINKS],
 }
 
-/// What was last seen of a link: whether it wasn't down, and whether it failed between the last look and the one before.
+/// What was last seen of a link: whether it wasn't down, and whether it failed between the last look and the one
+/// before.
 #[derive(Clone, Copy)]
 struct SeenLink {
     is_up: bool,
@@ -41,7 +42,7 @@ impl Seen {
         exchange.notice_count() == self.notices
     }
 
-    /// A link is up now, which the next look counts as failed if it is down by then.
+    /// A link is up now; the next look counts it as failed if it is down by then.
     pub(crate) fn note_up(&mut self, exchange: &Exchange) {
         for (k, link) in self.links.iter_mut().enumerate() {
             link.is_up = link.is_up || is_up(exchange, LinkId::new(k as u8));

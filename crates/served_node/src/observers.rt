@@ -22,7 +22,7 @@ use trace::{
 };
 
 /// Octets of the line of a message for this point, at most: its link, two digits for each octet of the longest message,
-/// and the word in front.
+/// and the word before it.
 const MESSAGE_OCTETS: usize = 640;
 
 /// Octets of a packet in the capture with its header, at most.

@@ -32,7 +32,7 @@ impl Observers {
         self.counters.count_stranger();
     }
 
-    /// A message came in as a frame and was handed in, with this outcome: it is counted, and the clients that asked for
+    /// A message came in as a frame and was handed in, with this outcome. It is counted, and the clients that asked for
     /// frames or messages are told.
     pub fn message_came_in(&mut self, link: LinkId, frame: &ObservedFrame<'_>, outcome: &Outcome)
         ensures { self.new.counters ≡ counted_at link (came frame.now outcome.now) self.old.counters }

@@ -9,7 +9,7 @@ use std::io::{ErrorKind, Read, Write};
 /// What a read or a write of a socket came to.
 #[derive(Clone, Copy)]
 pub enum Progress {
-    /// So many octets moved, one at least, and more may.
+    /// This many octets moved, one at least, and more may.
     Octets(usize),
     /// None can now: the socket tells when one may.
     Later,

@@ -69,9 +69,9 @@ impl Observers {
         }
     }
 
-    /// Counts the failures of links whose notice isn't among the last `count`, since it was dropped for later ones. More
-    /// notices than are kept come between two looks if a changeover order loses many messages, or if the messages that
-    /// a changeover held find no route.
+    /// Counts the failures of links whose notice isn't among the last `count`, since it was dropped for later ones.
+    /// More notices than are kept come between two looks if a changeover order loses many messages, or if the messages
+    /// that a changeover held find no route.
     fn count_dropped_failures(&mut self, exchange: &Exchange, count: usize, reason: FailureReason) {
         let first = exchange.notices().len().saturating_sub(count);
         for k in 0..exchange.settings().link_count() {

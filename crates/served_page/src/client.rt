@@ -150,7 +150,7 @@ impl PageClient {
         }
     }
 
-    /// So many octets were written. Once that is all there is, the client may stay for a while.
+    /// This many octets were written. Once that is all there is, the client may stay for a while.
     fn note_written(&mut self, count: usize, now_ms: u64)
         requires { count ≤ length (history self.old.connection).pending }
         ensures { (self.new.patience ≡ self.old.patience)
@@ -174,7 +174,7 @@ impl PageClient {
         self.is_closing || self.patience.is_over(now_ms)
     }
 
-    /// No further answer comes. The client is told, and what it still sends is dropped until it ends its half too: if
+    /// No further answer comes. The client is told, and what it still sends is dropped until it ends its half too. If
     /// octets were left when the connection is closed, it would be reset, and the last answer perhaps lost (RFC 9112
     /// §9.6).
     fn finish(&mut self)

@@ -35,12 +35,12 @@ pub struct ServedPage {
     allowance: Allowance,
     /// The place that is looked at next for a request to answer.
     next: usize,
-    /// Until when there is nothing to do, unless a socket gets ready; 0 where there may be something now. In
-    /// milliseconds since the start.
+    /// Until when there is nothing to do, unless a socket gets ready; 0 if there may be something now. In milliseconds
+    /// since the start.
     rests_until_ms: u64,
 }
 
-// No contract can say what sockets give: of a page only this is known, how much was answered of late.
+// No contract can say what sockets give. Of a page only this is known: how much was answered of late.
 impl Model for ServedPage {
     ghost use Rattle.page_service.specs.declared.patience.Allowance.{Allowance};
 
@@ -50,11 +50,11 @@ impl Model for ServedPage {
 }
 
 impl ServedPage {
-    /// A page at this address, of which the poll tells from now on; the log has the address. Where the page is open it
+    /// A page at this address, registered with the poll from now on; the log has the address. If the page is open it
     /// may be asked for by any name. No client is there yet.
     ///
-    /// Listen where the system refuses the address, Poll where the poll takes no further socket, or the system has no
-    /// random octets to give, NoMemory.
+    /// Listen if the system refuses the address, Poll if the poll takes no further socket or the system gives no random
+    /// octets, NoMemory.
     pub fn open<N: Net + RandomSource, W: Sink>(
         net: &N,
         alloc: Global,
@@ -97,7 +97,7 @@ impl ServedPage {
         self.rests_until_ms = 0;
     }
 
-    /// Does what there is to do on each socket, once, and returns: takes clients, reads, answers one request at most,
+    /// Does what there is to do on each socket, once, and returns: takes clients, reads, answers at most one request,
     /// writes, and closes the connections that are over. While no socket is ready and nothing is due, it is one
     /// comparison, however many clients there are.
     pub fn turn<C: Content>(&mut self, registry: &Registry, content: &C, now_ms: u64)
@@ -170,7 +170,7 @@ impl ServedPage {
         self.rests_until_ms <= now_ms
     }
 
-    /// How many milliseconds it takes until something is due of which no socket tells.
+    /// How many milliseconds there are until something is due that no socket tells of.
     pub fn until_due_ms(&self, now_ms: u64) -> u64 {
         self.rests_until_ms.saturating_sub(now_ms)
     }
@@ -184,7 +184,7 @@ fn drawn_keys<N: RandomSource>(net: &N) -> Result<RandomState, OpenFault> {
     }
 }
 
-/// Has the poll tell of a client's socket, if there is a place for it. False if it has no place.
+/// Registers a client's socket with the poll, if there is a place for it. False if it has no place.
 fn is_seated(free: usize, registry: &Registry, stream: &mut TcpStream) -> bool {
     free < PAGE_CLIENTS && SocketName::PageClient(free as u8).is_registered(registry, stream)
 }

@@ -42,7 +42,7 @@ pub(crate) fn read_each(places: &mut [Option<PageClient>]) {
     }
 }
 
-/// Answers the first request that is found from a place on. True if there is one; the next search begins behind it.
+/// Returns the first request that is found from a place on. True if there is one; the next search begins after it.
 pub(crate) fn answer_next<S: Service>(
     places: &mut [Option<PageClient>],
     next: &mut usize,
@@ -60,7 +60,7 @@ pub(crate) fn answer_next<S: Service>(
     false
 }
 
-/// The place behind this one; behind the last one, the first.
+/// The place after this one; after the last one, the first.
 fn behind(place: usize) -> usize
     ensures { result < PAGE_CLIENTS }
 {
@@ -89,7 +89,7 @@ fn clear(place: &mut Option<PageClient>) {
     *place = None;
 }
 
-/// Whether there is something to read or to write now, or to answer where that may be.
+/// Whether there is something to read or to write now, or to answer if that may be.
 pub(crate) fn are_busy(places: &[Option<PageClient>], may_answer: bool) -> bool {
     let mut are_busy = false;
     for place in places.iter() {
@@ -100,7 +100,7 @@ pub(crate) fn are_busy(places: &[Option<PageClient>], may_answer: bool) -> bool 
     are_busy
 }
 
-/// When something is due at a client of which no socket tells: at the end of its time, or in the next second where a
+/// When something is due at a client that no socket tells of: at the end of its time, or in the next second if a
 /// request waits for that. All are milliseconds since the start.
 pub(crate) fn first_due_ms(places: &[Option<PageClient>], next_second_ms: u64) -> u64 {
     let mut first = u64::MAX;

@@ -27,21 +27,21 @@ abbrev pub is_within : ℕ → ℕ → ℤ → Bool
 is_within low high (pos n) = nat_le low n && nat_le n high
 is_within low high (negsuc n) = false
 
--- the number that was written, where it is not below 0
+-- the number that was written, if it is not below 0
 abbrev pub natural : ℤ → ℕ
 natural (pos n) = n
 natural (negsuc n) = 0
 
--- the fault of a number that has to be one from low to high
+-- the fault of a number that must be one from low to high
 abbrev pub range_fault : ℕ → ℕ → Key → ℤ → Option DraftFault
 range_fault low high key n = fault_unless (is_within low high n) Range key
 
--- whether some element stands twice
+-- whether some element occurs twice
 abbrev pub has_repeat : {A : Type 0} → (A → A → Bool) → List A → Bool
 has_repeat eq [] = false
 has_repeat eq (x ∷ xs) = list_any (λ y. eq y x) xs || has_repeat eq xs
 
--- the fault of a point that has to be another than the own one
+-- the fault of a point that must differ from the node's own
 abbrev pub far_point_fault : ℕ → Key → ℤ → Option DraftFault
 far_point_fault own key n = fault_unless (is_within 0 16383 n && not (nat_eq (natural n) own)) Range key
 
@@ -57,7 +57,7 @@ numbers_fault low high key ns = first_of (
     ∷ fault_unless (not (has_repeat nat_eq (map natural ns))) Duplicate key
     ∷ [])
 
--- the first fault of an array by its length: at most so many entries, and at least one
+-- the first fault of an array by its length: at most this many entries, and at least one
 abbrev pub count_fault : ℕ → Key → ℕ → Option DraftFault
 count_fault limit key n = first_of (
     fault_unless (nat_le n limit) TooMany key

@@ -17,7 +17,7 @@ pub record LeadsOnlyTo (c : Configuration) (point : ℕ) : Type 0 where
   pub adjacent : adjacent_points c ≡ point ∷ []
   pub destination : destination_points c ≡ point ∷ []
 
--- each node leads to the other's point alone, both are of the same network, and their links have the same signalling
+-- each node leads only to the other's point, both are of the same network, and their links have the same signalling
 -- link codes in the same order
 pub record IsFacing (near : Configuration) (far : Configuration) : Type 0 where
   pub near_leads : LeadsOnlyTo near far.own

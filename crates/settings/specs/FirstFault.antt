@@ -43,7 +43,7 @@ abbrev pub set_name_fault : List SetDraft → SetDraft → Option DraftFault
 set_name_fault earlier s =
     name_fault (SetName (length earlier)) (string_bytes s.name) (has_set_named earlier (string_bytes s.name))
 
--- the adjacent point of a set: not the own one, and of no other set before it
+-- the adjacent point of a set: not the node's own, and of no other set before it
 abbrev pub set_adjacent_fault : ℕ → List SetDraft → SetDraft → Option DraftFault
 set_adjacent_fault own earlier s = first_of (
     far_point_fault own (SetAdjacent (length earlier)) s.adjacent
@@ -128,7 +128,7 @@ link_fault sets earlier l = first_of (
 abbrev pub has_destination : List DestinationDraft → ℤ → Bool
 has_destination destinations n = list_any (nat_eq (natural n)) (points_of destinations)
 
--- the point of a destination: not the own one, and of no other before it
+-- the point of a destination: not the node's own, and of no other before it
 abbrev pub destination_point_fault : ℕ → List DestinationDraft → DestinationDraft → Option DraftFault
 destination_point_fault own earlier d = first_of (
     far_point_fault own (DestinationPoint (length earlier)) d.point
@@ -176,7 +176,7 @@ title_digits_fault earlier t = first_of (
     ∷ fault_unless (not (list_any (is_same_title t) earlier)) Duplicate (TitleDigits (length earlier))
     ∷ [])
 
--- the numbers of a translation row at this place: its translation type, numbering plan and nature of address
+-- the numbers of a translation row at this index: its translation type, numbering plan and nature of address
 abbrev pub title_numbers_fault : ℕ → TitleDraft → Option DraftFault
 title_numbers_fault place t = first_of (
     range_fault 0 255 (TitleTranslation place) t.translation
@@ -184,7 +184,7 @@ title_numbers_fault place t = first_of (
     ∷ range_fault 0 127 (TitleNature place) t.nature
     ∷ [])
 
--- where a translation row at this place leads to: its point, its route and its subsystem number
+-- where a translation row at this index leads to: its point, its route and its subsystem number
 abbrev pub title_target_fault : ℕ → TitleDraft → Option DraftFault
 title_target_fault place t = first_of (
     range_fault 0 16383 (TitlePoint place) t.point
@@ -264,7 +264,6 @@ tables_fault d = first_of (
     ∷ unreached_fault d.destinations.items d.sets.items
     ∷ [])
 
--- the arrays
 unfoldable pub arrays_fault : Draft → Option DraftFault
 arrays_fault d = first_of (
     sets_fault (natural d.own) d.sets.items
@@ -272,7 +271,7 @@ arrays_fault d = first_of (
     ∷ tables_fault d
     ∷ [])
 
--- the first fault of settings: the keys in their order, the entries of an array from the first on
+-- the first fault of settings: the keys in their order, the entries of an array from the first
 abbrev pub first_fault : Draft → Option DraftFault
 first_fault d = first_of (
     scalars_fault d

@@ -5,7 +5,7 @@ use Rattle.settings.specs.declared.points.PointIndex.TheInside.{Inside}
 abbrev pub points_in : Inside → List ℕ
 points_in i = i.points.items
 
--- the entry of each point code is the place of that point, where it has one
+-- the entry of each point code is the place of that point, if it has one
 abbrev pub Finds : (places : List (Option ℕ)) (points : List ℕ) → Type 0
 Finds places points =
     (code : ℕ) → code < 2 ^ 14 → slice_get places code ≡ Some (position (nat_eq code) points)

@@ -36,7 +36,7 @@ ticks_of t = record {
 abbrev pub set_place : List SetDraft → List ℕ → Option ℕ
 set_place sets name = position (λ s. bytes_eq (string_bytes s.name) name) sets
 
--- the number of the set of this name, where there is one
+-- the number of the set of this name, if there is one
 abbrev pub set_number : List SetDraft → List ℕ → ℕ
 set_number sets name = unwrap_or (set_place sets name) 0
 

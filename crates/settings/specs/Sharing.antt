@@ -24,7 +24,7 @@ abbrev pub has_link_of : (set slc : ℕ) → List LinkEntry → Bool
 has_link_of set slc links = list_any (is_link_of set slc) links
 
 -- each node has a set that alone leads to the other's point, both are of the same network, and the links of the two
--- sets have the same signalling link codes: two links with the same code are the ends of one
+-- sets have the same signalling link codes; two links with the same code are the two ends of one
 pub record SharesSet (near far : Configuration) : Type 0 where
   pub near_set : ℕ
   pub far_set : ℕ

@@ -1,4 +1,4 @@
--- What may stand in one translation row alone.
+-- What may be in one translation row alone.
 use Rattle.std.specs.Prelude.{string_bytes}
 use Rattle.settings_rows.specs.declared.draft.TitleDraft.{TitleDraft}
 use Rattle.settings.specs.declared.titles.TitleKey.{TitleKey}

@@ -17,11 +17,10 @@ pub record IsWithin (low : ℕ) (high : ℕ) (n : ℕ) : Type 0 where
   pub above : low ≤ n
   pub below : n ≤ high
 
--- the ticks of all timers
 abbrev pub all_ticks : TimerTicks → List ℕ
 all_ticks t = t.l1 ∷ t.l2 ∷ t.l3 ∷ t.l4 ∷ t.l6 ∷ t.l7 ∷ t.t1 ∷ t.t2 ∷ t.t3 ∷ t.t4 ∷ t.t6 ∷ t.t8 ∷ t.t10 ∷ []
 
--- a point of 14 bits, other than the own one
+-- a point of 14 bits, other than the node's own
 pub record IsFarPoint (own : ℕ) (point : ℕ) : Type 0 where
   pub fits : point < 2 ^ 14
   pub far : point ≢ own
@@ -53,8 +52,8 @@ is_link_of_same_name l m = bytes_eq l.name m.name
 abbrev pub is_same_code : LinkEntry → LinkEntry → Bool
 is_same_code l m = nat_eq l.set m.set && nat_eq l.slc m.slc
 
--- a destination is another point, and one to eight of n link sets lead there, none of them twice; at least two where
--- the first two are joined
+-- a destination is another point. One to eight of n link sets lead there, none of them twice, and at least two if the
+-- first two are joined
 pub record IsDestination (own : ℕ) (n : ℕ) (d : DestinationEntry) : Type 0 where
   pub point : IsFarPoint own d.point
   pub some : 1 ≤ length d.sets
@@ -94,7 +93,7 @@ is_same_row t e =
     nat_eq t.translation e.translation
     && (nat_eq t.plan e.plan && (nat_eq t.nature e.nature && bytes_eq t.digits e.digits))
 
--- every number is within its limits, every name is a name of something, and what has to be distinct is
+-- every number is within its limits, every name is a name of something, and what must be distinct is
 pub record IsWell (c : Configuration) : Type 0 where
   pub own : c.own < 2 ^ 14
   pub network : c.network < 4

@@ -58,9 +58,9 @@ pub struct Checked {
 
 /// Checks settings as they were written.
 ///
-/// Answers what they say, or the first fault: the keys in their order, the entries of an array from
-/// the first on, and last of all a set whose adjacent point isn't a destination that it leads to
-/// first. `NoMemory` may stand in place of any other, where a growth was refused.
+/// Returns what they say, or the first fault: the keys in order, the entries of each array from the first, and last a
+/// set whose adjacent point isn't a destination that it leads to first. If an allocation was refused, `NoMemory` may be
+/// returned instead.
 pub fn check_draft(alloc: Global, draft: &Draft) -> Result<Checked, DraftFault>
     ensures settings { IfOk result (λ c. configuration_in c ≡ settings_of draft.now) }
     ensures points { IfOk result (λ c. c.points ≡ map (λ d. d.point) c.destinations.items) }

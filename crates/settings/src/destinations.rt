@@ -42,7 +42,7 @@ fn destination_point(
     Ok(point)
 }
 
-/// Whether some name stands twice.
+/// Whether some name occurs twice.
 #[tactic(auto, using(std::proofs::lemmas::Grind::common_steps))]
 fn has_name_twice(names: &[String]) -> bool
     ensures { result ≡ has_repeat string_eq names.now }

@@ -8,9 +8,9 @@ use settings_rows::{DestinationRow, LinkRow, SetRow};
 use signalling_types::PointCode;
 
 impl Settings {
-    /// Whether the nodes of these settings face each other: each has one link set, which leads to the other's point,
-    /// and no other destination; both are of the same network; and their links have the same signalling link codes in
-    /// the same order (Q.704 §2.2, §15.2).
+    /// Whether the nodes of these settings face each other (Q.704 §2.2, §15.2): each has one link set, which leads to
+    /// the other's point, and no other destination. Both are of the same network, and their links have the same
+    /// signalling link codes in the same order.
     pub fn faces(&self, other: &Settings) -> bool
         ensures { IsTrue result ↔ IsFacing self.now other.now }
     {

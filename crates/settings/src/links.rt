@@ -81,7 +81,6 @@ fn link_row(
     Ok(LinkRow::new(link.name.as_str(), set, slc))
 }
 
-/// The rows of the links.
 fn link_rows(
     alloc: Global,
     sets: &[SetDraft],

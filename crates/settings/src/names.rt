@@ -9,14 +9,14 @@ use crate::numbers::ensure;
 use settings_rows::{DraftFault, FaultKind, Key};
 use signalling_types::Limits;
 
-/// Whether an octet may stand in a name.
+/// Whether an octet may be in a name.
 fn is_name_octet(octet: u8) -> bool
     ensures { result ≡ is_name_octet octet }
 {
     matches!(octet, b'a'..=b'z' | b'0'..=b'9' | b'-')
 }
 
-/// Whether all octets may stand in a name.
+/// Whether all octets may be in a name.
 fn are_name_octets(text: &[u8]) -> bool
     ensures { result ≡ list_all is_name_octet text.now }
 {
@@ -30,7 +30,7 @@ pub(crate) fn is_name(text: &str) -> bool
     0 < text.len() && text.len() <= Limits::NAME_OCTETS && are_name_octets(text.as_bytes())
 }
 
-/// Sees that a text is a name, and that it doesn't stand twice.
+/// Checks that a text is a name, and that it doesn't occur twice.
 pub(crate) fn ensure_name(text: &str, is_repeat: bool, key: Key) -> Result<(), DraftFault>
     ensures form { OnOk result (IsTrue (is_name text.now)) }
     ensures well { OnOk result (name_fault key text.now is_repeat ≡ None) }

@@ -12,7 +12,7 @@ use std::alloc::Global;
 /// The largest point code.
 const LAST_POINT: u16 = 16_383;
 
-/// A fault of this kind at this key, unless all is well there.
+/// A fault of this kind at this key, unless the test holds.
 pub(crate) fn ensure(well: bool, kind: FaultKind, key: Key) -> Result<(), DraftFault>
     ensures well { OnOk result (fault_unless well kind key ≡ None) }
     ensures fault { IfErr result (λ fault. fault_unless well kind key ≡ Some fault) }
@@ -24,7 +24,7 @@ pub(crate) fn ensure(well: bool, kind: FaultKind, key: Key) -> Result<(), DraftF
     }
 }
 
-/// The number, where it is one from `low` to `high`.
+/// The number, if it is one from `low` to `high`.
 pub(crate) fn number(value: i64, low: u16, high: u16, key: Key) -> Result<u16, DraftFault>
     ensures value { IfOk result (λ n. n ≡ natural value) }
     ensures above { IfOk result (λ n. low ≤ n) }
@@ -49,7 +49,7 @@ pub(crate) fn point(value: i64, key: Key) -> Result<PointCode, DraftFault>
     PointCode::new(number).ok_or(DraftFault::At(FaultKind::Range, key))
 }
 
-/// The point of this number, where it is another than the own one.
+/// The point of this number, if it isn't the node's own.
 pub(crate) fn far_point(value: i64, own: PointCode, key: Key) -> Result<PointCode, DraftFault>
     ensures value { IfOk result (λ point. point ≡ natural value) }
     ensures well { OnOk result (far_point_fault own key value ≡ None) }
@@ -62,7 +62,7 @@ pub(crate) fn far_point(value: i64, own: PointCode, key: Key) -> Result<PointCod
     Ok(point)
 }
 
-/// Whether some number stands twice.
+/// Whether some number occurs twice.
 #[tactic(auto, using(std::proofs::lemmas::Grind::common_steps))]
 fn has_repeat(numbers: &[u8]) -> bool
     ensures { result ≡ has_repeat nat_eq numbers.now }
@@ -75,7 +75,7 @@ fn has_repeat(numbers: &[u8]) -> bool
     false
 }
 
-/// The number, where it is one from `low` to `high`.
+/// The number, if it is one from `low` to `high`.
 fn octet(value: &i64, low: u8, high: u8, key: Key) -> Result<u8, DraftFault>
     ensures value { IfOk result (λ n. n ≡ natural value.now) }
     ensures well { OnOk result (range_fault low high key value.now ≡ None) }

@@ -13,7 +13,7 @@ const POINT_CODES: usize = 1 << 14;
 
 /// Distinct points, in the order in which they were put in.
 ///
-/// A table of all point codes says which place each point has, so a look-up costs the same however many points there
+/// A table of all point codes says at which index each point is, so a look-up costs the same however many points there
 /// are. The table takes 64 KB.
 #[derive(Drop)]
 pub struct PointIndex {
@@ -34,7 +34,7 @@ impl Model for PointIndex {
 }
 
 impl PointIndex {
-    /// No points, with room for so many. The error means that memory ran out.
+    /// No points, with room for this many. The error means that memory ran out.
     pub(crate) fn with_capacity(alloc: Global, points: usize) -> Result<PointIndex, AllocError>
         ensures { IfOk result (λ index. index ≡ []) }
     {
@@ -44,7 +44,7 @@ impl PointIndex {
         })
     }
 
-    /// The place of a point: one look-up.
+    /// The index of a point: one look-up.
     pub fn place(&self, point: PointCode) -> Option<usize>
         ensures { result ≡ position (nat_eq point) self.now }
     {
@@ -52,8 +52,8 @@ impl PointIndex {
         Some(place as usize)
     }
 
-    /// Puts in a point behind the others, unless it is among them; answers whether it is new. The error means that
-    /// memory ran out.
+    /// Adds a point after the others, unless it is among them; returns whether it is new. The error means that memory
+    /// ran out.
     pub(crate) fn insert(&mut self, point: PointCode) -> Result<bool, AllocError>
         requires { length self.old < 2 ^ 16 }
         ensures new { IfOk result (λ is_new. is_new ≡ not (list_any (nat_eq point) self.old)) }
@@ -70,7 +70,7 @@ impl PointIndex {
     }
 }
 
-/// So many point codes, none of which is that of a point.
+/// This many point codes, none with a point.
 fn no_places(alloc: Global, codes: usize) -> Result<Vec<Option<u16>>, AllocError>
     ensures { IfOk result (λ places. places.items ≡ replicate codes None) }
 {

@@ -12,7 +12,7 @@ use settings_rows::{DestinationDraft, DraftFault, FaultKind, Key, SetDraft, SetR
 use signalling_types::{Limits, PointCode};
 use std::alloc::Global;
 
-/// The place of the set of this name.
+/// The index of the set of this name.
 pub(crate) fn set_place(sets: &[SetDraft], name: &str) -> Option<usize>
     ensures { result ≡ set_place sets.now name.now }
 {
@@ -95,7 +95,6 @@ pub(crate) fn checked_sets(
     set_rows(alloc, own, sets)
 }
 
-/// Whether the first of these names is this one.
 fn is_first_name(name: &str, names: &[String]) -> bool
     ensures { result ≡ is_first_name name.now names.now }
 {
@@ -114,7 +113,7 @@ fn is_reached(destinations: &[DestinationDraft], set: &SetDraft) -> bool
     })
 }
 
-/// Sees that each set leads to its adjacent point.
+/// Checks that each set leads to its adjacent point.
 #[tactic(auto, unfolding(crate::specs::FirstFault::unreached_fault))]
 pub(crate) fn all_reached(
     destinations: &[DestinationDraft],

@@ -44,9 +44,9 @@ impl Model for Settings {
 impl Settings {
     /// Checks settings as they were written.
     ///
-    /// Returns the settings, or the first fault: the keys in their order, the entries of an array from the first on,
-    /// and last of all a set whose adjacent point isn't a destination that it leads to first. If an allocation was
-    /// refused, it returns `NoMemory` instead.
+    /// Returns the settings, or the first fault: the keys in order, the entries of each array from the first, and last
+    /// a set whose adjacent point isn't a destination that it leads to first. If an allocation was refused, it returns
+    /// `NoMemory` instead.
     pub fn check(alloc: Global, draft: Draft) -> Result<Settings, DraftFault>
         ensures settings { IfOk result (λ settings. settings ≡ settings_of draft) }
         ensures well { OnOk result (first_fault draft ≡ None) }

@@ -9,9 +9,9 @@ use settings_rows::{DestinationRow, LinkRow};
 use signalling_types::{PointCode, SetId};
 
 impl Settings {
-    /// Whether these two nodes share a link set: each has one whose links lead to the other's point, and no other set
-    /// that leads there; both are of the same network; and the links of the two sets have the same signalling link
-    /// codes (Q.704 §2.2, §15.2). What other sets, links and destinations they have doesn't matter.
+    /// Whether these two nodes share a link set (Q.704 §2.2, §15.2): each has one whose links lead to the other's
+    /// point, and no other set leads there. Both are of the same network, and the links of the two sets have the same
+    /// signalling link codes. It doesn't matter what other sets, links and destinations they have.
     pub fn shares_set_with(&self, other: &Settings) -> bool
         ensures { IsTrue result ↔ SharesSet self.now other.now }
     {
@@ -25,7 +25,7 @@ impl Settings {
     }
 }
 
-/// The set whose links lead to this point, where no other set leads there.
+/// The set whose links lead to this point, if no other set leads there.
 fn set_alone_to(settings: &Settings, point: PointCode) -> Option<SetId>
     ensures found { IfSome result (LeadsAlone settings.now point) }
     ensures none { IfNone result ((set : ℕ) → ¬ (LeadsAlone settings.now point set)) }

@@ -118,7 +118,6 @@ fn ticks(written: &Written) -> Result<u16, DraftFault>
     )
 }
 
-/// The ticks of these timers.
 fn all_ticks(timers: &[Written; TIMERS]) -> Result<[u16; TIMERS], DraftFault>
     ensures value { IfOk result (λ all. all ≡ map (λ w. natural w.ticks) timers.now) }
     ensures well { OnOk result (entries_fault ticks_fault [] timers.now ≡ None) }

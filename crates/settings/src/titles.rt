@@ -34,7 +34,7 @@ const LAST_NATURE: u16 = 127;
 /// Digits of a translation row.
 type Digits = ArrayVec<u8, { Limits::TITLE_DIGITS }>;
 
-/// What may stand in one translation row alone: its key and its digits, as they were written.
+/// What may be in one translation row alone: its key and its digits, as they were written.
 #[derive(PartialEq, Eq, Hash, Drop)]
 struct TitleKey {
     translation: i64,
@@ -54,7 +54,6 @@ fn digit(octet: u8) -> Option<u8>
     }
 }
 
-/// The values of digits.
 #[tactic(auto, using(std::proofs::lemmas::Grind::common_steps))]
 fn digit_values(text: &[u8], key: Key) -> Result<Digits, DraftFault>
     requires { length text.now ≤ Limits.TITLE_DIGITS }
@@ -191,7 +190,7 @@ fn title_numbers(title: &TitleDraft, place: usize) -> Result<(u8, u8, u8), Draft
     Ok((translation as u8, plan as u8, nature as u8))
 }
 
-/// The translation row of these numbers and digits, which stand in the row that was written.
+/// The translation row of these numbers and digits, which are in the row that was written.
 fn routed_row(
     title: &TitleDraft,
     place: usize,

@@ -6,7 +6,6 @@ use Rattle.settings_rows.specs.declared.fault.DraftFault.TheVariants.{NoMemory}
 use Rattle.settings_file.specs.declared.fault.SettingsFault.{SettingsFault}
 use Rattle.settings_file.specs.declared.fault.SettingsFault.TheVariants as fault
 
--- a fault by number
 abbrev pub fault_number : SettingsFault → ℕ
 fault_number fault.Text = 1
 fault_number (fault.Missing key) = 2

@@ -1,4 +1,4 @@
--- The keys of the tables that stand in arrays of a settings file, by the version of the file.
+-- The keys of the tables that are in arrays of a settings file, by the version of the file.
 use Rattle.std.specs.Prelude.{ℕ, ℤ, Bool, true, false, List, [], ◌∷◌, map, codes, Option, Some, None}
 use Rattle.std.specs.Option.{option_map, option_flatten}
 use Rattle.toml.specs.Data.{Members, get_member, as_integer}
@@ -14,7 +14,7 @@ pub record KnownKeys : Type 0 where
 abbrev pub known_in : TableArray → KnownKeys
 known_in a = record { array = a.name.now; keys = map (λ key. key.now) a.keys.now }
 
--- the version of a document, where it says one
+-- the version of a document, if it says one
 abbrev pub version_of : Members → Option ℤ
 version_of document = option_flatten (option_map as_integer (get_member (codes "version") document))
 
@@ -29,7 +29,6 @@ link_keys =
     codes "name" ∷ codes "set" ∷ codes "slc" ∷ codes "listen" ∷ codes "connect" ∷ codes "remote" ∷ codes "sctp_port"
     ∷ codes "remote_sctp_port" ∷ codes "tries" ∷ []
 
--- the keys of a destination, which may be joined or may not
 abbrev pub destination_keys : (may_be_joined : Bool) → List (List ℕ)
 destination_keys true = codes "point" ∷ codes "sets" ∷ codes "joined" ∷ []
 destination_keys false = codes "point" ∷ codes "sets" ∷ []

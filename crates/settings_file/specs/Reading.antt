@@ -20,13 +20,13 @@ use Rattle.settings_file.specs.declared.limits.TheConstants.FirstLimits.{WINDOW,
 use Rattle.settings_file.specs.Written.{written}
 use Rattle.settings_file.specs.Document.{FIRST_VERSION, LAST_VERSION, Document, document}
 
--- a document, which has to be of version 1 or 2
+-- a document, which must be of version 1 or 2
 abbrev pub of_known_version : Document → Result Document SettingsFault
 of_known_version d =
     if int_eq d.version FIRST_VERSION || int_eq d.version LAST_VERSION then Ok d else Err kind.Version
 
--- the version and the settings that a document has, or its first fault: a key of it is missing or has a value of
--- another type, or it is of another version than 1 and 2
+-- the version and the settings that a document has, or its first fault: one of its keys is missing or has a value of
+-- another type, or its version is neither 1 nor 2
 unfoldable pub reading_in : Members → Result Document SettingsFault
 reading_in t = and_then (document t) of_known_version
 
@@ -45,8 +45,8 @@ first_limits_fault c = first_of (
 abbrev pub limits_fault : (version : ℤ) → Configuration → Option DraftFault
 limits_fault version c = if int_eq version FIRST_VERSION then first_limits_fault c else None
 
--- the first fault of settings in a file of this version: what is wrong with settings in any file, and last of all the
--- limits of its version
+-- the first fault of settings in a file of this version: a fault of settings in any file, and last the limits of this
+-- version
 unfoldable pub settings_fault : (version : ℤ) → Draft → Option DraftFault
 settings_fault version d = first_of (first_fault d ∷ limits_fault version (settings_of d) ∷ [])
 

@@ -11,12 +11,12 @@ use Rattle.settings_file.specs.declared.fault.SettingsFault.{SettingsFault}
 use Rattle.settings_file.specs.declared.fault.SettingsFault.TheVariants as fault
 use Rattle.settings_file.specs.declared.key_rows.KeyRow.{KeyRow}
 
--- a key behind a dot, or nothing
+-- a key after a dot, or nothing
 abbrev pub behind_dot : List ℕ → List ℕ
 behind_dot [] = []
 behind_dot (octet ∷ rest) = codes "." ++ (octet ∷ rest)
 
--- a key behind a colon, or nothing
+-- a key after a colon, or nothing
 abbrev pub behind_colon : List ℕ → List ℕ
 behind_colon [] = []
 behind_colon (octet ∷ rest) = codes ": " ++ (octet ∷ rest)
@@ -26,24 +26,24 @@ abbrev pub colon_for_dot : List ℕ → List ℕ
 colon_for_dot [] = []
 colon_for_dot (dot ∷ rest) = codes ": " ++ rest
 
--- the name that an entry has in the file, in quotes, where it has one
+-- the name that an entry has in the file, in quotes, if it has one
 abbrev pub quoted : Option (List ℕ) → List ℕ
 quoted None = []
 quoted (Some name) = codes " \"" ++ (name ++ codes "\"")
 
--- a key alone; or an array, the index of an entry, how the entry is called, and what stands behind
+-- a key alone; or an array, the index of an entry, how the entry is called, and what is after
 abbrev pub place_of : List ℕ → Option ℕ → Option (List ℕ) → List ℕ → List ℕ
 place_of front None entry_name behind = front
 place_of front (Some i) entry_name behind =
     front ++ (codes "[" ++ (decimal i ++ (codes "]" ++ (quoted entry_name ++ behind))))
 
--- where a key stands in a file: the key; or an array, the index of an entry, and a dot and a key in it
+-- where a key is in a file: the key; or an array, the index of an entry, and a dot and a key in it
 pub record KeyPlace : Type 0 where
   pub front : List ℕ
   pub entry : Option ℕ
   pub back : List ℕ
 
--- where a key of settings stands
+-- where a key of settings is
 abbrev pub key_place : Key → KeyPlace
 key_place key = record { front = key_front key; entry = key_index key; back = key_back key }
 
@@ -79,8 +79,8 @@ pub record Names (file sentence : List ℕ) : Type 0 where
   pub rest : List ℕ
   pub text : sentence ≡ file ++ (codes ": " ++ rest)
 
--- a sentence about a fault of a file with these octets names the file; and where the file is TOML, the key that the
--- fault is at
+-- a sentence about a fault of a file with these octets names the file and, if the file is TOML, the key that the fault
+-- is at
 pub record Explains (file octets : List ℕ) (why : SettingsFault) (sentence : List ℕ) : Type 0 where
   pub names : Names file sentence
   pub key : (k : Key) → key_of why ≡ Some k → IsUtf8 octets → IsSome (parse_document octets) → IsAbout file k sentence

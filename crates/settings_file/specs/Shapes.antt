@@ -1,4 +1,4 @@
--- The shapes of values in a settings file, and the fault where a value has another.
+-- The shapes of values in a settings file, and the fault if a value has another.
 use Rattle.std.specs.Prelude.{ℕ, ◌+◌, ℤ, Bool, List, [], ◌∷◌, Result, Ok, Err}
 use Rattle.std.specs.Option.{ok_or, option_map}
 use Rattle.toml.specs.Data.{Data, Items, no_items, item, Members, get_member, as_integer, as_bool, as_str, as_array}
@@ -7,7 +7,7 @@ use Rattle.settings_rows.specs.declared.key.Key.{Key}
 use Rattle.settings_file.specs.declared.fault.SettingsFault.{SettingsFault}
 use Rattle.settings_file.specs.declared.fault.SettingsFault.TheVariants.{Missing, Kind}
 
--- what is read next, where nothing was wrong so far
+-- what is read next, if nothing was wrong so far
 abbrev pub and_then : {A B : Type 0} → Result A SettingsFault → (A → Result B SettingsFault) → Result B SettingsFault
 and_then (Ok a) next = next a
 and_then (Err fault) next = Err fault
@@ -22,11 +22,11 @@ abbrev pub each : {A B : Type 0} → (ℕ → A → Result B SettingsFault) → 
 each read i [] = Ok []
 each read i (a ∷ rest) = and_then (read i a) (λ b. and_then (each read (i + 1) rest) (λ bs. Ok (b ∷ bs)))
 
--- the value of a key that has to be there
+-- the value of a required key
 unfoldable pub value_at : List ℕ → Key → Members → Result Data SettingsFault
 value_at name key t = ok_or (get_member name t) (Missing key)
 
--- the integer, the truth value, the text, the table and the entries of the array that a value has to be
+-- the integer, the truth value, the text, the table and the entries of the array that a value must be
 unfoldable pub integer_in : Key → Data → Result ℤ SettingsFault
 integer_in key d = ok_or (as_integer d) (Kind key)
 
@@ -42,16 +42,14 @@ table_in key d = ok_or (as_table d) (Kind key)
 unfoldable pub array_in : Key → Data → Result (List Data) SettingsFault
 array_in key d = ok_or (option_map listed (as_array d)) (Kind key)
 
--- entries of which there has to be one
+-- entries, at least one
 abbrev pub some_in : Key → List Data → Result (List Data) SettingsFault
 some_in key [] = Err (Missing key)
 some_in key (d ∷ ds) = Ok (d ∷ ds)
 
--- the integer at a key
 unfoldable pub integer_at : List ℕ → Key → Members → Result ℤ SettingsFault
 integer_at name key t = and_then (value_at name key t) (integer_in key)
 
--- the text at a key
 unfoldable pub text_at : List ℕ → Key → Members → Result (List ℕ) SettingsFault
 text_at name key t = and_then (value_at name key t) (text_in key)
 
@@ -63,6 +61,6 @@ integers_at name key t = and_then (value_at name key t) (λ d. and_then (array_i
 unfoldable pub texts_at : List ℕ → Key → Members → Result (List (List ℕ)) SettingsFault
 texts_at name key t = and_then (value_at name key t) (λ d. and_then (array_in key d) (each (λ _. text_in key) 0))
 
--- the entries of the array at a key, of which there has to be one
+-- the entries of the array at a key, at least one
 unfoldable pub entries_at : List ℕ → Key → Members → Result (List Data) SettingsFault
 entries_at name key t = and_then (value_at name key t) (λ d. and_then (array_in key d) (some_in key))

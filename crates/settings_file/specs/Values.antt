@@ -12,7 +12,7 @@ is_dot octet = octet == 46
 abbrev pub has_dot : List ℕ → Bool
 has_dot path = nat_lt (position_or_len is_dot path) (length path)
 
--- the value of a key in a table; behind a dot, that of a key in its table that is named before the dot
+-- the value of a key in a table; after a dot, that of a key in its table that is named before the dot
 abbrev pub value_below : List ℕ → Data → Option Data
 value_below path d =
     if has_dot path
@@ -39,6 +39,5 @@ abbrev pub value_of : (front : List ℕ) → (entry : Option ℕ) → (name : Li
 value_of front None name t = value_at_path front t
 value_of front (Some i) name t = value_in_entry name (entry_at front i t)
 
--- the value of the key of a row
 abbrev pub value_at : KeyRow → Members → Option Data
 value_at row t = value_of row.front.now row.entry row.name.now t

@@ -2,7 +2,7 @@
 use Rattle.std.specs.Prelude.{◌≡◌, ◌≤◌, ℕ, List, [], ◌∷◌, ◌++◌, codes, length, string_bytes}
 use Rattle.settings_file.specs.declared.unknown.WarningText.{WarningText}
 
--- a key that is ignored: the table that it stands in, as `timers.` or `link[1].`; the key; and what is said behind it
+-- a key that is ignored: the table that it is in, as `timers.` or `link[1].`; the key; and what is said after it
 pub record Ignored : Type 0 where
   pub table : List ℕ
   pub key : List ℕ
@@ -12,12 +12,12 @@ pub record Ignored : Type 0 where
 abbrev pub warning : List ℕ → Ignored → List ℕ
 warning file i = file ++ (codes ": " ++ (i.table ++ (i.key ++ (codes " is ignored" ++ i.behind))))
 
--- warnings one behind another
+-- warnings one after another
 abbrev pub warnings_of : List ℕ → List Ignored → List ℕ
 warnings_of file [] = []
 warnings_of file (i ∷ more) = warning file i ++ warnings_of file more
 
--- a text of so many warnings of a file
+-- a text of this many warnings of a file
 pub record HasWarned (file text : List ℕ) (count : ℕ) : Type 0 where
   pub ignored : List Ignored
   pub many : length ignored ≡ count

@@ -30,7 +30,7 @@ pub record WrittenTitle : Type 0 where
   pub route : List ℕ
   pub ssn : Option ℤ
 
--- the settings of a file, but for its version
+-- the settings of a file except its version
 pub record Written : Type 0 where
   pub own : ℤ
   pub network : ℤ
@@ -68,7 +68,6 @@ title_written t = record {
   ssn = t.ssn;
 }
 
--- what a draft has
 abbrev pub written : Draft → Written
 written d = record {
   own = d.own;

@@ -27,7 +27,6 @@ fn set(alloc: Global, i: usize, value: &Value) -> Result<SetDraft, SettingsFault
     Ok(SetDraft { name, adjacent })
 }
 
-/// A link.
 #[tactic(auto, unfolding(crate::specs::Entries::link_entry_in))]
 fn link(alloc: Global, i: usize, value: &Value) -> Result<LinkDraft, SettingsFault>
     ensures { AnswersOrNoMemory link_written (link_entry_in i (view value.now)) result }
@@ -39,7 +38,7 @@ fn link(alloc: Global, i: usize, value: &Value) -> Result<LinkDraft, SettingsFau
     Ok(LinkDraft { name, set, slc })
 }
 
-/// Whether the first two sets of a destination are joined. Where the file's version doesn't have the key it is ignored.
+/// Whether the first two sets of a destination are joined. If the file's version doesn't have the key it is ignored.
 #[tactic(auto, unfolding(crate::specs::Entries::joined_at))]
 fn joined(has_key: bool, table: &Table, i: usize) -> Result<bool, SettingsFault>
     ensures { result ≡ joined_at has_key i (table_view table.now) }
@@ -124,7 +123,6 @@ fn each_set(alloc: Global, values: &[Value]) -> Result<Vec<SetDraft>, SettingsFa
     Ok(sets)
 }
 
-/// The links that values are.
 fn each_link(alloc: Global, values: &[Value]) -> Result<Vec<LinkDraft>, SettingsFault>
     ensures { AnswersOrNoMemory (λ links. map link_written links.items)
         (each link_entry_in 0 (map view values.now)) result }

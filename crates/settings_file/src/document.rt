@@ -30,7 +30,7 @@ const LAST_VERSION: i64 = 2;
 pub(crate) struct Numbers {
     /// The version of the format.
     pub version: i64,
-    /// The own point code.
+    /// The node's own point code.
     pub own: i64,
     /// The network indicator.
     pub network: i64,
@@ -96,7 +96,7 @@ fn contents(alloc: Global, table: &Table) -> Result<Document, SettingsFault>
     })
 }
 
-/// What a document says, where it is of a known version.
+/// What a document says, if it is of a known version.
 #[tactic(auto, unfolding(crate::specs::Reading::reading_in))]
 fn known_contents(alloc: Global, table: &Table) -> Result<Document, SettingsFault>
     ensures { AnswersOrNoMemory (λ d. record { version = d.version; settings = written d.draft })
@@ -141,11 +141,10 @@ fn checked(alloc: Global, version: i64, draft: Draft) -> Result<Settings, DraftF
 
 /// Reads settings from the text of a file, and checks them.
 ///
-/// Answers the settings, or the first fault: `Text` where the text isn't TOML; then `Missing` and
-/// `Kind` over all keys in their order, the entries of an array from the first on; then `Version`;
-/// then what `Settings::check` finds; and last, in a file of the first version, a window and then
-/// destinations beyond the `FirstLimits`. Want of memory may stand in place of any other. Keys of
-/// other names are ignored.
+/// Returns the settings, or the first fault. First `Text` if the text isn't TOML; then `Missing` and `Kind` over all
+/// keys in order, the entries of each array from the first; then `Version`; then what `Settings::check` finds; and
+/// last, in a file of the first version, a window and then destinations beyond the `FirstLimits`. If memory runs out,
+/// that may be returned instead. Keys of other names are ignored.
 pub fn read(alloc: Global, text: &str) -> Result<Settings, SettingsFault>
     ensures settings { IfOk result (IsReadAs text.now) }
     ensures fault { IfErr result (λ fault. (fault ≡ no_memory) ⊎ IsFirstFault text.now fault) }
@@ -156,7 +155,7 @@ pub fn read(alloc: Global, text: &str) -> Result<Settings, SettingsFault>
 
 /// Reads settings from the document that a settings file is, and checks them.
 ///
-/// Answers what `read` answers of each text that was parsed to this document.
+/// Returns what `read` answers of each text that was parsed to this document.
 pub fn read_document(alloc: Global, document: &Table) -> Result<Settings, SettingsFault>
     ensures settings { (text : List ℕ) → parse_document text ≡ Some (table_view document.now)
         → IfOk result (IsReadAs text) }

@@ -12,7 +12,7 @@ use settings::DraftFault;
 use std::alloc::{AllocError, Global};
 use toml::Table;
 
-/// The document that a text is, or `Text` where it isn't TOML.
+/// The document that a text is, or `Text` if it isn't TOML.
 pub fn parse(alloc: Global, text: &str) -> Result<Table, SettingsFault>
     ensures document { IfOk result (λ document. parse_document text.now ≡ Some (table_view document)) }
     ensures fault { IfErr result (λ fault. (fault ≡ no_memory)
@@ -25,10 +25,10 @@ pub fn parse(alloc: Global, text: &str) -> Result<Table, SettingsFault>
     }
 }
 
-/// The document in a file of this name and these octets. Where they aren't UTF-8 or aren't TOML, the
-/// sentence that says so, with a line feed: `node.toml: the file isn't UTF-8`.
+/// The document in a file of this name and these octets. If they aren't UTF-8 or aren't TOML, the sentence that says
+/// so, with a line feed: `node.toml: the file isn't UTF-8`.
 ///
-/// `AllocError` where memory ran out.
+/// `AllocError` if memory ran out.
 pub fn document_in(
     alloc: Global,
     file: &str,

@@ -14,13 +14,13 @@ use std::fmt;
 pub enum SettingsFault {
     /// 1: the text isn't TOML.
     Text,
-    /// 2: a key that has to be there is missing, or an array that needs an entry has none.
+    /// 2: a required key is missing, or an array that needs an entry has none.
     Missing(Key),
     /// 3: a value of another type than its key asks for.
     Kind(Key),
     /// 4, at `version`: the file is written for another version than 1 and 2.
     Version,
-    /// 4 to 8: what the check of settings finds, want of memory included.
+    /// 4 to 8: what the check of settings finds, lack of memory included.
     Draft(DraftFault),
 }
 

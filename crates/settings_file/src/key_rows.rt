@@ -1,23 +1,22 @@
-//! The keys of a settings file: where each stands, and what its value has to be.
+//! The keys of a settings file: where each is, and what its value must be.
 
 ghost use Rattle.std.specs.Prelude.{◌≡◌, None, Some, []};
 ghost use Rattle.settings_file.specs.Sentences.{key_place, row_place};
 
 use settings::Key;
 
-/// A key of a settings file: where it stands, and what its value has to be, in words. `lone_key` and `entry_key` make
-/// one.
+/// A key of a settings file: where it is, and what its value must be, in words. `lone_key` and `entry_key` make one.
 #[derive(Clone, Copy)]
 pub struct KeyRow {
     /// The key as it is written; of an entry of an array and of a key in one, the name of the array.
     pub front: &'static str,
-    /// The place of the entry in its array, from 0.
+    /// The index of the entry in its array, from 0.
     pub entry: Option<usize>,
-    /// The key in its entry; empty for the entry itself, and for a key that stands in no array.
+    /// The key in its entry; empty for the entry itself, and for a key that is in no array.
     pub name: &'static str,
-    /// The type that the value has to have.
+    /// The type of the value.
     pub kind: &'static str,
-    /// What a value of this type has to be; in a file of the last version, where versions differ.
+    /// What a value of this type must be; in a file of the last version, if versions differ.
     pub demand: &'static str,
 }
 
@@ -49,7 +48,6 @@ const ALONE: &str = "false with one set";
 
 const DIGITS: &str = "1 to 32 of 0 to 9 and a to f";
 
-/// The row of a key.
 pub(crate) fn key_row(key: Key) -> KeyRow
     ensures { row_place result ≡ key_place key }
 {
@@ -89,7 +87,7 @@ pub(crate) fn key_row(key: Key) -> KeyRow
     }
 }
 
-/// The row of a key that stands in no array, and is written so: `own`, `timers.l1`.
+/// The row of a key that is in no array, written like this: `own`, `timers.l1`.
 pub fn lone_key(front: &'static str, kind: &'static str, demand: &'static str) -> KeyRow
     ensures front { result.front.now ≡ front.now }
     ensures entry { result.entry ≡ None }
@@ -106,7 +104,7 @@ pub fn lone_key(front: &'static str, kind: &'static str, demand: &'static str) -
     }
 }
 
-/// The row of the key of this name in an entry of an array; where the name is empty, that of the entry itself.
+/// The row of the key of this name in an entry of an array; if the name is empty, that of the entry itself.
 pub fn entry_key(
     array: &'static str,
     entry: usize,

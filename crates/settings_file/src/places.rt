@@ -1,4 +1,4 @@
-//! Where a key of a settings file stands, as a person reads it.
+//! Where a key of a settings file is, as a person reads it.
 
 ghost use Rattle.std.specs.Prelude.{◌≡◌, Some, IfOk, string_bytes};
 ghost use Rattle.std.specs.Option.{option_copied, option_map};
@@ -18,7 +18,7 @@ use toml::{Table, Value};
 struct Place<'a> {
     /// The key.
     row: KeyRow,
-    /// The name that the entry of the key has in the file, where it has one.
+    /// The name that the entry of the key has in the file, if it has one.
     entry_name: Option<&'a str>,
 }
 
@@ -43,7 +43,7 @@ impl fmt::Display for Place<'_> {
     }
 }
 
-/// The value that a document has at a key of this row, where it has one.
+/// The value that a document has at a key of this row, if it has one.
 pub fn value_at<'a>(document: &'a Table, row: &KeyRow) -> Option<&'a Value>
     ensures { option_map (λ value. view value.now) result ≡ value_at row.now (table_view document.now) }
 {
@@ -54,7 +54,7 @@ pub fn value_at<'a>(document: &'a Table, row: &KeyRow) -> Option<&'a Value>
     }
 }
 
-/// The value of a key that is written alone, or behind the names of its tables, each with a dot: two at most.
+/// The value of a key that is written alone, or after the names of its tables, each with a dot: two at most.
 fn value_at_path<'a>(document: &'a Table, path: &str) -> Option<&'a Value>
     ensures { option_map (λ value. view value.now) result ≡ value_at_path path.now (table_view document.now) }
 {
@@ -81,14 +81,13 @@ fn entry_at<'a>(document: &'a Table, array: &str, i: usize) -> Option<&'a Value>
     found(document, array)?.get(i)
 }
 
-/// The value of a key of the document.
 fn found<'a>(document: &'a Table, key: &str) -> Option<&'a Value>
     ensures { option_map (λ value. view value.now) result ≡ get_member key.now (table_view document.now) }
 {
     document.get(key)
 }
 
-/// The name that the entry of a key of this row has in the document, where a sentence shows it.
+/// The name that the entry of a key of this row has in the document, if a sentence shows it.
 fn entry_name<'a>(document: &'a Table, row: &KeyRow) -> Option<&'a str> {
     let name = entry_at(document, row.front, row.entry?)?
         .get("name")?
@@ -96,10 +95,10 @@ fn entry_name<'a>(document: &'a Table, row: &KeyRow) -> Option<&'a str> {
     is_shown(name).then_some(name)
 }
 
-/// The sentence about a key of this row in a document, which a file of this name is, with a line feed. What is wrong
-/// stands behind the key: `node.toml: link[2] "e2": slc is 16, must be 0 to 15`.
+/// The sentence about a key of this row in a document, which a file of this name is, with a line feed. What is wrong is
+/// after the key: `node.toml: link[2] "e2": slc is 16, must be 0 to 15`.
 ///
-/// `AllocError` where memory ran out.
+/// `AllocError` if memory ran out.
 pub fn about(
     alloc: Global,
     file: &str,

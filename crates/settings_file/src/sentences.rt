@@ -15,10 +15,10 @@ use toml::{Table, Value};
 /// The first version of the format, which has smaller limits.
 const FIRST_VERSION: i64 = 1;
 
-/// The sentence that says what is wrong with the document that a settings file of this name is, which
-/// has this fault, with a line feed: `node.toml: link[2] "e2": slc is 16, must be 0 to 15`.
+/// The sentence that says what this fault is, in the document of a settings file of this name, with a line feed:
+/// `node.toml: link[2] "e2": slc is 16, must be 0 to 15`.
 ///
-/// `AllocError` where memory ran out.
+/// `AllocError` if memory ran out.
 pub fn sentence(
     alloc: Global,
     file: &str,
@@ -52,7 +52,7 @@ fn key_of(fault: SettingsFault) -> Option<Key>
     }
 }
 
-/// What the value of a key has to be in this file, as its version says.
+/// What the value of a key must be in this file, as its version says.
 fn demand(document: &Table, key: Key) -> &'static str {
     match key {
         Key::Window if is_first_version(document) => "1 to 4096 in version 1",

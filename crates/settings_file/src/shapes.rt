@@ -13,7 +13,7 @@ use settings::Key;
 use std::alloc::Global;
 use toml::{Table, Value};
 
-/// The value of a key, where it is there.
+/// The value of a key, if it is there.
 pub(crate) fn found<'a>(table: &'a Table, name: &str) -> Option<&'a Value>
     ensures { option_map (λ value. view value.now) result
         ≡ get_member name.now (table_view table.now) }
@@ -21,7 +21,7 @@ pub(crate) fn found<'a>(table: &'a Table, name: &str) -> Option<&'a Value>
     table.get(name)
 }
 
-/// The value of a key that has to be there.
+/// The value of a required key.
 #[tactic(auto, unfolding(crate::specs::Shapes::value_at))]
 pub(crate) fn value<'a>(table: &'a Table, name: &str, key: Key) -> Result<&'a Value, SettingsFault>
     ensures { Answers (λ value. view value.now)
@@ -33,7 +33,6 @@ pub(crate) fn value<'a>(table: &'a Table, name: &str, key: Key) -> Result<&'a Va
     }
 }
 
-/// The integer that a value is.
 #[tactic(auto, unfolding(crate::specs::Shapes::integer_in))]
 pub(crate) fn integer_in(value: &Value, key: Key) -> Result<i64, SettingsFault>
     ensures { result ≡ integer_in key (view value.now) }
@@ -41,7 +40,6 @@ pub(crate) fn integer_in(value: &Value, key: Key) -> Result<i64, SettingsFault>
     value.as_integer().ok_or(SettingsFault::Kind(key))
 }
 
-/// The truth value that a value is.
 #[tactic(auto, unfolding(crate::specs::Shapes::truth_in))]
 pub(crate) fn truth_in(value: &Value, key: Key) -> Result<bool, SettingsFault>
     ensures { result ≡ truth_in key (view value.now) }
@@ -49,7 +47,6 @@ pub(crate) fn truth_in(value: &Value, key: Key) -> Result<bool, SettingsFault>
     value.as_bool().ok_or(SettingsFault::Kind(key))
 }
 
-/// The text that a value is.
 #[tactic(auto, unfolding(crate::specs::Shapes::text_in))]
 fn text_in(alloc: Global, value: &Value, key: Key) -> Result<String, SettingsFault>
     ensures { AnswersOrNoMemory string_bytes (text_in key (view value.now)) result }
@@ -60,7 +57,6 @@ fn text_in(alloc: Global, value: &Value, key: Key) -> Result<String, SettingsFau
     }
 }
 
-/// The table that a value is.
 #[tactic(auto, unfolding(crate::specs::Shapes::table_in))]
 pub(crate) fn table_in(value: &Value, key: Key) -> Result<&Table, SettingsFault>
     ensures { Answers (λ table. table_view table.now) (table_in key (view value.now)) result }
@@ -82,7 +78,6 @@ pub(crate) fn array_in(value: &Value, key: Key) -> Result<&[Value], SettingsFaul
     }
 }
 
-/// The integer at a key.
 #[tactic(auto, unfolding(crate::specs::Shapes::integer_at))]
 pub(crate) fn integer(table: &Table, name: &str, key: Key) -> Result<i64, SettingsFault>
     ensures { result ≡ integer_at name.now key (table_view table.now) }
@@ -105,7 +100,6 @@ pub(crate) fn text(
     text_in(alloc, value, key)
 }
 
-/// The integers that values are.
 fn each_integer(alloc: Global, values: &[Value], key: Key) -> Result<Vec<i64>, SettingsFault>
     ensures { AnswersOrNoMemory (λ integers. integers.items)
         (each (λ _. integer_in key) 0 (map view values.now)) result }
@@ -118,7 +112,6 @@ fn each_integer(alloc: Global, values: &[Value], key: Key) -> Result<Vec<i64>, S
     Ok(integers)
 }
 
-/// The texts that values are.
 fn each_text(alloc: Global, values: &[Value], key: Key) -> Result<Vec<String>, SettingsFault>
     ensures { AnswersOrNoMemory (λ texts. map (λ text. string_bytes text) texts.items)
         (each (λ _. text_in key) 0 (map view values.now)) result }
@@ -163,7 +156,7 @@ pub(crate) fn texts(
     each_text(alloc, values, key)
 }
 
-/// The entries of the array at a key, of which there has to be one.
+/// The entries of the array at a key, at least one.
 #[tactic(auto, unfolding(crate::specs::Shapes::entries_at))]
 pub(crate) fn entries<'a>(
     table: &'a Table,

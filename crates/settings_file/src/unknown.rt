@@ -10,7 +10,7 @@ use std::alloc::{AllocError, Global};
 use strsim::osa_distance;
 use toml::{Table, Value};
 
-/// The keys of a settings file that stand in no array.
+/// The keys of a settings file that are in no array.
 const TOP: [&str; 13] = [
     "version",
     "own",
@@ -100,7 +100,7 @@ struct TableArray {
 /// Warnings of one file, at most.
 const MOST_WARNINGS: usize = 20;
 
-/// A known key is near if at most one edit leads to it, or one for each so many octets of the key that is ignored.
+/// A known key is near if at most one edit leads to it, or one for every this many octets of the ignored key.
 const OCTETS_PER_EDIT: usize = 3;
 
 /// The warnings of a file, as they are written.
@@ -115,7 +115,7 @@ struct WarningText<'a> {
 /// this name is. It names the nearest known key, if one is near: `node.toml: windw is ignored; the
 /// nearest key is window`, `node.toml: colour is ignored: no such key`. Each ends with a line feed.
 ///
-/// `AllocError` where memory ran out.
+/// `AllocError` if memory ran out.
 pub fn warnings(alloc: Global, file: &str, document: &Table) -> Result<String, AllocError>
     ensures { IfOk result (λ text. AreWarnings file.now (string_bytes text)) }
 {
@@ -205,7 +205,7 @@ impl WarningText<'_> {
         Ok(())
     }
 
-    /// Warns of the keys of a table, before which this stands.
+    /// Warns of the keys of a table, whose path begins like this.
     fn add_table(
         &mut self,
         alloc: Global,
@@ -244,7 +244,7 @@ impl WarningText<'_> {
     }
 }
 
-/// The version of a document, where it says one.
+/// The version of a document, if it says one.
 fn version_of(document: &Table) -> Option<i64>
     ensures { result ≡ version_of (table_view document.now) }
 {
@@ -278,7 +278,7 @@ fn array(name: &'static str, keys: &'static [&'static str]) -> TableArray
     TableArray { name, keys }
 }
 
-/// The warning of a key, before which this stands.
+/// The warning of a key, whose path begins like this.
 fn warning(
     alloc: Global,
     file: &str,
@@ -299,7 +299,7 @@ fn warning(
     format!(in alloc; "{file}: {front}{key} is ignored; the nearest key is {front}{nearest}\n")
 }
 
-/// The near known key that the fewest edits lead to.
+/// The near known key that takes the fewest edits.
 fn nearest<'a>(alloc: Global, key: &str, known: &[&'a str]) -> Result<Option<&'a str>, AllocError> {
     let mut nearest = None;
     let mut too_many = 1 + (key.len() / OCTETS_PER_EDIT).max(1);

@@ -15,7 +15,7 @@ pub record LinkEntry : Type 0 where
   pub slc : ℕ
 
 -- a destination: its point code, the numbers of the sets that lead to it, the preferred one first, and whether the
--- first two of them are joined: they are preferred alike
+-- first two of them are joined, which means preferred alike
 pub record DestinationEntry : Type 0 where
   pub point : ℕ
   pub sets : List ℕ

@@ -14,7 +14,6 @@ kind_number Duplicate = 5
 kind_number UnknownName = 6
 kind_number TooMany = 7
 
--- a fault by number
 abbrev pub fault_number : DraftFault → ℕ
 fault_number NoMemory = 8
 fault_number (At kind key) = kind_number kind

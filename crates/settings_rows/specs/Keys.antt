@@ -64,7 +64,7 @@ key_front (TitlePoint i) = codes "title"
 key_front (TitleRoute i) = codes "title"
 key_front (TitleSsn i) = codes "title"
 
--- the index of the entry of an array that a key stands in, from 0
+-- the index of the entry of an array that a key is in, from 0
 abbrev pub key_index : Key → Option ℕ
 key_index (SetEntry i) = Some i
 key_index (SetName i) = Some i
@@ -87,7 +87,7 @@ key_index (TitleRoute i) = Some i
 key_index (TitleSsn i) = Some i
 key_index key = None
 
--- what stands behind the index: a dot and the key in its entry, or nothing
+-- what is after the index: a dot and the key in its entry, or nothing
 abbrev pub key_back : Key → List ℕ
 key_back (SetName i) = codes ".name"
 key_back (SetAdjacent i) = codes ".adjacent"

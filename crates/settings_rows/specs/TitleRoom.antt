@@ -1,4 +1,4 @@
--- How a translation row lies in place: its digits at the front of a row of fixed length, and zeros behind them.
+-- How a translation row lies in place: its digits at the front of a row of fixed length, and zeros after them.
 use Rattle.std.specs.Prelude.{◌≡◌, ◌-◌, ◌++◌, length, take, drop, replicate}
 use Rattle.settings_rows.specs.Configuration.{TitleEntry}
 use Rattle.settings_rows.specs.Titles.{HasTitleRanges}

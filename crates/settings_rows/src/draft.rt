@@ -11,9 +11,9 @@ pub struct Draft {
     pub window: i64,
     /// User messages that the node may keep.
     pub pool: i64,
-    /// Service indicators of the user parts that stand on this node.
+    /// Service indicators of the user parts that are on this node.
     pub users: Vec<i64>,
-    /// Numbers of the subsystems that stand on this node.
+    /// Numbers of the subsystems that are on this node.
     pub subsystems: Vec<i64>,
     /// How long each timer runs.
     pub timers: TimersDraft,

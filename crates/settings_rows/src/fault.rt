@@ -11,9 +11,9 @@ use std::fmt;
 /// What is wrong at a key. The numbers are part of the interface.
 #[derive(Clone, Copy)]
 pub enum FaultKind {
-    /// A number out of its range, a malformed text, or an empty list that has to have an entry.
+    /// A number out of its range, a malformed text, or an empty list that must have an entry.
     Range = 4,
-    /// What has to be distinct stands twice.
+    /// What must be distinct occurs twice.
     Duplicate = 5,
     /// A name that nothing has.
     UnknownName = 6,
@@ -41,7 +41,7 @@ pub enum DraftFault {
 }
 
 impl DraftFault {
-    /// The fault's number: 4 to 7 for what is wrong at a key, 8 where memory ran out.
+    /// The fault's number: 4 to 7 for what is wrong at a key, 8 if memory ran out.
     pub fn number(self) -> u8
         ensures { result ≡ fault_number self }
     {

@@ -59,8 +59,8 @@ impl TimerKey {
     }
 }
 
-/// The keys of the settings, with the index where a key stands in an array. A key prints as its
-/// path, as `link[2].slc`.
+/// The keys of the settings, with the index where a key is in an array. A key prints as its path,
+/// as `link[2].slc`.
 #[derive(Clone, Copy)]
 pub enum Key {
     /// `version`.
@@ -164,7 +164,7 @@ impl Key {
         }
     }
 
-    /// The index of the entry of an array that the key stands in.
+    /// The index of the entry of an array that the key is in.
     fn index(self) -> Option<usize>
         ensures { result ≡ key_index self }
     {
@@ -192,7 +192,7 @@ impl Key {
         }
     }
 
-    /// What stands behind the index: a dot and the key in its entry, or nothing.
+    /// What is after the index: a dot and the key in its entry, or nothing.
     fn back(self) -> &'static str
         ensures { result.now ≡ key_back self }
     {

@@ -55,9 +55,9 @@ impl Model for TitleRow {
 }
 
 impl TitleRow {
-    /// The row of this translation type (an octet), numbering plan (0 to 15), nature of address (0
-    /// to 127) and digits (1 to 32 of them, 0 to 15 each), or `None` exactly where one of these is
-    /// out of its range. Addresses lead to this point, and are routed there in this way.
+    /// The row of this translation type (an octet), numbering plan (0 to 15), nature of address (0 to 127) and digits
+    /// (1 to 32 of them, 0 to 15 each), or `None` exactly when one of these is out of range. Addresses lead to this
+    /// point, and are routed there in this way.
     pub fn new(
         translation: u8,
         plan: u8,
@@ -153,7 +153,7 @@ fn are_digits(digits: &[u8]) -> bool
     true
 }
 
-/// The digits, and zeros behind them.
+/// The digits, and zeros after them.
 fn padded(digits: &[u8]) -> [u8; Limits::TITLE_DIGITS]
     requires { length digits.now ≤ Limits.TITLE_DIGITS }
     ensures { result ≡ digits.now ++ replicate (Limits.TITLE_DIGITS - length digits.now) 0 }

@@ -1,4 +1,4 @@
--- Zeros behind the first octets of a row.
+-- Zeros after the first octets of a row.
 use Rattle.std.proofs.Common.{arith, ◌≡◌, ℕ, ◌+◌, ◌-◌, ◌<◌, ◌≤◌, ◌++◌, List, length, take, drop, replicate}
 use Rattle.std.proofs.lemmas.List.{length-take-le, length-drop, drop_at, drop-drop, drop-replicate, replicate-append-replicate}
 

@@ -1,4 +1,4 @@
--- A number of 24 bits and its three octets are the same thing.
+-- A 24-bit number and its three octets are the same thing.
 use Rattle.std.proofs.Common.{◌≡◌, ℕ, ◌^◌, ◌<◌, [], ◌∷◌, arith}
 use Rattle.signalling_types.specs.Numbers.{three_octets, number_of}
 

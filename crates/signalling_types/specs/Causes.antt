@@ -8,7 +8,6 @@ use Rattle.signalling_types.specs.declared.cause.Cause.TheVariants.{LostUnconfir
 use Rattle.signalling_types.specs.declared.cause.Cause.TheVariants.{LinkNotReady, ChangeoverPending, NoMemory}
 use Rattle.signalling_types.specs.declared.cause.Cause.TheVariants.{TableFull, DuplicateRow, NoSuchName}
 
--- a cause's number
 abbrev pub cause_number : Cause → ℕ
 cause_number WrongNetwork = 1
 cause_number NoLabel = 2

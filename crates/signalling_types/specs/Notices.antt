@@ -7,14 +7,12 @@ use Rattle.signalling_types.specs.declared.notice.FailureReason.TheVariants.{Ass
 use Rattle.signalling_types.specs.declared.notice.FailureReason.TheVariants.{Length as WrongLength, Changeover}
 use Rattle.signalling_types.specs.declared.notice.FailureReason.TheVariants.{Operator}
 
--- the number of a frame's fault
 abbrev pub frame_fault_number : FrameFault → ℕ
 frame_fault_number Short = 1
 frame_fault_number Length = 2
 frame_fault_number Version = 3
 frame_fault_number Unknown = 4
 
--- the name of a frame's fault
 abbrev pub frame_fault_name : FrameFault → List ℕ
 frame_fault_name Short = codes "Short"
 frame_fault_name Length = codes "Length"

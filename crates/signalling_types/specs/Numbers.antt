@@ -17,7 +17,7 @@ previous_number number = (number + modulus - 1) % modulus
 abbrev pub steps_between : ℕ → ℕ → ℕ
 steps_between from to = (to + modulus - from) % modulus
 
--- whether x is met on the way from low to high, both ends with it
+-- whether x is met on the way from low to high, both ends included
 abbrev pub is_within : ℕ → ℕ → ℕ → Bool
 is_within low high x = nat_le (steps_between low x) (steps_between low high)
 

@@ -1,4 +1,4 @@
--- How a message lies in place: its octets at the front of a row of fixed length, and zeros behind them.
+-- How a message lies in place: its octets at the front of a row of fixed length, and zeros after them.
 use Rattle.std.specs.Prelude.{◌≡◌, ◌-◌, ◌≤◌, ◌++◌, length, take, drop, replicate}
 use Rattle.signalling_types.specs.Message.{Message}
 use Rattle.signalling_types.specs.declared.limits.TheConstants.Limits.{SIF_OCTETS}

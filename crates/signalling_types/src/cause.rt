@@ -14,7 +14,7 @@ pub enum Cause {
     UnknownDestination = 3,
     /// No link leads to the destination.
     NoRoute = 4,
-    /// As many user messages stand in the node as it may keep.
+    /// The node keeps as many user messages as it may.
     PoolFull = 5,
     /// No user part takes messages of this service indicator.
     NoUserPart = 6,
@@ -34,7 +34,7 @@ pub enum Cause {
     TooLong = 13,
     /// A sent message whose confirmation never came, lost with its link.
     LostUnconfirmed = 14,
-    /// As many management messages stand in the node as it may keep.
+    /// The node keeps as many management messages as it may.
     ManagementFull = 15,
     /// A management message whose originating point isn't adjacent.
     NotFromAdjacent = 16,
@@ -44,7 +44,7 @@ pub enum Cause {
     ChangeoverPending = 18,
     /// Memory ran out.
     NoMemory = 19,
-    /// As many translation rows stand as the node may keep.
+    /// The node keeps as many translation rows as it may.
     TableFull = 20,
     /// The translation row is there already.
     DuplicateRow = 21,

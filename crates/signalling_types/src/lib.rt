@@ -1,5 +1,5 @@
-//! The small types that every part of the node names: messages, numbers of points and links,
-//! the numbers of messages on a link, causes, outcomes, notices and limits.
+//! The small types that every part of the node uses: messages and their sequence numbers, points and links, causes,
+//! outcomes, notices and limits.
 #![tactic(auto)]
 
 pub mod cause;

@@ -37,7 +37,7 @@ impl Model for Msu {
 impl Msu {
     /// The message of a service information octet and a signalling information field.
     ///
-    /// Refused TooLong exactly where the field has more than 272 octets.
+    /// Refused TooLong exactly when the field has more than 272 octets.
     #[inline(always)]
     pub fn new(sio: u8, sif: &[u8]) -> Result<Msu, Cause>
         ensures long { IsErr result ↔ (Limits.SIF_OCTETS < length sif.now) }
@@ -123,7 +123,7 @@ impl Msu {
     }
 }
 
-/// Becomes these octets and zeros behind them, where zeros stood behind the first `used`.
+/// Becomes these octets and zeros after them, given that zeros come after the first `used`.
 fn replace(octets: &mut [u8; Limits::SIF_OCTETS], used: usize, sif: &[u8])
     requires used { used ≤ Limits.SIF_OCTETS }
     requires cleared { drop used octets.old ≡ replicate (Limits.SIF_OCTETS - used) 0 }
@@ -134,7 +134,7 @@ fn replace(octets: &mut [u8; Limits::SIF_OCTETS], used: usize, sif: &[u8])
     octets[..sif.len()].copy_from_slice(sif);
 }
 
-/// Zeros stand behind the first `count`, where they stood behind the first `used`: no others are cleared.
+/// Clears what follows the first `count`, given that zeros come after the first `used`: no other octets are written.
 fn clear_behind(octets: &mut [u8; Limits::SIF_OCTETS], count: usize, used: usize)
     requires used { used ≤ Limits.SIF_OCTETS }
     requires cleared { drop used octets.old ≡ replicate (Limits.SIF_OCTETS - used) 0 }

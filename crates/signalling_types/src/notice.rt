@@ -6,7 +6,7 @@ ghost use Rattle.signalling_types.specs.Notices.{frame_fault_number, frame_fault
 use crate::cause::Cause;
 use crate::point::{LinkId, PointCode, Sls};
 
-/// What is wrong with the octets of a frame: the first fault that reading meets (RFC 4165 §2).
+/// What is wrong with the octets of a frame: the first fault that reading finds (RFC 4165 §2).
 #[derive(Clone, Copy, Debug, PartialEq, Eq)]
 pub enum FrameFault {
     /// Too few octets for what the frame announces.
@@ -99,7 +99,7 @@ pub enum LateTimer {
 pub enum Notice {
     /// A message in a frame of this link was refused.
     Refused(Cause, LinkId),
-    /// A frame of this link was left aside.
+    /// A frame of this link was discarded.
     Frame(FrameFault, LinkId),
     /// The link failed.
     Failed(LinkId, FailureReason),

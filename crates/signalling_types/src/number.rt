@@ -6,7 +6,7 @@ ghost use Rattle.signalling_types.specs.Numbers.{three_octets, number_of};
 
 use std::marker::Model;
 
-/// A sequence number of 24 bits, as FSN and BSN are (RFC 4165 §2.2).
+/// A 24-bit sequence number, as FSN and BSN are (RFC 4165 §2.2).
 #[derive(Clone, Copy, Debug, PartialEq, Eq)]
 pub struct Number24 {
     value: u32,
@@ -33,7 +33,7 @@ impl Number24 {
         Number24 { value: 0 }
     }
 
-    /// The number of this value, where it has at most 24 bits.
+    /// The number of this value, if it has at most 24 bits.
     pub fn new(value: u32) -> Option<Number24>
         ensures fits { IsSome result ↔ (value < 2 ^ 24) }
         ensures value { IfSome result (λ number. number ≡ value) }
@@ -123,7 +123,7 @@ pub fn distance(from: Number24, to: Number24) -> u32
     (to.value + Number24::MODULUS - from.value) % Number24::MODULUS
 }
 
-/// Whether `next` meets x on the way from low to high, both ends with it.
+/// Whether `next` meets x on the way from low to high, both ends included.
 pub fn within(low: Number24, high: Number24, x: Number24) -> bool
     ensures test { result ≡ is_within low high x }
     ensures steps { IsTrue result ↔ (steps_between low x ≤ steps_between low high) }

@@ -6,18 +6,18 @@ use crate::point::LinkId;
 /// What became of an event.
 #[derive(Clone, Copy, Debug, PartialEq, Eq)]
 pub enum Outcome {
-    /// The message stands at the end of this link's queue.
+    /// The message is at the end of this link's queue.
     Queued(LinkId),
     /// The message is held until its flow may go on.
     Held,
-    /// The message is for a user part or a subsystem of this node: the caller passes it on, also one that was
+    /// The message is for a user part or a subsystem of this node: the caller passes it on, even one that was
     /// submitted.
     Local,
     /// The event was taken. A link may have failed by it.
     Handled,
-    /// The event asks for nothing here. What accepting its frame did stands, and a frame that can't be read is noted.
+    /// The event asks for nothing here. What accepting its frame did stays, and a frame that can't be read is noted.
     Ignored,
     /// The event was refused, and changed nothing; but a refused message may be answered (TFP, UDTS), and what
-    /// accepting its frame did stands.
+    /// accepting its frame did stays.
     Refused(Cause),
 }

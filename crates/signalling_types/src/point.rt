@@ -21,7 +21,7 @@ impl Model for PointCode {
 }
 
 impl PointCode {
-    /// The point of this number, where it has at most 14 bits.
+    /// The point of this number, if it has at most 14 bits.
     pub fn new(code: u16) -> Option<PointCode>
         ensures fits { IsSome result ↔ (code < 2 ^ 14) }
         ensures value { IfSome result (λ point. point ≡ code) }
@@ -69,7 +69,7 @@ impl Model for Sls {
 }
 
 impl Sls {
-    /// The selection of this number, where it has at most four bits.
+    /// The selection of this number, if it has at most four bits.
     pub fn new(number: u8) -> Option<Sls>
         ensures fits { IsSome result ↔ (number < 2 ^ 4) }
         ensures value { IfSome result (λ sls. sls ≡ number) }

@@ -10,11 +10,11 @@ use std::test::*;
 
 /// A part that rows happen to.
 trait Part {
-    /// Makes a call, and answers whether it does what the words behind it say.
+    /// Makes a call, and returns whether it does what the words after it say.
     fn holds(&mut self, call: &str) -> bool;
 }
 
-/// The first row that doesn't hold; nothing where all do.
+/// The first row that doesn't hold; nothing if all do.
 fn first_wrong<P: Part>(part: &mut P, rows: &'static str) -> &'static str {
     for row in rows.lines() {
         if !all_hold(part, row) {
@@ -41,7 +41,7 @@ fn all_right(rt: &impl Abort, wrong: Result<&'static str, AllocError>) -> Result
     Ok(())
 }
 
-/// The word of a call at a place; nothing where it has fewer.
+/// The word of a call at an index; nothing if it has fewer.
 fn word(call: &str, place: usize) -> &str {
     call.split(' ').nth(place).unwrap_or("")
 }

@@ -11,7 +11,7 @@ use Rattle.status_page.specs.declared.text.TheConstants.{PAGE}
 use Rattle.status_page.specs.Metrics.{metrics_text}
 use Rattle.status_page.specs.States.{state_tokens}
 
--- the octets of each page, so many milliseconds after the start: `/` never changes, `/state.json` is the print of its
+-- the octets of each page, this many milliseconds after the start: `/` never changes, `/state.json` is the print of its
 -- tokens, and `/metrics` has a line for each sample
 abbrev pub page_text :
     {Q : Type 0} → QueueKind Q → PointFormat → State Q → List LinkCounters → NoticeLog → (uptime : ℕ) → Page → List ℕ

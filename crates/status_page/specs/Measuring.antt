@@ -31,7 +31,7 @@ count_user_messages messages = count_by (is_user_picked (λ m. not (is_managemen
 abbrev pub held_users : {Q : Type 0} → QueueKind Q → State Q → ℕ
 held_users q s = count_user_messages (q.held s.node.queues)
 
--- ---- of a link; where there is no such link it is 0
+-- ---- of a link; if there is no such link it is 0
 
 abbrev pub is_service : LinkStanding → Bool
 is_service Down = false
@@ -66,17 +66,16 @@ abbrev pub confirmed_by : {Q : Type 0} → QueueKind Q → State Q → (link bsn
 confirmed_by q s link bsn =
     count_confirmed (q.accept_answer s.node.queues link (q.last_accepted s.node.queues link) bsn false)
 
--- the user messages of a link's queue that aren't confirmed; the number that the next message gets confirms none of them
+-- the user messages of a link's queue that aren't confirmed; the number that the next message gets confirms none of
+-- them
 abbrev pub users_on : {Q : Type 0} → QueueKind Q → State Q → ℕ → ℕ
 users_on q s link =
     unwrap_or (option_map (λ v. count_user_messages
     (drop (confirmed_by q s link (next_number v.last_sent)) (q.unconfirmed s.node.queues link))) (link_view q s link)) 0
 
--- the counters of a link
 abbrev pub counters_at : List LinkCounters → ℕ → LinkCounters
 counters_at rows link = unwrap_or (slice_get rows link) no_counts
 
--- the value of a metric of a link
 abbrev pub link_value : {Q : Type 0} → QueueKind Q → LinkMetric → State Q → List LinkCounters → ℕ → ℕ
 link_value q of_link.InService s rows k = bit (is_in_service q s k)
 link_value q of_link.ChangingOver s rows k = bit (is_changing_over q s k)
@@ -98,7 +97,7 @@ users_on_links q s = users_on_first q s (length s.settings.links)
 abbrev pub kept_messages : {Q : Type 0} → QueueKind Q → State Q → ℕ
 kept_messages q s = saturated (held_users q s + users_on_links q s)
 
--- the value of a metric of the node, so many milliseconds after its start
+-- the value of a metric of the node, this many milliseconds after its start
 abbrev pub node_value : {Q : Type 0} → QueueKind Q → NodeMetric → State Q → NoticeLog → (uptime : ℕ) → ℕ
 node_value q of_node.Build s log uptime = 1
 node_value q of_node.Uptime s log uptime = uptime / 1000

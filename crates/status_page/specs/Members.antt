@@ -27,6 +27,6 @@ object_member name members = key name ∷ object members
 abbrev pub array_member : (name : List ℕ) → (values : List Token) → List Token
 array_member name values = key name ∷ array values
 
--- these tokens come behind those that were written, where memory doesn't run out
+-- these tokens come after those that were written, if memory doesn't run out
 abbrev pub Adds : {E : Type 0} → Result (Unit {0}) E → (old new : Written) → List Token → Type 0
 Adds r old new tokens = OnOk r ((new.tokens ≡ old.tokens ++ tokens) × (new.before ≡ old.before))

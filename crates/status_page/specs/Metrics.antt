@@ -13,7 +13,6 @@ use Rattle.status_page.specs.Families.{families, metrics_of}
 use Rattle.status_page.specs.Measuring.{link_value, node_value}
 use Rattle.status_page.specs.Samples.{head_text, link_labels, node_labels, sample_text}
 
--- the sample of a link
 unfoldable pub link_sample :
     {Q : Type 0} → QueueKind Q → State Q → List LinkCounters → Family → LinkMetric → ℕ → List ℕ
 link_sample q s rows family metric k =
@@ -40,7 +39,7 @@ abbrev pub families_text :
     {Q : Type 0} → QueueKind Q → State Q → List LinkCounters → NoticeLog → (uptime : ℕ) → List Family → List ℕ
 families_text q s rows log uptime fs = flat_map (family_text q s rows log uptime) fs
 
--- all metrics, so many milliseconds after the start
+-- all metrics, this many milliseconds after the start
 unfoldable pub metrics_text :
     {Q : Type 0} → QueueKind Q → State Q → List LinkCounters → NoticeLog → (uptime : ℕ) → List ℕ
 metrics_text q s rows log uptime = families_text q s rows log uptime families

@@ -43,11 +43,10 @@ kind_seen kind log = slice_index log.kinds (kind_place kind)
 abbrev pub time_of : (number : ℕ) → NoticeLog → ℕ
 time_of number log = slice_index log.times_ms (number % NOTICES)
 
--- more of a kind
 abbrev pub more_of : NoticeKind → ℕ → List ℕ → List ℕ
 more_of kind n kinds = slice_set kinds (kind_place kind) (saturated (slice_index kinds (kind_place kind) + n))
 
--- so many were dropped before they were seen
+-- this many were dropped before they were seen
 abbrev pub missed : ℕ → NoticeLog → NoticeLog
 missed n log = record log { count = (log.count + n) % 2 ^ 64; kinds = more_of Missed n log.kinds }
 

@@ -15,7 +15,7 @@ use Rattle.status_page.specs.declared.noticed.NoticeKind.{NoticeKind}
 use Rattle.status_page.specs.declared.noticed.NoticeKind.TheVariants as noticed
 use Rattle.status_page.specs.Families.{family_name, family_help, kind_name, kind_of}
 
--- the two lines in front of a family
+-- the two lines before a family
 abbrev pub head_text : Family → List ℕ
 head_text family =
     codes "# HELP " ++ family_name family ++ codes " " ++ family_help family
@@ -68,6 +68,5 @@ metric_labels of_link.ChangingOver = []
 metric_labels of_link.Waiting = []
 metric_labels (of_link.Counted counter) = counter_labels counter
 
--- the labels of a metric of the link of this name
 abbrev pub link_labels : LinkMetric → (name : List ℕ) → List ℕ
 link_labels metric name = codes "{link=\"" ++ name ++ codes "\"" ++ metric_labels metric ++ codes "}"

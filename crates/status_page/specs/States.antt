@@ -31,7 +31,7 @@ use Rattle.status_page.specs.Members.{object, text_member, number_member, bool_m
 
 -- ---- counters
 
--- the member that shows a counter: of refusals the cause, of failures the reason
+-- the member that shows a counter: for refusals the cause, for failures the reason
 abbrev pub counter_key : Counter → List ℕ
 counter_key FramesIn = codes "frames_in"
 counter_key OctetsIn = codes "octets_in"
@@ -49,7 +49,7 @@ counter_member row counter = number_member (counter_key counter) (value_of count
 abbrev pub counter_members : LinkCounters → List Counter → List Token
 counter_members row counters = flat_map (counter_member row) counters
 
--- what is counted of a link as a whole
+-- what is counted for a link as a whole
 abbrev pub totals : List Counter
 totals = FramesIn ∷ OctetsIn ∷ FramesOut ∷ OctetsOut ∷ Forwarded ∷ Delivered ∷ Retries ∷ []
 
@@ -62,7 +62,7 @@ all_counters row =
 
 -- ---- links and sets
 
--- the name of a link's set; nothing where there is no such link
+-- the name of a link's set; nothing if there is no such link
 abbrev pub set_name_of : Configuration → (link : ℕ) → List ℕ
 set_name_of c link = unwrap_or (option_map (λ row. set_name_in c row.set) (slice_get c.links link)) []
 
@@ -82,7 +82,7 @@ link_object q s rows k v =
     ++ bool_member (codes "changing_over") (is_changing_over q s k)
     ++ all_counters (counters_at rows k))
 
--- the same, where there is such a link
+-- the same, if there is such a link
 abbrev pub shown_link : {Q : Type 0} → QueueKind Q → State Q → List LinkCounters → ℕ → Option LinkView → List Token
 shown_link q s rows k None = []
 shown_link q s rows k (Some v) = link_object q s rows k v
@@ -97,7 +97,6 @@ set_tokens points set =
 
 -- ---- routes
 
--- the names of sets
 abbrev pub set_names : Configuration → List ℕ → List Token
 set_names c sets = flat_map (λ set. string (set_name_in c set) ∷ []) sets
 
@@ -117,7 +116,7 @@ route_tokens points s k = shown_route points s.settings (route_view s k)
 
 -- ---- notices
 
--- the number of a notice that is kept, by its place from the oldest: the last has as many as there were
+-- the number of a notice that is kept, by its index from the oldest: the last has as many as there were
 abbrev pub notice_number : {Q : Type 0} → State Q → ℕ → ℕ
 notice_number s k =
     (s.node.parts.notices.count + 2 ^ 64 - (length s.node.parts.notices.last - suc k)) % 2 ^ 64

@@ -56,7 +56,7 @@ impl Content for StatusPage<'_> {
 }
 
 impl StatusPage<'_> {
-    /// Puts the state of the node behind what a body holds.
+    /// Appends the state of the node to a body.
     fn write_state(&self, body: &mut Rope) -> Result<(), AllocError>
         ensures { OnOk result (body.new.items ≡ body.old.items ++ print (state_tokens kept self.now.points
             self.now.exchange.now self.now.counters.now.links self.now.notices.now self.now.uptime_ms)) }

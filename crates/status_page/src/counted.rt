@@ -6,7 +6,7 @@ ghost use Rattle.status_page.specs.Measuring.{counters_at};
 use served_link::{Counters, LinkCounters};
 use signalling_types::LinkId;
 
-/// The counters of a link; of a link that isn't there all are 0.
+/// The counters of a link; all 0 for a link that isn't there.
 pub(crate) fn counters_of(counters: &Counters, link: LinkId) -> LinkCounters
     ensures { result ≡ counters_at counters.now.links link }
 {

@@ -230,7 +230,6 @@ impl Family {
     }
 }
 
-/// Notices, of each kind.
 const NOTICES: [Metric; NOTICE_KINDS] = [
     Metric::Node(NodeMetric::Notices(NoticeKind::Refused)),
     Metric::Node(NodeMetric::Notices(NoticeKind::Frame)),

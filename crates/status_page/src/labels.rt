@@ -15,7 +15,6 @@ pub const VERSION: &str = "0.1.0";
 /// Octets of a sample's labels, at most.
 pub const LABELS_OCTETS: usize = 64;
 
-/// The labels of a metric of the node.
 pub(crate) fn node_labels(metric: NodeMetric) -> ArrayString<LABELS_OCTETS>
     ensures { result.bytes ≡ node_labels metric }
 {
@@ -66,7 +65,7 @@ pub(crate) fn link_labels(metric: LinkMetric, name: &str) -> ArrayString<LABELS_
     labels
 }
 
-/// Puts the further label of a metric of a link behind what is there.
+/// Appends the further label of a metric of a link.
 fn push_further(metric: LinkMetric, labels: &mut ArrayString<LABELS_OCTETS>)
     requires { length labels.old.bytes ≤ 24 }
     ensures label { labels.new.bytes ≡ labels.old.bytes ++ metric_labels metric }
@@ -78,7 +77,7 @@ fn push_further(metric: LinkMetric, labels: &mut ArrayString<LABELS_OCTETS>)
     }
 }
 
-/// Puts the label of a counter of refusals or of failures behind what is there, its cause or its reason.
+/// Appends the label of a counter of refusals or of failures, its cause or its reason.
 fn push_reason(counter: Counter, labels: &mut ArrayString<LABELS_OCTETS>)
     requires { length labels.old.bytes ≤ 24 }
     ensures label { labels.new.bytes ≡ labels.old.bytes ++ counter_labels counter }

@@ -17,7 +17,7 @@ use settings::Settings;
 use signalling_types::{Cause, FailureReason, LinkId, SetId};
 use std::alloc::AllocError;
 
-/// What is counted of a link as a whole.
+/// What is counted for a link as a whole.
 const TOTALS: [Counter; 7] = [
     Counter::FramesIn,
     Counter::OctetsIn,
@@ -65,7 +65,7 @@ const FAILURES: [Counter; 7] = [
     Counter::Failed(FailureReason::Operator),
 ];
 
-/// Puts the object of a link behind what was written; nothing where there is no such link.
+/// Appends the object of a link; nothing if there is no such link.
 #[tactic(auto, unfolding(crate::specs::States::link_tokens))]
 pub(crate) fn put_link(
     exchange: &Exchange,
@@ -81,7 +81,7 @@ pub(crate) fn put_link(
     }
 }
 
-/// Puts the object of a link that is shown so behind what was written.
+/// Appends the object of a link that is shown like this.
 fn put_shown(
     exchange: &Exchange,
     counters: &Counters,
@@ -99,7 +99,7 @@ fn put_shown(
     out.end_object()
 }
 
-/// Puts the names of a link and of its set behind what was written.
+/// Appends the names of a link and of its set.
 fn put_names(settings: &Settings, link: LinkId, out: &mut Writer) -> Result<(), AllocError>
     ensures { Adds result out.old out.new (name_members settings.now link) }
 {
@@ -107,7 +107,7 @@ fn put_names(settings: &Settings, link: LinkId, out: &mut Writer) -> Result<(), 
     put_text(out, "set", set_name_of(settings, link))
 }
 
-/// The name of a link's set; nothing where there is no such link.
+/// The name of a link's set; nothing if there is no such link.
 fn set_name_of(settings: &Settings, link: LinkId) -> &str
     ensures { result.now ≡ set_name_of settings.now link }
 {
@@ -117,7 +117,7 @@ fn set_name_of(settings: &Settings, link: LinkId) -> &str
     }
 }
 
-/// The name of a set; nothing where no set has this number.
+/// The name of a set; nothing if no set has this number.
 pub(crate) fn set_name(settings: &Settings, set: SetId) -> &str
     ensures { result.now ≡ set_name_in settings.now set }
 {
@@ -127,7 +127,7 @@ pub(crate) fn set_name(settings: &Settings, set: SetId) -> &str
     }
 }
 
-/// Puts how a link stands behind what was written.
+/// Appends the state of a link.
 fn put_view(view: LinkView, out: &mut Writer) -> Result<(), AllocError>
     ensures { Adds result out.old out.new (view_members view) }
 {
@@ -137,7 +137,7 @@ fn put_view(view: LinkView, out: &mut Writer) -> Result<(), AllocError>
     put_number(out, "bsn", u64::from(view.last_accepted.value()))
 }
 
-/// Puts all counters of a link behind what was written.
+/// Appends all counters of a link.
 fn put_counters(row: &LinkCounters, out: &mut Writer) -> Result<(), AllocError>
     ensures { Adds result out.old out.new (all_counters row.now) }
 {
@@ -146,7 +146,7 @@ fn put_counters(row: &LinkCounters, out: &mut Writer) -> Result<(), AllocError>
     put_object("failed", &FAILURES, row, out)
 }
 
-/// Puts an object of these counters behind what was written.
+/// Appends an object of these counters.
 fn put_object(
     name: &str,
     counters: &[Counter],
@@ -162,7 +162,7 @@ fn put_object(
     out.end_object()
 }
 
-/// Puts these counters behind what was written.
+/// Appends these counters.
 fn put_each(counters: &[Counter], row: &LinkCounters, out: &mut Writer) -> Result<(), AllocError>
     ensures { Adds result out.old out.new (counter_members row.now counters.now) }
 {

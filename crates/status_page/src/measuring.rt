@@ -16,7 +16,7 @@ use signalling_types::number::next;
 /// Milliseconds in a second.
 const SECOND_MS: u64 = 1_000;
 
-/// The value of a metric of the node, so many milliseconds after its start.
+/// The value of a metric of the node, this many milliseconds after its start.
 pub(crate) fn node_value(
     metric: NodeMetric,
     exchange: &Exchange,
@@ -75,7 +75,7 @@ fn users_on(exchange: &Exchange, link: LinkId) -> u64
     }
 }
 
-/// The value of a metric of a link; 0 where there is no such link.
+/// The value of a metric of a link; 0 if there is no such link.
 pub(crate) fn link_value(
     metric: LinkMetric,
     exchange: &Exchange,

@@ -6,7 +6,7 @@ ghost use Rattle.status_page.specs.Members.{Adds, bool_member, number_member, te
 use json::Writer;
 use std::alloc::AllocError;
 
-/// Puts a member whose value is a text behind what was written.
+/// Appends a member whose value is a text.
 pub(crate) fn put_text(out: &mut Writer, name: &str, text: &str) -> Result<(), AllocError>
     ensures { Adds result out.old out.new (text_member name.now text.now) }
 {
@@ -14,7 +14,7 @@ pub(crate) fn put_text(out: &mut Writer, name: &str, text: &str) -> Result<(), A
     out.string(text)
 }
 
-/// Puts a member whose value is a number behind what was written.
+/// Appends a member whose value is a number.
 pub(crate) fn put_number(out: &mut Writer, name: &str, n: u64) -> Result<(), AllocError>
     ensures { Adds result out.old out.new (number_member name.now n) }
 {
@@ -22,7 +22,7 @@ pub(crate) fn put_number(out: &mut Writer, name: &str, n: u64) -> Result<(), All
     out.u64(n)
 }
 
-/// Puts a member whose value is true or false behind what was written.
+/// Appends a member whose value is true or false.
 pub(crate) fn put_bool(out: &mut Writer, name: &str, b: bool) -> Result<(), AllocError>
     ensures { Adds result out.old out.new (bool_member name.now b) }
 {

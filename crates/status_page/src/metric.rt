@@ -46,6 +46,6 @@ pub enum LinkMetric {
     ChangingOver,
     /// Messages of its queue that aren't confirmed.
     Waiting,
-    /// What was counted of it.
+    /// What was counted for it.
     Counted(Counter),
 }

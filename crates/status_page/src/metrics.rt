@@ -17,7 +17,7 @@ use served_link::Counters;
 use signalling_types::LinkId;
 use std::alloc::AllocError;
 
-/// Puts all metrics behind what is there, so many milliseconds after the start of the node.
+/// Appends all metrics, this many milliseconds after the start of the node.
 pub(crate) fn put_metrics(
     exchange: &Exchange,
     counters: &Counters,
@@ -31,7 +31,7 @@ pub(crate) fn put_metrics(
     put_families(&Family::ALL, exchange, counters, notices, uptime_ms, body)
 }
 
-/// Puts these families behind what is there.
+/// Appends these families.
 fn put_families(
     families: &[Family],
     exchange: &Exchange,
@@ -49,7 +49,7 @@ fn put_families(
     Ok(())
 }
 
-/// Puts a family behind what is there: its head, and then its metrics.
+/// Appends a family: its head, and then its metrics.
 fn put_family(
     family: Family,
     exchange: &Exchange,
@@ -73,7 +73,7 @@ fn put_family(
     )
 }
 
-/// Puts the samples of these metrics of a family behind what is there.
+/// Appends the samples of these metrics of a family.
 fn put_each(
     family: Family,
     metrics: &[Metric],
@@ -92,7 +92,7 @@ fn put_each(
     Ok(())
 }
 
-/// Puts the samples of a metric behind what is there.
+/// Appends the samples of a metric.
 #[tactic(auto, unfolding(crate::specs::Metrics::metric_text))]
 fn put_metric(
     family: Family,
@@ -117,7 +117,7 @@ fn put_metric(
     }
 }
 
-/// Puts the sample of each link behind what is there.
+/// Appends the sample of each link.
 fn put_link_samples(
     family: Family,
     metric: LinkMetric,
@@ -141,7 +141,7 @@ fn put_link_samples(
     Ok(())
 }
 
-/// Puts the sample of a link behind what is there.
+/// Appends the sample of a link.
 #[tactic(auto, unfolding(crate::specs::Metrics::link_sample))]
 fn put_link_sample(
     family: Family,

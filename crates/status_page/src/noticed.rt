@@ -12,7 +12,7 @@ use signalling_types::{Limits, Notice};
 pub enum NoticeKind {
     /// A message in a frame was refused.
     Refused,
-    /// A frame was left aside.
+    /// A frame was discarded.
     Frame,
     /// A link failed.
     Failed,
@@ -127,7 +127,7 @@ impl NoticeLog {
         self.see_from(notices.len() - fresh as usize, notices, now_ms);
     }
 
-    /// So many notices were dropped before they were seen.
+    /// This many notices were dropped before they were seen.
     fn miss(&mut self, dropped: u64)
         ensures { self.new ≡ missed dropped self.old }
     {
@@ -136,7 +136,7 @@ impl NoticeLog {
         self.kinds[place] = self.kinds[place].saturating_add(dropped);
     }
 
-    /// These notices, from this place on, came now.
+    /// These notices, from this index on, came now.
     fn see_from(&mut self, first: usize, notices: &HeapCircularBuffer<Notice>, now_ms: u64)
         ensures { self.new ≡ seen_all now_ms (drop first notices.now.items) self.old }
     {

@@ -17,7 +17,7 @@ const HEAD_OCTETS: usize = 256;
 /// Octets of the line of a sample, at most.
 const SAMPLE_OCTETS: usize = 128;
 
-/// Puts the HELP and the TYPE line of a family behind what is there.
+/// Appends the HELP and the TYPE line of a family.
 pub(crate) fn put_head(family: Family, body: &mut Rope) -> Result<(), AllocError>
     ensures { OnOk result (body.new.items ≡ body.old.items ++ head_text family) }
 {
@@ -42,7 +42,7 @@ fn write_head(family: Family, out: &mut ArrayString<HEAD_OCTETS>)
     out.push_str("\n");
 }
 
-/// Puts the line of a sample behind what is there.
+/// Appends the line of a sample.
 pub(crate) fn put_sample(
     family: Family,
     labels: &str,

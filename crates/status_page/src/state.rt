@@ -23,7 +23,7 @@ use settings::{SetRow, Settings};
 use signalling_types::{LinkId, SetId};
 use std::alloc::{AllocError, Global};
 
-/// The state of a node, so many milliseconds after its start. The error means that memory ran out.
+/// The state of a node, this many milliseconds after its start. The error means that memory ran out.
 pub(crate) fn state_text(
     alloc: Global,
     exchange: &Exchange,
@@ -40,7 +40,7 @@ pub(crate) fn state_text(
     Ok(out.into_inner())
 }
 
-/// Puts the object of the state behind what was written.
+/// Appends the object of the state.
 fn put_state(
     exchange: &Exchange,
     counters: &Counters,
@@ -57,7 +57,7 @@ fn put_state(
     out.end_object()
 }
 
-/// Puts the members of that object behind what was written.
+/// Appends the members of that object.
 fn put_members(
     exchange: &Exchange,
     counters: &Counters,
@@ -77,7 +77,7 @@ fn put_members(
     put_notices(exchange, notices, points, out)
 }
 
-/// Puts what is shown of the node as a whole behind what was written.
+/// Appends what is shown of the node as a whole.
 fn put_node(
     exchange: &Exchange,
     points: PointFormat,
@@ -91,7 +91,7 @@ fn put_node(
     put_counts(exchange, out)
 }
 
-/// Puts the version and the time since the start behind what was written.
+/// Appends the version and the time since the start.
 fn put_program(uptime_ms: u64, out: &mut Writer) -> Result<(), AllocError>
     ensures { Adds result out.old out.new (program_members uptime_ms) }
 {
@@ -99,7 +99,7 @@ fn put_program(uptime_ms: u64, out: &mut Writer) -> Result<(), AllocError>
     put_number(out, "uptime_ms", uptime_ms)
 }
 
-/// Puts the node's own point, its network and its limit of user messages behind what was written.
+/// Appends the node's own point, its network and its limit of user messages.
 fn put_place(settings: &Settings, points: PointFormat, out: &mut Writer) -> Result<(), AllocError>
     ensures { Adds result out.old out.new (place_members points settings.now) }
 {
@@ -108,8 +108,8 @@ fn put_place(settings: &Settings, points: PointFormat, out: &mut Writer) -> Resu
     put_number(out, "pool", settings.pool() as u64)
 }
 
-/// Puts how many user messages the node keeps and how many of them are held, how often each flag was raised, and how many
-/// notices there were behind what was written.
+/// Appends how many user messages the node keeps and how many of them are held, how often each flag was raised, and how
+/// many notices there were.
 fn put_counts(exchange: &Exchange, out: &mut Writer) -> Result<(), AllocError>
     ensures { Adds result out.old out.new (count_members kept exchange.now) }
 {
@@ -120,7 +120,7 @@ fn put_counts(exchange: &Exchange, out: &mut Writer) -> Result<(), AllocError>
     put_number(out, "notice_count", exchange.notice_count())
 }
 
-/// Puts the array of the sets behind what was written.
+/// Appends the array of the sets.
 fn put_sets(exchange: &Exchange, points: PointFormat, out: &mut Writer) -> Result<(), AllocError>
     ensures { Adds result out.old out.new
         (array_member (codes "sets") (flat_map (set_tokens points) exchange.now.settings.sets)) }
@@ -131,7 +131,7 @@ fn put_sets(exchange: &Exchange, points: PointFormat, out: &mut Writer) -> Resul
     out.end_array()
 }
 
-/// Puts the objects of these sets behind what was written.
+/// Appends the objects of these sets.
 fn put_each_set(sets: &[SetRow], points: PointFormat, out: &mut Writer) -> Result<(), AllocError>
     ensures { Adds result out.old out.new (flat_map (set_tokens points) sets.now) }
 {
@@ -141,7 +141,7 @@ fn put_each_set(sets: &[SetRow], points: PointFormat, out: &mut Writer) -> Resul
     Ok(())
 }
 
-/// Puts the object of a set behind what was written.
+/// Appends the object of a set.
 fn put_set(set: &SetRow, points: PointFormat, out: &mut Writer) -> Result<(), AllocError>
     ensures { Adds result out.old out.new (set_tokens points set.now) }
 {
@@ -151,7 +151,7 @@ fn put_set(set: &SetRow, points: PointFormat, out: &mut Writer) -> Result<(), Al
     out.end_object()
 }
 
-/// Puts the array of the links behind what was written.
+/// Appends the array of the links.
 fn put_links(exchange: &Exchange, counters: &Counters, out: &mut Writer) -> Result<(), AllocError>
     ensures { Adds result out.old out.new (array_member (codes "links")
         (each (link_tokens kept exchange.now counters.now.links) (length exchange.now.settings.links))) }
@@ -162,7 +162,7 @@ fn put_links(exchange: &Exchange, counters: &Counters, out: &mut Writer) -> Resu
     out.end_array()
 }
 
-/// Puts the objects of the links behind what was written.
+/// Appends the objects of the links.
 fn put_each_link(
     exchange: &Exchange,
     counters: &Counters,
@@ -177,7 +177,7 @@ fn put_each_link(
     Ok(())
 }
 
-/// Puts the array of the routes behind what was written.
+/// Appends the array of the routes.
 fn put_routes(exchange: &Exchange, points: PointFormat, out: &mut Writer) -> Result<(), AllocError>
     ensures { Adds result out.old out.new (array_member (codes "routes")
         (each (route_tokens points exchange.now) (length exchange.now.settings.destinations))) }
@@ -188,7 +188,7 @@ fn put_routes(exchange: &Exchange, points: PointFormat, out: &mut Writer) -> Res
     out.end_array()
 }
 
-/// Puts the objects of the destinations behind what was written.
+/// Appends the objects of the destinations.
 fn put_each_route(
     exchange: &Exchange,
     points: PointFormat,
@@ -203,7 +203,7 @@ fn put_each_route(
     Ok(())
 }
 
-/// Puts the object of a destination behind what was written; nothing where it isn't there.
+/// Appends the object of a destination; nothing if it isn't there.
 #[tactic(auto, unfolding(crate::specs::States::route_tokens))]
 fn put_route(
     exchange: &Exchange,
@@ -219,7 +219,7 @@ fn put_route(
     }
 }
 
-/// Puts the object of a destination that is shown so behind what was written.
+/// Appends the object of a destination that is shown like this.
 fn put_shown_route(
     settings: &Settings,
     view: &RouteView,
@@ -235,7 +235,7 @@ fn put_shown_route(
     out.end_object()
 }
 
-/// Puts the array of the names of these sets behind what was written.
+/// Appends the array of the names of these sets.
 fn put_set_names(settings: &Settings, sets: &[SetId], out: &mut Writer) -> Result<(), AllocError>
     ensures { Adds result out.old out.new
         (array_member (codes "sets") (set_names settings.now sets.now)) }
@@ -246,7 +246,7 @@ fn put_set_names(settings: &Settings, sets: &[SetId], out: &mut Writer) -> Resul
     out.end_array()
 }
 
-/// Puts the names of these sets behind what was written.
+/// Appends the names of these sets.
 fn put_each_name(settings: &Settings, sets: &[SetId], out: &mut Writer) -> Result<(), AllocError>
     ensures { Adds result out.old out.new (set_names settings.now sets.now) }
 {
@@ -256,7 +256,7 @@ fn put_each_name(settings: &Settings, sets: &[SetId], out: &mut Writer) -> Resul
     Ok(())
 }
 
-/// Puts the object with how many notices of each kind there were behind what was written.
+/// Appends the object with how many notices of each kind there were.
 fn put_kinds(notices: &NoticeLog, out: &mut Writer) -> Result<(), AllocError>
     ensures { Adds result out.old out.new
         (object_member (codes "notice_kinds") (kind_members notices.now notice_kinds)) }
@@ -267,7 +267,7 @@ fn put_kinds(notices: &NoticeLog, out: &mut Writer) -> Result<(), AllocError>
     out.end_object()
 }
 
-/// Puts how many notices of these kinds there were behind what was written.
+/// Appends how many notices of these kinds there were.
 fn put_each_kind(
     kinds: &[NoticeKind],
     notices: &NoticeLog,
@@ -297,7 +297,7 @@ fn kind_key(kind: NoticeKind) -> &'static str
     }
 }
 
-/// Puts the array of the notices that are kept behind what was written, the oldest first.
+/// Appends the array of the notices that are kept, the oldest first.
 fn put_notices(
     exchange: &Exchange,
     notices: &NoticeLog,
@@ -313,7 +313,7 @@ fn put_notices(
     out.end_array()
 }
 
-/// Puts the objects of the notices that are kept behind what was written.
+/// Appends the objects of the notices that are kept.
 fn put_each_notice(
     exchange: &Exchange,
     notices: &NoticeLog,
@@ -329,7 +329,7 @@ fn put_each_notice(
     Ok(())
 }
 
-/// Puts the object of a notice behind what was written.
+/// Appends the object of a notice.
 fn put_notice(
     exchange: &Exchange,
     notices: &NoticeLog,
@@ -348,7 +348,7 @@ fn put_notice(
     Ok(())
 }
 
-/// Puts the object of a notice of this number, time and text behind what was written.
+/// Appends the object of a notice of this number, time and text.
 fn put_shown_notice(
     number: u64,
     time_ms: u64,
@@ -364,7 +364,7 @@ fn put_shown_notice(
     out.end_object()
 }
 
-/// The number of a notice that is kept, by its place from the oldest.
+/// The number of a notice that is kept, by its index from the oldest.
 fn notice_number(exchange: &Exchange, k: usize) -> u64
     requires { k < length exchange.now.node.parts.notices.last }
     ensures { result ≡ notice_number exchange.now k }

@@ -157,17 +157,17 @@ function clock(ms) {
   return isToday ? at.toLocaleTimeString('en-GB') : at.toLocaleString('en-GB');
 }
 
-// How many messages lie between two numbers of 24 bits.
+// How many messages lie between two 24-bit numbers.
 const between = (before, after) => (after - before + NUMBERS) % NUMBERS;
 
 const failures = link => Object.values(link.failed).reduce((sum, n) => sum + n, 0);
 
-// Whether a link stayed in service between two states. Where it didn't, its numbers may have begun again.
+// Whether a link stayed in service between two states. If it didn't, its numbers may have begun again.
 function stayed(old, link) {
   return old.state === 'InService' && link.state === 'InService' && failures(old) === failures(link);
 }
 
-// Messages a second of each link since the last state; the node started anew where its time went back.
+// Messages a second of each link since the last state; the node restarted if its time went back.
 function measure(state) {
   if (last && state.uptime_ms < last.uptime_ms) { last = null; rates = new Map(); seen = null; }
   const to = state.uptime_ms, from = last ? last.uptime_ms : to, seconds = (to - from) / 1000;
@@ -182,7 +182,7 @@ function measure(state) {
   last = state;
 }
 
-// What a link carries now, or nothing where that isn't known.
+// What a link carries now, or nothing if that isn't known.
 function rate(name) {
   const sample = (rates.get(name) || []).at(-1);
   return sample && sample.to === last.uptime_ms ? sample : null;
@@ -293,7 +293,7 @@ function showLinks(state) {
   });
 }
 
-// Where there are many routes, those that aren't allowed come first, and the others end somewhere.
+// If there are many routes, those that aren't allowed come first, and the others end somewhere.
 function showRoutes(state) {
   const order = ['prohibited', 'restricted', 'allowed'];
   const many = state.routes.length > MOST_ROUTES;
@@ -342,7 +342,7 @@ function setGone(since) {
   setText($('gone'), since && 'The node hasn’t answered since ' + since + '. What is shown is from before.');
 }
 
-// What the node answers now, or nothing where it doesn't.
+// What the node answers now, or nothing if it doesn't.
 async function fetchState() {
   try {
     const answer = await fetch('/state.json', { cache: 'no-store', signal: AbortSignal.timeout(PATIENCE) });

@@ -136,9 +136,9 @@ impl Server {
         drop(self);
     }
 
-    /// Does what there is to do on each socket, once or a few times, and returns: hands in what came, takes, opens and
-    /// closes connections as the links want, and takes frames and writes them while the sockets take them. Then what
-    /// was captured goes out, as far as its file takes it.
+    /// Does what there is to do on each socket, once or a few times, and returns. It hands in what came, takes, opens
+    /// and closes connections as the links want, and takes frames and writes them while the sockets take them. Then
+    /// what was captured goes out, as far as its file takes it.
     pub fn turn<N: Net, W: Sink, U: Watch>(
         &mut self,
         net: &N,

@@ -18,7 +18,7 @@ use std::time::Duration;
 /// Reads of a link in one round, at most.
 const READS: usize = 16;
 
-/// Writes of a link in one round, at most: the reads of another link bring fewer octets, so what goes on from one link
+/// Writes of a link in one round, at most. The reads of another link bring fewer octets, so what goes on from one link
 /// to another doesn't pile up while the socket takes it.
 const WRITES: usize = 64;
 
@@ -162,7 +162,7 @@ impl LinkSocket {
         self.connection = None;
     }
 
-    /// A connection is over. Where the association wasn't up, nothing is lost with it, and it couldn't be made.
+    /// A connection is over. If the association wasn't up, nothing is lost with it, and it couldn't be made.
     fn end<W: Sink>(&mut self, why: CloseReason, node: &mut Node, log: &mut Log<'_, W>) {
         match (self.state(), why) {
             (ConnectionState::Up, _) => self.close(why, node, log),
@@ -190,8 +190,8 @@ impl LinkSocket {
         self.next_try = now.saturating_add(Duration::from_secs(seconds));
     }
 
-    /// Reads what came, each time to the front of the buffer, and hands it in. Where something came, the next wait for
-    /// a try is the first one again.
+    /// Reads what came, each time to the front of the buffer, and hands it in. If something came, the next wait for a
+    /// try is the first one again.
     pub(crate) fn read<W: Sink, U: Watch>(
         &mut self,
         buffer: &mut [u8],

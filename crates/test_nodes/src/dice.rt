@@ -40,7 +40,7 @@ impl Dice {
         u32::from_be_bytes([a, b, c, d]) as usize % count.max(1)
     }
 
-    /// True once in so many times.
+    /// True once in n times.
     pub fn one_in(&mut self, count: usize) -> bool {
         self.below(count) == 0
     }

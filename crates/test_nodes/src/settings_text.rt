@@ -37,12 +37,10 @@ pub fn with_built_in(alloc: Global, text: &str) -> Result<String, AllocError> {
     Ok(whole)
 }
 
-/// Whether a text has the key of a line.
 fn has_key_of(text: &str, line: &str) -> bool {
     text.lines().any(|other| key_of(other) == key_of(line))
 }
 
-/// The key of a line.
 fn key_of(line: &str) -> &str {
     line.split(' ').next().unwrap_or("")
 }

@@ -1,4 +1,4 @@
--- The names of a node: each that exists stands in their list, and no other.
+-- The names of a node: each that exists is in their list, and no other.
 use Rattle.timers.proofs.Basics.{◌≡◌, ℕ, zero, suc, nat_lt, ◌+◌, ◌<◌, ◌≤◌, ◌||◌, true, false, List, [], ◌∷◌, ◌++◌, length, map, get_or, inl, inr, refl, sym, ap, subst, ◌∙◌, arith, cases_order, ◌&&◌, AllByRecursion, list_any, flat_map, range_with_len, TimerName, L1, L2, L3, L4, L6, L7, T1, T2, T3, T4, T6, T8, T10, NodeCounts, is_same, has_name, each, each_in_rows, names_by_kind, names_of, or-true, ltb-true, lt-ltb}
 use Rattle.std.proofs.lemmas.List.Folds.{list_any-append}
 use Rattle.timers.proofs.Elements.{all-append, two_below, two_under}

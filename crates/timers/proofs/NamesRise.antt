@@ -1,4 +1,4 @@
--- The names of a node rise: each stands once in their list.
+-- The names of a node rise: each occurs once in their list.
 use Rattle.timers.proofs.Basics.{◌≡◌, ℕ, zero, suc, ◌+◌, ◌<◌, ◌≤◌, true, List, [], ◌∷◌, ◌++◌, map, refl, ap, ◌∙◌, arith, nat_tests, AllByRecursion, range_with_len, TimerName, L1, L2, L3, L4, L6, L7, T1, T2, T3, T4, T6, T8, T10, NodeCounts, Key, key, key_of, is_key_before, is_before, each, each_in_rows, names_by_kind, names_of, AreInOrder}
 use Rattle.timers.proofs.Elements.{all-append, all-weaker}
 use Rattle.timers.proofs.NamesOf.{◌&◌, all-each, all-rows, rows, joined}

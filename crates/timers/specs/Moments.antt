@@ -3,14 +3,14 @@ use Rattle.std.specs.Prelude.{◌≡◌, ℕ, ◌+◌, ◌*◌, ◌^◌, ◌≤�
 use Rattle.timers.specs.declared.moments.Moments.TheInside.{Inside}
 use Rattle.timers.specs.Tree.{never, left_at, IsBounded}
 
--- the ticks that are left at so many places, as the leaves say
+-- the ticks that are left at this many places, as the leaves say
 abbrev pub left_in : (clock places leaves : ℕ) → List ℕ → List (Option ℕ)
 left_in clock places leaves nodes = map (left_at clock) (take places (drop leaves nodes))
 
 abbrev pub ticks_in : Inside → List (Option ℕ)
 ticks_in s = left_in s.clock s.places s.leaves s.nodes.items
 
--- a tree of so many leaves, of which the first are places
+-- a tree of this many leaves, of which the first are places
 pub record IsTree (clock places levels leaves : ℕ) (nodes : List ℕ) : Type 0 where
   -- a timer of the most ticks runs out before never
   pub early : clock + 65536 ≤ never

@@ -1,5 +1,4 @@
--- Timers to which the same is left are the same, so that what is left to each name of a node is a
--- code of its timers.
+-- Timers with the same ticks left are the same, so the ticks left to each name of a node are a code of its timers.
 use Rattle.std.specs.Prelude.{◌≡◌, ℕ, ◌+◌, ◌<◌, ◌==◌, ◌&&◌, nat_lt, Bool, true, false, if◌then◌else◌, Option, None, List, [], map, get_or}
 use Rattle.std.specs.List.{range_with_len}
 use Rattle.std.proofs.Common.{refl, sym, ap, ◌∙◌, arith}

@@ -13,7 +13,7 @@ use Rattle.timers.specs.Timers.{has_name}
 abbrev pub named_sets : NodeCounts → NodeCounts
 named_sets n = record n { sets = min n.sets 256 }
 
--- where the places of T4, T6, T8 and T10 begin; those of links stand in front
+-- where the places of T4, T6, T8 and T10 begin; those of links come first
 abbrev pub codes_from : NodeCounts → ℕ
 codes_from n = 9 * n.links
 
@@ -45,7 +45,6 @@ place_in n (T10 set destination) = t10_from n + (set * n.destinations + destinat
 abbrev pub place_of : NodeCounts → TimerName → Option ℕ
 place_of n name = if has_name n name then Some (place_in n name) else None
 
--- the name of a link's timer, by its kind
 abbrev pub link_name : (kind link : ℕ) → TimerName
 link_name kind link =
     if kind == 0 then L1 link
@@ -64,7 +63,6 @@ code_name place = T4 (place / CHANGEBACK_CODES) (place % CHANGEBACK_CODES)
 abbrev pub route_name : (ℕ → ℕ → TimerName) → (destinations place : ℕ) → TimerName
 route_name name destinations place = name (place / destinations) (place % destinations)
 
--- the name of the timer of a set for a destination
 abbrev pub name_of_route : RouteTimer → (set destination : ℕ) → TimerName
 name_of_route route.T8 set destination = T8 set destination
 name_of_route route.T10 set destination = T10 set destination

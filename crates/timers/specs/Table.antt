@@ -12,7 +12,6 @@ pub record Table : Type 0 where
   -- the ticks that are left at each place
   pub left : List (Option ℕ)
 
--- whether a timer has a place
 abbrev pub has_place : TimerName → Table → Bool
 has_place name t = has_name (named_sets t.counts) name
 

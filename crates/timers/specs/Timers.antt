@@ -54,7 +54,6 @@ is_same x y = is_same_key (key_of x) (key_of y)
 
 -- ---- the names of a node
 
--- whether a node has a timer of this name
 abbrev pub has_name : NodeCounts → TimerName → Bool
 has_name n (L1 link) = nat_lt link n.links
 has_name n (L2 link) = nat_lt link n.links
@@ -75,15 +74,14 @@ has_name n (T10 set destination) = nat_lt set n.sets && nat_lt destination n.des
 abbrev pub count_of : NodeCounts → ℕ
 count_of n = 9 * n.links + CHANGEBACK_CODES * n.sets + n.destinations + 2 * (n.sets * n.destinations)
 
--- so many names of one kind
+-- this many names of one kind
 abbrev pub each : (ℕ → TimerName) → ℕ → List TimerName
 each name count = map name (range_with_len 0 count)
 
--- those of so many rows, and of so many columns within each
+-- those of this many rows, and of this many columns within each
 abbrev pub each_in_rows : (ℕ → ℕ → TimerName) → (rows columns : ℕ) → List TimerName
 each_in_rows name rows columns = flat_map (λ row. each (name row) columns) (range_with_len 0 rows)
 
--- the names that a node has, kind by kind
 abbrev pub names_by_kind : NodeCounts → List (List TimerName)
 names_by_kind n =
     each L1 n.links
@@ -111,7 +109,7 @@ is_of_set route.T8 set (T8 s destination) = s == set
 is_of_set route.T10 set (T10 s destination) = s == set
 is_of_set timer set name = false
 
--- names that rise: each stands once
+-- names that rise: each occurs once
 abbrev pub AreInOrder : List TimerName → Type 0
 AreInOrder [] = Unit {0}
 AreInOrder (name ∷ names) = AllByRecursion (λ later. is_before name later ≡ true) names × AreInOrder names
@@ -121,12 +119,12 @@ AreInOrder (name ∷ names) = AllByRecursion (λ later. is_before name later ≡
 pub record Running : Type 0 where
   -- how many links, sets and destinations there are, which says what names exist
   pub counts : NodeCounts
-  -- the ticks that are left to a timer, 0 where it is due; nothing where it doesn't run
+  -- the ticks that are left to a timer, 0 if it is due; nothing if it doesn't run
   pub left : TimerName → Option ℕ
   -- a name that doesn't exist has nothing
   pub only : (name : TimerName) → has_name counts name ≡ false → left name ≡ None
 
--- these ticks are left to the names that exist; any other is left aside
+-- these ticks are left to the names that exist; any other is ignored
 abbrev pub running_with : NodeCounts → (TimerName → Option ℕ) → Running
 running_with n left = record {
   counts = n;
@@ -138,12 +136,12 @@ running_with n left = record {
 abbrev pub none_running : NodeCounts → Running
 none_running n = running_with n (λ name. None)
 
--- whether a timer runs, also where it is due and not handed out yet
+-- whether a timer runs, even if it is due and not handed out yet
 abbrev pub is_running : TimerName → Running → Bool
 is_running name r = is_some (r.left name)
 
--- a timer runs out after so many ticks, at the next one where that is 0, whatever it was set to before; a name that
--- doesn't exist is left aside
+-- a timer runs out after this many ticks, at the next one if that is 0, whatever it was set to before; a name that
+-- doesn't exist is ignored
 unfoldable pub set_timer : TimerName → ℕ → Running → Running
 set_timer name ticks r =
     running_with r.counts (λ other. if is_same name other then Some (max 1 ticks) else r.left other)
@@ -169,7 +167,6 @@ one_less (Some left) = Some (left - 1)
 abbrev pub ticked : Running → Running
 ticked r = running_with r.counts (λ name. one_less (r.left name))
 
--- no tick is left
 abbrev pub no_tick_left : Option ℕ → Bool
 no_tick_left None = false
 no_tick_left (Some left) = left == 0

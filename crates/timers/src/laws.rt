@@ -15,7 +15,7 @@ pub fn keys_tell_names_apart()
     ensures { (x y : TimerName) → key_of x ≡ key_of y → x ≡ y }
 {}
 
-/// The names of a node rise, so that each stands once, and they are those that it has.
+/// The names of a node rise, so that each occurs once, and they are those that it has.
 pub fn names_stand_in_order()
     ensures rise { (n : NodeCounts) → AreInOrder (names_of n) }
     ensures all { (n : NodeCounts) (name : TimerName)
@@ -29,7 +29,7 @@ pub fn none_runs_at_first()
 {}
 
 /// A timer that is set has those ticks left, at least one, and no other timer changes. A name that the node doesn't
-/// have is left aside: such a timer never runs.
+/// have is ignored: such a timer never runs.
 pub fn setting_changes_one_timer()
     ensures set { (name : TimerName) (ticks : ℕ) (r : Running) → has_name r.counts name ≡ true
         → (set_timer name ticks r).left name ≡ Some (max 1 ticks) }
@@ -40,7 +40,7 @@ pub fn setting_changes_one_timer()
     ensures never { (name : TimerName) (r : Running) → has_name r.counts name ≡ false → r.left name ≡ None }
 {}
 
-/// A timer that is started unless it runs goes on where it runs, and else is set.
+/// A timer that is started unless it runs goes on if it runs, and is set if it doesn't.
 pub fn starting_leaves_what_runs()
     ensures runs { (name : TimerName) (ticks : ℕ) (r : Running) → is_running name r ≡ true
         → start_unless_running name ticks r ≡ r }
@@ -70,7 +70,7 @@ pub fn a_tick_lowers_each_timer()
     ensures { (name : TimerName) (r : Running) → (ticked r).left name ≡ one_less (r.left name) }
 {}
 
-/// What is handed out is due, and comes before every other name that is due. Nothing is only where nothing is due.
+/// What is handed out is due, and comes before every other name that is due. None is handed out only if none is due.
 pub fn the_first_due_is_handed_out()
     ensures due { (name : TimerName) (r : Running) → due_name r ≡ Some name → r.left name ≡ Some 0 }
     ensures first { (name other : TimerName) (r : Running) → due_name r ≡ Some name
@@ -78,15 +78,15 @@ pub fn the_first_due_is_handed_out()
     ensures none { (name : TimerName) (r : Running) → due_name r ≡ None → r.left name ≢ Some 0 }
 {}
 
-/// What is handed out is stopped; where nothing is due, nothing changes.
+/// What is handed out is stopped; if nothing is due, nothing changes.
 pub fn what_is_handed_out_is_stopped()
     ensures stopped { (name : TimerName) (r : Running) → due_name r ≡ Some name
         → after_due r ≡ clear_timer name r }
     ensures none { (r : Running) → due_name r ≡ None → after_due r ≡ r }
 {}
 
-/// Whoever takes what is due comes to an end after as many as are due: each taken leaves one less, setting or stopping
-/// a timer adds none, and where nothing is handed out none is left.
+/// Taking what is due ends after as many calls as there are timers due: each call leaves one less, setting or stopping
+/// a timer adds none, and if nothing is handed out none is left.
 pub fn what_is_due_runs_out()
     ensures taken { (name : TimerName) (r : Running) → due_name r ≡ Some name
         → due_count (after_due r) + 1 ≡ due_count r }

@@ -1,4 +1,4 @@
-//! The timers of a node, by name, in ticks.
+//! The timers of a node (Q.703 §12.3, Q.704 §16.8), by name, in ticks.
 #![tactic(auto)]
 
 pub mod laws;

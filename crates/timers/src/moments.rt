@@ -19,11 +19,10 @@ const LEVELS: u32 = 48;
 
 /// The ticks that are left at each place, if a timer runs there.
 ///
-/// The clock goes on with each tick, and a place holds the moment at which its timer runs out. The
-/// places are the first leaves of a tree in which no node holds more than the moments below it. So
-/// a tick touches no timer, what is due is found from the top, a timer that stops costs one write,
-/// and one that starts the part of one path to the top that holds later moments. What a timer that
-/// was stopped leaves above it stays until it has come: then a tick mends it.
+/// The clock goes on with each tick, and a place holds the moment at which its timer runs out. The places are the first
+/// leaves of a tree in which no node holds more than the moments below it. So a tick touches no timer, what is due is
+/// found from the top, stopping a timer costs one write, and starting one costs the part of a path to the top that
+/// holds later moments. What a stopped timer leaves above it stays until its moment has come; then a tick mends it.
 #[derive(Drop)]
 pub struct Moments {
     /// Ticks that have passed.
@@ -50,7 +49,7 @@ impl Model for Moments {
 }
 
 impl Moments {
-    /// So many places; no timer runs.
+    /// This many places; no timer runs.
     pub fn new(alloc: Global, places: usize) -> Result<Moments, AllocError>
         requires { places < 2 ^ 48 }
         ensures { IfOk result (λ moments. moments ≡ replicate places None) }
@@ -66,7 +65,7 @@ impl Moments {
         })
     }
 
-    /// The timer at a place has so many ticks left.
+    /// The timer at a place has this many ticks left.
     #[inline]
     pub fn put(&mut self, place: usize, left: u16)
         requires { place < length self.old }
@@ -93,7 +92,7 @@ impl Moments {
         take_leaf(&mut self.nodes, self.leaves, place);
     }
 
-    /// The timer at a place has so many ticks left, unless it runs.
+    /// The timer at a place has this many ticks left, unless it runs.
     #[inline]
     pub fn start(&mut self, place: usize, left: u16)
         requires { place < length self.old }
@@ -116,7 +115,7 @@ impl Moments {
 
     /// Takes one tick from each timer.
     ///
-    /// Where nothing has come this is one addition and one look at the top.
+    /// If nothing has come, this is one addition and one look at the top.
     pub fn tick(&mut self)
         ensures { self.new ≡ map one_less self.old }
     {
@@ -138,7 +137,7 @@ impl Moments {
         }
     }
 
-    /// No node has come any more but where a timer below it is due.
+    /// No node has come any more unless a timer below it is due.
     fn mend(&mut self)
         ensures { self.new ≡ self.old }
     {
@@ -164,7 +163,7 @@ impl Moments {
     }
 }
 
-/// How many levels make room for so many leaves.
+/// How many levels make room for this many leaves.
 fn levels_for(leaves: usize) -> u32
     requires { leaves < 2 ^ 48 }
     ensures room { leaves ≤ 2 ^ result }
@@ -178,7 +177,7 @@ fn levels_for(leaves: usize) -> u32
     LEVELS
 }
 
-/// How many leaves there are below so many levels.
+/// How many leaves there are below this many levels.
 fn leaves_at(levels: u32) -> usize
     requires { levels ≤ 48 }
     ensures count { result ≡ 2 ^ levels }
@@ -187,7 +186,7 @@ fn leaves_at(levels: u32) -> usize
     1 << levels
 }
 
-/// The moment at which a timer runs out that has so many ticks left.
+/// The moment at which a timer runs out that has this many ticks left.
 fn moment_of(clock: u32, left: u16) -> u32
     requires { clock + 65536 ≤ never }
     ensures { left_at clock result ≡ Some left }

@@ -22,7 +22,7 @@ pub enum TimerName {
     T1(LinkId),
     /// The changeover of the link waits for its acknowledgement (Q.704 §16.8).
     T2(LinkId),
-    /// Messages for the link wait where no changeback declaration can go (Q.704 §16.8).
+    /// Messages for the link wait if no changeback declaration can go (Q.704 §16.8).
     T3(LinkId),
     /// A changeback declaration of this code waits for its answer (Q.704 §16.8).
     T4(SetId, u8),

@@ -25,7 +25,7 @@ pub(crate) fn named_sets(counts: NodeCounts) -> NodeCounts
     }
 }
 
-/// The place of a timer; none where the node doesn't have it.
+/// The place of a timer; none if the node doesn't have it.
 #[inline(always)]
 pub(crate) fn place_of(counts: NodeCounts, name: TimerName) -> Option<usize>
     ensures place { result ≡ place_of (named_sets counts) name }
@@ -150,7 +150,6 @@ pub(crate) fn count_of(counts: NodeCounts) -> usize
     t10_from(counts) + routes(counts)
 }
 
-/// The name of the timer at a place.
 pub(crate) fn name_at(counts: NodeCounts, place: usize) -> TimerName
     requires sets { counts.sets ≤ 256 }
     requires place { place < count_of counts }
@@ -171,7 +170,6 @@ pub(crate) fn name_at(counts: NodeCounts, place: usize) -> TimerName
     }
 }
 
-/// The name of a link's timer.
 fn link_name(links: u8, place: usize) -> TimerName
     requires { place < 9 * links }
     ensures { result ≡ link_name (place / links) (place % links) }

@@ -15,9 +15,9 @@ use std::marker::Model;
 /// The timers of a node: a finite map from names to the ticks that are left. `laws` says what each
 /// call does to it.
 ///
-/// Each timer that the node has stands at a place of its own, and places rise in name order.
-/// Setting one costs at most one path of a tree over the places, stopping one a write; a tick costs
-/// the timers that run out in it, or that were stopped or set anew and would have, and a constant.
+/// Each timer of the node is at a place of its own, and places rise in name order. Setting a timer costs at most one
+/// path of a tree over the places, and stopping one costs a write. A tick costs a constant, and the timers that run out
+/// in it, or would have if they hadn't been stopped or set again.
 #[derive(Drop)]
 pub struct Timers {
     counts: NodeCounts,
@@ -41,7 +41,7 @@ impl Model for Timers {
 }
 
 impl Timers {
-    /// The timers of a node with so many links, sets and destinations; none runs. Makes room for
+    /// The timers of a node with this many links, sets and destinations; none runs. Makes room for
     /// all that may run.
     pub fn new(alloc: Global, counts: NodeCounts) -> Result<Timers, AllocError>
         ensures { IfOk result (λ timers. timers ≡ none_running counts) }
@@ -52,9 +52,9 @@ impl Timers {
         })
     }
 
-    /// Starts a timer, which runs out after so many ticks, at the next one where that is 0. Where
-    /// it runs already it starts anew, and forgets its old moment. A name of a link, set or
-    /// destination that the node doesn't have is left aside.
+    /// Starts a timer, which runs out after this many ticks, at the next one if that is 0. If it runs already it
+    /// restarts, and forgets its old moment. A name of a link, set or destination that the node doesn't have is
+    /// ignored.
     #[inline(always)]
     pub fn set(&mut self, name: TimerName, ticks: u16)
         ensures { self.new ≡ set_timer name ticks self.old }
@@ -64,8 +64,8 @@ impl Timers {
         }
     }
 
-    /// Starts a timer, as `set` does, unless it runs: one that runs keeps its moment, also where it
-    /// is due and not handed out yet.
+    /// Starts a timer, as `set` does, unless it runs: one that runs keeps its moment, even if it is
+    /// due and not handed out yet.
     ///
     /// For a timer that runs this is one read.
     #[inline(always)]
@@ -98,7 +98,7 @@ impl Timers {
         }
     }
 
-    /// Whether a timer runs, also where it is due and not handed out yet.
+    /// Whether a timer runs, even if it is due and not handed out yet.
     ///
     /// This is one read.
     pub fn is_running(&self, name: TimerName) -> bool
@@ -110,8 +110,8 @@ impl Timers {
         }
     }
 
-    /// Lets one tick pass: each timer has one tick less, and is due where none is left. Take what
-    /// is due before the next tick: a timer that is due stays due.
+    /// Lets one tick pass: each timer has one tick less, and is due if none is left. Take what is
+    /// due before the next tick: a timer that is due stays due.
     pub fn tick(&mut self)
         ensures { self.new ≡ ticked self.old }
     {
@@ -125,8 +125,8 @@ impl Timers {
         self.left.due_count()
     }
 
-    /// The first name that is due, in name order; it runs no longer. None where nothing is due.
-    /// What was stopped or set since the tick isn't due.
+    /// The first name that is due, in name order; it runs no longer. None if nothing is due. What
+    /// was stopped or set since the tick isn't due.
     pub fn next_due(&mut self) -> Option<TimerName>
         ensures name { result ≡ due_name self.old }
         ensures timers { self.new ≡ after_due self.old }
@@ -141,14 +141,13 @@ impl Timers {
     }
 }
 
-/// The ticks, or one where there are none.
+/// The ticks, or one if there are none.
 fn at_least_one(ticks: u16) -> u16
     ensures { result ≡ max 1 ticks }
 {
     ticks.max(1)
 }
 
-/// The name of the timer of a set for a destination.
 fn route_name(timer: RouteTimer, set: SetId, destination: u16) -> TimerName
     ensures { result ≡ name_of_route timer set destination }
 {

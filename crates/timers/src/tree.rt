@@ -1,6 +1,5 @@
-//! A tree of moments, in one list: the node `i` has the nodes `2 * i` and `2 * i + 1` below it, and
-//! holds a bound: no moment below it is less. The node 1 is the top, and the leaves stand in the
-//! second half of the list.
+//! A tree of moments, in one list: the node `i` has the nodes `2 * i` and `2 * i + 1` below it, and holds a bound, such
+//! that no moment below it is less. The node 1 is the top, and the leaves are in the second half of the list.
 
 ghost use Rattle.std.specs.Prelude.{◌≡◌, ◌≤◌, ◌<◌, ◌+◌, ◌*◌, ◌^◌, IfOk, length, map, drop, replicate, slice_set};
 ghost use Rattle.timers.specs.Tree.{never, rebased, least, first_below, count_below, IsBounded, AreBounded};
@@ -10,7 +9,7 @@ use std::alloc::{AllocError, Global};
 /// The moment of a timer that doesn't run.
 pub(crate) const NEVER: u32 = u32::MAX;
 
-/// So many nodes, below which no moment comes.
+/// This many nodes, below which no moment comes.
 pub(crate) fn new_nodes(alloc: Global, count: usize) -> Result<Vec<u32>, AllocError>
     ensures { IfOk result (λ nodes. nodes.items ≡ replicate count never) }
 {
@@ -19,7 +18,7 @@ pub(crate) fn new_nodes(alloc: Global, count: usize) -> Result<Vec<u32>, AllocEr
 
 /// The leaf of a place holds another moment, and no node above it a later one.
 ///
-/// It stops at the first node that holds no later one, which mostly is the first.
+/// It stops at the first node that holds no later one, which usually is the first.
 #[inline]
 pub(crate) fn set_leaf(nodes: &mut [u32], leaves: usize, place: usize, moment: u32)
     requires size { length nodes.old ≡ 2 * leaves }
@@ -50,7 +49,7 @@ pub(crate) fn clear_leaf(nodes: &mut [u32], leaves: usize, place: usize)
     nodes[leaves + place] = NEVER;
 }
 
-/// As `clear_leaf`, and the nodes above rise to the lesser of the two below them. It stops where
+/// As `clear_leaf`, and the nodes above rise to the lesser of the two below them. It stops if
 /// nothing changes.
 pub(crate) fn take_leaf(nodes: &mut [u32], leaves: usize, place: usize)
     requires size { length nodes.old ≡ 2 * leaves }
@@ -73,7 +72,7 @@ pub(crate) fn take_leaf(nodes: &mut [u32], leaves: usize, place: usize)
 }
 
 /// The nodes from this one down that hold a moment that has come rise to the lesser of the two
-/// below them, from the leaves up. Then they have come only where a leaf below them has.
+/// below them, from the leaves up. Then they have come only if a leaf below them has.
 #[inline(never)]
 pub(crate) fn refresh(nodes: &mut [u32], clock: u32, leaves: usize, node: usize)
     requires size { length nodes.old ≡ 2 * leaves }
@@ -100,7 +99,7 @@ fn least(nodes: &[u32], node: usize) -> u32
     nodes[2 * node].min(nodes[2 * node + 1])
 }
 
-/// The first leaf that has come, so many levels below a node.
+/// The first leaf that has come, this many levels below a node.
 #[tactic(auto, using(crate::proofs::Beneath::below))]
 pub(crate) fn first_below(nodes: &[u32], clock: u32, levels: u32, node: usize) -> Option<usize>
     requires size { (node + 1) * 2 ^ levels ≤ length nodes.now }
@@ -119,7 +118,7 @@ pub(crate) fn first_below(nodes: &[u32], clock: u32, levels: u32, node: usize) -
     }
 }
 
-/// How many leaves have come, so many levels below a node.
+/// How many leaves have come, this many levels below a node.
 pub(crate) fn count_below(nodes: &[u32], clock: u32, levels: u32, node: usize) -> usize
     requires size { (node + 1) * 2 ^ levels ≤ length nodes.now }
     requires few { levels ≤ 48 }

@@ -1,4 +1,4 @@
--- What a capture has of the frames and packets that passed: one packet for each, one behind the other.
+-- What a capture has of the frames and packets that passed: one packet for each, one after the other.
 use Rattle.std.specs.Prelude.{◌≡◌, ℕ, ◌+◌, ◌%◌, ◌^◌, ◌<◌, ◌==◌, ◌&&◌, min, Bool, true, false, Option}
 use Rattle.std.specs.Prelude.{List, [], ◌∷◌, ◌++◌, length, take, slice_index, count_by}
 use Rattle.std.specs.Duration.{as_nanos, max_nanos}
@@ -9,7 +9,7 @@ use Rattle.trace.specs.declared.direction.Direction.TheVariants.{In, Out}
 use Rattle.trace.specs.declared.packet_numbers.PacketNumbers.{PacketNumbers}
 use Rattle.trace.specs.Packets.{file_header, packet_octets, record_header}
 
--- a frame that passed on a link, so long after the node's start
+-- a frame that passed on a link, this long after the node's start
 pub record Seen : Type 0 where
   pub time : Duration
   pub link : ℕ
@@ -25,7 +25,7 @@ is_same Out Out = true
 pub data Passed : Type 0 where
   -- a frame, for which a packet is made
   FramePassed : (seen : Seen) → Passed
-  -- a packet of SCTP, as it was on the wire, so long after the node's start
+  -- a packet of SCTP, as it was on the wire, this long after the node's start
   PacketPassed : (time : Duration) (octets : List ℕ) → Passed
 
 -- whether it is a frame that passed on this link in this direction
@@ -33,21 +33,21 @@ abbrev pub passed_on : (link : ℕ) → Direction → Passed → Bool
 passed_on link direction (FramePassed seen) = (seen.link == link) && is_same seen.direction direction
 passed_on link direction (PacketPassed time octets) = false
 
--- the number of the next packet of a link and a direction behind these: how many frames passed there, modulo 2^32
+-- the number of the next packet of a link and a direction after these: how many frames passed there, modulo 2^32
 abbrev pub next_number : (link : ℕ) → Direction → (before : List Passed) → ℕ
 next_number link direction before = count_by (passed_on link direction) before % 2 ^ 32
 
--- how many nanoseconds after 1970 a frame passed, where the node started so long after 1970; at most the longest time
+-- how many nanoseconds after 1970 a frame passed, if the node started this long after 1970; at most the longest time
 abbrev pub since_1970 : (started time : Duration) → ℕ
 since_1970 started time = min (as_nanos started + as_nanos time) max_nanos
 
--- the packet of a frame behind these
+-- the packet of a frame after these
 abbrev pub packet_behind : (started : Duration) (before : List Passed) → Seen → List ℕ
 packet_behind started before seen =
     packet_octets (since_1970 started seen.time) seen.link seen.direction
     (next_number seen.link seen.direction before) seen.frame
 
--- a packet that was on the wire, behind its header
+-- a packet that was on the wire, after its header
 abbrev pub wire_packet : (started time : Duration) (octets : List ℕ) → List ℕ
 wire_packet started time octets = record_header (since_1970 started time) (length octets) ++ octets
 
@@ -56,7 +56,7 @@ abbrev pub entry_behind : (started : Duration) (before : List Passed) → Passed
 entry_behind started before (FramePassed seen) = packet_behind started before seen
 entry_behind started before (PacketPassed time octets) = wire_packet started time octets
 
--- the packets of what passed, each behind those before it, and all behind these
+-- the packets of what passed, each after those before it, and all after these
 abbrev pub packets_behind : (started : Duration) (before : List Passed) → List Passed → List ℕ
 packets_behind started before [] = []
 packets_behind started before (passed ∷ rest) =
@@ -81,12 +81,12 @@ abbrev pub number_at : (link : ℕ) → Direction → PacketNumbers → ℕ
 number_at link In numbers = slice_index numbers.incoming link
 number_at link Out numbers = slice_index numbers.outgoing link
 
--- these are the numbers of the next packets behind these
+-- these are the numbers of the next packets after these
 pub record IsBehind (numbers : PacketNumbers) (passed : List Passed) : Type 0 where
   pub each : (link : ℕ) (direction : Direction) → link < 2 ^ 8 →
       number_at link direction numbers ≡ next_number link direction passed
 
--- behind what its output had before, a capture wrote that of these, and its next packets go on behind them
+-- after what its output had before, a capture wrote that of these, and its next packets go on after them
 pub record Captures {O : Type 0} (written : O → Option (List ℕ)) (before : Option (List ℕ)) (capture : CaptureOf O)
     (passed : List Passed) : Type 0 where
   pub octets : Appends before (written capture.output) (captured capture.started passed)

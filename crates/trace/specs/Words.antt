@@ -33,7 +33,7 @@ status_word OutOfService = codes "out-of-service"
 abbrev pub numbers_words : (fsn bsn : ℕ) → List ℕ
 numbers_words fsn bsn = codes " fsn " ++ decimal fsn ++ codes " bsn " ++ decimal bsn
 
--- octets, in two hexadecimal digits each, behind a space; nothing where there are none
+-- octets, in two hexadecimal digits each, after a space; nothing if there are none
 abbrev pub octets_words : List ℕ → List ℕ
 octets_words [] = []
 octets_words (octet ∷ octets) = codes " " ++ encode_lower (octet ∷ octets)
@@ -48,8 +48,7 @@ label_words points label =
 abbrev pub service_words : Message → List ℕ
 service_words m = codes " si " ++ decimal (service_indicator m)
 
--- a message: its label, its service indicator, and the octets behind its label; or all of them where it has no whole
--- label
+-- a message: its label, its service indicator, and the octets after its label; or all of them if it has no whole label
 abbrev pub labelled_words : PointFormat → Message → Option Label → List ℕ
 labelled_words points m (Some label) = label_words points label ++ service_words m ++ octets_words (drop 4 m.sif)
 labelled_words points m None = codes " no label" ++ service_words m ++ octets_words m.sif

@@ -47,7 +47,7 @@ const WHOLE: u8 = 3;
 /// The payload protocol identifier of M2PA (RFC 4165 §7).
 const M2PA: u32 = 5;
 
-/// A chunk is padded to a multiple of so many octets (RFC 9260 §3.2).
+/// A chunk is padded to a multiple of this many octets (RFC 9260 §3.2).
 const ALIGNMENT: usize = 4;
 
 /// The header of a capture file: pcap 2.4, low octet first, of SCTP packets.
@@ -59,7 +59,7 @@ pub fn file_header() -> [u8; FILE_HEADER_OCTETS]
         0xd4, 0xc3, 0xb2, 0xa1,
         // Version 2.4.
         2, 0, 4, 0,
-        // No correction of the times, and nothing said of their accuracy.
+        // No correction of the times, and no claim about their accuracy.
         0, 0, 0, 0, 0, 0, 0, 0,
         // Packets of 65,535 octets at most.
         0xff, 0xff, 0, 0,
@@ -68,8 +68,8 @@ pub fn file_header() -> [u8; FILE_HEADER_OCTETS]
     ]
 }
 
-/// Writes a frame that passed on a link as one packet of a capture file at the front of the buffer, and
-/// answers how many octets it has. The buffer behind it may hold anything afterwards.
+/// Writes a frame that passed on a link as one packet of a capture file at the front of the buffer, and returns how
+/// many octets it has. The buffer after it may hold anything afterwards.
 ///
 /// `time` is since 1970. `number` is the packet's transmission sequence number: one more with each packet
 /// of the link and the direction. The packet is one SCTP packet with one DATA chunk of payload protocol 5,
@@ -95,7 +95,7 @@ pub fn packet(
     write_padding(buffer, at, padding(octets.len()))
 }
 
-/// How many octets of padding are behind a frame of so many.
+/// How many octets of padding follow a frame of this many.
 fn padding(octets: usize) -> usize
     requires { octets ≤ Limits.FRAME_OCTETS }
     ensures padding { result ≡ padding octets }
@@ -105,7 +105,7 @@ fn padding(octets: usize) -> usize
     (ALIGNMENT - octets % ALIGNMENT) % ALIGNMENT
 }
 
-/// Octets of the packet of a frame of so many, without the record header.
+/// Octets of the packet of a frame of this many, without the record header.
 fn packet_length(octets: usize) -> u32
     requires { octets ≤ Limits.FRAME_OCTETS }
     ensures { result ≡ packet_length octets }
@@ -113,7 +113,7 @@ fn packet_length(octets: usize) -> u32
     (COMMON_HEADER_OCTETS + CHUNK_HEADER_OCTETS + octets + padding(octets)) as u32
 }
 
-/// The header of a packet of so many octets, which passed so long after 1970.
+/// The header of a packet of this many octets, which passed this long after 1970.
 pub(crate) fn record_header(time: Duration, octets: u32) -> [u8; RECORD_HEADER_OCTETS]
     ensures { result ≡ record_header (as_nanos time) octets }
 {
@@ -129,7 +129,7 @@ pub(crate) fn record_header(time: Duration, octets: u32) -> [u8; RECORD_HEADER_O
     header
 }
 
-/// Writes the common header of SCTP, and answers the place behind it.
+/// Writes the common header of SCTP, and returns the offset after it.
 fn write_common_header(
     out: &mut [u8; PACKET_OCTETS],
     at: usize,
@@ -151,7 +151,7 @@ fn write_common_header(
     write_at(out, at, &[0; 4])
 }
 
-/// Writes the header of the DATA chunk of a frame, and answers the place behind it.
+/// Writes the header of the DATA chunk of a frame, and returns the offset after it.
 fn write_chunk_header(
     out: &mut [u8; PACKET_OCTETS],
     at: usize,
@@ -168,7 +168,7 @@ fn write_chunk_header(
     write_chunk_stream(out, at, frame.stream(), (number % (1 << 16)) as u16)
 }
 
-/// Writes the front of the header of a DATA chunk, and answers the place behind it.
+/// Writes the front of the header of a DATA chunk, and returns the offset after it.
 fn write_chunk_front(out: &mut [u8; PACKET_OCTETS], at: usize, length: u16, number: u32) -> usize
     requires { at ≡ 28 }
     ensures count { result ≡ at + 8 }
@@ -179,7 +179,7 @@ fn write_chunk_front(out: &mut [u8; PACKET_OCTETS], at: usize, length: u16, numb
     write_at(out, at, &number.to_be_bytes())
 }
 
-/// Writes what the header of a DATA chunk says of its stream, and answers the place behind it.
+/// Writes what the header of a DATA chunk says of its stream, and returns the offset after it.
 fn write_chunk_stream(out: &mut [u8; PACKET_OCTETS], at: usize, stream: u16, number: u16) -> usize
     requires { at ≡ 36 }
     ensures count { result ≡ at + 8 }
@@ -190,7 +190,7 @@ fn write_chunk_stream(out: &mut [u8; PACKET_OCTETS], at: usize, stream: u16, num
     write_at(out, at, &M2PA.to_be_bytes())
 }
 
-/// Writes so many octets of padding from a place on, and answers the place behind them.
+/// Writes this many octets of padding at an offset, and returns the offset after them.
 fn write_padding(out: &mut [u8; PACKET_OCTETS], at: usize, count: usize) -> usize
     requires few { count < 4 }
     requires room { at + count ≤ PACKET_OCTETS }

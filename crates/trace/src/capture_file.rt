@@ -15,8 +15,8 @@ use signalling_types::{Limits, LinkId};
 use std::marker::Model;
 use std::time::Duration;
 
-/// A capture of what passes on the links of a node: of frames over TCP, for each of which a packet of SCTP is made, and
-/// of the packets of SCTP as they are on the wire. A write that fails ends it.
+/// A capture of what passes on the links of a node: frames over TCP, each made into a packet of SCTP, and the packets
+/// of SCTP as they are on the wire. A write that fails ends it.
 #[derive(Drop)]
 pub struct Capture<O> {
     output: O,
@@ -33,9 +33,9 @@ impl<O> Model for Capture<O> {
 }
 
 impl<O: CaptureOutput> Capture<O> {
-    /// A capture that goes to this output, behind what it has. The node started so long after 1970.
+    /// A capture that goes to this output, after what it has. The node started this long after 1970.
     ///
-    /// The header of the file is written and flushed. Where that fails, the capture has failed.
+    /// The header of the file is written and flushed. If that fails, the capture has failed.
     pub fn begin(mut output: O, started: Duration) -> Capture<O>
         ensures begun { O.failed result.output ≡ false → Captures O.written (O.written output) result [] }
         // Nothing but the header is written, or the first octets of it.
@@ -73,8 +73,8 @@ impl<O: CaptureOutput> Capture<O> {
         self.output.has_failed()
     }
 
-    /// Writes the packet of a frame that passed on a link so long after the node's start. Where that fails, no more is
-    /// written. A frame of more octets than any frame has is left out.
+    /// Writes the packet of a frame that passed on a link this long after the node's start. If that fails, no more is
+    /// written. A frame with more octets than any frame has is left out.
     #[inline(never)]
     pub fn write(
         &mut self,
@@ -111,7 +111,7 @@ impl<O: CaptureOutput> Capture<O> {
         self.output.write(&buffer[..count]);
     }
 
-    /// Writes a packet of SCTP that passed so long after the node's start, as it was on the wire. Where that fails, no
+    /// Writes a packet of SCTP that passed this long after the node's start, as it was on the wire. If that fails, no
     /// more is written. One of more than 65,535 octets is left out.
     #[inline(never)]
     pub fn write_packet(&mut self, now: Duration, packet: &[u8])
@@ -134,7 +134,7 @@ impl<O: CaptureOutput> Capture<O> {
         self.output.write(packet);
     }
 
-    /// Flushes what was written. Where that fails, the capture has failed.
+    /// Flushes what was written. If that fails, the capture has failed.
     pub fn flush(&mut self)
         ensures octets { Keeps (O.written self.old.output) (O.written self.new.output) }
         ensures captured { (before : Option (List ℕ)) (passed : List Passed) → Captures O.written before self.old passed

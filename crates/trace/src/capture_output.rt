@@ -8,13 +8,13 @@ use std::io::Write;
 
 /// What a capture is written to, until a write or a flush fails.
 pub trait CaptureOutput {
-    // The octets that were written, where they are known.
+    // The octets that were written, if they are known.
     ghost written: { Self → Option (List ℕ) };
 
     // Whether a write or a flush failed.
     ghost failed: { Self → Bool };
 
-    /// Writes all the octets. Where that fails, the first of them may be written, but not all.
+    /// Writes all the octets. If that fails, the first of them may be written, but not all.
     fn write(&mut self, octets: &[u8])
         ensures all { failed self.new ≡ false → Appends (written self.old) (written self.new) octets.now }
         ensures part { failed self.old ≡ false → failed self.new ≡ true
@@ -86,7 +86,6 @@ impl<W: Write> CaptureOutput for UntilFailure<W> {
     }
 }
 
-/// A write failed.
 #[derive(Clone, Copy)]
 struct WriteFailed;
 

@@ -16,7 +16,7 @@ const STATUS_STREAM: u16 = 0;
 /// The stream of User Data (RFC 4165).
 const DATA_STREAM: u16 = 1;
 
-/// The octets of a frame that passed on a link, and what they say: they are read once, for all who are told of it.
+/// The octets of a frame that passed on a link, and what they say: read once, for all who are told of it.
 #[derive(Drop)]
 pub struct ObservedFrame<'a> {
     pub(crate) octets: &'a [u8],

@@ -27,7 +27,7 @@ impl PacketNumbers {
         }
     }
 
-    /// Counts a frame that passes on a link, and answers the number of its packet.
+    /// Counts a frame that passes on a link, and returns the number of its packet.
     pub(crate) fn take(&mut self, link: LinkId, direction: Direction) -> u32
         ensures number { (passed : List Passed) → IsBehind self.old passed
             → result ≡ next_number link direction passed }
@@ -42,7 +42,7 @@ impl PacketNumbers {
     }
 }
 
-/// Counts a packet of the link at this place, and answers its number.
+/// Counts a packet of the link at this index, and returns its number.
 fn take_number(numbers: &mut [u32; LINK_NUMBERS], place: usize) -> u32
     requires { place < LINK_NUMBERS }
     ensures number { result ≡ slice_index numbers.old place }

@@ -34,13 +34,13 @@ impl Model for FrameWords {
     ghost view = { λ w. w.octets.items };
 }
 
-/// A frame that passed on the link of this name, in words, without a line feed:
-/// `e0 in fsn 5 bsn 9 opc 2 dpc 300 sls 5 si 5 aabb`.
+/// A frame that passed on the link of this name, in words, without a line feed: `e0 in fsn 5 bsn 9 opc 2 dpc 300 sls 5
+/// si 5 aabb`.
 ///
-/// A message stands as the points and the selection of its label, its service indicator, and the
-/// octets behind the label; one without a whole label as `no label`, its service indicator and all
-/// its octets. Link Status ends in `status` and its state, and User Data without a message in `ack`.
-/// Octets that are no frame stand as `malformed` and the octets.
+/// A message is shown as the points and the selection of its label, its service indicator, and the octets after the
+/// label; one without a whole label as `no label`, its service indicator and all its octets. Link Status ends in
+/// `status` and its state, and User Data without a message in `ack`. Octets that are no frame are shown as `malformed`
+/// and the octets.
 pub fn frame_words(
     link: &str,
     direction: Direction,
@@ -193,7 +193,7 @@ impl FrameWords {
         self.push_number(b" si ", u32::from(message.service_indicator()));
     }
 
-    /// Appends octets in two hexadecimal digits each, behind a space; nothing where there are none.
+    /// Appends octets in two hexadecimal digits each, after a space; nothing if there are none.
     fn push_octets(&mut self, octets: &[u8])
         requires few { length octets.now ≤ Limits.FRAME_OCTETS }
         requires room { length self.old + 1 + 2 * length octets.now ≤ WORDS_OCTETS }

@@ -2,7 +2,7 @@
 
 ghost use Rattle.std.specs.Prelude.{◌≡◌, ◌+◌, ◌≤◌, ◌++◌, length, take};
 
-/// Writes octets from a place on, and returns the place behind them.
+/// Writes octets at an offset, and returns the offset after them.
 pub(crate) fn write_at(out: &mut [u8], at: usize, octets: &[u8]) -> usize
     requires { at + length octets.now ≤ length out.old }
     ensures count { result ≡ at + length octets.now }

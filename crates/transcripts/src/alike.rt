@@ -17,7 +17,6 @@ fn are_alike(a: &Settings, b: &Settings) -> bool {
     have_same_numbers(a, b) && have_same_rows(a, b) && a.titles().len() == b.titles().len()
 }
 
-/// Whether their numbers are the same.
 fn have_same_numbers(a: &Settings, b: &Settings) -> bool {
     a.own() == b.own()
         && a.network() == b.network()
@@ -41,7 +40,6 @@ fn have_same_rows(a: &Settings, b: &Settings) -> bool {
         && same_ways.all(|(a, b)| is_same_way(a, b))
 }
 
-/// Whether these are the same destination.
 fn is_same_way(a: &DestinationRow, b: &DestinationRow) -> bool {
     a.point() == b.point() && a.sets() == b.sets() && a.joined() == b.joined()
 }

@@ -19,7 +19,7 @@ impl ChangedFile {
         Ok(ChangedFile { lines, at: 0 })
     }
 
-    /// Takes out the next line that is this one, and answers whether there is one. The next change goes where it stood.
+    /// Takes out the next line that is this one, and returns whether there is one. The next change goes where it stood.
     pub fn take_out(&mut self, line: &[u8]) -> bool {
         for place in self.at..self.lines.len() {
             if self.lines[place].as_slice() == line {
@@ -31,7 +31,7 @@ impl ChangedFile {
         false
     }
 
-    /// Puts in a line where the last change was, and behind it the next one.
+    /// Puts in a line where the last change was, and after it the next one.
     pub fn put_in(&mut self, alloc: Global, line: &[u8]) -> Result<(), AllocError> {
         let place = self.at.min(self.lines.len());
         self.lines.insert(place, Vec::from_slice(alloc, line)?)?;

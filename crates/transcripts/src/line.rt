@@ -13,7 +13,7 @@ pub enum Line<'a> {
     With(&'a str),
     /// `> LINE`, or `>` alone for an empty one: a line of the script.
     Given(&'a str),
-    /// `> *N LINE`: so many lines of the script.
+    /// `> *N LINE`: this many lines of the script.
     Repeated(usize, &'a str),
     /// `> @FILE`: the lines of this file are lines of the script.
     Prologue(&'a str),
@@ -48,7 +48,7 @@ pub fn read_line(line: &str) -> Line<'_> {
     }
 }
 
-/// What a line of the script is, by what stands behind its `>`.
+/// What a line of the script is, by what is after its `>`.
 fn read_given(rest: &str) -> Line<'_> {
     if let Some(text) = rest.strip_prefix("| ") {
         Line::Cut(text)

@@ -5,16 +5,16 @@
 //!
 //! - `# ..` is a remark; the first is the title. Empty lines are skipped.
 //! - `$ stp WORDS` begins a run. Its files are those of the folder that holds the transcripts.
-//! - `- LINE` and `+ LINE` behind that take a line out of the run's settings file, the last that its words
-//!   name, and put one in.
+//! - After that, `- LINE` and `+ LINE` take a line out of the run's settings file, the last that its arguments name,
+//!   and put one in.
 //! - `> LINE` is a line of the script, `>` an empty one, and `>| TEXT` its last one, without a line feed.
-//! - `> *N LINE` is N lines of the script that are all LINE. The lines that are printed behind it, before the
-//!   next line of the script, are what one of them prints, and are to come N times, as one block.
-//! - `> @FILE` is a prologue: the file's lines are lines of the script, and the program counts them. What they
-//!   print isn't written out, but they are all done, and none prints a line that begins with `fault`,
-//!   `refused`, `ignored`, `lost` or `not open`.
-//! - `! TEXT` is a line on standard error, wherever it stands in its run: these lines, in order, are all that
-//!   standard error has. A lone `!` says so too, where there is none. A run without any says nothing of it.
+//! - `> *N LINE` is N lines of the script that are all LINE. The lines that are printed after it, before the next line
+//!   of the script, are what one of them prints, and must come N times, as one block.
+//! - `> @FILE` is a prologue: the file's lines are lines of the script, and the program counts them. What they print
+//!   isn't written out, but they are all done, and none prints a line that begins with `fault`, `refused`, `ignored`,
+//!   `lost` or `not open`.
+//! - `! TEXT` is a line on standard error, wherever it is in its run: these lines, in order, are all that standard
+//!   error has. A lone `!` says so too, if there is none. A run without any says nothing of it.
 //! - Every other line is one that is printed; at the end, `[3]` is an exit status other than 0.
 #![tactic(auto)]
 
@@ -56,7 +56,7 @@ fn main(rt: HostRuntime) -> Result<()> {
     Ok(())
 }
 
-/// Tells of each settings file whether its settings are those built in, and answers whether that is as it is to be.
+/// Tells of each settings file whether its settings are those built in, and returns whether it is right.
 fn tell_files(rt: &HostRuntime) -> Result<bool> {
     let mut are_as_said = true;
     for (name, is_said) in SETTINGS_FILES {
@@ -68,7 +68,7 @@ fn tell_files(rt: &HostRuntime) -> Result<bool> {
     Ok(are_as_said)
 }
 
-/// Plays a transcript, prints what became of it, and answers whether that is as it is to be.
+/// Plays a transcript, prints what became of it, and returns whether it is right.
 fn is_good(rt: &HostRuntime, name: &str) -> Result<bool> {
     let is_to_differ = name.ends_with(".differs");
     match play_file(rt, name) {

@@ -5,8 +5,8 @@ use crate::playing::read_file;
 use crate::run::Run;
 use anyhow::{Result, bail, ensure};
 
-/// Plays the transcript of this name, and answers how many runs it has. The error says where it differs
-/// from what the program writes, unless memory ran out or a file wasn't read.
+/// Plays the transcript of this name, and returns how many runs it has. The error says where it differs from what the
+/// program writes, unless memory ran out or a file wasn't read.
 pub fn play_file(rt: &HostRuntime, name: &str) -> Result<u64> {
     let text = read_file(rt, name)?;
     let mut run: Option<Run<'_>> = None;
@@ -25,7 +25,7 @@ pub fn play_file(rt: &HostRuntime, name: &str) -> Result<u64> {
     Ok(runs)
 }
 
-/// Ends a run, if one was begun. It has to be good.
+/// Ends a run, if one was begun. It must be good.
 fn finish(run: &mut Option<Run<'_>>) -> Result<()> {
     match run {
         Some(run) => run.finish(),

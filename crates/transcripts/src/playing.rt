@@ -16,7 +16,7 @@ pub struct Ended {
     pub told: Vec<u8>,
 }
 
-/// Plays a script. The error comes where memory runs out, and where a read of the script or a write failed.
+/// Plays a script. The error comes if memory runs out, and if a read of the script or a write failed.
 pub fn play_script<F: Folder>(
     rt: &HostRuntime,
     words: &[String],
@@ -38,8 +38,8 @@ pub fn play_script<F: Folder>(
     })
 }
 
-/// Runs the program. The links of its lab are streams in memory, of which each read gives one octet; its server is that
-/// of the machine, which would serve settings without a fault for good.
+/// Runs the program. The links of its lab are streams in memory that give one octet a read; its server is that of the
+/// machine, which would serve settings without a fault for good.
 fn run<F: Folder>(
     rt: &HostRuntime,
     words: &[String],

@@ -14,13 +14,13 @@ const FAULTS: [&[u8]; 5] = [b"fault", b"refused", b"ignored", b"lost", b"not ope
 #[derive(Drop)]
 pub struct Run<'a> {
     rt: &'a HostRuntime,
-    /// The words behind the program's name.
+    /// The program's arguments.
     words: Vec<String>,
-    /// The last file that the words name, where the transcript changes it.
+    /// The last file that the words name, if the transcript changes it.
     changed: Option<ChangedFile>,
     script: Vec<u8>,
     printed: Wanted,
-    /// What standard error is to have, where the transcript says something of it.
+    /// What standard error is to have, if the transcript says something of it.
     told: Option<Wanted>,
     /// How many lines were wanted before the last line of the script, and how often that line came.
     block: (usize, usize),
@@ -88,7 +88,7 @@ impl<'a> Run<'a> {
         Ok(self.file()?.put_in(alloc, line.as_bytes())?)
     }
 
-    /// Gives the run so many lines of its script, each of them this text with this end.
+    /// Gives the run this many lines of its script, each of them this text with this end.
     pub fn give(&mut self, times: usize, text: &str, end: &str) -> Result<()> {
         self.end_block()?;
         self.block = (self.printed.len(), times);
@@ -137,7 +137,7 @@ impl<'a> Run<'a> {
             .get_or_insert_with(|| Wanted::new(alloc, "standard error has", number))
     }
 
-    /// The lines behind the last line of the script are wanted as often as it came.
+    /// The lines after the last line of the script are wanted as often as it came.
     fn end_block(&mut self) -> Result<()> {
         let (from, times) = self.block;
         self.block = (0, 1);

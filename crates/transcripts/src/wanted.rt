@@ -44,7 +44,7 @@ impl Wanted {
         Ok(())
     }
 
-    /// The lines from this place on are wanted so often, one such block behind the other.
+    /// The lines from this index on are wanted this often, one such block after the other.
     pub fn repeat(&mut self, from: usize, times: usize) -> Result<(), AllocError> {
         let to = self.lines.len();
         for _ in 1..times {
@@ -55,7 +55,7 @@ impl Wanted {
         Ok(())
     }
 
-    /// The line at this place once more, if there is one.
+    /// The line at this index once more, if there is one.
     fn push_again(&mut self, place: usize) -> Result<(), AllocError> {
         let Some(line) = self.lines.get(place) else {
             return Ok(());

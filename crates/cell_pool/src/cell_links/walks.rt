@@ -1,4 +1,4 @@
-//! The cell at a place of a list, and the way to it from cell to cell.
+//! The cell at an index of a list, and the way to it from cell to cell.
 
 ghost use Rattle.std.specs.Prelude.{◌≡◌, ◌+◌, ◌<◌, ◌≤◌, length, slice_get, slice_index_or, IfSome};
 ghost use Rattle.cell_pool.specs.Numbering.{ring_at};
@@ -7,8 +7,8 @@ use super::CellLinks;
 use crate::cell_number::CellNumber;
 
 impl CellLinks {
-    /// Notes the cell at a place of a list, where there is one: the way to it, and to the one behind it, is short from
-    /// then on.
+    /// Notes the cell at an index of a list, if there is one. From then on the way to it, and to the one after it, is
+    /// short.
     pub(crate) fn note(&mut self, ring: usize, index: usize)
         requires { ring < length self.old.rings }
         ensures { self.new ≡ self.old }
@@ -20,7 +20,7 @@ impl CellLinks {
         }
     }
 
-    /// The cell at a place of a list, where there is one.
+    /// The cell at an index of a list, if there is one.
     pub(crate) fn get(&self, ring: usize, index: usize) -> Option<CellNumber>
         requires { ring < length self.now.rings }
         ensures number { result ≡ slice_get (ring_at self.now.rings ring) index }
@@ -33,7 +33,7 @@ impl CellLinks {
         }
     }
 
-    /// The cell behind one at a place of a list, where there is one.
+    /// The cell after one at an index of a list, if there is one.
     pub(crate) fn next(&self, ring: usize, place: usize, cell: CellNumber) -> Option<CellNumber>
         requires ring { ring < length self.now.rings }
         requires place { place < length (ring_at self.now.rings ring) }
@@ -48,7 +48,7 @@ impl CellLinks {
         }
     }
 
-    /// The first cell of a list, where there is one.
+    /// The first cell of a list, if there is one.
     pub(crate) fn first(&self, ring: usize) -> Option<CellNumber>
         requires { ring < length self.now.rings }
         ensures number { result ≡ slice_get (ring_at self.now.rings ring) 0 }
@@ -71,8 +71,8 @@ impl CellLinks {
         self.chains[ring].first()
     }
 
-    /// The cell at a place of a list: the noted one and the last one are known, and the way to others begins at the
-    /// noted one or at the first.
+    /// The cell at an index of a list. The noted one and the last one are known; the way to others begins at the noted
+    /// one or at the first.
     pub(super) fn cell_at(&self, ring: usize, index: usize) -> CellNumber
         requires ring { ring < length self.now.rings }
         requires index { index < length (ring_at self.now.rings ring) }
@@ -91,7 +91,7 @@ impl CellLinks {
         }
     }
 
-    /// The cell at a place of a list, by way of one before that place, which mostly is the one just before.
+    /// The cell at an index of a list, by way of one before that index, which usually is the one just before.
     #[inline(always)]
     fn onward(&self, ring: usize, place: usize, cell: CellNumber, index: usize) -> CellNumber
         requires ring { ring < length self.now.rings }
@@ -109,7 +109,7 @@ impl CellLinks {
         }
     }
 
-    /// The cell behind one at a place of a list.
+    /// The cell after one at an index of a list.
     fn behind(&self, ring: usize, place: usize, cell: CellNumber) -> CellNumber
         requires ring { ring < length self.now.rings }
         requires place { place + 1 < length (ring_at self.now.rings ring) }
@@ -120,7 +120,7 @@ impl CellLinks {
         self.next[cell.index()]
     }
 
-    /// The cell at a place of a list, by way of one at or before that place.
+    /// The cell at an index of a list, by way of one at or before that index.
     #[inline(never)]
     fn walked(&self, ring: usize, place: usize, cell: CellNumber, index: usize) -> CellNumber
         requires ring { ring < length self.now.rings }

@@ -1,4 +1,4 @@
-//! The arrival of a message for another point.
+//! HMRT, message routing (Q.704 §2.3): a message for another point.
 
 ghost use Rattle.std.specs.Prelude.{◌≡◌, ◌<◌, ◌≤◌, ◌&&◌, None, Some, true, false, not, length, IfSome};
 ghost use Rattle.std.specs.Option.{option_and_then};

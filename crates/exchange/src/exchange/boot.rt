@@ -149,7 +149,7 @@ impl NetworkParts {
     }
 }
 
-/// The numbers of so many links, each at its first epoch.
+/// The numbers of this many links, each at its first epoch.
 fn first_sequences(alloc: Global, count: usize) -> Result<Vec<Sequence>, AllocError>
     ensures { IfOk result (λ sequences. sequences.items ≡ replicate count kept_first) }
 {

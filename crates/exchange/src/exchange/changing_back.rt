@@ -1,4 +1,4 @@
-//! A link returns to service and takes its flows back, and what ends that.
+//! TCBC, changeback control (Q.704 §6): a link returns to service and takes its flows back, and what ends that.
 
 ghost use Rattle.std.specs.Prelude.{◌≡◌, ◌<◌, ℕ, None, Some, false, length, replicate, slice_index_or, IfErr, OnOk, is_ok, if◌then◌else◌};
 ghost use Rattle.routes.specs.Routes.{with_link};
@@ -141,7 +141,7 @@ impl Exchange {
         Some(code)
     }
 
-    /// Puts the declaration that a link is back at the end of the queue of another; refused where it finds no room.
+    /// Puts the declaration that a link is back at the end of the queue of another; refused if there is no room.
     fn send_declaration(&mut self, link: LinkId, other: LinkId, code: u8) -> Result<(), Cause>
         requires link { link < length self.old.settings.links }
         requires other { other < length self.old.settings.links }

@@ -1,4 +1,5 @@
-//! How a changeover goes on and ends: by an order or an answer of the peer, or by a timer.
+//! TCOC, changeover control (Q.704 §5.4 to §5.7): a changeover goes on and ends, by an order or an acknowledgement of
+//! the peer, or by a timer.
 
 ghost use Rattle.std.specs.Prelude.{◌≡◌, ◌<◌, Some, true, length, slice_get};
 ghost use Rattle.std.specs.Option.{option_map};
@@ -22,8 +23,8 @@ use signalling_types::Number24;
 use timers::TimerName;
 
 impl Exchange {
-    /// The peer orders a changeover of a link, with the number of the last message that it accepted there, or without
-    /// one. It is answered in every case.
+    /// The peer orders a changeover of a link, with or without the number of the last message that it accepted there.
+    /// It is answered in every case.
     pub(super) fn on_changeover_order(&mut self, link: LinkId, number: Option<Number24>) -> Outcome
         requires { link < length self.old.settings.links }
         ensures { Ends self.old result self.new
@@ -87,9 +88,9 @@ impl Exchange {
         }
     }
 
-    /// Does with the messages of a failed link what the peer's number says: those that it accepted are dropped, user
-    /// messages after them go in front of Held, and management is requeued. Without a reasonable number those that were
-    /// sent are lost.
+    /// Deals with the messages of a failed link by the peer's number: those that it accepted are dropped, user messages
+    /// after them go before Held, and management is requeued. Without a reasonable number, those that were sent are
+    /// lost.
     fn conclude(&mut self, link: LinkId, number: Option<Number24>)
         requires { link < length self.old.settings.links }
         ensures { self.new ≡ with_node self.old (failing.conclude kept self.old.settings
@@ -122,7 +123,7 @@ impl Exchange {
         count_in_doubt(&self.sequences[link.index()], *number)
     }
 
-    /// The user messages among the first so many of a link's list are lost.
+    /// The user messages among the first n of a link's list are lost.
     fn lose_first(&mut self, link: LinkId, count: usize)
         requires { link < length self.old.settings.links }
         ensures { self.new ≡ with_node self.old (with_parts self.old.node
@@ -133,7 +134,7 @@ impl Exchange {
         }
     }
 
-    /// The message at a place of a link's list is lost, where it is a user message.
+    /// The message at an index of a link's list is lost, if it is a user message.
     fn lose_at(&mut self, link: LinkId, place: usize)
         requires { link < length self.old.settings.links }
         ensures { self.new ≡ with_node self.old (with_parts self.old.node
@@ -147,7 +148,7 @@ impl Exchange {
         }
     }
 
-    /// A user message is lost: that is noted.
+    /// A user message is lost, and that is noted.
     pub(super) fn lose(&mut self, cause: Cause, label: &Label)
         ensures { self.new ≡ with_node self.old (with_parts self.old.node
             (flagged (note (notices.Lost cause label.now.dpc label.now.sls) self.old.node.parts))) }
@@ -166,7 +167,7 @@ impl Exchange {
         self.timers.clear(TimerName::T1(link));
     }
 
-    /// Puts the user messages that move in front of Held; leaves the management messages in the link's list.
+    /// Puts the user messages that move before Held; leaves the management messages in the link's list.
     fn splice(&mut self, link: LinkId, number: Option<Number24>)
         requires { link < length self.old.settings.links }
         ensures state { self.new ≡ with_node self.old (record self.old.node {
@@ -192,7 +193,7 @@ impl Exchange {
         }
     }
 
-    /// The first message in the list of a link goes out anew.
+    /// The first message in the list of a link goes out again.
     fn send_first(&mut self, link: LinkId)
         requires { link < length self.old.settings.links }
         ensures { self.new ≡ with_node self.old (draining.first_gone (draining.anew self.old.settings)

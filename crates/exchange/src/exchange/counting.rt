@@ -24,9 +24,9 @@ impl Exchange {
         self.lanes.count_users(HELD, 0, pick)
     }
 
-    /// How many user messages of a link a choice takes, among those behind the count that a number names (RFC 4165
-    /// §2.2); where it names none, among all that aren't confirmed. 0 if there is no such link. It looks at each of
-    /// these messages once, with a step for each one before them, and copies none.
+    /// Of the user messages of a link after the count that a number names (RFC 4165 §2.2), how many a choice takes; if
+    /// the number names none, of all that aren't confirmed. 0 if there is no such link. It looks at each of these
+    /// messages once, with a step for each one before them, and copies none.
     pub fn count_behind<P: Pick>(&self, link: LinkId, number: Number24, pick: &P) -> usize
         ensures count { (a : Abstract) → StandsFor self.now a →
             result ≡ count_by (is_user_picked (P.picks pick.now))

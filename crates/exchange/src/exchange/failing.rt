@@ -1,4 +1,4 @@
-//! The failure of a link, and the changeover that it begins.
+//! TCOC, changeover control (Q.704 §5.2, §5.3): a link fails, and its changeover begins.
 
 ghost use Rattle.std.specs.Prelude.{◌≡◌, ◌<◌, length, true};
 ghost use Rattle.exchange_rules.specs.State.{with_node, with_parts, in_service};
@@ -14,7 +14,7 @@ use signalling_types::Number24;
 use timers::{RouteTimer, TimerName};
 
 impl Exchange {
-    /// A link fails. Where it was in service, its changeover begins.
+    /// A link fails. If it was in service, its changeover begins.
     pub(super) fn fail(&mut self, link: LinkId, why: FailureReason)
         requires { link < length self.old.settings.links }
         ensures { self.new ≡ with_node self.old (rule.fail kept self.old.settings link why self.old.node) }
@@ -24,8 +24,7 @@ impl Exchange {
         }
     }
 
-    /// A link fails because its peer orders it. Where it was in service, its changeover begins, with no order to the
-    /// peer.
+    /// A link fails because its peer orders it. If it was in service, its changeover begins, with no order to the peer.
     pub(super) fn fail_by_peer(&mut self, link: LinkId)
         requires { link < length self.old.settings.links }
         ensures { self.new ≡ with_node self.old (rule.fail_by_peer kept self.old.settings link self.old.node) }
@@ -77,7 +76,7 @@ impl Exchange {
         self.note(Notice::Failed(link, why));
     }
 
-    /// The changeover of a link begins: an order goes out where a link of its set is left.
+    /// The changeover of a link begins: an order goes out if a link of its set is left.
     fn change_over(&mut self, link: LinkId)
         requires { link < length self.old.settings.links }
         ensures { self.new ≡ with_node self.old (rule.change_over kept self.old.settings true link self.old.node) }

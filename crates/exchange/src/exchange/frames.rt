@@ -1,4 +1,4 @@
-//! A frame that arrived on a link.
+//! A frame that arrived on a link (RFC 4165 §4.2.1).
 
 ghost use Rattle.std.specs.Prelude.{◌≡◌, ◌<◌, length};
 ghost use Rattle.m2pa_codec.specs.Values.{value_of};

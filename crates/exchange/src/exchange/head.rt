@@ -12,7 +12,7 @@ use cell_pool::{CellPool, Lanes};
 use mtp3_codec::Label;
 use settings::{LinkId, Msu};
 
-/// What is read of a message that stands in a list: its label, and whether it is a management message.
+/// What is read of a message that is in a list: its label, and whether it is a management message.
 #[derive(Clone, Copy)]
 pub(super) struct Head {
     /// Where it goes, where it comes from, and how it chooses its link.
@@ -34,14 +34,14 @@ impl Head {
 }
 
 impl Exchange {
-    /// What is read of the first message of Held, where there is one.
+    /// What is read of the first message of Held, if there is one.
     pub(super) fn held_head(&self) -> Option<Head>
         ensures { result ≡ option_map head_of (slice_get (kept.held self.now.node.queues) 0) }
     {
         head_in(&self.lanes, HELD, 0)
     }
 
-    /// What is read of the message at a place of a link's list, where there is one.
+    /// What is read of the message at an index of a link's list, if there is one.
     pub(super) fn head_at(&self, link: LinkId, place: usize) -> Option<Head>
         requires { link < length self.now.settings.links }
         ensures { result ≡ option_map head_of (slice_get (link_lane self.now.node.queues link) place) }
@@ -50,7 +50,7 @@ impl Exchange {
     }
 }
 
-/// What is read of the message at a place of a list, where there is one.
+/// What is read of the message at an index of a list, if there is one.
 #[inline(always)]
 fn head_in(lanes: &CellPool, lane: usize, place: usize) -> Option<Head>
     requires { lane < length lanes.now.lists }

@@ -25,7 +25,7 @@ pub(super) fn lane_of(link: LinkId) -> usize
 }
 
 impl Exchange {
-    /// Puts a message at the end of a link's list; refused where there is no room for it.
+    /// Puts a message at the end of a link's list; refused if there is no room for it.
     #[inline(always)]
     pub(super) fn queue(&mut self, link: LinkId, message: MsuRef<'_>) -> Result<(), Cause>
         requires link { link < length self.old.settings.links }
@@ -53,7 +53,7 @@ impl Exchange {
         self.lanes.push_within_room(lane_of(link), message);
     }
 
-    /// Puts a message whose flow has a hold at the end of Held; refused where there is no room for it.
+    /// Puts a message whose flow has a hold at the end of Held; refused if there is no room for it.
     #[inline(never)]
     pub(super) fn hold(&mut self, message: MsuRef<'_>) -> Result<(), Cause>
         requires fits { length message.sif.now ≤ Limits.SIF_OCTETS }
@@ -102,7 +102,7 @@ impl Exchange {
         self.lanes.count(lane_of(link))
     }
 
-    /// Notes a place of a link's list: the message there, and the next one, are found at once then.
+    /// Notes an index of a link's list: the message there, and the next one, are then found at once.
     pub(super) fn note_place(&mut self, link: LinkId, place: usize)
         requires { link < length self.old.settings.links }
         ensures { self.new ≡ self.old }

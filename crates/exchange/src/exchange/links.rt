@@ -1,4 +1,4 @@
-//! Links that change. As long as none enters or leaves service, what is known of routes stays, and telling isn't due.
+//! Links that change. As long as none enters or leaves service, what is known of routes stays, and no update falls due.
 
 ghost use Rattle.std.specs.Prelude.{◌≡◌, ◌<◌, drop, length, not, false, if◌then◌else◌};
 ghost use Rattle.exchange_rules.specs.State.{with_node, with_parts, link_at, with_link};
@@ -20,7 +20,6 @@ impl Exchange {
         self.links.set_owed(link, owed);
     }
 
-    /// Sets whether a link's peer is busy.
     pub(super) fn set_peer_busy(&mut self, link: LinkId, busy: bool)
         requires { link < length self.old.settings.links }
         ensures { self.new ≡ with_node self.old (with_parts self.old.node (with_link self.old.node.parts link

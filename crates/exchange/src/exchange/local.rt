@@ -1,4 +1,4 @@
-//! A message for this point.
+//! HMDT, message distribution (Q.704 §2.4): a message for this point.
 
 ghost use Rattle.std.specs.Prelude.{◌≡◌, ◌<◌, ◌≤◌, ◌&&◌, length, position, nat_eq, IfSome};
 ghost use Rattle.signalling_types.specs.Message.{lent};
@@ -41,7 +41,7 @@ impl Exchange {
         self.local(message)
     }
 
-    /// A message that is no user part's, apart from the path of those that are.
+    /// A message that isn't for a user part, apart from the path of those that are.
     #[inline(never)]
     fn distribute_to_mtp_or_sccp(
         &mut self,
@@ -139,7 +139,7 @@ impl Exchange {
         }
     }
 
-    /// Does what a management message from an adjacent point asks; TRA asks nothing.
+    /// Does what a management message from an adjacent point asks; TRA asks for nothing.
     fn on_management(&mut self, point: PointCode, message: Management) -> Outcome
         ensures { Ends self.old result self.new
             (rule.on_management kept self.old.settings message point self.old.node) }

@@ -1,4 +1,4 @@
-//! Management that this node makes, or that a link left over when it failed.
+//! HMRT, message routing (Q.704 §2.3): management that this node makes, or that a link left over when it failed.
 
 ghost use Rattle.std.specs.Prelude.{◌≡◌, ◌<◌, ◌≤◌, Some, None, length, IfErr, OnOk, is_ok, if◌then◌else◌};
 ghost use Rattle.signalling_types.specs.Message.{lent, dpc_of};
@@ -52,7 +52,7 @@ impl Exchange {
         });
     }
 
-    /// Puts a management message made here for a point at the end of a link's queue; refused where it finds no room.
+    /// Puts a management message made here for a point at the end of a link's queue; refused if there is no room.
     pub(super) fn queue_management(
         &mut self,
         link: LinkId,

@@ -1,4 +1,4 @@
-//! A message: where it goes, and what happens to it.
+//! HMDC, message discrimination (Q.704 §2.4): where a message goes, and what happens to it.
 
 ghost use Rattle.std.specs.Prelude.{◌≡◌, ◌<◌, ◌≤◌, length};
 ghost use Rattle.signalling_types.specs.Message.{lent};
@@ -14,7 +14,7 @@ use mtp3_codec::{Discrimination, discriminate};
 use settings::{Cause, Limits, LinkId, MsuRef, Notice, Outcome};
 
 impl Exchange {
-    /// A message in a frame, with the link that it came by. Where it is refused, that is noted.
+    /// A message in a frame, with the link that it came by. If it is refused, that is noted.
     #[inline(always)]
     pub(super) fn deliver(&mut self, link: LinkId, message: MsuRef<'_>) -> Outcome
         requires { link < length self.old.settings.links }
@@ -56,7 +56,7 @@ impl Exchange {
         }
     }
 
-    /// Where a message goes: its length, then its label, then its network, then its destination.
+    /// Where a message goes, by its length, then its label, then its network, then its destination.
     fn whither_goes(&self, message: MsuRef<'_>) -> Discrimination
         ensures whither { result ≡ rule.whither_goes self.now.settings (lent message.entry) }
         ensures here { (label : Label) → result ≡ Discrimination.Here label →

@@ -1,4 +1,5 @@
-//! Associations that come up and go down, and operator's orders about a link.
+//! TLAC, link availability control (Q.704 §3.2): associations that come up and go down, and the operator's orders about
+//! a link (RFC 4165 §4.1.3).
 
 ghost use Rattle.std.specs.Prelude.{◌≡◌, ◌<◌, length};
 ghost use Rattle.exchange_rules.specs.State.{with_node};

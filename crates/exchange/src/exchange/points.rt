@@ -19,7 +19,6 @@ impl Exchange {
         &self.settings.links()[link.index()]
     }
 
-    /// The set of a link.
     pub(super) fn set_of(&self, link: LinkId) -> SetId
         requires { link < length self.now.settings.links }
         ensures set { result ≡ rule.set_of self.now.settings link }
@@ -55,7 +54,6 @@ impl Exchange {
         self.settings.sets()[set.index()].adjacent()
     }
 
-    /// The point of a destination.
     pub(super) fn point_of(&self, destination: usize) -> PointCode
         requires { destination < length self.now.settings.destinations }
         ensures { result ≡ rule.point_of self.now.settings destination }
@@ -63,7 +61,7 @@ impl Exchange {
         self.settings.destinations()[destination].point()
     }
 
-    /// The number of a destination, as timers are named by it.
+    /// The number of a destination, as the names of timers have it.
     pub(super) fn number_of(&self, destination: usize) -> u16
         requires { destination < length self.now.settings.destinations }
         ensures { result ≡ destination }
@@ -73,7 +71,7 @@ impl Exchange {
     }
 
     /// The route that an adjacent point's message is about: the set that leads to that point, and the destination.
-    /// Refused UnknownDestination where it speaks of no destination; ignored where no set leads to it.
+    /// Refused UnknownDestination if it is about no destination; ignored if no set leads to the point.
     pub(super) fn route_about(
         &self,
         point: PointCode,

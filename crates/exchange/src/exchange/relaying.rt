@@ -1,4 +1,5 @@
-//! SCCP messages for this point, and the translation rows that lead them on.
+//! SCRC, SCCP routing control (Q.714 §2.3, §4.2): SCCP messages for this point, and the translation rows that lead them
+//! on.
 
 ghost use Rattle.std.specs.Prelude.{◌≡◌, ◌≤◌, length};
 ghost use Rattle.signalling_types.specs.Message.{lent};
@@ -101,7 +102,7 @@ impl Exchange {
         handled_or_refused(self.titles.add(row))
     }
 
-    /// An operator removes the translation row of this key and these digits; NoSuchName where there is none.
+    /// An operator removes the translation row of this key and these digits; NoSuchName if there is none.
     pub(super) fn remove_title(&mut self, key: TitleKey, digits: &[u8]) -> Outcome
         ensures { Ends self.old result self.new (rule.remove_title key digits.now self.old.node) }
     {

@@ -1,4 +1,5 @@
-//! The end of each event: the messages of Held whose flows have no hold any more go on.
+//! Release, of TCOC and TCBC (Q.704 §5.4, §6.3): at the end of each event, those messages of Held go on whose flows are
+//! no longer held.
 
 ghost use Rattle.std.specs.Prelude.{◌≡◌, ◌&&◌, not, length};
 ghost use Rattle.exchange_rules.specs.State.{with_node, with_parts};
@@ -26,7 +27,7 @@ impl Exchange {
         }
     }
 
-    /// Each message of Held goes where it is to go, in order; those that still wait are in Held again.
+    /// Each message of Held goes where it should, in order; those that still wait are in Held again.
     fn release(&mut self)
         ensures { self.new ≡ with_node self.old (rule.release kept self.old.settings self.old.node) }
     {
@@ -34,7 +35,7 @@ impl Exchange {
         self.release_due = false;
     }
 
-    /// The same, where a release stays due.
+    /// The same, if a release stays due.
     fn release_each(&mut self)
         ensures { self.new ≡ with_node self.old (rule.release kept self.old.settings self.old.node) }
     {
@@ -43,8 +44,8 @@ impl Exchange {
         }
     }
 
-    /// The first message of Held goes to the end of Held if it still waits, otherwise to its link; if it has none it is
-    /// lost.
+    /// The first message of Held goes to the end of Held if it still waits, otherwise to its link, or is lost if it has
+    /// none.
     fn release_first(&mut self)
         ensures { self.new ≡ with_node self.old
             (draining.first_gone (draining.onward self.old.settings) held_lane self.old.node) }

@@ -1,4 +1,5 @@
-//! What adjacent points say about routes, and what that does to flows.
+//! TFRC and TCRC, forced and controlled rerouting control (Q.704 §7, §8), and RSRT, route set test control (§13.5):
+//! what adjacent points say about routes, what that does to flows, and the tests that this node sends.
 
 ghost use Rattle.std.specs.Prelude.{◌≡◌, ◌<◌, length};
 ghost use Rattle.settings.specs.Readings.{destination_place, set_place};
@@ -21,8 +22,8 @@ use settings::{Outcome, PointCode, SetId};
 use timers::{RouteTimer, TimerName};
 
 impl Exchange {
-    /// A status that an adjacent point reports for another (Q.704 §13.2 to §13.4). It is ignored where the other is
-    /// that very point, or isn't reached by its set.
+    /// A status that an adjacent point reports for another (Q.704 §13.2 to §13.4). It is ignored if the other is that
+    /// very point, or isn't reached by its set.
     pub(super) fn on_route_status(
         &mut self,
         status: RouteStatus,
@@ -39,7 +40,7 @@ impl Exchange {
         }
     }
 
-    /// A status that the adjacent point of this set tells of this destination.
+    /// A status of this destination that the adjacent point of this set reports.
     fn apply_route_status(&mut self, set: SetId, destination: usize, status: RouteStatus) -> Outcome
         requires set { set < length self.old.settings.sets }
         requires destination { destination < length self.old.settings.destinations }
@@ -58,7 +59,7 @@ impl Exchange {
     }
 
     /// The route to a destination over a set gets another status. Prohibited holds nothing (forced rerouting); the
-    /// others hold the flows that go from one link to another (controlled rerouting; Q.704 §7, §8).
+    /// others hold the flows that change their link (controlled rerouting; Q.704 §7, §8).
     fn change_status(&mut self, set: SetId, destination: usize, status: RouteStatus)
         requires set { set < length self.old.settings.sets }
         requires destination { destination < length self.old.settings.destinations }
@@ -98,8 +99,8 @@ impl Exchange {
         self.links.set_status(destination, set, status);
     }
 
-    /// Controlled rerouting: the route to a destination over a set gets a status. Flows to that destination that move
-    /// from one link to another as a result are held, and if there are any, T6 restarts.
+    /// Controlled rerouting: the route to a destination over a set gets a status. Flows to that destination that change
+    /// their link as a result are held, and if there are any, T6 restarts.
     fn reroute(&mut self, set: SetId, destination: usize, status: RouteStatus)
         requires destination { destination < length self.old.settings.destinations }
         ensures { self.new ≡ with_node self.old (with_parts self.old.node
@@ -136,8 +137,8 @@ impl Exchange {
         self.timers.clear_set(RouteTimer::T10, set);
     }
 
-    /// T10 of a set and a destination ran out: the adjacent point is tested about its route once more, while that is
-    /// prohibited or restricted, and T10 runs again (Q.704 §13.5).
+    /// T10 of a set and a destination ran out: while the adjacent point's route is prohibited or restricted it is
+    /// tested once more, and T10 runs again (Q.704 §13.5).
     pub(super) fn ask_again(&mut self, set: SetId, destination: u16)
         ensures { self.new ≡
             with_node self.old (rule.ask_again kept self.old.settings set destination self.old.node) }

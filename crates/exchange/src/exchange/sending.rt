@@ -1,4 +1,4 @@
-//! What goes out on a link.
+//! What goes out on a link (RFC 4165 §4.2.1).
 
 ghost use Rattle.std.specs.Prelude.{◌≡◌, ◌<◌, ◌≤◌, Some, false, length, is_some, IfSome};
 ghost use Rattle.cell_pool.specs.Lanes.{lane_at};
@@ -75,7 +75,7 @@ impl Exchange {
         }
     }
 
-    /// The next message goes out, where the window allows and the peer isn't busy.
+    /// The next message goes out, if the window allows and the peer isn't busy.
     fn write_next_message(
         &mut self,
         link: LinkId,
@@ -101,7 +101,7 @@ impl Exchange {
         Some(count)
     }
 
-    /// An empty User Data goes out, where an acknowledgement is owed.
+    /// An empty User Data goes out, if an acknowledgement is owed.
     fn write_acknowledgement(
         &mut self,
         link: LinkId,

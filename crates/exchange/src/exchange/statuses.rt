@@ -1,4 +1,5 @@
-//! Link Status, and the timers of a link that run out, by the alignment table.
+//! TLAC, link availability control (Q.704 §3.2), over link alignment (RFC 4165 §4.1.3): Link Status, and the timers of
+//! a link that run out.
 
 ghost use Rattle.std.specs.Prelude.{◌≡◌, ◌<◌, length, true, false};
 ghost use Rattle.exchange_rules.specs.State.{with_node, with_parts, link_at, in_service};
@@ -17,8 +18,8 @@ use settings::{FailureReason, LinkId, Outcome};
 
 impl Exchange {
     /// A link does what its alignment does about an input, and says what that is. If it is the first of its set to
-    /// enter service, everything known over that set is reset; if it enters service, it takes its flows back; if it has
-    /// to fail, nothing changes here.
+    /// enter service, everything known over that set is reset. If it enters service, it takes its flows back. If it
+    /// must fail, nothing changes here.
     #[inline(always)]
     pub(super) fn act_by(&mut self, link: LinkId, input: Input) -> Action
         requires { link < length self.old.settings.links }

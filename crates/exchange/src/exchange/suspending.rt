@@ -1,4 +1,4 @@
-//! The flows that a changeover holds.
+//! TCOC, changeover control (Q.704 §5.3): the flows that a changeover holds.
 
 ghost use Rattle.std.specs.Prelude.{◌≡◌, ◌<◌, length, slice_get};
 ghost use Rattle.std.specs.Option.{option_map};
@@ -53,7 +53,7 @@ impl Exchange {
         }
     }
 
-    /// Holds one flow, where it goes by a link.
+    /// Holds one flow, if it goes by a link.
     fn hold_selection(&mut self, link: LinkId, destination: usize, selection: u8)
         requires { selection < SELECTIONS }
         ensures { self.new ≡ with_holds self.old (walk.with_flow
@@ -78,7 +78,7 @@ impl Exchange {
         }
     }
 
-    /// Holds the flow of the message at a place of a link's list, where it is a user message.
+    /// Holds the flow of the message at an index of a link's list, if it is a user message.
     fn hold_message(&mut self, link: LinkId, place: usize)
         requires { link < length self.old.settings.links }
         ensures { self.new ≡ with_holds self.old (with_head self.old.settings link

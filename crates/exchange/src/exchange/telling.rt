@@ -1,4 +1,5 @@
-//! What adjacent points are told about routes.
+//! RTPC, RTAC and RTRC, transfer prohibited, allowed and restricted control (Q.704 §13.2 to §13.4), and RSRT, route set
+//! test control (§13.5): what adjacent points are told about routes.
 
 ghost use Rattle.std.specs.Prelude.{◌≡◌, ◌≤◌, ◌<◌, true, false, length, Some, IfSome, IfNone};
 ghost use Rattle.settings.specs.Readings.{destination_place, set_place};
@@ -88,7 +89,7 @@ impl Exchange {
         None
     }
 
-    /// Tells the adjacent point of a set what it is owed, where those of earlier sets are owed nothing. Returns the
+    /// Tells the adjacent point of a set what it is owed, if those of earlier sets are owed nothing. Returns the
     /// destination at which there was no more room.
     fn tell_set(&mut self, set: SetId) -> Option<usize>
         requires set { set < length self.old.settings.sets }
@@ -104,7 +105,7 @@ impl Exchange {
         }
     }
 
-    /// Tells the adjacent point of a set with a link in service what it is owed, where those of earlier sets are owed
+    /// Tells the adjacent point of a set with a link in service what it is owed, if those of earlier sets are owed
     /// nothing. Returns the destination at which there was no more room.
     fn tell_row(&mut self, set: SetId) -> Option<usize>
         requires set { set < length self.old.settings.sets }
@@ -125,8 +126,8 @@ impl Exchange {
         None
     }
 
-    /// The first destination from this one on of which the adjacent point of a set may be owed word; the number of all
-    /// destinations, or this one, where there is none.
+    /// The first destination from this one on that the adjacent point of a set may must be told of. If there is none,
+    /// this one or the number of all destinations.
     #[inline(always)]
     fn next_pending(&self, set: SetId, from: usize) -> usize
         ensures from { from ≤ result }
@@ -150,7 +151,7 @@ impl Exchange {
         }
     }
 
-    /// Tells the adjacent point of a set the status that it is to be told of a destination.
+    /// Tells the adjacent point of a set the status of a destination that it should know.
     fn tell(&mut self, set: SetId, destination: usize, status: RouteStatus)
         requires set { set < length self.old.settings.sets }
         requires destination { destination < length self.old.settings.destinations }
@@ -165,7 +166,7 @@ impl Exchange {
         self.send_status(set, destination, status);
     }
 
-    /// The adjacent point of a set was told what it is to be told of a destination. That makes nothing pending.
+    /// The adjacent point of a set was told what it should know of a destination. That makes nothing pending.
     fn record_told(&mut self, set: SetId, destination: usize, status: RouteStatus)
         requires { status ≡ status_to_advertise (known self.old) set destination }
         ensures { self.new ≡ with_node self.old (with_parts self.old.node
@@ -184,7 +185,7 @@ impl Exchange {
         self.timers.set(timer, self.settings.timers().t8);
     }
 
-    /// Sends the adjacent point of a set the message that tells a status of a destination.
+    /// Sends the adjacent point of a set the message that says a status of a destination.
     fn send_status(&mut self, set: SetId, destination: usize, status: RouteStatus)
         requires set { set < length self.old.settings.sets }
         requires destination { destination < length self.old.settings.destinations }
@@ -196,8 +197,8 @@ impl Exchange {
     }
 
     /// A message to the destination of this number has no route. If it arrived on a link, transfer-prohibited about the
-    /// destination goes to the point at the other end of that link, and T8 starts. None goes while T8 runs, where that
-    /// point is the destination itself, or where there is no room (Q.704 §13.2).
+    /// destination goes to the point at the other end of that link, and T8 starts. None goes while T8 runs, if that
+    /// point is the destination itself, or if there is no room (Q.704 §13.2).
     #[inline(never)]
     pub(super) fn answer_no_route(&mut self, from: Option<LinkId>, destination: usize)
         requires from { IfSome from (λ link. link < length self.old.settings.links) }
@@ -215,8 +216,8 @@ impl Exchange {
         }
     }
 
-    /// Whether no transfer-prohibited message about a destination goes out to the adjacent point of a set: for now, as
-    /// one was just sent; or ever, as it is that point itself.
+    /// Whether no transfer-prohibited message about a destination goes out to the adjacent point of a set: for now,
+    /// since one was just sent; or ever, since it is that point itself.
     fn is_inhibited(&self, set: SetId, destination: usize) -> bool
         requires { destination < length self.now.settings.destinations }
         ensures { result ≡ rule.is_inhibited set destination self.now.node.parts }
@@ -225,7 +226,7 @@ impl Exchange {
         self.timers.is_running(timer) || self.told.is_own_point(set, destination)
     }
 
-    /// A test of an adjacent point about another (Q.704 §13.5). It is ignored where the other is that very point. It is
+    /// A test of an adjacent point about another (Q.704 §13.5). It is ignored if the other is that very point. It is
     /// answered if the point should be told something other than what it asks about.
     pub(super) fn on_route_test(
         &mut self,
@@ -257,7 +258,7 @@ impl Exchange {
         Outcome::Handled
     }
 
-    /// Answers a test, where it is to be answered. What it is answered with counts as told.
+    /// Answers a test, if it should be answered. The answer counts as told.
     fn send_route_status(&mut self, test: RouteTest, set: SetId, destination: usize)
         requires set { set < length self.old.settings.sets }
         requires destination { destination < length self.old.settings.destinations }
@@ -283,7 +284,7 @@ impl Exchange {
     }
 }
 
-/// The message that tells a status of a point.
+/// The message that says a status of a point.
 fn telling(status: RouteStatus, about: PointCode) -> Management
     ensures { result ≡ rule.telling status about }
 {

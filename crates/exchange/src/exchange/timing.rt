@@ -1,4 +1,4 @@
-//! The timers of links.
+//! The timers of links (Q.703 §12.3).
 
 ghost use Rattle.std.specs.Prelude.{◌≡◌};
 ghost use Rattle.timers.specs.Timers.{start_unless_running};
@@ -34,7 +34,6 @@ impl Exchange {
         self.timers.set(timer_name(link, timer), ticks);
     }
 
-    /// Starts a timer of a link unless it is running.
     pub(super) fn start_unless_running(&mut self, link: LinkId, timer: LinkTimer)
         ensures { self.new ≡ with_node self.old (with_timers self.old.node (start_unless_running
             (rule.timer_name link timer) (rule.ticks_of self.old.settings.timers timer)
@@ -45,7 +44,6 @@ impl Exchange {
             .start_unless_running(timer_name(link, timer), ticks);
     }
 
-    /// Stops a timer of a link.
     pub(super) fn stop(&mut self, link: LinkId, timer: LinkTimer)
         ensures { self.new ≡ with_node self.old (with_timers self.old.node
             (rule.without_timer link timer self.old.node.parts.timers)) }
@@ -67,7 +65,6 @@ impl Exchange {
     }
 }
 
-/// The name of a timer of a link.
 fn timer_name(link: LinkId, timer: LinkTimer) -> TimerName
     ensures { result ≡ rule.timer_name link timer }
 {

@@ -67,8 +67,8 @@ impl Exchange {
         &self.notices
     }
 
-    /// The notices that are new to a reader that last saw so many (`notice_count`): the last ones of `notices`, and how
-    /// many it missed. Of 2^64 new notices or more it takes only the rest modulo 2^64 for new.
+    /// The notices that are new to a reader that last saw this many (`notice_count`): the last ones of `notices`, and
+    /// how many it missed. If there are 2^64 new notices or more, only the rest modulo 2^64 count as new.
     pub fn notices_since(&self, count: u64) -> NewNotices
         ensures kept { (a : Abstract) → StandsFor self.now a →
             result.kept ≡ min (made_since count a.node.parts.notices) (length a.node.parts.notices.last) }
@@ -114,7 +114,7 @@ impl Exchange {
         })
     }
 
-    /// A destination as it is shown, by its number in the order of the settings; `None` where it isn't there.
+    /// A destination as it is shown, by its number in the order of the settings; `None` if it isn't there.
     pub fn route(&self, destination: usize) -> Option<RouteView>
         ensures route { (a : Abstract) → StandsFor self.now a → result ≡ route_view a destination }
         ensures kept_route { result ≡ route_view self.now destination }

@@ -49,7 +49,7 @@ impl World {
         self.deliver_status(end, link) || self.deliver_data(end, link)
     }
 
-    /// The next User Data on a link to an end comes, or where there is none a link status.
+    /// The next User Data on a link to an end comes, or if there is none a link status.
     pub fn deliver_data_first(&mut self, end: End, link: LinkId) -> bool {
         self.deliver_data(end, link) || self.deliver_status(end, link)
     }
@@ -76,7 +76,7 @@ impl World {
         lost
     }
 
-    /// A link opens at end 1, where that wants it to and it may open at end 2, which then follows.
+    /// A link opens at end 1, if that wants it to and it may open at end 2, which then follows.
     pub fn open(&mut self, link: LinkId) -> bool {
         self.open_first(End::One, link) && self.follow(End::Two, link)
     }
@@ -91,7 +91,7 @@ impl World {
         self.act(Step::OpenSecond(end, self.shape.at(end, link)))
     }
 
-    /// So many ticks pass at an end.
+    /// This many ticks pass at an end.
     pub fn tick(&mut self, end: End, count: u8) {
         for _ in 0..count {
             self.act(Step::Tick(end));

@@ -16,7 +16,7 @@ impl World {
         self.tally.passing.reroute();
     }
 
-    /// An end sends the next frame of a link that leads elsewhere. None where there is none.
+    /// An end sends the next frame of a link that leads elsewhere. None if there is none.
     pub fn send_elsewhere(&mut self, end: End, link: LinkId) -> Option<FrameText> {
         self.compare_now_and_then();
         match self.nodes.send_elsewhere(end, link) {

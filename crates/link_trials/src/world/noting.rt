@@ -6,7 +6,7 @@ use crate::world::World;
 use linked_nodes::other;
 use pair_world::End;
 
-/// Before one of so many steps the sums are compared.
+/// Before one of this many steps the sums are compared.
 const COMPARED_EVERY: u64 = 16;
 
 impl World {
@@ -41,7 +41,7 @@ impl World {
         }
     }
 
-    /// Before one of so many steps the sums are compared, while each message is promised to come once.
+    /// Before one of this many steps the sums are compared, while each message is promised to come once.
     pub(super) fn compare_now_and_then(&mut self) {
         self.tally.steps = self.tally.steps.wrapping_add(1);
         if self.tally.steps % COMPARED_EVERY == 0 && !self.may_have_lost() {

@@ -8,7 +8,7 @@ use linked_nodes::points;
 use pair_world::{End, Step};
 
 impl World {
-    /// An operator adds a translation row, or removes it where it is there.
+    /// An operator adds a translation row, or removes it if it is there.
     pub fn translate(&mut self, end: End) {
         let was_there = self.nodes.has_title(end);
         let (_, adjacent) = points(end);
@@ -38,8 +38,8 @@ impl World {
         self.turn(Step::Submit(end, message)).is_accepted()
     }
 
-    /// The message of a mark that an end submits; there is one, since the points and the flow are in range. Where SCCP
-    /// is relayed, end 2 submits none.
+    /// The message of a mark that an end submits; there is one, since the points and the flow are in range. If SCCP is
+    /// relayed, end 2 submits none.
     fn message(&self, end: End, mark: Mark) -> Option<Msu> {
         let (own, adjacent) = points(end);
         match (self.shape.relays, end) {

@@ -8,9 +8,8 @@ use routes::RouteStatus;
 use signalling_types::SetId;
 
 impl NodeLinks {
-    /// The route to a destination, by its number, over a set gets a status; a route that isn't there is left aside.
-    /// Links, and all other routes, stay as they are (Q.704 §13). It takes a step for each set that leads to the
-    /// destination.
+    /// The route to a destination, by its number, over a set gets a status; a route that isn't there is ignored. Links,
+    /// and all other routes, stay as they are (Q.704 §13). It takes a step for each set that leads to the destination.
     pub fn set_status(&mut self, destination: usize, set: SetId, status: RouteStatus)
         ensures { self.new ≡ with_route_status destination set status self.old }
     {

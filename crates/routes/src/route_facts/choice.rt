@@ -23,9 +23,8 @@ struct Choice<'a> {
 }
 
 impl<'f> RouteFacts<'f> {
-    /// The routes that messages to a destination take, in the order of its sets: all of the first
-    /// group with one that is allowed and whose set has a link in service, else the same with
-    /// restricted (Q.704 §4.2).
+    /// The routes that messages to a destination take, in the order of its sets: all of the first group that has an
+    /// allowed route whose set has a link in service, else the same with restricted (Q.704 §4.2).
     pub fn routes_of(&self, destination: usize) -> ArrayVec<Route, JOINED>
         ensures { result.items ≡ chosen_routes self.now destination }
     {
@@ -40,7 +39,7 @@ impl<'f> RouteFacts<'f> {
         sets_of(&self.routes_of(destination))
     }
 
-    /// The set that all messages to a destination take, where the group that they take is that set alone.
+    /// The set that all messages to a destination take, if the group that they take is that set alone.
     pub fn lone_set(&self, destination: usize) -> Option<SetId>
         ensures { result ≡ lone_set self.now destination }
     {
@@ -52,8 +51,8 @@ impl<'f> RouteFacts<'f> {
         }
     }
 
-    /// The link of a flow: of the group that messages to its destination take, the first in service in the order in
-    /// which the selection tries them whose set they take (Q.704 §4.2).
+    /// The link of a flow, out of the group that messages to its destination take: of the links in service whose set
+    /// they take, the one that the selection tries first (Q.704 §4.2).
     #[tactic(auto, unfolding(crate::specs::Routes::link_by))]
     pub fn link_of(&self, destination: usize, sls: Sls) -> Option<LinkId>
         ensures { result ≡ chosen_link self.now destination sls }
@@ -96,8 +95,8 @@ impl<'f> RouteFacts<'f> {
         }
     }
 
-    /// The first group of these routes with one that has this status, and whose set has a link in service; no route
-    /// where there isn't one.
+    /// The first group of these routes with one that has this status, and whose set has a link in service; no route if
+    /// there isn't one.
     fn open_group<'a>(&self, routes: &'a [Route], status: RouteStatus) -> &'a [Route]
         ensures group { result.now ≡ open_group self.now status (groups_of routes.now) }
         ensures fits { length result.now ≤ 2 }
@@ -156,7 +155,6 @@ impl<'f> RouteFacts<'f> {
         taken
     }
 
-    /// The links of a group.
     fn members(&self, group: &[Route]) -> LinkGroup
         requires { length group.now ≤ 2 }
         ensures { result ≡ members self.now group.now }

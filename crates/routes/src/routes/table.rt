@@ -20,7 +20,7 @@ pub(super) fn compiled(alloc: Global, facts: &RouteFacts<'_>) -> Result<Vec<Flow
     Ok(rows)
 }
 
-/// The row of a destination is made anew.
+/// The row of a destination is made again.
 pub(super) fn mend(rows: &mut [FlowLinks], facts: &RouteFacts<'_>, destination: usize)
     ensures { rows.new ≡ mended_at facts.now destination rows.old }
 {
@@ -29,7 +29,7 @@ pub(super) fn mend(rows: &mut [FlowLinks], facts: &RouteFacts<'_>, destination: 
     }
 }
 
-/// The rows of those destinations are made anew to which the set of this link leads.
+/// The rows of those destinations are made again to which the set of this link leads.
 #[tactic(auto, using(crate::proofs::Compiling::mended))]
 pub(super) fn mend_by_link(rows: &mut [FlowLinks], facts: &RouteFacts<'_>, link: LinkId)
     ensures { rows.new
@@ -42,7 +42,7 @@ pub(super) fn mend_by_link(rows: &mut [FlowLinks], facts: &RouteFacts<'_>, link:
     }
 }
 
-/// The rows of those destinations are made anew to which this set leads.
+/// The rows of those destinations are made again to which this set leads.
 #[tactic(auto, using(crate::proofs::Compiling::mended))]
 pub(super) fn mend_by_set(rows: &mut [FlowLinks], facts: &RouteFacts<'_>, set: SetId)
     ensures { rows.new

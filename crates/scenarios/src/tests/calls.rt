@@ -28,7 +28,6 @@ const CALLS: &str =
     take status; take status; take status; take other; comes queued; version ignored; empty ignored; \
     submit local; take goes; take none; wants nothing";
 
-/// The call of a row.
 fn call<'a>(row: &str, message: &'a Msu) -> Call<'a> {
     let link = LinkId::new(0);
     match row.split(' ').next().unwrap_or("") {
@@ -45,7 +44,7 @@ fn call<'a>(row: &str, message: &'a Msu) -> Call<'a> {
     }
 }
 
-/// What a node answers to the calls. None where memory runs out.
+/// What a node answers to the calls. None if memory runs out.
 fn made(alloc: Global, node: &mut Node, message: &Msu) -> Option<Vec<Answer>> {
     let mut calls = Vec::new(alloc);
     for row in CALLS.split("; ") {

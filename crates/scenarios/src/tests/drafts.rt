@@ -46,7 +46,7 @@ fn without(alloc: Global, name: &str) -> Result<Draft, Fail> {
     Ok(draft)
 }
 
-/// The built-in settings with so many translation rows.
+/// The built-in settings with this many translation rows.
 fn with_titles(alloc: Global, count: u32) -> Result<Draft, Fail> {
     let titles = titles(alloc, count)?;
     let mut draft = built_in(alloc)?;
@@ -54,7 +54,7 @@ fn with_titles(alloc: Global, count: u32) -> Result<Draft, Fail> {
     Ok(draft)
 }
 
-/// So many translation rows.
+/// This many translation rows.
 fn titles(alloc: Global, count: u32) -> Result<Vec<TitleDraft>, Fail> {
     let mut titles = Vec::new(alloc);
     for number in 0..count {

@@ -8,16 +8,16 @@ use std::io;
 use std::io::Read;
 use std::test::*;
 
-/// A link that opens, of which a frame of 20 octets is carried, octet by octet; it opens again where it was lost.
+/// A link that opens and carries a frame of 20 octets, octet by octet; it opens again after it was lost.
 const OPENS: &str = "open e0\nmove 1 e0\nmove 1 e0\nopen e0\nmove 1 e0\n";
 
-/// What is printed where the link can't be joined.
+/// What is printed if the link can't be joined.
 const NOT_JOINED: &str = "lost e0\nnone\nnone\nhandled\nhandled\n";
 
 /// How many calls of the streams the first frame takes: the links are joined, it is written, and its octets are read.
 const CALLS: u64 = 22;
 
-/// What is printed where the call after so many others fails.
+/// What is printed if the call after this many others fails.
 fn printed_of(calls: u64) -> &'static str {
     match calls {
         0 => NOT_JOINED,
@@ -46,15 +46,15 @@ fn other_faults_of_a_join(rt: HostRuntime) -> Result<(), Fail> {
     Ok(())
 }
 
-/// Whether the lab prints what it has to where a call fails after so many others; where it joins the link, by this
-/// fault.
+/// Whether the lab prints what it should if a call fails after this many others and, if it joins the link, whether with
+/// this fault.
 fn prints_behind(rt: &HostRuntime, fault: JoinFault, calls: u64) -> Result<bool, Fail> {
     let joiner = MemoryJoiner::new(rt.alloc())?.in_pieces_of(1);
     let mut joiner = joiner.with_fault(fault).failing_after(calls);
     prints(rt, &mut joiner, printed_of(calls))
 }
 
-/// Whether the lab prints this where its link is joined so.
+/// Whether the lab prints this if its link is joined in this way.
 fn prints<J: Joiner>(rt: &HostRuntime, joiner: &mut J, printed: &str) -> Result<bool, Fail> {
     let mut reader = MemorySource::new(OPENS.as_bytes());
     let mut writer = MemorySink::new(rt.alloc());
@@ -110,7 +110,7 @@ impl Joiner for ReplayingJoiner {
 /// The beginning of a frame, with a length field of 7.
 const TOO_SHORT: &[u8] = &[1, 0, 11, 2, 0, 0, 0, 7];
 
-/// In place of a frame so many of these octets come, and then the end.
+/// In place of a frame this many of these octets come, and then the end.
 #[test]
 fn streams_that_give_no_frame(rt: HostRuntime) -> Result<(), Fail> {
     for count in 0..=TOO_SHORT.len() {

@@ -45,8 +45,8 @@ const WITHOUT_NUMBER: &str = "\
 frame e0 01000b010000001700ffffff0000000100800180001012
 ";
 
-/// The second link fails. Point 2 orders it over with the same number, and with others before and after its answer,
-/// whose number isn't that either: what is over by then isn't completed again.
+/// The second link fails. Point 2 orders it over with the same number, and, before and after its answer, with others,
+/// which the answer doesn't have either. What is over by then isn't completed again.
 const OVER_ALREADY: &str = "\
 down e1
 frame e0 01000b010000001a00ffffff0000000100800180001031ffffff
@@ -62,7 +62,7 @@ frame e0 01000b010000001a00ffffff0000000100800180001031ffffff
 tick 6
 ";
 
-/// A script, a last one, and what a node says behind both: whether messages may be lost, and whether they may be late.
+/// A script, a last one, and what a node says after both: whether messages may be lost, and whether they may be late.
 const ROWS: [(&'static str, &'static str, (bool, bool)); 6] = [
     (SENT, BY_NUMBER, (false, false)),
     (SENT, WITHOUT_NUMBER, (true, false)),
@@ -81,7 +81,7 @@ fn messages_that_may_be_lost_or_late(rt: HostRuntime) -> Result<(), Fail> {
     Ok(())
 }
 
-/// What a node says behind two scripts. Before the last one it says neither.
+/// What a node says after two scripts. Before the last one it says neither.
 #[derive(Clone, Copy)]
 struct Saying {
     before: &'static str,

@@ -1,4 +1,4 @@
-//! The program where streams give little, fail, or never end. What it does else is in the transcripts.
+//! The program with streams that give little, fail, or never end. All else that it does is in the transcripts.
 
 use super::{first_lines, run};
 use lab::MemoryJoiner;
@@ -7,7 +7,7 @@ use script::{MemorySink, MemorySource, ReadFailed, ReaderSource, Sink, Source, W
 use std::io;
 use std::test::*;
 
-/// Words of the program, each behind a comma, and a script each of whose lines prints one line.
+/// Words of the program, each after a comma, and a script each of whose lines prints one line.
 #[derive(Clone, Copy)]
 struct Case {
     words: &'static str,
@@ -76,8 +76,8 @@ fn end_of(case: Case, reads: usize, writes: usize) -> End {
     }
 }
 
-/// Runs the program on streams that give at most so many octets a read, and fail after so many reads and writes. Whether
-/// it ends so, and prints the lines that were read whole.
+/// Runs the program on streams that give at most this many octets a read, and fail after this many reads and writes.
+/// Whether it ends so, and prints the lines that were read whole.
 fn goes(
     rt: &HostRuntime,
     case: Case,
@@ -184,7 +184,7 @@ fn narrow_writers(rt: HostRuntime) -> Result<(), Fail> {
     Ok(())
 }
 
-/// Whether a writer with room for so many octets is filled by the first ones, and a lack of room is told.
+/// Whether a writer with room for this many octets is filled by the first ones, and a lack of room is told.
 fn is_filled(rt: &HostRuntime, room: usize) -> Result<bool, Fail> {
     let printed = OF_A_NODE.printed.get(..room).unwrap_or("");
     let is_whole = room == OF_A_NODE.printed.len();

@@ -12,7 +12,7 @@ use sctp_bundling::{Reply, Watch};
 use sctp_rules::{Loss, Phase};
 
 impl Endpoint {
-    /// ABORT came in a packet with a tag: where the tag is right it is over, whatever the causes are.
+    /// ABORT came in a packet with a tag: if the tag is right it is over, whatever the causes are.
     pub(super) fn hear_abort<W: Watch>(&mut self, tag: u32, is_reflected: bool, watch: &mut W)
         requires { self.old.state.generation < 2 ^ 64 - 1 }
         ensures { Does W.has watch.old watch.new self.old self.new
@@ -23,7 +23,7 @@ impl Endpoint {
         }
     }
 
-    /// Whether a packet that begins with ABORT or SHUTDOWN COMPLETE has the right tag: that of the peer, where it is
+    /// Whether a packet that begins with ABORT or SHUTDOWN COMPLETE has the right tag: that of the peer, if it is
     /// reflected.
     pub(super) fn has_tag(&self, tag: u32, is_reflected: bool) -> bool
         ensures { result ≡ has_tag self.now.state.association tag (AbortChunk is_reflected []) }

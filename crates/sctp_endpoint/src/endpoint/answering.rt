@@ -118,7 +118,7 @@ impl Endpoint {
         }
     }
 
-    /// INIT ACK with a new tag, which is also the first TSN; where no tag is left there is no answer.
+    /// INIT ACK with a new tag, which is also the first TSN; if no tag is left there is no answer.
     fn answer_anew<W: Watch>(&mut self, source: &Address, init: &Init<'_>, now: u64, watch: &mut W)
         ensures { Does W.has watch.old watch.new self.old self.new
             (answered_anew self.old.settings (secrets_of self.old) now (address_of source.now) (init_of init.now)
@@ -129,7 +129,7 @@ impl Endpoint {
         }
     }
 
-    /// INIT ACK with the tag and the first TSN of the own try.
+    /// INIT ACK with the tag and the first TSN of its own try.
     fn answer_alike<W: Watch>(&self, source: &Address, init: &Init<'_>, now: u64, watch: &mut W)
         ensures { Gives W.has watch.old watch.new
             (answered_alike self.now.settings (secrets_of self.now) now (address_of source.now) (init_of init.now)
@@ -138,7 +138,7 @@ impl Endpoint {
         self.answer_with(source, init, self.own_tag, self.own_first, now, watch);
     }
 
-    /// Where the cookie of the peer was echoed: an INIT of that peer, or of one that has begun anew since.
+    /// If the cookie of the peer was echoed: an INIT of that peer, or of one that has restarted since.
     fn answer_echoed<W: Watch>(
         &mut self,
         source: &Address,
@@ -161,7 +161,7 @@ impl Endpoint {
         self.answer_if_trying(source, init, now, watch);
     }
 
-    /// INIT ACK, where the end has begun anew.
+    /// INIT ACK, if the end has restarted.
     fn answer_if_trying<W: Watch>(&self, source: &Address, init: &Init<'_>, now: u64, watch: &mut W)
         ensures { Gives W.has watch.old watch.new
             (answered_if_trying self.now.settings (secrets_of self.now) now (address_of source.now) (init_of init.now)

@@ -13,11 +13,11 @@ use sctp_bundling::Reply;
 use sctp_codec::heartbeat_information;
 use sctp_rules::limits::CONTROL_OCTETS;
 
-/// Octets of a chunk in front of its value.
+/// Octets of a chunk before its value.
 const CHUNK_HEADER_OCTETS: usize = 4;
 
 impl Endpoint {
-    /// HEARTBEAT came: where there is an association, its information goes back with the next packet.
+    /// HEARTBEAT came: if there is an association, its information goes back with the next packet.
     pub(super) fn hear_heartbeat(&mut self, information: &[u8])
         ensures { self.new ≡ record self.old { state = (heard_heartbeat information.now self.old.state).left } }
     {
@@ -26,7 +26,7 @@ impl Endpoint {
         }
     }
 
-    /// HEARTBEAT ACK goes out with the next packet, where there is room for it.
+    /// HEARTBEAT ACK goes out with the next packet, if there is room for it.
     fn answer_heartbeat(&mut self, information: &[u8])
         ensures { self.new ≡ record self.old {
           state = answered (HeartbeatAckChunk information.now) self.old.state;

@@ -28,7 +28,7 @@ impl Endpoint {
         }
     }
 
-    /// The next message goes out, where one may, behind what waits; answers whether one did.
+    /// The next message goes out, if one may, after what waits; returns whether one did.
     fn bundle_next<W: Watch>(&mut self, draft: &mut Draft, now: u64, watch: &mut W) -> bool
         requires { now ≤ 2 ^ 63 }
         ensures goes_on { result ≡ is_some (next_place self.old.state.association.sender) }
@@ -46,7 +46,7 @@ impl Endpoint {
         }
     }
 
-    /// The message at a place is bundled behind what waits.
+    /// The message at an index is bundled after what waits.
     fn bundle_message<W: Watch>(&self, draft: &mut Draft, place: usize, watch: &mut W)
         requires { place < length self.now.state.association.sender.out }
         ensures { Adds W.has watch.old watch.new draft.old draft.new

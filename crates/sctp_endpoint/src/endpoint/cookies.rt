@@ -31,7 +31,7 @@ use sctp_cookie::Cookie;
 use sctp_rules::{Loss, Phase};
 
 impl Endpoint {
-    /// COOKIE ECHO came; answers whether the chunks behind it belong to the association. A cookie that this end didn't
+    /// COOKIE ECHO came; returns whether the chunks after it belong to the association. A cookie that this end didn't
     /// sign, or that is another packet's, is dropped.
     pub(super) fn hear_cookie_echo<W: Watch>(
         &mut self,
@@ -62,7 +62,7 @@ impl Endpoint {
         }
     }
 
-    /// The cookie that octets are, where this end signed it.
+    /// The cookie that octets are, if this end signed it.
     fn cookie_in(&self, octets: &[u8]) -> Option<Cookie>
         ensures { result ≡ opened_under self.now.cookie_key octets.now }
     {
@@ -174,7 +174,7 @@ impl Endpoint {
         }
     }
 
-    /// The association opens by a cookie, if it may; answers whether it did.
+    /// The association opens by a cookie, if it may; returns whether it did.
     fn open_if<W: Watch>(
         &mut self,
         may_open: bool,
@@ -222,7 +222,7 @@ impl Endpoint {
         self.acknowledge_cookie();
     }
 
-    /// Another cookie came: where it is one of a peer that has begun anew, the association is lost (case A).
+    /// Another cookie came: if it is one of a peer that has restarted, the association is lost (case A).
     fn hear_other_cookie<W: Watch>(&mut self, source: &Address, cookie: &Cookie, watch: &mut W)
         requires { self.old.state.generation < 2 ^ 64 - 1 }
         ensures { Does W.has watch.old watch.new self.old self.new
@@ -234,7 +234,7 @@ impl Endpoint {
         }
     }
 
-    /// The peer has begun anew.
+    /// The peer has restarted.
     fn hear_restart<W: Watch>(&mut self, source: &Address, cookie: &Cookie, watch: &mut W)
         requires { self.old.state.generation < 2 ^ 64 - 1 }
         ensures { Does W.has watch.old watch.new self.old self.new
@@ -253,7 +253,7 @@ impl Endpoint {
         }
     }
 
-    /// The association is lost, and the peer is to begin anew once more: the user must want the next one first.
+    /// The association is lost, and the peer is to restart once more: the user must want the next one first.
     fn lose_restarted<W: Watch>(&mut self, source: &Address, cookie: &Cookie, watch: &mut W)
         requires { self.old.state.generation < 2 ^ 64 - 1 }
         ensures { Does W.has watch.old watch.new self.old self.new

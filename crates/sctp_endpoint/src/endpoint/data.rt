@@ -27,7 +27,7 @@ const NO_STREAM_OCTETS: usize = 12;
 /// The octets of a message that is put together.
 type MessageBuffer = [u8; MESSAGE_OCTETS];
 
-/// Of a chunk that was held no message is lent: it stands in the buffer.
+/// Of a chunk that was held no message is lent: it is in the buffer.
 const NO_PIECE: Piece<'static> = Piece {
     stream: 0,
     sequence: 0,
@@ -61,7 +61,7 @@ impl Endpoint {
         }
     }
 
-    /// DATA is taken: what it tells goes to the user, and then what the chunks tell that were held behind it.
+    /// DATA is taken: what it tells goes to the user, and then what the chunks tell that were held after it.
     #[inline(always)]
     fn take_data<W: Watch>(&mut self, carried: &Data<'_>, watch: &mut W)
         requires { self.old.state.generation < 2 ^ 64 - 1 }
@@ -76,7 +76,7 @@ impl Endpoint {
         }
     }
 
-    /// A chunk goes to the receiver, and what it tells to the user; answers whether the association goes on.
+    /// A chunk goes to the receiver, and what it tells to the user; returns whether the association goes on.
     #[inline(always)]
     fn take_piece<W: Watch>(&mut self, carried: &Data<'_>, watch: &mut W) -> bool
         requires { self.old.state.generation < 2 ^ 64 - 1 }
@@ -100,7 +100,7 @@ impl Endpoint {
         !is_violation(told)
     }
 
-    /// The chunks that were held behind one that was consumed are consumed, and what they tell goes to the user.
+    /// The chunks that were held after one that was consumed are consumed, and what they tell goes to the user.
     #[inline(always)]
     fn take_held<W: Watch>(&mut self, watch: &mut W)
         requires { self.old.state.generation < 2 ^ 64 - 1 }
@@ -114,7 +114,7 @@ impl Endpoint {
         }
     }
 
-    /// The next chunk is consumed, where it is held, and what it tells goes to the user; answers whether there may be
+    /// The next chunk is consumed, if it is held, and what it tells goes to the user; returns whether there may be
     /// another.
     #[inline(always)]
     fn take_next<W: Watch>(&mut self, watch: &mut W) -> bool
@@ -133,7 +133,7 @@ impl Endpoint {
         }
     }
 
-    /// What a chunk tells that isn't for the user: a stream that there isn't, to the peer; a violation is the end.
+    /// What a chunk tells that isn't for the user: a stream that doesn't exist, to the peer; a violation is the end.
     #[inline(always)]
     fn answer<W: Watch>(&mut self, told: Told, watch: &mut W)
         requires { self.old.state.generation < 2 ^ 64 - 1 }

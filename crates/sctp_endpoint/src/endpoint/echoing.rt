@@ -13,7 +13,7 @@ use sctp_rules::Phase;
 use sctp_rules::limits::STREAMS;
 
 impl Endpoint {
-    /// COOKIE ACK came: where it is waited for, the association is there.
+    /// COOKIE ACK came: if it is waited for, the association is there.
     pub(super) fn hear_cookie_ack<W: Watch>(&mut self, now: u64, watch: &mut W)
         requires generation { self.old.state.generation < 2 ^ 64 - 1 }
         requires now { now ≤ 2 ^ 63 }
@@ -32,7 +32,7 @@ impl Endpoint {
         }
     }
 
-    /// The association is there: all but its names begins anew, and the user is told.
+    /// The association is there: all but its names is new, and the user is told.
     pub(super) fn open_with<W: Watch>(
         &mut self,
         names: Names,

@@ -54,7 +54,7 @@ impl Endpoint {
         self.end_with(Loss::Local, Some(&Reply::Abort(Cause::EndedByUser)), watch);
     }
 
-    /// It ends: the answers that wait go out, and a last chunk behind them. All timers stop, and what is held is
+    /// It ends: the answers that wait go out, and a last chunk after them. All timers stop, and what is held is
     /// dropped.
     pub(super) fn end_with<W: Watch>(&mut self, why: Loss, last: Option<&Reply<'_>>, watch: &mut W)
         requires generation { self.old.state.generation < 2 ^ 64 - 1 }
@@ -69,7 +69,7 @@ impl Endpoint {
         self.forget();
     }
 
-    /// The answers that wait go out, and a last chunk behind them, where there is a tag that the peer takes packets by.
+    /// The answers that wait go out, and a last chunk after them, if there is a tag that the peer takes packets by.
     fn send_last_words<W: Watch>(&self, last: Option<&Reply<'_>>, watch: &mut W)
         requires { size_of_last last ≤ 64 }
         ensures { Puts W.has watch.old watch.new (last_words self.now.settings self.now.state.association

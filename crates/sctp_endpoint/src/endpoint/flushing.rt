@@ -28,7 +28,7 @@ impl Endpoint {
         }
     }
 
-    /// Takes the packet that is kept for writing: it is neither made nor cleared anew.
+    /// Takes the packet that is kept for writing: it is neither made nor cleared again.
     #[inline(always)]
     fn take_draft(&mut self) -> Option<Box<Draft>>
         ensures { self.new ≡ self.old }
@@ -76,7 +76,7 @@ impl Endpoint {
         draft.begin_with(&self.control);
     }
 
-    /// Where SACK counts, the messages that may go out do.
+    /// If SACK counts, the messages that may go out do.
     fn bundle_messages<W: Watch>(&mut self, draft: &mut Draft, now: u64, watch: &mut W)
         requires { now ≤ 2 ^ 63 }
         ensures bundled { Adds W.has watch.old watch.new draft.old draft.new (data_of now self.old.state.association) }

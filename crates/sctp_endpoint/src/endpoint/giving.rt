@@ -17,9 +17,9 @@ const MESSAGES: usize = 256;
 const MESSAGE_OCTETS: usize = 290;
 
 impl Endpoint {
-    /// Takes a message of the user, and answers whether it did: only in ESTABLISHED, where fewer than 256 messages wait
-    /// for their confirmation, on a stream that there is, and if it has 1 to 290 octets. It goes out with a later
-    /// `flush`; while `has_room` says so, with the next one. A message that isn't taken changes nothing.
+    /// Takes a message of the user, and returns whether it did: only in ESTABLISHED, if fewer than 256 messages wait
+    /// for their confirmation, if there is that stream, and if the message has 1 to 290 octets. It goes out with a
+    /// later `flush`; while `has_room` says so, with the next one. A message that isn't taken changes nothing.
     pub fn send(&mut self, message: Message<'_>) -> bool
         ensures taken { result ≡ may_send (given_as message.entry) self.old.state }
         ensures left { self.new ≡ record self.old { state = send (given_as message.entry) self.old.state } }

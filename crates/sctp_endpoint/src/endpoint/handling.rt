@@ -14,7 +14,7 @@ use sctp_codec::Chunk;
 use sctp_rules::Phase;
 
 impl Endpoint {
-    /// A chunk came in a packet with a tag; answers whether the chunks behind it count.
+    /// A chunk came in a packet with a tag; returns whether the chunks after it count.
     pub(super) fn hear_chunk<W: Watch>(
         &mut self,
         tag: u32,
@@ -35,7 +35,7 @@ impl Endpoint {
     }
 
     /// A chunk does what it does by its type. One that is too short for its fields is skipped, and so is an INIT, or a
-    /// COOKIE ECHO, behind another chunk.
+    /// COOKIE ECHO, after another chunk.
     fn handle<W: Watch>(&mut self, tag: u32, chunk: &Chunk<'_>, now: u64, watch: &mut W)
         requires generation { self.old.state.generation < 2 ^ 64 - 1 }
         requires now { now ≤ 2 ^ 63 }
@@ -63,8 +63,7 @@ impl Endpoint {
         }
     }
 
-    /// Whether the chunks behind this one count, by what it left: unless it ended the association, or its try began
-    /// anew.
+    /// Whether the chunks after this one count, by what it left: unless it ended the association, or its try restarted.
     fn counts_behind(&self, tag: u32, chunk: &Chunk<'_>) -> bool
         ensures { result ≡ counts_behind (chunk_value chunk.now) tag self.now.state }
     {

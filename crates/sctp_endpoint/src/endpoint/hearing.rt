@@ -26,8 +26,8 @@ use sctp_codec::{Chunk, Chunks, Packet};
 use sctp_rules::Phase;
 
 impl Endpoint {
-    /// A datagram came from an address. What it does is what the packet does that it is (RFC 9260 §5 to §9); one that
-    /// is no packet changes nothing, as if the network had lost it.
+    /// A datagram came from an address. It does what the packet that it is does (RFC 9260 §5 to §9); one that is no
+    /// packet changes nothing, as if the network had lost it.
     pub fn hear<W: Watch>(&mut self, octets: &[u8], source: &Address, now: u64, watch: &mut W)
         requires generation { self.old.state.generation < 2 ^ 63 }
         requires now { now ≤ 2 ^ 63 }
@@ -40,7 +40,7 @@ impl Endpoint {
         }
     }
 
-    /// The packet that a datagram is, where it is one.
+    /// The packet that a datagram is, if it is one.
     #[inline(always)]
     fn read<'a>(&mut self, octets: &'a [u8]) -> Option<Packet<'a>>
         ensures kept { self.new ≡ self.old }
@@ -156,7 +156,7 @@ impl Endpoint {
         }
     }
 
-    /// A packet that begins with COOKIE ECHO came: the chunks behind it are those of the association that it opened.
+    /// A packet that begins with COOKIE ECHO came: the chunks after it are those of the association that it opened.
     fn hear_echo<W: Watch>(
         &mut self,
         source: &Address,
@@ -177,7 +177,7 @@ impl Endpoint {
         }
     }
 
-    /// Another packet came: out of the blue, where there is no association nor the try of one; else by its tag.
+    /// Another packet came: out of the blue, if there is no association nor the try of one; else by its tag.
     fn hear_otherwise<W: Watch>(
         &mut self,
         source: &Address,
@@ -204,7 +204,7 @@ impl Endpoint {
         }
     }
 
-    /// A packet with the right tag came. Behind a chunk with the peer's tag none is looked at.
+    /// A packet with the right tag came. After a chunk with the peer's tag none is looked at.
     fn hear_from<W: Watch>(
         &mut self,
         source: &Address,
@@ -255,7 +255,7 @@ impl Endpoint {
         self.address = *source;
     }
 
-    /// Chunks came, one after another; those behind one that ends the association, or stops them, don't count.
+    /// Chunks came, one after another; those after one that ends the association, or stops them, don't count.
     fn hear_chunks<W: Watch>(&mut self, tag: u32, chunks: Chunks<'_>, now: u64, watch: &mut W)
         requires generation { self.old.state.generation + length (chunks_of chunks) < 2 ^ 64 - 1 }
         requires now { now ≤ 2 ^ 63 }

@@ -17,7 +17,7 @@ use sctp_rules::limits::CONTROL_OCTETS;
 const HEARTBEAT_OCTETS: usize = 16;
 
 impl Endpoint {
-    /// A heartbeat goes out, where one is due.
+    /// A heartbeat goes out, if one is due.
     pub(super) fn tick_beat<W: Watch>(&mut self, now: u64, watch: &mut W)
         requires generation { self.old.state.generation < 2 ^ 64 - 1 }
         requires nonces { self.old.state.nonces < 2 ^ 64 - 1 }
@@ -50,7 +50,7 @@ impl Endpoint {
         }
     }
 
-    /// A heartbeat goes out in ESTABLISHED; where the last one wasn't answered, that counts as a failure.
+    /// A heartbeat goes out in ESTABLISHED; if the last one wasn't answered, that counts as a failure.
     fn beat_again<W: Watch>(&mut self, now: u64, watch: &mut W)
         requires generation { self.old.state.generation < 2 ^ 64 - 1 }
         requires nonces { self.old.state.nonces < 2 ^ 64 - 1 }

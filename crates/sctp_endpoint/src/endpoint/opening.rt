@@ -20,9 +20,9 @@ use sctp_rules::{Loss, Phase};
 
 impl Endpoint {
     /// The user wants an association from now on. An active end begins to try, by INIT; another one waits for its peer.
-    /// Where there is an association, or the try of one, nothing changes; an end that waits may begin to try.
+    /// If there is an association, or the try of one, nothing changes; an end that waits may begin to try.
     ///
-    /// Behind a Down for Shutdown there still is one, until the peer's SHUTDOWN is answered and that is confirmed, or
+    /// After a Down for Shutdown there still is one, until the peer's SHUTDOWN is answered and that is confirmed, or
     /// given up. The wish is lost then, and nothing is told: whoever wants the next association asks again.
     pub fn open<W: Watch>(&mut self, is_active: bool, now: u64, watch: &mut W)
         requires generation { self.old.state.generation < 2 ^ 63 }
@@ -48,7 +48,7 @@ impl Endpoint {
         matches!(self.phase, Phase::Closed) && (is_active || !self.is_wanted)
     }
 
-    /// A try begins, with a tag of its own; where no tag is left it fails.
+    /// A try begins, with a tag of its own; if no tag is left it fails.
     pub(super) fn begin<W: Watch>(
         &mut self,
         failures: u32,
@@ -67,7 +67,7 @@ impl Endpoint {
         }
     }
 
-    /// A try begins anew, and the generation grows; where no tag is left it ends.
+    /// A try restarts, and the generation grows; if no tag is left it ends.
     pub(super) fn begin_anew<W: Watch>(
         &mut self,
         failures: u32,
@@ -89,7 +89,7 @@ impl Endpoint {
         }
     }
 
-    /// Draws the next tag, where one is left.
+    /// Draws the next tag, if one is left.
     pub(super) fn draw(&mut self) -> Option<u32>
         ensures tag { result ≡ next_tag (drawing_after self.old.tag_key self.old.state.beginnings) }
         ensures drawn { self.new ≡ record self.old {

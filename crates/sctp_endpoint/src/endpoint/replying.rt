@@ -13,7 +13,7 @@ use sctp_rules::limits::CONTROL_OCTETS;
 const COOKIE_ACK_OCTETS: usize = 4;
 
 impl Endpoint {
-    /// COOKIE ACK goes out with the next packet, where there is room for it.
+    /// COOKIE ACK goes out with the next packet, if there is room for it.
     pub(super) fn acknowledge_cookie(&mut self)
         ensures { self.new ≡ record self.old { state = answered CookieAckChunk self.old.state } }
     {
@@ -22,7 +22,7 @@ impl Endpoint {
         }
     }
 
-    /// The same, in front of the other answers: it is the first in its packet.
+    /// The same, before the other answers: it is the first in its packet.
     pub(super) fn acknowledge_first(&mut self)
         ensures { self.new ≡ record self.old {
           state = with_association self.old.state (with_answer_first CookieAckChunk self.old.state.association);

@@ -14,7 +14,7 @@ use sctp_codec::{Items, has_stale_cookie};
 use sctp_rules::{Loss, Phase};
 
 impl Endpoint {
-    /// T1 runs out, where it is due.
+    /// T1 runs out, if it is due.
     pub(super) fn tick_t1<W: Watch>(&mut self, now: u64, watch: &mut W)
         requires generation { self.old.state.generation < 2 ^ 64 - 1 }
         requires now { now ≤ 2 ^ 63 }
@@ -59,7 +59,7 @@ impl Endpoint {
         }
     }
 
-    /// ERROR came: where the cookie that was echoed is stale, the try begins anew. Other causes say nothing here.
+    /// ERROR came: if the cookie that was echoed is stale, the try restarts. Other causes say nothing here.
     pub(super) fn hear_error<W: Watch>(&mut self, causes: Items<'_>, now: u64, watch: &mut W)
         requires generation { self.old.state.generation < 2 ^ 64 - 1 }
         requires now { now ≤ 2 ^ 63 }
@@ -71,7 +71,7 @@ impl Endpoint {
         }
     }
 
-    /// A try begins anew after a stale cookie, and its failures count on.
+    /// A try restarts after a stale cookie, and its failures count on.
     fn begin_after_stale<W: Watch>(&mut self, now: u64, watch: &mut W)
         requires generation { self.old.state.generation < 2 ^ 64 - 1 }
         requires now { now ≤ 2 ^ 63 }

@@ -1,4 +1,4 @@
-//! The SACK that goes out, and SHUTDOWN in front of it (RFC 9260 §6.2, §9.2).
+//! The SACK that goes out, and SHUTDOWN before it (RFC 9260 §6.2, §9.2).
 
 ghost use Rattle.std.specs.Prelude.{◌≡◌, ◌≤◌, ◌^◌};
 ghost use Rattle.sctp_rules.specs.State.{with_association};
@@ -13,7 +13,7 @@ use sctp_bundling::{Draft, Watch};
 use sctp_rules::Phase;
 
 impl Endpoint {
-    /// Where DATA came, SACK is bundled behind what waits; in SHUTDOWN-SENT behind a SHUTDOWN.
+    /// If DATA came, SACK is bundled after what waits; in SHUTDOWN-SENT after a SHUTDOWN.
     pub(super) fn bundle_acknowledgement<W: Watch>(
         &mut self,
         draft: &mut Draft,
@@ -42,7 +42,7 @@ impl Endpoint {
         self.is_sack_due && takes_data(self.phase)
     }
 
-    /// In SHUTDOWN-SENT, SHUTDOWN is bundled behind what waits.
+    /// In SHUTDOWN-SENT, SHUTDOWN is bundled after what waits.
     fn bundle_shutdown<W: Watch>(&self, draft: &mut Draft, watch: &mut W)
         ensures { Adds W.has watch.old watch.new draft.old draft.new
             (shutdown_chunks self.now.state.association.phase self.now.state.association) }
@@ -52,7 +52,7 @@ impl Endpoint {
         }
     }
 
-    /// SACK went out; T2 begins anew where a SHUTDOWN did.
+    /// SACK went out; T2 restarts if a SHUTDOWN did.
     fn note_outgoing_sack(&mut self, now: u64)
         requires { now ≤ 2 ^ 63 }
         ensures { self.new ≡ record self.old {

@@ -42,8 +42,8 @@ impl Endpoint {
         }
     }
 
-    /// What a SACK confirms and names is noted, and answered. Where it makes progress, or the peer's window is shut,
-    /// the peer has answered.
+    /// What a SACK confirms and names is noted, and answered. If it makes progress, or the peer's window is shut, the
+    /// peer has answered.
     fn note_sack(&mut self, sack: &Sack<'_>, now: u64) -> Confirmation
         requires { now ≤ 2 ^ 63 }
         ensures confirmation { result ≡ confirmation self.old.state.association.sender sack.now.cumulative }

@@ -17,8 +17,8 @@ impl Endpoint {
         matches!(self.phase, Phase::Established) && self.sender.has_room()
     }
 
-    /// Whether a message that is sent now goes out with the next `flush`, behind those that were taken since the last one
-    /// and have so many octets in all, or fewer.
+    /// Whether a message that is sent now goes out with the next `flush`, after those that were taken since the last
+    /// one and have at most this many octets in all.
     pub fn has_room_behind(&self, octets: u32) -> bool
         ensures { result ≡ has_room_behind self.now.state octets }
     {
@@ -45,7 +45,7 @@ impl Endpoint {
     }
 }
 
-/// The earlier of two moments, where there is one.
+/// The earlier of two moments, if there is one.
 fn earlier(one: Option<u64>, other: Option<u64>) -> Option<u64>
     ensures { result ≡ earlier one other }
 {

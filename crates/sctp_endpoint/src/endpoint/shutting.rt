@@ -121,7 +121,7 @@ impl Endpoint {
         self.sender.stop();
     }
 
-    /// Where all that was sent is confirmed, a shutdown goes on: SHUTDOWN, or SHUTDOWN ACK.
+    /// If all that was sent is confirmed, a shutdown goes on: SHUTDOWN, or SHUTDOWN ACK.
     pub(super) fn go_on(&mut self, now: u64)
         requires { now ≤ 2 ^ 63 }
         ensures { self.new ≡ record self.old { state = going_on self.old.settings now self.old.state } }
@@ -181,7 +181,7 @@ impl Endpoint {
         self.t2 = Some(now + timeout);
     }
 
-    /// SHUTDOWN ACK came: where it is waited for, SHUTDOWN COMPLETE goes out, and it is over.
+    /// SHUTDOWN ACK came: if it is waited for, SHUTDOWN COMPLETE goes out, and it is over.
     pub(super) fn hear_shutdown_ack<W: Watch>(&mut self, watch: &mut W)
         requires { self.old.state.generation < 2 ^ 64 - 1 }
         ensures { Does W.has watch.old watch.new self.old self.new
@@ -200,7 +200,7 @@ impl Endpoint {
         }
     }
 
-    /// SHUTDOWN COMPLETE came: where it is waited for, it is over.
+    /// SHUTDOWN COMPLETE came: if it is waited for, it is over.
     pub(super) fn hear_shutdown_complete<W: Watch>(&mut self, watch: &mut W)
         requires { self.old.state.generation < 2 ^ 64 - 1 }
         ensures { Does W.has watch.old watch.new self.old self.new

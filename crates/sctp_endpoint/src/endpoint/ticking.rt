@@ -10,9 +10,9 @@ use sctp_bundling::Watch;
 use sctp_rules::Phase;
 
 impl Endpoint {
-    /// Time went by: the timers that are due run out, T1, T5, T2, T3 and that of the heartbeat one after another; the
-    /// end of an association stops the others. To be called when `deadline` says so. What is to go out does with the
-    /// next `flush`, but for ABORT, INIT and COOKIE ECHO, which go out at once.
+    /// Time went by: the timers that are due run out, T1, T5, T2, T3 and that of the heartbeat, one after another; the
+    /// end of an association stops the others. Call it when `deadline` says so. What is to go out waits for the next
+    /// `flush`, except ABORT, INIT and COOKIE ECHO, which go out at once.
     pub fn tick<W: Watch>(&mut self, now: u64, watch: &mut W)
         requires generation { self.old.state.generation < 2 ^ 63 }
         requires nonces { self.old.state.nonces < 2 ^ 63 }

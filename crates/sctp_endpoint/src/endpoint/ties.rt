@@ -1,4 +1,4 @@
-//! What a cookie says of the association that there is (RFC 9260 §5.2.4).
+//! What a cookie says of the present association (RFC 9260 §5.2.4).
 
 ghost use Rattle.std.specs.Prelude.{◌≡◌, ◌≤◌, ◌^◌, ◌&&◌};
 ghost use Rattle.sctp_rules.specs.Opening.{is_own, is_far, is_tied, is_there, staleness};
@@ -11,7 +11,6 @@ use sctp_rules::Phase;
 const MICROSECONDS: u64 = 1_000;
 
 impl Endpoint {
-    /// Whether a cookie is that of the association.
     pub(super) fn is_of_association(&self, cookie: &Cookie) -> bool
         ensures { result ≡ (is_there self.now.state.association.phase && is_own cookie.now self.now.state.association
             && is_far cookie.now self.now.state.association) }

@@ -15,7 +15,7 @@ use sctp_rules::limits::CONTROL_OCTETS;
 use sctp_rules::{Loss, Phase};
 
 impl Endpoint {
-    /// T5-shutdown-guard runs out, where it is due: it ends by ABORT.
+    /// T5-shutdown-guard runs out, if it is due: it ends by ABORT.
     pub(super) fn tick_t5<W: Watch>(&mut self, now: u64, watch: &mut W)
         requires { self.old.state.generation < 2 ^ 64 - 1 }
         ensures { Does W.has watch.old watch.new self.old self.new
@@ -30,7 +30,7 @@ impl Endpoint {
         }
     }
 
-    /// T2-shutdown runs out, where it is due.
+    /// T2-shutdown runs out, if it is due.
     pub(super) fn tick_t2<W: Watch>(&mut self, now: u64, watch: &mut W)
         requires generation { self.old.state.generation < 2 ^ 64 - 1 }
         requires now { now ≤ 2 ^ 63 }
@@ -84,7 +84,7 @@ impl Endpoint {
         }
     }
 
-    /// T3-rtx runs out, where it is due.
+    /// T3-rtx runs out, if it is due.
     pub(super) fn tick_t3<W: Watch>(&mut self, now: u64, watch: &mut W)
         requires generation { self.old.state.generation < 2 ^ 64 - 1 }
         requires now { now ≤ 2 ^ 63 }
@@ -110,7 +110,7 @@ impl Endpoint {
         }
     }
 
-    /// Counts that the peer didn't answer once more. Answers whether that is too often; then it isn't counted.
+    /// Counts that the peer didn't answer once more. Returns whether that is too often; then it isn't counted.
     pub(super) fn count_failure(&mut self) -> bool
         ensures is_last { result ≡ nat_lt self.old.settings.retransmissions (self.old.state.association.failures + 1) }
         ensures counted { self.new ≡ (if nat_lt self.old.settings.retransmissions (self.old.state.association.failures + 1)

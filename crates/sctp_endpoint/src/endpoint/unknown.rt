@@ -16,7 +16,7 @@ use sctp_rules::limits::CONTROL_OCTETS;
 const REPORT_OCTETS: usize = 12;
 
 impl Endpoint {
-    /// A chunk of an unknown type came: it is reported with the next packet, where its type asks for that.
+    /// A chunk of an unknown type came: it is reported with the next packet, if its type asks for that.
     pub(super) fn hear_unknown(&mut self, kind: u8, flags: u8, value: &[u8])
         ensures { self.new ≡ record self.old {
           state = (heard_unknown kind flags value.now self.old.state).does.left;
@@ -27,7 +27,7 @@ impl Endpoint {
         }
     }
 
-    /// ERROR with the chunk goes out with the next packet, where there is room for it.
+    /// ERROR with the chunk goes out with the next packet, if there is room for it.
     fn report_unknown(&mut self, kind: u8, flags: u8, value: &[u8])
         ensures { self.new ≡ record self.old {
           state = answered (ErrorChunk (cause_item (UnrecognizedChunk kind flags value.now) ∷ [])) self.old.state;
@@ -54,7 +54,7 @@ fn is_reported(kind: u8) -> bool
     (kind >> 6) % 2 == 1
 }
 
-/// Whether the chunks behind an unknown one of a type count: the highest bit.
+/// Whether the chunks after an unknown one of a type count: the highest bit.
 pub(super) fn is_skipped(kind: u8) -> bool
     ensures { result ≡ is_skipped kind }
 {

@@ -17,7 +17,7 @@ use crate::watch::Watch;
 use exchange::{BUFFER_OCTETS, Exchange};
 use sctp_sending::Message;
 
-/// Where the type of a frame stands (RFC 4165 §2.1).
+/// Where the type of a frame is (RFC 4165 §2.1).
 const TYPE_PLACE: usize = 3;
 
 /// The type of a Link Status (RFC 4165 §2.1.4).
@@ -33,10 +33,10 @@ const DATA_STREAM: u16 = 1;
 const MOST_FRAMES: usize = 256;
 
 impl Gate {
-    /// Takes frames of the link, one after another, each only while it can go out at once, behind those before it. Then
-    /// they go out together, as many in a datagram as fit: Link Status on stream 0, and User Data on stream 1 (RFC 4165
-    /// §4.1.3); and what else is due, such as SACK. The other frames stay in the node, for a changeover. The watch sees
-    /// each frame that is taken.
+    /// Takes frames of the link, one after another, each only while it can go out at once, after those before it. They
+    /// go out together, as many in a datagram as fit: Link Status on stream 0, and User Data on stream 1 (RFC 4165
+    /// §4.1.3). So does what else is due, such as SACK. The other frames stay in the node, for a changeover. The watch
+    /// sees each frame that is taken.
     pub fn fill<W: Watch>(&mut self, exchange: &mut Exchange, now: u64, watch: &mut W)
         ensures kept { Makes W.has watch.old watch.new self.new exchange.new (filled kept now self.old exchange.old) }
         ensures whole { (a : Abstract) → StandsFor exchange.old a → MakesWhole W.has watch.old watch.new self.new
@@ -46,7 +46,7 @@ impl Gate {
         self.act(Doing::Flush, exchange, now, watch);
     }
 
-    /// Takes frames where nothing else waits to go out.
+    /// Takes frames if nothing else waits to go out.
     fn take_if_room<W: Watch>(&mut self, exchange: &mut Exchange, now: u64, watch: &mut W)
         ensures { Makes W.has watch.old watch.new self.new exchange.new (taken_if kept now self.old exchange.old) }
     {
@@ -55,7 +55,7 @@ impl Gate {
         }
     }
 
-    /// Takes frames while each can go out behind those before it.
+    /// Takes frames while each can go out after those before it.
     fn take_all<W: Watch>(&mut self, exchange: &mut Exchange, watch: &mut W)
         ensures { Makes W.has watch.old watch.new self.new exchange.new
             (taken_all kept MOST_FRAMES 0 self.old exchange.old) }
@@ -73,7 +73,7 @@ impl Gate {
         }
     }
 
-    /// A frame that was taken is given to the endpoint. Answers how many octets it has.
+    /// A frame that was taken is given to the endpoint. Returns how many octets it has.
     fn give<W: Watch>(&mut self, frame: &[u8], watch: &mut W) -> u32
         requires { length frame.now ≤ most_octets }
         ensures octets { result ≡ length frame.now }

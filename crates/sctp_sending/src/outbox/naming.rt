@@ -21,8 +21,8 @@ const NONE_NAMED: Named = Named {
 };
 
 impl Outbox {
-    /// The messages that went out are named or not, as blocks say; answers what is named for the first time. Where
-    /// there are no blocks, and nothing was named before, no message is looked at.
+    /// The messages that went out are named or not, as blocks say; returns what is named for the first time. If there
+    /// are no blocks, and nothing was named before, no message is looked at.
     pub fn name_by(&mut self, blocks: Blocks<'_>) -> Named
         ensures octets { result.octets ≡ (naming_in (names_of (blocks_of blocks.entry) self.old) self.old).octets }
         ensures reach { result.reach ≡ (naming_in (names_of (blocks_of blocks.entry) self.old) self.old).reach }
@@ -54,7 +54,7 @@ impl Outbox {
         named
     }
 
-    /// The message at a place is named or not; answers what was named for the first time before, and with it.
+    /// The message at an index is named or not; returns what was named for the first time before, and with it.
     fn name_one(&mut self, place: usize, is_named: bool, before: Named) -> Named
         requires place { place < self.old.went }
         requires most { before.octets ≤ 256 * 290 }
@@ -71,7 +71,7 @@ impl Outbox {
         named
     }
 
-    /// The messages at the first places are passed over; answers whether one was lost by that.
+    /// The messages at the first indexes are passed over; returns whether one was lost by that.
     pub fn pass_over_first(&mut self, reach: usize) -> bool
         requires { reach ≤ self.old.went }
         ensures any { result ≡ (passed_below self.old.out reach).any }
@@ -85,7 +85,7 @@ impl Outbox {
         any
     }
 
-    /// The message at a place is passed over; answers whether one was lost before, or it was by that.
+    /// The message at an index is passed over; returns whether one was lost before, or it was by that.
     fn pass_over_one(&mut self, place: usize, before: bool) -> bool
         requires { place < self.old.went }
         ensures any { result ≡ (before || ((passed_over (outgoing_at self.old.out place)).lost
@@ -98,7 +98,7 @@ impl Outbox {
     }
 }
 
-/// What was named for the first time before, and with the message at a place.
+/// What was named for the first time before, and with the message at an index.
 fn with_first(before: Named, cell: &Cell, is_named: bool, place: usize) -> Named
     requires { before.octets ≤ 256 * 290 }
     ensures octets { result.octets

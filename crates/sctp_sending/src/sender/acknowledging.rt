@@ -46,7 +46,7 @@ impl Sender {
         }
     }
 
-    /// Takes a SACK that confirms the first messages; answers whether it confirms some, or names one for the first
+    /// Takes a SACK that confirms the first messages; returns whether it confirms some, or names one for the first
     /// time.
     #[tactic(auto, unfolding(crate::specs::Sending::acknowledged))]
     fn take_sack(&mut self, count: usize, window: u32, blocks: Blocks<'_>, now: u64) -> bool
@@ -68,7 +68,7 @@ impl Sender {
         count > 0 || named.octets > 0
     }
 
-    /// What a SACK makes of the congestion window, where a message was lost by it, or it confirmed some.
+    /// What a SACK makes of the congestion window, if a message was lost by it, or it confirmed some.
     fn congest(&mut self, any_lost: bool, count: usize, octets: u32, full: bool)
         requires { octets ≤ most_window }
         ensures { self.new ≡ record self.old {
@@ -84,7 +84,7 @@ impl Sender {
         }
     }
 
-    /// Measures the round trip of the message that is timed, where a SACK named it.
+    /// Measures the round trip of the message that is timed, if a SACK named it.
     fn measure_named(&mut self, now: u64)
         ensures { self.new ≡ with_named_measured self.old now }
     {

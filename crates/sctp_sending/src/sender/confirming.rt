@@ -48,7 +48,7 @@ impl Sender {
         confirmation
     }
 
-    /// The first messages are confirmed: they leave. Answers how many octets that adds.
+    /// The first messages are confirmed: they leave. Returns how many octets that adds.
     #[inline(always)]
     #[tactic(auto, unfolding(crate::specs::Sending::confirmed))]
     pub(super) fn take_off(&mut self, count: usize, now: u64) -> u32
@@ -65,7 +65,7 @@ impl Sender {
         octets
     }
 
-    /// T3 stops where nothing is out any more, and begins anew where something was confirmed.
+    /// T3 stops if nothing is out any more, and restarts if something was confirmed.
     #[tactic(auto, unfolding(crate::specs::Sending::settled))]
     pub(super) fn settle(&mut self, count: usize, now: u64)
         requires { now ≤ 2 ^ 63 }

@@ -23,7 +23,7 @@ use crate::timed::Timed;
 const DATA_HEADER_OCTETS: u32 = 16;
 
 impl Sender {
-    /// Whether the lost message at a place may go out.
+    /// Whether the lost message at an index may go out.
     fn may_repeat(&self, place: usize) -> bool
         requires { place < length self.now.out }
         ensures { result ≡ may_repeat self.now place }
@@ -41,8 +41,8 @@ impl Sender {
             && self.finds_window(self.outbox.get(place).octets())
     }
 
-    /// The next message goes out, where one may: answers its place, which `data` takes. Where none may, a burst of
-    /// lost ones is over.
+    /// The next message goes out, if one may: returns its index, which `data` takes. If none may, a burst of lost ones
+    /// is over.
     #[tactic(auto, unfolding(crate::specs::Sending::next_place))]
     pub fn put_out(&mut self, now: u64) -> Option<usize>
         requires { now ≤ 2 ^ 63 }
@@ -57,7 +57,7 @@ impl Sender {
         }
     }
 
-    /// The same of the lost message at a place.
+    /// The same of the lost message at an index.
     #[inline(never)]
     fn put_out_lost(&mut self, place: usize, now: u64) -> Option<usize>
         requires place { place < self.old.went }
@@ -75,7 +75,7 @@ impl Sender {
         None
     }
 
-    /// The same of the first new message, where none is lost.
+    /// The same of the first new message, if none is lost.
     #[inline(always)]
     fn put_out_new(&mut self, now: u64) -> Option<usize>
         requires { now ≤ 2 ^ 63 }
@@ -93,7 +93,7 @@ impl Sender {
         None
     }
 
-    /// The lost message at a place goes out again.
+    /// The lost message at an index goes out again.
     #[tactic(auto, unfolding(crate::specs::Sending::gone_again))]
     fn put_out_again(&mut self, place: usize, now: u64)
         requires place { place < self.old.went }
@@ -136,7 +136,7 @@ fn burst_left(burst: u32, octets: u32) -> u32
     }
 }
 
-/// What is timed once the message at a place goes out again.
+/// What is timed once the message at an index goes out again.
 fn timed_without(timed: Option<Timed>, place: usize) -> Option<Timed>
     ensures { result ≡ timed_without timed place }
 {
@@ -146,7 +146,7 @@ fn timed_without(timed: Option<Timed>, place: usize) -> Option<Timed>
     }
 }
 
-/// What is timed once the message at a place goes out for the first time.
+/// What is timed once the message at an index goes out for the first time.
 fn timed_from(timed: Option<Timed>, place: usize, now: u64) -> Option<Timed>
     ensures { result ≡ timed_from timed place now }
 {
@@ -166,7 +166,7 @@ fn running(timer: Option<u64>, moment: u64) -> Option<u64>
     }
 }
 
-/// The octets of the chunk of a message of so many octets.
+/// The octets of the chunk of a message of this many octets.
 fn chunk_octets(octets: u32) -> u32
     requires { octets ≤ 290 }
     ensures { result ≡ chunk_octets octets }

@@ -4,18 +4,18 @@ use crate::dice::Dice;
 use crate::harmed::octets::{HEADER_OCTETS, Octets, TAG_AT, number, octet, piece};
 use crate::harmed::recorder::Datagram;
 
-/// Where the length of the first chunk stands (RFC 9260 §3.2).
+/// Where the length of the first chunk is (RFC 9260 §3.2).
 const LENGTH_AT: usize = 14;
 
-/// Where lengths and counts stand: of the first chunk; of the first cause of ERROR and ABORT, or the information of a
+/// Where lengths and counts are: of the first chunk; of the first cause of ERROR and ABORT, or the information of a
 /// heartbeat; of the first parameter of INIT and INIT ACK; of the blocks and the duplicates of SACK (RFC 9260 §3.3).
 const LENGTHS_AT: [usize; 5] = [LENGTH_AT, 18, 34, 24, 26];
 
 /// Lengths at their limits.
 const LENGTHS: [u16; 12] = [0, 1, 3, 4, 5, 15, 16, 17, 20, 0x7fff, 0xfffc, 0xffff];
 
-/// Makes a datagram of those that both ends put out: a good one that is harmed once, twice or not at all, seven times of
-/// eight with a right checksum.
+/// Makes a datagram of those that both ends put out: a good one that is harmed once, twice or not at all, seven times
+/// of eight with a right checksum.
 pub fn draw(dice: &mut Dice, near: &[Datagram], far: &[Datagram], out: &mut Octets) {
     out.cut(0);
     out.add(pick(dice, near, far));
@@ -78,7 +78,7 @@ fn change_tag(dice: &mut Dice, other: &[u8], out: &mut Octets) {
     out.put(TAG_AT, &tag.to_be_bytes());
 }
 
-/// Puts the chunks of another datagram in front of these or behind them, or the first chunk behind the others.
+/// Puts the chunks of another datagram before these or after them, or the first chunk after the others.
 fn reorder(dice: &mut Dice, other: &[u8], out: &mut Octets) {
     let octets = out.as_slice();
     let header = piece(octets, 0, HEADER_OCTETS);
@@ -115,7 +115,7 @@ fn change_length(dice: &mut Dice, out: &mut Octets) {
     out.put(at, &length.to_be_bytes());
 }
 
-/// Puts a chunk of random octets behind the header, mostly of a type that is known.
+/// Puts a chunk of random octets after the header, mostly of a type that is known.
 fn replace(dice: &mut Dice, out: &mut Octets) {
     out.cut(HEADER_OCTETS);
     let kind = if dice.below(8) == 0 {

@@ -11,7 +11,7 @@ const SHUTDOWN_COMPLETE: u8 = 14;
 
 const REFLECTED: u8 = 1;
 
-/// Where a cookie has the tag of the end that signed it: behind the code, the time and the generation.
+/// Where a cookie has the tag of the end that signed it: after the code, the time and the generation.
 const COOKIE_TAG_AT: usize = 48;
 
 /// The ports of both ends.
@@ -51,7 +51,7 @@ pub fn kind_of(octets: &[u8], log: &Recorder) -> Kind {
     }
 }
 
-/// What a packet is by its tag: that of the end, or that of its peer where the tag is reflected.
+/// What a packet is by its tag: that of the end, or that of its peer if the tag is reflected.
 fn by_tag(is_reflected: bool, tag: u32, log: &Recorder) -> Kind {
     let Some(own_tag) = log.own_tag else {
         return Kind::Foreign;

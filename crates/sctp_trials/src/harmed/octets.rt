@@ -8,13 +8,13 @@ use std::marker::Model;
 /// Octets of a datagram, at most.
 const MOST_OCTETS: usize = 1_472;
 
-/// Octets in front of the chunks (RFC 9260 §3.1).
+/// Octets before the chunks (RFC 9260 §3.1).
 pub const HEADER_OCTETS: usize = 12;
 
-/// Where the verification tag stands.
+/// Where the verification tag is.
 pub const TAG_AT: usize = 4;
 
-/// Where the checksum stands, and how many octets are in front of it.
+/// Where the checksum is, and how many octets are before it.
 const CHECKSUM_AT: usize = 8;
 
 /// A datagram that is made and then harmed. What doesn't fit is left out.
@@ -42,7 +42,7 @@ impl Octets {
         self.octets.as_slice()
     }
 
-    /// Removes all from a place on.
+    /// Removes all at an offset.
     pub fn cut(&mut self, place: usize) {
         self.octets.truncate(place);
     }
@@ -52,14 +52,14 @@ impl Octets {
         let _added = self.octets.try_extend_from_slice(octets);
     }
 
-    /// Appends so many random octets.
+    /// Appends this many random octets.
     pub fn add_random(&mut self, dice: &mut Dice, count: usize) {
         for _ in 0..count {
             self.add(&[dice.octet()]);
         }
     }
 
-    /// Writes octets from a place on, as far as there is room.
+    /// Writes octets at an offset, as far as there is room.
     pub fn put(&mut self, place: usize, octets: &[u8]) {
         let mut at = place;
         for octet in octets {
@@ -89,13 +89,13 @@ fn checksum(octets: &[u8]) -> u32 {
     !remainder(header, octets.get(HEADER_OCTETS..).unwrap_or(&[]))
 }
 
-/// So many octets from a place on, or as many as there are.
+/// This many octets at an offset, or as many as there are.
 pub fn piece(octets: &[u8], from: usize, count: usize) -> &[u8] {
     let rest = octets.get(from..).unwrap_or(&[]);
     rest.get(..count).unwrap_or(rest)
 }
 
-/// The number of 32 bits at a place.
+/// The 32-bit number at an offset.
 pub fn number(octets: &[u8], at: usize) -> u32 {
     let mut value = 0u32;
     for i in 0..4usize {
@@ -104,7 +104,7 @@ pub fn number(octets: &[u8], at: usize) -> u32 {
     value
 }
 
-/// The octet at a place; 255 where there is none.
+/// The octet at an offset; 255 if there is none.
 pub fn octet(octets: &[u8], at: usize) -> u8 {
     octets.get(at).copied().unwrap_or(u8::MAX)
 }

@@ -6,7 +6,7 @@ use sctp_rules::Loss;
 use std::alloc::{AllocError, Global};
 use std::marker::Model;
 
-/// Where the type of the first chunk stands, and the tag that an INIT wants (RFC 9260 §3.2, §3.3.2).
+/// Where the type of the first chunk is, and the tag that an INIT wants (RFC 9260 §3.2, §3.3.2).
 pub const KIND_AT: usize = 12;
 
 const INITIATE_TAG_AT: usize = 16;

@@ -77,7 +77,7 @@ impl Session {
         })
     }
 
-    /// Both begin anew, until the near end is in a phase.
+    /// Both restart, until the near end is in a phase.
     pub fn begin(&mut self, stage: Stage, dice: &mut Dice) {
         self.now = self.now.saturating_add(1_000);
         self.near.act(Doing::Abort, self.now);

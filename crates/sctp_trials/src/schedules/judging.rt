@@ -7,9 +7,9 @@ use sctp_world::{End, Entry, Messages, Text, World};
 /// Where a message of an association stands.
 #[derive(Clone, Copy)]
 struct Place {
-    /// The association of the other end, where one is known.
+    /// The association of the other end, if one is known.
     list: Option<usize>,
-    /// The place of the next message in it.
+    /// The index of the next message in it.
     next: usize,
 }
 
@@ -19,9 +19,9 @@ const BEGINNING: Place = Place {
     next: 0,
 };
 
-/// Counts what the user of an end was told, and what of it is out of its place: not the next message of the
-/// association of the other end of which the first message was told. That one is later than all in which messages were
-/// told before, so an association that is told again, or out of its order, is out of place too.
+/// Counts what the user of an end was told, and what of it is out of place: any message that isn't the next one of the
+/// association of the other end whose first message was told. That association is later than all in which messages were
+/// told before, so an association that is told again, or out of order, is out of place too.
 pub fn judge(world: &World, end: End, other: End, counts: &mut Counts) {
     let given = world.given(other);
     let mut place = BEGINNING;
@@ -48,7 +48,7 @@ pub fn judge(world: &World, end: End, other: End, counts: &mut Counts) {
     }
 }
 
-/// The place behind an association, where there is one; else the place as it was.
+/// The place after an association, if there is one; else the place as it was.
 fn behind(list: Option<usize>, later: usize) -> usize {
     match list {
         Some(place) => place.saturating_add(1),
@@ -56,7 +56,7 @@ fn behind(list: Option<usize>, later: usize) -> usize {
     }
 }
 
-/// The association from a place on whose first message has the number of this one.
+/// The association from an index on whose first message has the number of this one.
 fn list_with(given: &[Messages], from: usize, text: &Text) -> Option<usize> {
     for i in from..given.len() {
         if let Some(first) = given[i].texts().first()
@@ -68,7 +68,7 @@ fn list_with(given: &[Messages], from: usize, text: &Text) -> Option<usize> {
     None
 }
 
-/// Whether the message in a place is this one: its number, stream, protocol and octets.
+/// Whether the message at an index is this one: its number, stream, protocol and octets.
 fn is_at(given: &[Messages], place: Place, text: &Text) -> bool {
     let Some(list) = place.list else {
         return false;

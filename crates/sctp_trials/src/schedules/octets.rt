@@ -42,7 +42,7 @@ pub fn tsn(octets: &[u8]) -> u32 {
     number(octets, TSN_AT)
 }
 
-/// The number of 32 bits at a place.
+/// The 32-bit number at an offset.
 pub fn number(octets: &[u8], at: usize) -> u32 {
     let mut value = 0u32;
     for i in 0..4usize {
@@ -51,7 +51,7 @@ pub fn number(octets: &[u8], at: usize) -> u32 {
     value
 }
 
-/// The octet at a place; 255 where there is none.
+/// The octet at an offset; 255 if there is none.
 fn octet(octets: &[u8], at: usize) -> u8 {
     octets.get(at).copied().unwrap_or(u8::MAX)
 }

@@ -19,7 +19,7 @@ const STEPS: usize = 4_000;
 /// The last four octets of a key whose first tag is 33 less than 2^32: so are the first TSNs of an end with it.
 const WRAPPING_KEY: u32 = 20_731_166;
 
-/// A datagram that comes is one of the latest so many, or any.
+/// A datagram that comes is one of the latest this many, or any.
 const LATEST: usize = 12;
 
 /// Where datagrams come from.
@@ -205,7 +205,7 @@ fn hear(
     first
 }
 
-/// Notes what was told from a place on.
+/// Notes what was told from an index on.
 fn note_told(
     world: &World,
     end: End,
@@ -236,7 +236,7 @@ fn note_told(
     }
 }
 
-/// Notes what was put out from a place on.
+/// Notes what was put out from an index on.
 fn note_sent(world: &World, end: End, from: usize, here: &mut Known, counts: &mut Counts) {
     let sent = world.sent(end);
     for i in from..sent.len() {

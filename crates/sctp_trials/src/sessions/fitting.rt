@@ -3,16 +3,16 @@
 use crate::sessions::names::{Name, matched};
 use crc32c::crc32c;
 
-/// Octets in front of the chunks (RFC 9260 §3.1).
+/// Octets before the chunks (RFC 9260 §3.1).
 const HEADER_OCTETS: usize = 12;
 
-/// Octets in front of a chunk's value (RFC 9260 §3.2).
+/// Octets before a chunk's value (RFC 9260 §3.2).
 const CHUNK_HEADER_OCTETS: usize = 4;
 
-/// Where the verification tag stands.
+/// Where the verification tag is.
 const TAG_AT: usize = 4;
 
-/// Where the checksum stands.
+/// Where the checksum is.
 const CHECKSUM_AT: usize = 8;
 
 /// SACK, SHUTDOWN and COOKIE ECHO (RFC 9260 §3.2).
@@ -26,7 +26,7 @@ const COOKIE_ECHO: u8 = 10;
 const CHUNKS: usize = 64;
 
 /// Makes a datagram fit that came to an end with these names: its tag, the TSNs that it acknowledges, the cookie that
-/// it echoes, and its checksum. One to no tag, which has none of these, stays as it is.
+/// it echoes, and its checksum. One without a tag, which has none of these, stays as it is.
 pub fn fit(datagram: &mut [u8], names: &[Name], own_names: &[Name], cookie: &[u8]) {
     let Some((name, own)) = matched(number(datagram, TAG_AT), names, own_names) else {
         return;
@@ -68,13 +68,13 @@ fn fit_sack(datagram: &mut [u8], at: usize, shift: u32) {
     }
 }
 
-/// Adds to the number at a place, modulo 2^32.
+/// Adds to the number at an offset, modulo 2^32.
 fn add(octets: &mut [u8], at: usize, shift: u32) {
     let sum = number(octets, at).wrapping_add(shift);
     put(octets, at, &sum.to_be_bytes());
 }
 
-/// The number of four octets at a place; 0 where there are fewer.
+/// The number of four octets at an offset; 0 if there are fewer.
 fn number(octets: &[u8], at: usize) -> u32 {
     let Some(rest) = octets.get(at..) else {
         return 0;
@@ -85,7 +85,7 @@ fn number(octets: &[u8], at: usize) -> u32 {
     }
 }
 
-/// Puts octets at a place, as far as there is room.
+/// Puts octets at an offset, as far as there is room.
 fn put(octets: &mut [u8], at: usize, what: &[u8]) {
     let Some(room) = octets.get_mut(at..) else {
         return;

@@ -54,7 +54,6 @@ impl Recorder {
         }
     }
 
-    /// A cookie is echoed.
     fn note_echo(&mut self, cookie: &[u8]) {
         self.echoed = self.echoed.saturating_add(1);
         if cookie == self.peer_cookie.as_slice() {

@@ -5,7 +5,7 @@ use std::str::FromStr;
 /// Octets of a row, at most.
 pub const OCTETS: usize = 1_500;
 
-/// The word of a row at a place; nothing where it has fewer.
+/// The word of a row at an index; nothing if it has fewer.
 pub fn word(row: &str, place: usize) -> &str {
     row.split(' ').nth(place).unwrap_or("")
 }
@@ -23,7 +23,7 @@ pub fn hexadecimal(row: &str, place: usize) -> u32 {
     u32::from_str_radix(word(row, place), 16).unwrap_or(0)
 }
 
-/// The octets of a word of the row, in a buffer: none where they find no room, so that the session goes wrong.
+/// The octets of a word of the row, in a buffer: none if they find no room, so that the session goes wrong.
 pub fn octets<'a>(row: &str, place: usize, buffer: &'a mut [u8; OCTETS]) -> &'a mut [u8] {
     let text = word(row, place);
     let Some(room) = buffer.get_mut(..text.len() / 2) else {

@@ -8,8 +8,8 @@ use std::alloc::{AllocError, Global};
 use std::test::*;
 use timers::{NodeCounts, TimerName, Timers};
 
-/// Timers of one link, one set and two destinations, by ticks and name: those that run out in one tick come in their
-/// order; one that is due stays due, and comes once; no tick is one; the most ticks; and timers that the node hasn't.
+/// Timers of one link, one set and two destinations, by ticks and name. Those that run out in one tick come in order;
+/// one that is due stays due, and comes once; no tick is one; the most ticks; and timers that the node doesn't have.
 const TIMERS: &str = "\
 set 1 T10 0 1; set 1 T6 0; set 1 L7 0; set 1 T6 1; set 2 T6 1; set 1 T1 0; clear 0 T1 0
 start 1 L6 0; start 2 L7 0; start 2 T6 0; tick 1; due 0 L6 0; due 0 L7 0; due 0 T6 0; due 0 T10 0 1; due 0 none
@@ -21,7 +21,6 @@ absent 1 T4 255 15; absent 1 T6 2; absent 1 T6 65535; absent 1 T8 0 2; absent 1 
 absent 1 T8 255 0; absent 1 T10 0 2; absent 1 T10 0 65535; absent 1 T10 255 65535; tick 1; due 0 T6 1; due 0 none
 ";
 
-/// The timer that a call names.
 fn named(call: &str) -> Option<TimerName> {
     let first: u16 = word(call, 3).parse().ok()?;
     let second: u16 = word(call, 4).parse().unwrap_or(0);
@@ -52,7 +51,7 @@ fn pass(timers: &mut Timers, ticks: usize) -> bool {
     true
 }
 
-/// Whether the timer that a call names can't be set or started, and stopping it does nothing. A name is used up where it
+/// Whether the timer that a call names can't be set or started, and stopping it does nothing. A name is used up if it
 /// is handed over, so it is read each time.
 fn is_absent(timers: &mut Timers, call: &str) -> bool {
     if let Some(name) = named(call) {
@@ -102,8 +101,8 @@ fn timers(rt: HostRuntime) -> Result<(), Fail> {
 }
 
 /// A procedure, its number and its code, the destination and the selection of a flow, and whether it can hold this: a
-/// node has three links, two sets, two destinations, and 16 codes for each set. Then codes that it hasn't, and the
-/// codes of a set in their order, until there is none.
+/// node has three links, two sets, two destinations, and 16 codes for each set. Then codes that it doesn't have, and
+/// the codes of a set in order, until there is none.
 const FLOWS: &str = "\
 changeover 2 - 0 15 held; changeover 3 - 0 0 free; changeover 255 - 0 0 free; changeover 0 - 2 0 free
 changeover 0 - 18446744073709551615 0 free; code 1 15 1 0 held; code 2 0 0 0 free; code 255 0 0 0 free
@@ -123,7 +122,6 @@ struct Flows {
     codes: Changeback,
 }
 
-/// The procedure of a call.
 fn procedure(call: &str) -> Procedure {
     let (link, set) = (LinkId::new(octet(call, 1)), SetId::new(octet(call, 1)));
     match word(call, 0) {
@@ -144,7 +142,7 @@ fn is_held(holds: &mut Holds, call: &str) -> bool {
     word(call, 5) == answer && !holds.is_held(destination, sls)
 }
 
-/// Declares so many codes, and answers whether these were from 0 on.
+/// Declares this many codes, and returns whether these were from 0 on.
 fn takes(codes: &mut Changeback, set: SetId, count: u8) -> bool {
     for code in 0..count {
         if codes.free_code(set) != Some(code) {

@@ -68,7 +68,7 @@ fn wrong(alloc: Global) -> Result<&'static str, AllocError> {
     wrong_with(alloc, links.as_slice())
 }
 
-/// So many links come into service.
+/// This many links come into service.
 fn rise(routes: &mut Routes, count: u8) {
     for link in 0..count {
         routes.set_link(LinkId::new(link), true);

@@ -11,8 +11,8 @@ use signalling_types::{Msu, Number24};
 use std::alloc::{AllocError, Global};
 use std::test::*;
 
-/// A store with room for three user messages: more is dropped than there is; moves where it is full, also of an empty
-/// list and to one; both limits, and one more where one left. Behind `=` are both lists.
+/// A store with room for three user messages: dropping more than there is; moves while it is full, even of an empty
+/// list and into one; both limits, and one more once one has left. After `=` are both lists.
 const STORE: &str = "\
 drop 0 0; drop 0 18446744073709551615 = - -; put 0 135; drop 0 0 = 135 -; drop 0 4 = - -
 put 0 246; drop 0 18446744073709551615 = - -; put 0 1; drop 0 1 = - -
@@ -24,9 +24,9 @@ managements 0 256; append 0 1; count 0 0; count 1 259; splice_front 1 0; count 1
 move_where 0 1; count 0 256; drop 0 256 = - 113
 ";
 
-/// The numbers of a link whose messages are in the first list, and which holds those in the second: a fresh link;
-/// numbers that go on with 0; changeovers with a number, and how many messages it leaves in doubt; the largest window,
-/// which keeps one message back; and whole windows, of which the last message moves, all, or none.
+/// The numbers of a link whose messages are in the first list, and which holds those in the second: a new link; numbers
+/// that wrap to 0; changeovers with a number, and how many messages it leaves in doubt; the largest window, which keeps
+/// one message back; and whole windows, whose last message moves, all, or none.
 const NUMBERS: &str = "\
 start 16777214; unsent 8; retrieve 16777213 0; retrieve 16777212 none; retrieve 16777214 none; retrieve 0 none
 put 0 1357; send 1 8; numbers 16777214 16777215 1; send 1 8; numbers 16777215 16777215 2; send 1 8
@@ -68,7 +68,7 @@ fn put<L: Lanes>(lanes: &mut L, list: usize, digits: &str, cause: &str) -> bool 
     true
 }
 
-/// Puts the message of a digit at the end of a list so many times.
+/// Puts the message of a digit at the end of a list this many times.
 fn fill<L: Lanes>(lanes: &mut L, list: usize, digit: &str, times: usize) -> bool {
     for _ in 0..times {
         if !put(lanes, list, digit, "") {
@@ -78,7 +78,7 @@ fn fill<L: Lanes>(lanes: &mut L, list: usize, digit: &str, times: usize) -> bool
     true
 }
 
-/// Whether the message of a digit stands at a place of a list.
+/// Whether the message of a digit is at an index of a list.
 fn stands<L: Lanes>(lanes: &L, list: usize, place: usize, digit: u8) -> bool {
     if list >= lanes.lanes() {
         return false;
@@ -100,7 +100,7 @@ fn has<L: Lanes>(lanes: &L, list: usize, digits: &str) -> bool {
     list < lanes.lanes() && lanes.count(list) == digits.len()
 }
 
-/// Whether both lists have the messages of a text, where it says any.
+/// Whether both lists have the messages of a text, if it says any.
 fn has_lists<L: Lanes>(lanes: &L, text: &str) -> bool {
     text.is_empty() || has(lanes, 0, word(text, 0)) && has(lanes, 1, word(text, 1))
 }
@@ -152,7 +152,7 @@ impl<L: Lanes> Part for Link<L> {
     }
 }
 
-/// The number of a word of a call; 0 where it says none.
+/// The number of a word of a call; 0 if it says none.
 fn number_24(call: &str, place: usize) -> Number24 {
     Number24::new(word(call, place).parse().unwrap_or(0)).unwrap_or(Number24::zero())
 }
@@ -179,7 +179,7 @@ fn sends<L: Lanes>(lanes: &L, sequence: &mut Sequence, window: usize) -> bool {
     lanes.lanes() > 0 && sequence.next_to_send(lanes, 0, window).is_some()
 }
 
-/// Sends so many messages, and notes the place of each, so that the next one is found at once.
+/// Sends this many messages, and notes the place of each, so that the next one is found at once.
 fn send<L: Lanes>(lanes: &mut L, sequence: &mut Sequence, count: usize, window: usize) -> bool {
     for _ in 0..count {
         if lanes.lanes() == 0 || !sends(lanes, sequence, window) {
@@ -197,7 +197,7 @@ fn has_numbers(sequence: &Sequence, call: &str) -> bool {
         && sequence.outstanding() == number(call, 3)
 }
 
-/// Completes a changeover with a number, and answers whether it leaves as many in doubt as the call says.
+/// Completes a changeover with a number, and returns whether it leaves as many in doubt as the call says.
 fn completes<L: Lanes>(lanes: &mut L, sequence: &mut Sequence, call: &str) -> bool {
     if lanes.lanes() != 2 {
         return false;
@@ -207,7 +207,7 @@ fn completes<L: Lanes>(lanes: &mut L, sequence: &mut Sequence, call: &str) -> bo
     doubt == word(call, 2).parse().ok() && sequence.outstanding() == 0
 }
 
-/// The first row that doesn't hold of a store with room for so many user messages.
+/// The first row that doesn't hold of a store with room for this many user messages.
 fn wrong_with(alloc: Global, pool: usize, rows: &'static str) -> Result<&'static str, AllocError>
     requires { pool ≤ Limits.POOL }
 {

@@ -1,4 +1,4 @@
--- A message is in its cell, which stood in the row or comes behind it.
+-- A message is in its cell, which was in the row or comes after it.
 use Rattle.cell_pool.proofs.Basics.{[], arith, lent}
 use Rattle.cell_pool.proofs.LinkedReading.{written-behind, written-in}
 use Rattle.cell_pool.proofs.linked_lists.write.Goals as goal

@@ -1,4 +1,4 @@
--- A destination loses nothing more where its pair of sets was looked at; else its links are marked.
+-- A destination loses nothing more if its pair of sets was looked at; else its links are marked.
 use Rattle.changeback.proofs.Basics.{Bool, List, ap, sym, ◌∙◌, subst, Facts, lone_set, IsSeen}
 use Rattle.changeback.proofs.Sets.{marked_already, one_seen}
 use Rattle.changeback.proofs.returning.look_at.Goals as goal

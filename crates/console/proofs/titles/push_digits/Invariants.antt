@@ -1,4 +1,4 @@
--- The digits so far stand behind what was there.
+-- The digits so far are after what was there.
 use Rattle.std.proofs.Common.{◌≡◌, ◌++◌, map, take}
 use Rattle.console.specs.Texts.{digit_octet}
 use Rattle.console.proofs.titles.push_digits.Given as goal

@@ -1,4 +1,4 @@
--- the marks in front of the place are taken from the counts, and are gone
+-- the marks before the place are taken from the counts, and are gone
 use Rattle.flow_hold.proofs.Basics.{◌≡◌, ℕ, ◌-◌, get_or}
 use Rattle.flow_hold.proofs.Clearing.{marks_gone, mark_before}
 use Rattle.flow_hold.proofs.row.take_marks.Given as goal

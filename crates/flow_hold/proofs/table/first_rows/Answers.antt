@@ -1,4 +1,4 @@
--- The next row goes behind the others.
+-- The next row goes after the others.
 use Rattle.flow_hold.proofs.Basics.{◌+◌, ◌*◌, ◌≤◌, List, [], ◌∷◌, ◌++◌, length, map, arith, ap, sym, ◌∙◌, range_with_len, length-map-range_with_len, map-range_with_len_more, Marks, first_row, SELECTIONS}
 use Rattle.std.proofs.lemmas.List.Elements.{All-push}
 use Rattle.flow_hold.proofs.Counting.{mark_of, unmarked, unmarked-more, fits-first}

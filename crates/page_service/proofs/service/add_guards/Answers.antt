@@ -1,4 +1,4 @@
--- Each field is behind those before it.
+-- Each field is after those before it.
 use Rattle.page_service.proofs.Fields.{four_behind}
 use Rattle.page_service.proofs.service.add_guards.Goals as goal
 

@@ -1,4 +1,4 @@
--- What is read behind the label is what the rule reads there.
+-- What is read after the label is what the rule reads there.
 use Rattle.sccp_relay.proofs.Basics.{refl, relay}
 use Rattle.sccp_relay.proofs.relaying.relay.Goals as goal
 

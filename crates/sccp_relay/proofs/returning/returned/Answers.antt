@@ -1,4 +1,4 @@
--- What is read behind the label is what the rule reads there.
+-- What is read after the label is what the rule reads there.
 use Rattle.sccp_relay.proofs.Basics.{◌≡◌, refl, sym, ◌∙◌, Some, returned}
 use Rattle.sccp_relay.specs.Relay as rule
 use Rattle.sccp_relay.proofs.returning.returned.Goals as goal

@@ -1,4 +1,4 @@
--- A line was written in part, behind those before it.
+-- A line was written in part, after those before it.
 use Rattle.script.proofs.Basics.{arith, kept, line_of, most_lines}
 use Rattle.script.proofs.Shown.{lines-broken, on-error}
 use Rattle.script.proofs.showing.show_text.Goals as goal

@@ -1,4 +1,4 @@
--- A frame was taken behind those before; no further one was.
+-- A frame was taken after those before; no further one was.
 use Rattle.served_link.proofs.Basics.{◌∙◌, sym, take, kept, has_room, pending_in, both_ways}
 use Rattle.served_link.proofs.TakenFrames.{text-some, text-none, takes-more, last-asked, last-full}
 use Rattle.served_link.proofs.filling.fill_all.Goals as goal

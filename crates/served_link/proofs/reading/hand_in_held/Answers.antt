@@ -1,4 +1,4 @@
--- A text that was cut off was handed in behind those before.
+-- A text that was cut off was handed in after those before.
 use Rattle.served_link.proofs.Basics.{take, kept}
 use Rattle.served_link.proofs.Handing.{hands-one, hands-more}
 use Rattle.served_link.proofs.reading.hand_in_held.Goals as goal

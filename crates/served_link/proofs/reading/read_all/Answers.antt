@@ -1,4 +1,4 @@
--- Octets were fed and handed in behind those before.
+-- Octets were fed and handed in after those before.
 use Rattle.std.proofs.lemmas.Result.{err_from_is_err_and}
 use Rattle.served_link.proofs.Basics.{kept}
 use Rattle.served_link.proofs.Handing.{read-nothing, read-more, read-broken}

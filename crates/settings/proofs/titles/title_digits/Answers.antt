@@ -1,4 +1,4 @@
--- A key is new where no row before has the same key and digits.
+-- A key is new if no row before has the same key and digits.
 use Rattle.settings.proofs.Basics.{◌≡◌, ◌∙◌, ap, refl, inr, not, [], None, list_any, err_from_is_err_and, is_same_title, title_key}
 use Rattle.settings.proofs.Entries.{any-map}
 use Rattle.settings.proofs.Firsts.{past, there}

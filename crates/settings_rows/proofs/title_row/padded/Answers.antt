@@ -1,4 +1,4 @@
--- What is copied stands in front, and of the zeros those behind it are left.
+-- What is copied is in front, and of the zeros those after it are left.
 use Rattle.std.proofs.Common.{ap, ◌++◌, List, ℕ, length}
 use Rattle.std.proofs.lemmas.List.{drop-replicate}
 use Rattle.settings_rows.proofs.title_row.padded.Goals as goal

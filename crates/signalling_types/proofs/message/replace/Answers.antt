@@ -1,4 +1,4 @@
--- What is copied stands in front of the zeros.
+-- What is copied is before the zeros.
 use Rattle.signalling_types.proofs.message.replace.Goals as goal
 
 pub returns : goal.returns

@@ -1,4 +1,4 @@
--- Behind the number of the next message there are those that it doesn't confirm.
+-- After the number of the next message there are those that it doesn't confirm.
 use Rattle.status_page.proofs.Counting.{users_left}
 use Rattle.status_page.proofs.measuring.users_on.Goals as goal
 

@@ -1,4 +1,4 @@
--- The metrics stand behind the head.
+-- The metrics are after the head.
 use Rattle.std.proofs.Common.{List, ap, flat_map}
 use Rattle.exchange.specs.KeptQueues.{kept}
 use Rattle.status_page.specs.declared.metric.Metric.{Metric}

@@ -1,4 +1,4 @@
--- The pieces come one behind the other.
+-- The pieces come one after the other.
 use Rattle.status_page.proofs.Adding.{behind}
 use Rattle.status_page.proofs.state.put_counts.Goals as goal
 

@@ -1,4 +1,4 @@
--- All cells of a list come behind those of another.
+-- All cells of a list come after those of another.
 use Rattle.cell_pool.proofs.Basics.{◌≡◌, ℕ, ◌<◌, ◌≤◌, List, [], length, arith, ap, sym, ◌∙◌, set, length-set, length-map, ring_at, Chained, no_cells, walk, cells_of, rings_of, chain_at, end_of}
 use Rattle.cell_pool.proofs.Walks.{read-is, walk-set}
 use Rattle.cell_pool.proofs.Chaining.{ring-cells}

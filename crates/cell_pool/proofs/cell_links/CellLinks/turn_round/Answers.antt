@@ -1,4 +1,4 @@
--- What stands behind the cut comes before what stands in front of it.
+-- What is after the cut comes before what comes before it.
 use Rattle.cell_pool.proofs.Basics.{◌≡◌, ℕ, ◌-◌, ◌<◌, ◌≤◌, List, ◌++◌, length, get_or, take, drop, arith, ap, ◌∙◌, set, length-set, length-map, ring_at, Chained, no_cells, walk, cells_of, rings_of, chain_at, Linked}
 use Rattle.cell_pool.proofs.Walks.{read-is, walk-set}
 use Rattle.cell_pool.proofs.Splicing.{IsCut, cut, rings-turned, shared-turned, marked-turned, uncut-front, uncut-back, rings-uncut}

@@ -1,4 +1,4 @@
--- As many messages of each kind stand as before.
+-- As many messages of each kind are as before.
 use Rattle.cell_pool.proofs.Basics.{◌<◌, length, arith, ap, Occupied, HasAsMany, users, managements, cut_at, Stored}
 use Rattle.cell_pool.proofs.Turning.{many-cut}
 use Rattle.cell_pool.proofs.linked_pool.CellPool.turn_round.Goals as goal

@@ -1,4 +1,4 @@
--- As many messages of each kind stand as before.
+-- As many messages of each kind are as before.
 use Rattle.cell_pool.proofs.Basics.{◌<◌, length, arith, ap, Occupied, HasAsMany, users, managements, all_behind, Stored}
 use Rattle.cell_pool.proofs.Sums.{many-all_behind}
 use Rattle.cell_pool.proofs.linked_pool.CellPoolLanes.append.Goals as goal

@@ -1,4 +1,4 @@
--- so many messages of the list are dropped by now
+-- this many messages of the list are dropped by now
 use Rattle.cell_pool.proofs.Basics.{◌≡◌, dropped}
 use Rattle.cell_pool.proofs.linked_pool.CellPoolLanes.drop_front.Given as goal
 

@@ -1,4 +1,4 @@
--- so many messages of the one list were gone through by now
+-- this many messages of the one list were gone through by now
 use Rattle.cell_pool.proofs.Basics.{◌≡◌}
 use Rattle.cell_pool.proofs.Moving.{turned_so_far}
 use Rattle.cell_pool.proofs.linked_pool.CellPoolLanes.move_where.Given as goal

@@ -1,4 +1,4 @@
--- One kind is below its limit, so that fewer messages stand than there are cells.
+-- One kind is below its limit, so that fewer messages are than there are cells.
 use Rattle.cell_pool.proofs.Basics.{◌≡◌, None, arith, ap, ◌∙◌, lent, push_refusal, Stored}
 use Rattle.cell_pool.proofs.Counting.{room_for}
 use Rattle.cell_pool.proofs.linked_pool.CellPoolLanes.push_within_room.Goals as goal

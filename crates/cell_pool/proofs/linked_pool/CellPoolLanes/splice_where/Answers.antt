@@ -1,4 +1,4 @@
--- What was put behind a list comes before it, where the list is turned round at its old end.
+-- What was put after a list comes before it, if the list is turned round at its old end.
 use Rattle.cell_pool.proofs.Basics.{Bool, not, ap, ◌∙◌, filter, Message, Stored, lane_at}
 use Rattle.cell_pool.proofs.Turning.{cut-behind}
 use Rattle.cell_pool.proofs.linked_pool.CellPoolLanes.splice_where.Goals as goal

@@ -1,4 +1,4 @@
--- The first free code is found where the loop stands, or there is none.
+-- The first free code is found where the loop is, or there is none.
 use Rattle.std.proofs.Common.{ap, sym, ◌∙◌, arith, position, not, Bool, List}
 use Rattle.changeback.proofs.Places.{found, not_found}
 use Rattle.changeback.proofs.set_codes.SetCodes.free.Goals as goal

@@ -1,4 +1,4 @@
--- Where the link entered or left service, anything may be pending.
+-- If the link entered or left service, anything may be pending.
 use Rattle.exchange.proofs.Basics.{◌<◌, length, arith, ap, ◌∙◌, Link, after_action, is_in_service, link_in, State, KeptQueues}
 use Rattle.exchange.proofs.Rooms.{moved_room}
 use Rattle.exchange.proofs.exchange.Exchange.align.Goals as goal

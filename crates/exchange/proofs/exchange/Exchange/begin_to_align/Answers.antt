@@ -1,4 +1,4 @@
--- Where the link was in service, anything may be pending.
+-- If the link was in service, anything may be pending.
 use Rattle.exchange.proofs.Basics.{refl, ap, ◌∙◌, Link, opened, is_in_service, link_in}
 use Rattle.exchange.proofs.Rooms.{left_room}
 use Rattle.exchange.proofs.exchange.Exchange.begin_to_align.Goals as goal

@@ -1,4 +1,4 @@
--- What is kept behind a number is what waits behind it.
+-- What is kept after a number is what waits after it.
 use Rattle.exchange.proofs.Basics.{ap, List, ◌∙◌, count_by, Message, is_user_picked}
 use Rattle.exchange.proofs.Waiting.{stands-behind}
 use Rattle.exchange.proofs.exchange.Exchange.count_behind.Goals as goal

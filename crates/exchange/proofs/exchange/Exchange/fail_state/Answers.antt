@@ -1,4 +1,4 @@
--- Where the link was in service, anything may be pending.
+-- If the link was in service, anything may be pending.
 use Rattle.exchange.proofs.Basics.{refl, ap, ◌∙◌, Link, after_failure, is_in_service, link_in}
 use Rattle.exchange.proofs.Rooms.{left_room}
 use Rattle.exchange.proofs.exchange.Exchange.fail_state.Goals as goal

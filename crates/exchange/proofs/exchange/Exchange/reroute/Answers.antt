@@ -1,4 +1,5 @@
--- Each link, set and destination has its places still, a release is due, and updates about the destination may be pending.
+-- Each link, set and destination has its places still, a release is due, and updates about the destination may be
+-- pending.
 use Rattle.exchange.proofs.Basics.{◌<◌, length, arith, ap, sym, subst, facts_of, rerouted, State, HasHoldsFor, held_for-fits, KeptQueues}
 use Rattle.exchange.proofs.Rooms.{rerouted_room}
 use Rattle.exchange.proofs.exchange.Exchange.reroute.Goals as goal

@@ -1,4 +1,4 @@
--- Where there is no room, nothing is told.
+-- If there is no room, nothing is told.
 use Rattle.exchange.proofs.Basics.{ap, sym, ◌∙◌, State, Node, with_node, KeptQueues, kept, no_room_told}
 use Rattle.exchange.proofs.exchange.Exchange.tell_if_room.Goals as goal
 

@@ -1,4 +1,4 @@
--- Where nothing may be pending, nothing is owed.
+-- If nothing may be pending, nothing is owed.
 use Rattle.exchange.proofs.Basics.{ap, sym, ◌∙◌, length, Facts, ToldTable, nothing_is_listed, owes_nothing_from_none, State, Node, with_node, nothing_told, KeptQueues, kept, known}
 use Rattle.exchange.proofs.Pending.{none_is_owed}
 use Rattle.exchange.proofs.Rooms.{view_pending}

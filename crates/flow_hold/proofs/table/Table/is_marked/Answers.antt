@@ -1,4 +1,4 @@
--- A flow is held where its count is above 0.
+-- A flow is held if its count is above 0.
 use Rattle.flow_hold.proofs.Basics.{ap, sym, ◌∙◌, nat_lt, any_has}
 use Rattle.flow_hold.proofs.Counting.{any-counted}
 use Rattle.flow_hold.proofs.table.Table.is_marked.Goals as goal

@@ -1,4 +1,4 @@
--- The rows of the destinations to which the set leads are made anew, and no other changes.
+-- The rows of the destinations to which the set leads are made again, and no other changes.
 use Rattle.routes.proofs.Basics.{◌≡◌, ◌∙◌, ap, sym, length, map, with_items_is, length-map, Allowed, Facts, with_status_over, with_statuses_reset, goes_by_set, mended_below, table_of}
 use Rattle.routes.proofs.Compiling.{known_facts}
 use Rattle.routes.proofs.Mending.{as_long, compiled_by_set}

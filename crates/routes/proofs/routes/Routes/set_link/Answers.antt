@@ -1,4 +1,4 @@
--- The rows of the destinations to which the set of the link leads are made anew, and no other changes.
+-- The rows of the destinations to which the set of the link leads are made again, and no other changes.
 use Rattle.routes.proofs.Basics.{◌≡◌, ◌∙◌, ap, refl, sym, length, with_items_is, Facts, with_link, goes_by_link, mended_below, table_of}
 use Rattle.routes.proofs.Compiling.{known_facts}
 use Rattle.routes.proofs.Mending.{as_long, compiled_by_link}

@@ -1,4 +1,4 @@
--- The row of the destination is made anew, and no other changes.
+-- The row of the destination is made again, and no other changes.
 use Rattle.routes.proofs.Basics.{◌≡◌, ◌∙◌, ap, sym, length, map, with_items_is, length-set, Facts, with_status, with_status_over, routes_to, mended_at, table_of}
 use Rattle.routes.proofs.Compiling.{known_facts, compiled_told}
 use Rattle.routes.proofs.Mending.{as_long}

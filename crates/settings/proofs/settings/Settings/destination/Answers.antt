@@ -1,4 +1,4 @@
--- Where an element stands in a list.
+-- Where an element is in a list.
 use Rattle.settings.proofs.Basics.{nat_eq, ◌≡◌, ◌+◌, Bool, not, cond, List, [], ◌∷◌, map, position, refl, ap, prefix_len, length-map}
 use Rattle.settings.proofs.settings.Settings.destination.Goals as goal
 
