@@ -1,6 +1,6 @@
 -- Every event conserves user messages, and every take leaves them.
 use Rattle.exchange_rules.proofs.Basics.{Bool, Err, List, None, Ok, Option, Result, Some, [], ap, arith, false, nat_eq, not, refl, suc, sym, true, zero, ℕ, ◌&&◌, ◌+◌, ◌∙◌, ◌≡◌, take-append-drop, if◌then◌else◌, take}
-use Rattle.exchange_rules.proofs.Definitions.{Standing, may_restart, has_row, place_of, without_row, action_at, Action, UserData, Alignment, unconfirmed-accepted, unconfirmed-sent_one, Queue, count_confirmed, first_queue, unconfirmed, SeqFault, EmptyFrame, FrameValue, MessageFrame, StatusFrame, read_frame, read_management, Link, is_down, is_in_service, Discrimination, Configuration, TitleEntry, Message, is_management, opc_of, service_indicator, Cause, FrameFault, Handled, Ignored, transfer, Gone, both_gone, brought_by, brought_here, brought_in, brought_to, confirmed_at, confirmed_by, confirmed_in, confirmed_of, gone, gone_by, gone_by_message, gone_by_new, gone_by_release, gone_by_tick, gone_by_word, gone_that, nothing_gone, taken_in, users_that, takes_leave_user_messages, user_messages_are_conserved, apply, handle_event, changeover_of, Carrying, accept, act_by_data, carries, carry, empty_data, handle_by, message_data, numbers, read, receive_data, Activated, CameUp, Deactivated, FrameCame, Happening, Submitted, Ticked, TitleAdded, TitleRemoved, WentDown, AreLinksSteady, IsSteady, is_l7_running, accept_data, accept_frame, accept_text, down, in_service, is_link, link_at, is_adjacent, local, manage, testing, deliver_to, submit, whither_goes, may_open, open_link, WholeQueues, queue_at, whole, new_at, new_by, new_in, new_of, add_title_unless, title_refusal, with_titles, release, Acknowledges, Outgoing, SendsMessage, SendsNothing, SendsStatus, after_sending, goes_out, Abstract, Done, Node, answer, refuse, with_parts, advance, tell_owed, tick}
+use Rattle.exchange_rules.proofs.Definitions.{Standing, may_restart, has_row, place_of, without_row, action_at, Action, UserData, Alignment, unconfirmed-accepted, unconfirmed-sent_one, Queue, count_confirmed, first_queue, unconfirmed, SeqFault, EmptyFrame, FrameValue, MessageFrame, StatusFrame, read_frame, read_management, Link, is_down, is_in_service, Discrimination, Configuration, TitleEntry, Message, is_management, opc_of, service_indicator, Cause, FrameFault, Handled, Ignored, transfer, Gone, both_gone, brought_by, brought_here, brought_in, brought_to, confirmed_at, confirmed_by, confirmed_in, confirmed_of, gone, gone_by, only_accepted, gone_by_message, gone_by_new, gone_by_release, gone_by_tick, gone_by_word, gone_that, nothing_gone, taken_in, users_that, takes_leave_user_messages, user_messages_are_conserved, apply, handle_event, changeover_of, Carrying, accept, act_by_data, carries, carry, empty_data, handle_by, message_data, numbers, read, receive_data, Activated, CameUp, Deactivated, FrameCame, Happening, Submitted, Ticked, TitleAdded, TitleRemoved, WentDown, AreLinksSteady, IsSteady, is_l7_running, accept_data, accept_frame, accept_text, down, in_service, is_link, link_at, is_adjacent, local, manage, testing, deliver_to, submit, whither_goes, may_open, open_link, WholeQueues, queue_at, whole, new_at, new_by, new_in, new_of, add_title_unless, title_refusal, with_titles, release, Acknowledges, Outgoing, SendsMessage, SendsNothing, SendsStatus, after_sending, goes_out, Abstract, Done, Node, answer, refuse, with_parts, advance, tell_owed, tick}
 use Rattle.std.proofs.Common.{drop}
 use Rattle.exchange_rules.proofs.Changes.{activate-stand, advance-stand, association_down-stand, deactivate-stand, either_done-stand, fail-stand, leave_aside-stand, on_link_status-stand, stands, tell_owed-stand}
 use Rattle.exchange_rules.proofs.Departing.{both-that, manage-lets, release-lets, tick-lets}
@@ -72,8 +72,8 @@ module _ (of : Message → Bool) (c : Configuration) where
       parts-of : (a b k all : ℕ) → a ≡ b → all ≡ k + b → a + k ≡ all
       parts-of a b k all e f = omega (arith, e, f)
 
-  data-that : (ms : List Message) (g : Gone) → gone_that of (both_gone (record { accepted = ms; lost = [] }) g) ≡ users_that of ms + gone_that of g
-  data-that ms g = both-that of (record { accepted = ms; lost = [] }) g ∙ ap (λ (k : ℕ). k + gone_that of g) (sym (none-more (users_that of ms)))
+  data-that : (ms : List Message) (g : Gone) → gone_that of (both_gone (only_accepted ms) g) ≡ users_that of ms + gone_that of g
+  data-that ms g = both-that of (only_accepted ms) g ∙ ap (λ (k : ℕ). k + gone_that of g) (sym (none-more (users_that of ms)))
 
   then-sum : (n m o a k l u : ℕ) → n ≡ m + k → m + a ≡ o + l → u ≡ k + l → n + a ≡ o + u
   then-sum n m o a k l u e f g = omega (arith, e, f, g)
@@ -85,7 +85,7 @@ module _ (of : Message → Bool) (c : Configuration) where
   handle-moves : (r : Result ℕ SeqFault) (link : ℕ) (d : Carrying) (n : Node WholeQueues) → Fits c n → in_service n.parts link ≡ true → numbers whole c link d n ≡ r
       → stands of n + users_that of (brought_by (new_by r d) (handle_by whole c r link d n).outcome c (accept whole c link d (count_confirmed r) n))
       ≡ stands of (handle_by whole c r link d n).left
-      + gone_that of (both_gone (record { accepted = confirmed_by r (queue_at n.queues link); lost = [] }) (gone_by_new (new_by r d) c (accept whole c link d (count_confirmed r) n)))
+      + gone_that of (both_gone (only_accepted (confirmed_by r (queue_at n.queues link))) (gone_by_new (new_by r d) c (accept whole c link d (count_confirmed r) n)))
   handle-moves (Ok count) link d n f serves e =
       let took : Node WholeQueues = accept whole c link d count n in
       let ms : List Message = confirmed_by (Ok count) (queue_at n.queues link) in
@@ -97,7 +97,7 @@ module _ (of : Message → Bool) (c : Configuration) where
   act-moves : (a : Action) (link : ℕ) (d : Carrying) (n : Node WholeQueues) → Fits c n → action_at (link_at n.parts link).alignment UserData ≡ a
       → stands of n + users_that of (brought_by (new_at a link d c n) (act_by_data whole c a link d n).outcome c (accept_data a link d c n))
       ≡ stands of (act_by_data whole c a link d n).left
-      + gone_that of (both_gone (record { accepted = confirmed_at a link d c n; lost = [] }) (gone_by_new (new_at a link d c n) c (accept_data a link d c n)))
+      + gone_that of (both_gone (only_accepted (confirmed_at a link d c n)) (gone_by_new (new_at a link d c n) c (accept_data a link d c n)))
   act-moves act.Ignored link d n f e = refl
   act-moves act.Fail link d n f e = ap (λ (k : ℕ). k + 0) (sym (fail-stand of c link reasons.Sequence n))
   act-moves (act.Go step) link d n f e =
@@ -111,7 +111,7 @@ module _ (of : Message → Bool) (c : Configuration) where
   data-moves : (link : ℕ) (d : Carrying) (n : Node WholeQueues) → Fits c n
       → stands of n + users_that of (brought_by (new_in (Some d) link c n) (receive_data whole c link d n).outcome c (accept_frame (Some d) link c n))
       ≡ stands of (receive_data whole c link d n).left
-      + gone_that of (both_gone (record { accepted = confirmed_in (Some d) link c n; lost = [] }) (gone_by_new (new_in (Some d) link c n) c (accept_frame (Some d) link c n)))
+      + gone_that of (both_gone (only_accepted (confirmed_in (Some d) link c n)) (gone_by_new (new_in (Some d) link c n) c (accept_frame (Some d) link c n)))
   data-moves link d n f = act-moves (action_at (link_at n.parts link).alignment UserData) link d n f refl
 
 -- what a frame brings and lets go, by what it reads as
@@ -125,7 +125,7 @@ module _ (of : Message → Bool) (a : Abstract) where
   frame-moves : (link : ℕ) (r : Result FrameValue FrameFault) → Fits set was
       → stands of was + users_that of (brought_by (new_of r link set was) (read whole set link r was).outcome set (accept_text link r a))
       ≡ stands of (read whole set link r was).left
-      + gone_that of (both_gone (record { accepted = confirmed_of r link set was; lost = [] }) (gone_by_new (new_of r link set was) set (accept_text link r a)))
+      + gone_that of (both_gone (only_accepted (confirmed_of r link set was)) (gone_by_new (new_of r link set was) set (accept_text link r a)))
   frame-moves link (Ok (EmptyFrame bsn fsn)) f = data-moves of set link (empty_data bsn fsn) was f
   frame-moves link (Ok (MessageFrame bsn fsn sio sif)) f = data-moves of set link (message_data bsn fsn sio sif) was f
   frame-moves link (Ok (StatusFrame bsn fsn status)) f = ap (λ (k : ℕ). k + 0) (sym (on_link_status-stand of set link status was))
@@ -137,7 +137,7 @@ module _ (of : Message → Bool) (a : Abstract) where
       + users_that of (brought_by (if is_there && not is_down then new_of r link set was else None)
       (if is_there then (if is_down then answer Ignored was else read whole set link r was) else refuse causes.NoSuchName was).outcome set (accept_text link r a))
       ≡ stands of (if is_there then (if is_down then answer Ignored was else read whole set link r was) else refuse causes.NoSuchName was).left
-      + gone_that of (both_gone (record { accepted = if is_there && not is_down then confirmed_of r link set was else []; lost = [] })
+      + gone_that of (both_gone (only_accepted (if is_there && not is_down then confirmed_of r link set was else []))
       (gone_by_new (if is_there && not is_down then new_of r link set was else None) set (accept_text link r a)))
   receive-moves false is_down link r f = refl
   receive-moves true true link r f = refl

@@ -5,7 +5,7 @@ pub use Rattle.exchange_rules.specs.Messages.{is_destination, offer, transfer, s
 pub use Rattle.exchange_rules.specs.ChangingBack.{loses_flows, code_for, declare_by, hold_flows, change_back, code_in_use, declaration, freed, on_changeback_acknowledgement, if_room, procedure_by, with_flows_held, usable, take_back, changeback_acknowledgement, late_time, late_code, is_taken_back}
 unfoldable pub use Rattle.exchange_rules.specs.ChangingBack.{take_back_each}
 pub use Rattle.exchange_rules.specs.ChangingOver.{fail_by_order, send_each, complete_if, concluded, on_changeover_order, on_changeover_timer, with_changeover_acknowledged, with_expiry, judged, lifted_parts, lose, lose_each, changeover_acknowledgement, conclude, complete_by_order, acknowledge_changeover, on_changeover_acknowledgement, has_other, begin, begin_by_peer, change_over, changing, fail, fail_by_peer, make_unavailable, changeover_of, with_changeover, changeover_order, fail_link, without_tests_if_last, timed_changeover, is_of_flow, is_failed, suspended}
-pub use Rattle.exchange_rules.specs.Conserving.{gone_that, users_that, standing, Gone, both_gone, brought_by, brought_here, brought_in, brought_to, confirmed_at, confirmed_by, confirmed_in, confirmed_of, gone, gone_by, gone_by_message, gone_by_new, gone_by_release, gone_by_tick, gone_by_word, nothing_gone, taken_in, gone_by_answer, gone_by_completion, gone_by_expiry, gone_by_order, gone_by_timer, gone_by_timers, is_stranded, answered_in, relayed_in, returned_in, unitdata_in}
+pub use Rattle.exchange_rules.specs.Conserving.{only_accepted, gone_that, users_that, standing, Gone, both_gone, brought_by, brought_here, brought_in, brought_to, confirmed_at, confirmed_by, confirmed_in, confirmed_of, gone, gone_by, gone_by_message, gone_by_new, gone_by_release, gone_by_tick, gone_by_word, nothing_gone, taken_in, gone_by_answer, gone_by_completion, gone_by_expiry, gone_by_order, gone_by_timer, gone_by_timers, is_stranded, answered_in, relayed_in, returned_in, unitdata_in}
 pub use Rattle.exchange_rules.specs.Exchange.{handle_event, settled, release, go, go_by, go_each, go_on, with_timers, run_next, tick, run_due, run_times, run_timer}
 unfoldable pub use Rattle.exchange_rules.specs.Exchange.{apply}
 pub use Rattle.exchange_rules.specs.First.{first_state, counts_in, first_parts, Abstract, AreQueues, IsSound}
@@ -15,7 +15,8 @@ pub use Rattle.exchange_rules.specs.Routing.{is_held_at, is_flow_held, waits, al
 pub use Rattle.exchange_rules.specs.Lasting.{HasAllPlaces, after_asking, after_each, AreNoted, IsWithinLimits, new_notices_are_the_last, notices_made_are_counted, notices_keep_their_limits, losses_stay, lateness_stays, tells_of_loss, tells_of_lateness, AreFlagsRaised, notices_raise_flags, unreasonable_numbers_raise_it, HasTimersFor, places_at_first, places_stay}
 pub use Rattle.exchange_rules.specs.LastingLinks.{AreLinksSteady, IsSteady, is_l7_running, links_first_steady, links_stay_steady, l7_watches}
 pub use Rattle.exchange_rules.specs.Laws.{answered_by, answered, carried_message, accept_data, accept_frame, accept_text, GivesInService, declared_in_service, queued_anew_in_service, routed_in_service, settled_in_service, refusals_leave, queued_in_service, goes_on_by, completion_leaves_others, release_keeps_order, moved_before_held}
-pub use Rattle.exchange_rules.specs.LawsOfMessages.{all_brought, all_gone, all_that_came_adds_up, brought_by_asking, gone_by_asking, takes_leave_user_messages, user_messages_are_conserved, carried_messages_have_a_fate, has_fate, submissions_have_a_fate, completions_name_what_they_lose, naming, releases_name_what_they_lose}
+pub use Rattle.exchange_rules.specs.LawsOfMessages.{all_brought, all_gone, all_that_came_adds_up, brought_by_asking, gone_by_asking, takes_leave_user_messages, user_messages_are_conserved, carried_messages_have_a_fate, has_fate, submissions_have_a_fate}
+pub use Rattle.exchange_rules.specs.LawsOfLosses.{takes_flag_nothing, naming, AreAccounted, counted, events_account_for_losses, losses_of, names_a_message, names_none, others_of, released, rules_run}
 pub use Rattle.exchange_rules.specs.LawsOfReturns.{entries_hold_changed_flows, HasReturned, HasLost, IsChosen, IsReturn, flows_return_by_their_procedures, entries_are_returns, changed_flows_are_held, returns_keep_holds}
 pub use Rattle.exchange_rules.specs.Telling.{management_to, send, send_anew, send_routed, send_on, own_sio, told_below, is_all_told, answer_no_route, answered_parts, inhibited, is_inhibited, may_tell, on_route_test, prohibit, send_route_status, tell_each, tell_if, telling, told_parts, route_message, prohibit_if, answer_route_test, tell, timed_telling}
 pub use Rattle.exchange_rules.specs.Opening.{activate, association_down, deactivate, end_association, fail_if_up, set_active, may_open, open_link, begun, association_up, with_active, without_association}

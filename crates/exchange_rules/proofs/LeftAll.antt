@@ -69,7 +69,7 @@ none-runs f e timer.L6 = either-none _ _ (both-none (f timer.L4) _ (both-none (f
 none-runs f e timer.L7 =
     either-none _ _ (both-none (f timer.L6) _ (both-none (f timer.L4) _ (both-none (f timer.L3) _ (both-none (f timer.L2) _ (both-none (f timer.L1) _ e)))))
 
-pub due-after : (r : Running) (name : TimerName) → is_due (after_due r) name ≡ true → is_due r name ≡ true
+due-after : (r : Running) (name : TimerName) → is_due (after_due r) name ≡ true → is_due r name ≡ true
 due-after r name e =
     elim (due_name r) as (λ o. due_name r ≡ o → is_due r name ≡ true) [
       | Some it ↦ λ f. due-clear it name r (sym (ap (λ (s : Running). is_due s name) (after-clear it r f)) ∙ e)

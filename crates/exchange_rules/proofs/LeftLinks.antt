@@ -48,11 +48,11 @@ module _ (l : ℕ) where
   waiting-both n m o (inr e) (inr f) = absurd (let no : false ≡ true = sym e.is ∙ f.was in cc)
 
   -- a changeover that was under way in the first part of an event, and one in the second
-  pub had-first : (n m o : Node WholeQueues) → IsLeft l m o → HadChangeover l n m → HadChangeover l n o
+  had-first : (n m o : Node WholeQueues) → IsLeft l m o → HadChangeover l n m → HadChangeover l n o
   had-first n m o f (inl was) = inl was
   had-first n m o f (inr (served, gone)) = inr (served, f.service gone)
 
-  pub had-second : (n m o : Node WholeQueues) → IsLeft l n m → IsLeft l m o → HadChangeover l m o → HadChangeover l n o
+  had-second : (n m o : Node WholeQueues) → IsLeft l n m → IsLeft l m o → HadChangeover l m o → HadChangeover l n o
   had-second n m o e f (inl was) = had-first n m o f (e.begins was)
   had-second n m o e f (inr (served, gone)) = inr (served-before (in_service n.parts l) (in_service m.parts l) e.service served, gone)
 

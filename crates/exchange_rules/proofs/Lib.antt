@@ -82,10 +82,12 @@ pub mod Moves
 pub mod Departing
 pub mod Conserved
 pub mod Naming
+pub mod QuietMessages
+pub mod QuietLinks
+pub mod NamedLosses
+pub mod NamedAll
 pub mod Counting
 pub mod AddingUp
-pub mod Flagging
-pub mod FlaggingAll
 pub mod SettingTimers
 pub mod LinkWaits
 pub mod Waiting
@@ -104,3 +106,5 @@ pub mod MadeManagement
 pub mod HeardManagement
 pub mod CarriedMessages
 pub mod RuleExamples
+pub mod ProvedFirst
+pub mod ProvedAll

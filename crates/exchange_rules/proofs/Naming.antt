@@ -1,91 +1,104 @@
--- Completions and releases name each message that they lose.
-use Rattle.exchange_rules.proofs.Basics.{Bool, List, None, Option, Some, [], ap, false, map, not, refl, sym, true, ℕ, ◌&&◌, ◌++◌, ◌∙◌, ◌∷◌, ◌≡◌, filter_agree, filter, if◌then◌else◌, is_some}
-use Rattle.exchange_rules.proofs.Definitions.{Configuration, Message, dpc_of, flow_of, Cause, LostUnconfirmed, NoRoute, Notice, complete_if, concluded, judged, lifted_parts, lose, lose_each, send_each, gone_by_completion, is_stranded, completions_name_what_they_lose, naming, releases_name_what_they_lose, noted, noted_all, waits, send, send_anew, WholeQueues, whole, go, go_by, go_each, go_on, link_of, Found, Node, Noted, Parts}
-use Rattle.exchange_rules.proofs.Departing.{go_by-strands}
-use Rattle.signalling_types.specs.declared.notice.Notice.TheVariants as notices
+-- Notices that are made one after another, and what is counted by them.
+use Rattle.exchange_rules.proofs.Basics.{Bool, List, [], ap, arith, cond, count_by, false, filter, filter-append, refl, suc, sum_by-append, sym, true, zero, ℕ, ◌+◌, ◌++◌, ◌∙◌, ◌∷◌, ◌≡◌, ◌≤◌, if◌then◌else◌}
+use Rattle.exchange_rules.proofs.Definitions.{AreAccounted, counted, names_a_message, names_none, tells_of_lateness, tells_of_loss, Notice, Noted, note, noted, noted_all, Done, Node, Parts, WholeQueues}
+use Rattle.exchange_rules.specs.State.{once_more}
 
--- ---- notices
+-- ---- counts
 
 pub named-append : (xs ys : List Notice) (kept : Noted) → noted_all (xs ++ ys) kept ≡ noted_all ys (noted_all xs kept)
 named-append [] ys kept = refl
 named-append (x ∷ xs) ys kept = named-append xs ys (noted x kept)
 
--- one message first, where a test holds
-one-named : (b : Bool) (cause : Cause) (m : Message) (ms : List Message) (kept : Noted)
-    → noted_all (map (naming cause) (if b then m ∷ ms else ms)) kept ≡ noted_all (map (naming cause) ms) (noted_all (map (naming cause) (if b then m ∷ [] else [])) kept)
-one-named true cause m ms kept = refl
-one-named false cause m ms kept = refl
+counts-append : (p : Notice → Bool) (xs ys : List Notice) → count_by p (xs ++ ys) ≡ count_by p xs + count_by p ys
+counts-append p xs ys = sum_by-append (λ x. cond (p x) 1 0) xs ys
 
--- ---- a completion
+same-count : (k j times : ℕ) → k ≡ j → counted k times ≡ counted j times
+same-count k j times e = ap (λ (x : ℕ). counted x times) e
 
-lose_each-names : (ms : List Message) (p : Parts) → (lose_each ms p).notices ≡ noted_all (map (naming LostUnconfirmed) ms) p.notices
-lose_each-names [] p = refl
-lose_each-names (m ∷ ms) p = lose_each-names ms (lose LostUnconfirmed m p)
+counted-both : (k j times : ℕ) → counted (k + j) times ≡ counted j (counted k times)
+counted-both zero j times = same-count (0 + j) j times (omega arith)
+counted-both (suc k) j times = same-count (suc k + j) (suc (k + j)) times (omega arith) ∙ counted-both k j (once_more times)
 
-judged-names : (reasonable : Bool) (link : ℕ) (p : Parts) → (lifted_parts link (judged reasonable p)).notices ≡ p.notices
-judged-names true link p = refl
-judged-names false link p = refl
+module _ (lost : List Notice) (doubts : ℕ) where
+  -- a bound may be greater
+  pub fewer : (k j : ℕ) (p r : Parts) → k ≤ j → AreAccounted lost doubts k p r → AreAccounted lost doubts j p r
+  fewer k j p r l a = record { made = a.made; noted = a.noted; names = a.names; few = omega (arith, l, a.few); times_lost = a.times_lost; times_late = a.times_late }
 
-concluded-names : (link : ℕ) (found : Found) (p : Parts) → (concluded link found p).notices ≡ noted_all (map (naming LostUnconfirmed) found.lost) p.notices
-concluded-names link found p = judged-names found.is_reasonable link (lose_each found.lost p) ∙ lose_each-names found.lost p
+  -- something before that notes nothing
+  pub after-same : (k : ℕ) (p q r : Parts) → q.notices ≡ p.notices → q.times_lost ≡ p.times_lost → q.times_late ≡ p.times_late → AreAccounted lost doubts k q r → AreAccounted lost doubts k p r
+  after-same k p q r e f g a = record {
+    made = a.made;
+    noted = a.noted ∙ ap (noted_all a.made) e;
+    names = a.names;
+    few = a.few;
+    times_lost = a.times_lost ∙ ap (counted (count_by tells_of_loss a.made + doubts)) f;
+    times_late = a.times_late ∙ ap (counted (count_by tells_of_lateness a.made)) g;
+  }
 
-module _ (c : Configuration) where
-  -- what is noted by a message that goes out again
-  abbrev Notes : (n m : Node WholeQueues) → Type 0
-  Notes n m = (others : List Notice) × (m.parts.notices ≡ noted_all others n.parts.notices)
+  pub accounted-as : (lost' : List Notice) (doubts' k j : ℕ) (p r : Parts) → lost ≡ lost' → doubts ≡ doubts' → k ≤ j → AreAccounted lost doubts k p r → AreAccounted lost' doubts' j p r
+  accounted-as lost' doubts' k j p r e f l a = record {
+    made = a.made;
+    noted = a.noted;
+    names = a.names ∙ e;
+    few = omega (arith, l, a.few);
+    times_lost = a.times_lost ∙ ap (λ (x : ℕ). counted (count_by tells_of_loss a.made + x) p.times_lost) f;
+    times_late = a.times_late;
+  }
 
-  send-notes : (link : Option ℕ) (m : Message) (n : Node WholeQueues) → Notes n (send whole c None link m n)
-  send-notes None m n = (notices.Unsent NoRoute (dpc_of m) ∷ [], refl)
-  send-notes (Some link) m n = ([], refl)
+pub both-accounted : (xs ys : List Notice) (d e k j : ℕ) (p q r : Parts) → AreAccounted xs d k p q → AreAccounted ys e j q r → AreAccounted (xs ++ ys) (d + e) (k + j) p r
+both-accounted xs ys d e k j p q r a b = record {
+  made = a.made ++ b.made;
+  noted = b.noted ∙ ap (noted_all b.made) a.noted ∙ sym (named-append a.made b.made p.notices);
+  names = filter-append names_a_message a.made b.made ∙ ap (λ (ns : List Notice). ns ++ filter names_a_message b.made) a.names ∙ ap (λ (ns : List Notice). xs ++ ns) b.names;
+  few = omega (arith, a.few, b.few, counts-append names_none a.made b.made);
+  times_lost =
+      b.times_lost ∙ ap (counted (count_by tells_of_loss b.made + e)) a.times_lost
+      ∙ sym (counted-both (count_by tells_of_loss a.made + d) (count_by tells_of_loss b.made + e) p.times_lost)
+      ∙ same-count (count_by tells_of_loss a.made + d + (count_by tells_of_loss b.made + e)) (count_by tells_of_loss (a.made ++ b.made) + (d + e)) p.times_lost
+      (omega (arith, counts-append tells_of_loss a.made b.made));
+  times_late =
+      b.times_late ∙ ap (counted (count_by tells_of_lateness b.made)) a.times_late
+      ∙ sym (counted-both (count_by tells_of_lateness a.made) (count_by tells_of_lateness b.made) p.times_late)
+      ∙ ap (λ (x : ℕ). counted x p.times_late) (sym (counts-append tells_of_lateness a.made b.made));
+}
 
-  send_each-notes : (ms : List Message) (n : Node WholeQueues) → Notes n (send_each whole c ms n)
-  send_each-notes [] n = ([], refl)
-  send_each-notes (m ∷ ms) n =
-      let one : Node WholeQueues = send_anew whole c m n in
-      let first : Notes n one = send-notes (link_of c n.parts (flow_of m)) m n in
-      let later : Notes one (send_each whole c ms one) = send_each-notes ms one in (
-        first.0 ++ later.0,
-        later.1 ∙ ap (noted_all later.0) first.1 ∙ sym (named-append first.0 later.0 n.parts.notices),
-      )
+-- ---- nothing is lost, and no number is in doubt
 
-  completion-names : (link : ℕ) (number : Option ℕ) (n : Node WholeQueues)
-      → (others : List Notice) × ((complete_if whole c true link number n).parts.notices
-      ≡ noted_all (map (naming LostUnconfirmed) (gone_by_completion true link number n.queues).lost ++ others) n.parts.notices)
-  completion-names link number n =
-      let found : Found = whole.found n.queues link number in
-      let done : Node WholeQueues = record { queues = whole.completed n.queues link number; parts = concluded link found n.parts } in
-      let sent : Notes done (send_each whole c found.queued_anew done) = send_each-notes found.queued_anew done in (
-        sent.0,
-        sent.1 ∙ ap (noted_all sent.0) (concluded-names link found n.parts) ∙ sym (named-append (map (naming LostUnconfirmed) found.lost) sent.0 n.parts.notices),
-      )
+pub record Quiet (most : ℕ) (n m : Node WholeQueues) : Type 0 where
+  pub is : AreAccounted [] 0 most n.parts m.parts
 
-  -- ---- a release
+pub same-quiet : (n m : Node WholeQueues) → m.parts.notices ≡ n.parts.notices → m.parts.times_lost ≡ n.parts.times_lost → m.parts.times_late ≡ n.parts.times_late → Quiet 0 n m
+same-quiet n m e f g = record { is = record { made = []; noted = e; names = refl; few = omega arith; times_lost = f; times_late = g } }
 
-  go_on-names : (link : Option ℕ) (m : Message) (n : Node WholeQueues)
-      → (go_on whole c link m n).parts.notices ≡ noted_all (map (naming NoRoute) (if not (is_some link) then m ∷ [] else [])) n.parts.notices
-  go_on-names (Some link) m n = refl
-  go_on-names None m n = refl
+most-one : (p : Notice → Bool) (x : Notice) → count_by p (x ∷ []) ≤ 1
+most-one p x = by (p x)
+  where
+    by : (b : Bool) → 0 + cond b 1 0 ≤ 1
+    by true = omega arith
+    by false = omega arith
 
-  go_by-names : (waiting : Bool) (m : Message) (n : Node WholeQueues)
-      → (go_by whole c waiting m n).parts.notices
-      ≡ noted_all (map (naming NoRoute) (if not waiting && not (is_some (link_of c n.parts (flow_of m))) then m ∷ [] else [])) n.parts.notices
-  go_by-names true m n = refl
-  go_by-names false m n = go_on-names (link_of c n.parts (flow_of m)) m n
+-- a notice of another kind
+pub one-quiet : (notice : Notice) (n m : Node WholeQueues) → filter names_a_message (notice ∷ []) ≡ [] → m.parts.notices ≡ (note notice n.parts).notices
+    → m.parts.times_lost ≡ counted (count_by tells_of_loss (notice ∷ []) + 0) n.parts.times_lost
+    → m.parts.times_late ≡ counted (count_by tells_of_lateness (notice ∷ [])) n.parts.times_late → Quiet 1 n m
+one-quiet notice n m e f g h = record { is = record { made = notice ∷ []; noted = f; names = e; few = most-one names_none notice; times_lost = g; times_late = h } }
 
-  go_each-names : (ms : List Message) (n : Node WholeQueues)
-      → (go_each whole c ms n).parts.notices ≡ noted_all (map (naming NoRoute) (filter (is_stranded c n.parts) ms)) n.parts.notices
-  go_each-names [] n = refl
-  go_each-names (m ∷ ms) n =
-      let one : Node WholeQueues = go whole c m n in
-      let left : Bool = is_stranded c n.parts m in
-      go_each-names ms one
-      ∙ ap (λ (xs : List Message). noted_all (map (naming NoRoute) xs) one.parts.notices)
-      (filter_agree (is_stranded c one.parts) (is_stranded c n.parts) (λ x. go_by-strands c (waits c n.parts.holds m) m x n) ms)
-      ∙ ap (noted_all (map (naming NoRoute) (filter (is_stranded c n.parts) ms))) (go_by-names (waits c n.parts.holds m) m n)
-      ∙ sym (one-named left NoRoute m (filter (is_stranded c n.parts) ms) n.parts.notices)
+pub both-quiet : (k j : ℕ) (n m o : Node WholeQueues) → Quiet k n m → Quiet j m o → Quiet (k + j) n o
+both-quiet k j n m o a b = record { is = both-accounted [] [] 0 0 k j n.parts m.parts o.parts a.is b.is }
 
-pub completions-name : completions_name_what_they_lose
-completions-name c link number n = completion-names c link number n
+pub more-quiet : (k j : ℕ) (n m : Node WholeQueues) → k ≤ j → Quiet k n m → Quiet j n m
+more-quiet k j n m l a = record { is = fewer [] 0 k j n.parts m.parts l a.is }
 
-pub releases-name : releases_name_what_they_lose
-releases-name c n = go_each-names c n.queues.held (record n { queues = whole.without_held n.queues })
+pub then-quiet : (k : ℕ) (n m o : Node WholeQueues) → m.parts.notices ≡ n.parts.notices → m.parts.times_lost ≡ n.parts.times_lost → m.parts.times_late ≡ n.parts.times_late → Quiet k m o → Quiet k n o
+then-quiet k n m o e f g a = record { is = after-same [] 0 k n.parts m.parts o.parts e f g a.is }
+
+pub any-quiet : (k : ℕ) (n : Node WholeQueues) → Quiet k n n
+any-quiet k n = more-quiet 0 k n n (omega arith) (same-quiet n n refl refl refl)
+
+pub either-quiet : (k : ℕ) (b : Bool) (o n m : Node WholeQueues) → Quiet k o n → Quiet k o m → Quiet k o (if b then n else m)
+either-quiet k true o n m e f = e
+either-quiet k false o n m e f = f
+
+pub either_done-quiet : (k : ℕ) (b : Bool) (o : Node WholeQueues) (d e : Done WholeQueues) → Quiet k o d.left → Quiet k o e.left → Quiet k o (if b then d else e).left
+either_done-quiet k true o d e f g = f
+either_done-quiet k false o d e f g = g

@@ -45,6 +45,14 @@ unfolding choice_among link_by first_sets links_below
 message_goes_on =
     ap (λ (b : Bool). (queue_at (go_by whole settings b message (node_with nothing_held the_routes [] [])).queues 0).all) goes-on
 
+-- ---- a message for another point
+
+pub queued_message_is_on_its_link : examples.queued_message_is_on_its_link
+queued_message_is_on_its_link = (refl, refl)
+
+pub refused_message_is_on_none : examples.refused_message_is_on_none
+refused_message_is_on_none = (refl, refl)
+
 -- ---- a failure
 
 pub failure_holds_the_flow : examples.failure_holds_the_flow

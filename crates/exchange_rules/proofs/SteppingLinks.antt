@@ -53,12 +53,16 @@ returned-links : (entered : Bool) (c : Configuration) (link : ℕ) (before : Fac
 returned-links true c link before n = (take_back_each-alike whole c before (facts c n.parts) link (length c.links) n).links
 returned-links false c link before n = refl
 
+pub advance-at : (c : Configuration) (link : ℕ) (input : Input) (step : Transition) (n : Node WholeQueues) → action_at (link_at n.parts link).alignment input ≡ act.Go step
+    → (link_at (advance whole c link step n).parts link).alignment ≡ step.state
+advance-at c link input step n e =
+    ap (λ (links : List Link). (link_in links link).alignment)
+    (returned-links (enters link step n.parts) c link (facts c n.parts) (with_parts n (moved_on c link step n.parts)))
+    ∙ ap (λ (l : Link). l.alignment) (moved-at c link link step n.parts ∙ stepped-at c link step n.parts (stepping-there n.parts link input step e))
+
 pub advance-serves : (c : Configuration) (link : ℕ) (input : Input) (step : Transition) (n : Node WholeQueues) → action_at (link_at n.parts link).alignment input ≡ act.Go step
     → in_service (advance whole c link step n).parts link ≡ is_in_service step.state
-advance-serves c link input step n e =
-    ap (λ (links : List Link). is_in_service (link_in links link).alignment)
-    (returned-links (enters link step n.parts) c link (facts c n.parts) (with_parts n (moved_on c link step n.parts)))
-    ∙ ap (λ (l : Link). is_in_service l.alignment) (moved-at c link link step n.parts ∙ stepped-at c link step n.parts (stepping-there n.parts link input step e))
+advance-serves c link input step n e = ap is_in_service (advance-at c link input step n e)
 
 -- a link that fails is down
 failed-down : (c : Configuration) (link : ℕ) (why : FailureReason) (n : Node WholeQueues) → down (fail whole c link why n).parts link ≡ true

@@ -1,5 +1,5 @@
--- Each link has the timer of its state, over every event and every take: laws (Q.703 §7, §12.3).
-use Rattle.std.specs.Prelude.{◌≡◌, ◌≤◌, ◌&&◌, ◌==◌, ℕ, Bool, true, false, length, List, Option, Some, None}
+-- Each link has the timer of its state, and is proved before it enters service: laws (Q.703 §7, §12.3).
+use Rattle.std.specs.Prelude.{◌≡◌, ◌≢◌, ◌⊎◌, ◌≤◌, ◌&&◌, ◌==◌, ℕ, Bool, true, false, length, List, Option, Some, None}
 use Rattle.settings_rows.specs.Configuration.{Configuration}
 use Rattle.signalling_types.specs.declared.limits.TheConstants.Limits.{LINKS}
 use Rattle.link.specs.declared.alignment.Alignment.{Alignment}
@@ -9,10 +9,12 @@ use Rattle.link.specs.declared.action.LinkTimer.TheVariants.{L1, L2, L3, L4, L6,
 use Rattle.link.specs.Table.{timer_number}
 use Rattle.timers.specs.Timers.{Running, is_running}
 use Rattle.node_links.specs.NodeLinks.{Link, is_in_service}
-use Rattle.exchange_rules.specs.State.{Asking, link_at}
+use Rattle.exchange_rules.specs.State.{Asking, FrameCame, Happening, Parts, Ticked, link_at}
 use Rattle.exchange_rules.specs.Timing.{timer_name}
 use Rattle.exchange_rules.specs.Lasting.{after_each}
-use Rattle.exchange_rules.specs.First.{first_state}
+use Rattle.exchange_rules.specs.Exchange.{after}
+use Rattle.exchange_rules.specs.Queues.{whole}
+use Rattle.exchange_rules.specs.First.{Abstract, first_state}
 
 -- the timer with which a link waits in a state: L2 for its peer to align, L3 to be proved, L4 while it is proved, and
 -- L1 for its peer to be ready
@@ -50,3 +52,24 @@ links_have_their_timers =
     (c : Configuration) (asked : List Asking) (link : ℕ) → length c.links ≤ LINKS →
     HasItsTimer link (link_at (after_each asked (first_state c)).node.parts link)
     (after_each asked (first_state c)).node.parts.timers
+
+-- ---- a link is proved before it enters service
+
+abbrev pub state_of : Parts → (link : ℕ) → Alignment
+state_of p link = (link_at p link).alignment
+
+-- a frame came by the link
+abbrev pub IsFrameOf : (link : ℕ) → Happening → Type 0
+IsFrameOf link what = (text : List ℕ) × (what ≡ FrameCame link text)
+
+-- By an event a link enters service only at a tick, when it was being proved and its peer was ready, or by a frame, when
+-- its proving had ended. And its proving ends only at a tick.
+pub record IsProvedFirst (what : Happening) (link : ℕ) (before after : Alignment) : Type 0 where
+  pub enters : after ≡ InService → before ≢ InService →
+      ((what ≡ Ticked) × (before ≡ Proving true)) ⊎ (IsFrameOf link what × (before ≡ AlignedReady))
+  pub ends : after ≡ AlignedReady → before ≢ AlignedReady → (what ≡ Ticked) × (before ≡ Proving false)
+
+abbrev pub links_are_proved_first : Type 0
+links_are_proved_first =
+    (what : Happening) (a : Abstract) (link : ℕ) →
+    IsProvedFirst what link (state_of a.node.parts link) (state_of (after whole what a).node.parts link)

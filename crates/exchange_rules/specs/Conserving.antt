@@ -26,7 +26,7 @@ use Rattle.exchange_rules.specs.Messages.{transfer, is_adjacent, link_with_code,
 use Rattle.exchange_rules.specs.ChangingOver.{fail_by_order, changeover_of}
 use Rattle.exchange_rules.specs.Exchange.{handle_event, outcome_of, run_next, with_timers}
 use Rattle.exchange_rules.specs.Frames.{Carrying, data_of, numbers, advance}
-use Rattle.exchange_rules.specs.State.{FrameCame, Happening, Submitted, Ticked, down, is_link, link_at, Node, Parts}
+use Rattle.exchange_rules.specs.State.{FrameCame, Happening, Submitted, Ticked, down, is_link, link_at, Found, Node, Parts}
 use Rattle.exchange_rules.specs.Routing.{waits, link_of}
 use Rattle.exchange_rules.specs.Laws.{accept_text}
 use Rattle.exchange_rules.specs.Queues.{WholeQueues, queue_at, whole}
@@ -110,16 +110,28 @@ brought_in what a = []
 
 -- ---- what goes for good
 
--- the messages that the peer accepted, and those that are named as lost
 pub record Gone : Type 0 where
+  -- the messages that the peer accepted, and those that are named as lost
   pub accepted : List Message
   pub lost : List Message
+  -- the management messages that a completion queues anew on other links
+  pub queued_anew : List Message
+  -- how many completions had no reasonable number
+  pub doubts : ℕ
+
+abbrev pub only_accepted : List Message → Gone
+only_accepted ms = record { accepted = ms; lost = []; queued_anew = []; doubts = 0 }
 
 abbrev pub nothing_gone : Gone
-nothing_gone = record { accepted = []; lost = [] }
+nothing_gone = only_accepted []
 
 abbrev pub both_gone : Gone → Gone → Gone
-both_gone one other = record { accepted = one.accepted ++ other.accepted; lost = one.lost ++ other.lost }
+both_gone one other = record {
+  accepted = one.accepted ++ other.accepted;
+  lost = one.lost ++ other.lost;
+  queued_anew = one.queued_anew ++ other.queued_anew;
+  doubts = one.doubts + other.doubts;
+}
 
 -- the oldest messages of a queue, as many as the numbers of User Data confirm
 abbrev pub confirmed_by : Result ℕ SeqFault → Queue → List Message
@@ -154,9 +166,12 @@ confirmed link text a =
 abbrev pub gone_by_completion : (incomplete : Bool) → ℕ → Option ℕ → WholeQueues → Gone
 gone_by_completion true link number queues =
     let q : Queue = queue_at queues link in
+    let found : Found = whole.found queues link number in
     record {
       accepted = take (count_in_the_end q (accepted_count q number) - q.confirmed) (unconfirmed q);
-      lost = (whole.found queues link number).lost;
+      lost = found.lost;
+      queued_anew = found.queued_anew;
+      doubts = if found.is_reasonable then 0 else 1;
     }
 gone_by_completion false link number queues = nothing_gone
 
@@ -231,7 +246,7 @@ gone_by_tick c node =
 -- by an event, before the release at its end
 abbrev pub gone_by : Happening → Abstract → Gone
 gone_by (FrameCame link text) a =
-    both_gone (record { accepted = confirmed link text a; lost = [] })
+    both_gone (only_accepted (confirmed link text a))
     (gone_by_new (new_message link text a) a.settings (accept_text link (read_frame text) a))
 gone_by Ticked a = gone_by_tick a.settings a.node
 gone_by what a = nothing_gone
@@ -242,7 +257,7 @@ is_stranded c p m = not (waits c p.holds m) && not (is_some (link_of c p (flow_o
 
 abbrev pub gone_by_release : Configuration → Node WholeQueues → Gone
 gone_by_release c node =
-    record { accepted = []; lost = filter (is_stranded c node.parts) node.queues.held }
+    record nothing_gone { lost = filter (is_stranded c node.parts) node.queues.held }
 
 abbrev pub gone : Happening → Abstract → Gone
 gone what a =

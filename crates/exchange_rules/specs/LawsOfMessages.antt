@@ -1,23 +1,18 @@
 -- User messages are conserved: laws.
-use Rattle.std.specs.Prelude.{Bool, List, Option, Some, [], false, length, map, true, ℕ, ◌++◌, ◌+◌, ◌∷◌, ◌≡◌, ◌≤◌}
+use Rattle.std.specs.Prelude.{Bool, List, Some, [], false, length, true, ℕ, ◌++◌, ◌+◌, ◌∷◌, ◌≡◌, ◌≤◌}
 use Rattle.settings_rows.specs.Configuration.{Configuration}
-use Rattle.signalling_types.specs.Message.{Message, flow_of, is_management}
-use Rattle.signalling_types.specs.declared.cause.Cause.{Cause}
-use Rattle.signalling_types.specs.declared.cause.Cause.TheVariants.{LostUnconfirmed, NoRoute}
+use Rattle.signalling_types.specs.Message.{Message, is_management}
 use Rattle.signalling_types.specs.declared.limits.TheConstants.Limits.{LINKS, WINDOW}
-use Rattle.signalling_types.specs.declared.notice.Notice.{Notice}
-use Rattle.signalling_types.specs.declared.notice.Notice.TheVariants as notices
 use Rattle.signalling_types.specs.declared.outcome.Outcome.{Outcome}
 use Rattle.signalling_types.specs.declared.outcome.Outcome.TheVariants.{Handled, Held, Ignored, Local, Queued, Refused}
-use Rattle.exchange_rules.specs.ChangingOver.{complete_if}
-use Rattle.exchange_rules.specs.Exchange.{after, outcome_of, taken, release}
+use Rattle.exchange_rules.specs.Exchange.{after, outcome_of, taken}
 use Rattle.exchange_rules.specs.First.{first_state, Abstract}
-use Rattle.exchange_rules.specs.State.{Asking, AsksWants, Happens, Takes, FrameCame, Happening, Submitted, noted_all, Node}
+use Rattle.exchange_rules.specs.State.{Asking, AsksWants, Happens, Takes, FrameCame, Happening, Submitted}
 use Rattle.exchange_rules.specs.Lasting.{HasAllPlaces, after_asking, after_each}
 use Rattle.exchange_rules.specs.LastingLinks.{AreLinksSteady}
-use Rattle.exchange_rules.specs.Queues.{WholeQueues, whole}
+use Rattle.exchange_rules.specs.Queues.{whole}
 use Rattle.exchange_rules.specs.Receiving.{new_message}
-use Rattle.exchange_rules.specs.Conserving.{Gone, both_gone, brought_in, gone, gone_by_completion, gone_by_release, gone_that, nothing_gone, standing, users_that}
+use Rattle.exchange_rules.specs.Conserving.{Gone, both_gone, brought_in, gone, gone_that, nothing_gone, standing, users_that}
 
 -- By any test: of the user messages that were there before an event or came by it, as many as are there after it, were
 -- accepted by a peer, or are named as lost; none is doubled, and none is gone in any other way
@@ -81,24 +76,3 @@ all_that_came_adds_up =
     (c : Configuration) (asked : List Asking) (of : Message → Bool) → length c.links ≤ LINKS → c.window ≤ WINDOW →
     users_that of (all_brought asked (first_state c))
     ≡ standing of (after_each asked (first_state c)).node.queues + gone_that of (all_gone asked (first_state c))
-
--- ---- what is lost is named
-
--- the notice that names a message as lost
-abbrev pub naming : Cause → Message → Notice
-naming cause m = notices.Lost cause (flow_of m).point (flow_of m).sls
-
--- a completion names each message that it loses, and then management that finds no link
-abbrev pub completions_name_what_they_lose : Type 0
-completions_name_what_they_lose =
-    (c : Configuration) (link : ℕ) (number : Option ℕ) (node : Node WholeQueues) →
-    (others : List Notice) × ((complete_if whole c true link number node).parts.notices
-    ≡ noted_all (map (naming LostUnconfirmed) (gone_by_completion true link number node.queues).lost ++ others)
-    node.parts.notices)
-
--- a release names each message that it loses, and notes nothing else
-abbrev pub releases_name_what_they_lose : Type 0
-releases_name_what_they_lose =
-    (c : Configuration) (node : Node WholeQueues) →
-    (release whole c node).parts.notices
-    ≡ noted_all (map (naming NoRoute) (gone_by_release c node).lost) node.parts.notices

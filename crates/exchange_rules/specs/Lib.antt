@@ -22,7 +22,6 @@ pub mod LastingLinks
 pub mod LastingHolds
 pub mod TickingAlone
 pub mod Touching
-pub mod Flagging
 pub mod TimerSettings
 pub mod Aligning
 pub mod Testing
@@ -32,4 +31,5 @@ pub mod LoneRoutes
 pub mod Receiving
 pub mod Conserving
 pub mod LawsOfMessages
+pub mod LawsOfLosses
 pub mod RuleExamples

@@ -1,6 +1,9 @@
 -- Laws of the exchange at nodes of one link: wrong definitions make them false here.
-use Rattle.std.specs.Prelude.{◌≡◌, Bool, true, false, List, [], ◌∷◌, None, Some}
+use Rattle.std.specs.Prelude.{◌≡◌, Bool, true, false, List, [], ◌∷◌, Option, None, Some}
 use Rattle.signalling_types.specs.Message.{Message}
+use Rattle.signalling_types.specs.declared.cause.Cause.{Cause}
+use Rattle.signalling_types.specs.declared.cause.Cause.TheVariants.{PoolFull}
+use Rattle.signalling_types.specs.declared.outcome.Outcome.TheVariants.{Queued, Refused}
 use Rattle.signalling_types.specs.declared.notice.FailureReason.TheVariants as reasons
 use Rattle.signalling_types.specs.declared.notice.Notice.TheVariants.{Failed}
 use Rattle.settings_rows.specs.Configuration.{Configuration}
@@ -15,10 +18,11 @@ use Rattle.timers.specs.Timers.{Running, is_running}
 use Rattle.routes.specs.Routes.{Facts, first_route}
 use Rattle.flow_hold.specs.declared.procedure.Procedure.TheVariants.{Changeover, Time}
 use Rattle.flow_hold.specs.Holds.{HoldSet, no_holds, holds, with_hold}
-use Rattle.exchange_rules.specs.State.{lost_any, late_any, Node, Noted, with_node, with_parts, flagged, made_since, noted, Happens, CameUp}
+use Rattle.exchange_rules.specs.State.{lost_any, late_any, Done, Node, Noted, with_node, with_parts, flagged, made_since, noted, Happens, CameUp}
 use Rattle.exchange_rules.specs.Queues.{WholeQueues, queue_at, whole}
 use Rattle.exchange_rules.specs.First.{Abstract, first_parts, first_state}
 use Rattle.exchange_rules.specs.Routing.{waits}
+use Rattle.exchange_rules.specs.Messages.{offer}
 use Rattle.exchange_rules.specs.ChangingOver.{complete_if, fail}
 use Rattle.exchange_rules.specs.ChangingBack.{code_in_use, hold_flows}
 use Rattle.exchange_rules.specs.Rerouting.{forced}
@@ -131,6 +135,22 @@ abbrev pub message_goes_on : Type 0
 message_goes_on =
     (queue_at (release whole settings (node_with nothing_held the_routes (message ∷ []) [])).queues 0).all
     ≡ message ∷ []
+
+-- ---- a message for another point
+
+-- if it is queued, it is on its link
+abbrev pub offered : Option Cause → Done WholeQueues
+offered room = offer whole settings room false (Some 0) None message (node_with nothing_held the_routes [] [])
+
+abbrev pub queued_message_is_on_its_link : Type 0
+queued_message_is_on_its_link =
+    ((offered None).outcome ≡ Queued 0) × ((queue_at (offered None).left.queues 0).all ≡ message ∷ [])
+
+-- if it is refused, it is on none
+abbrev pub refused_message_is_on_none : Type 0
+refused_message_is_on_none =
+    ((offered (Some PoolFull)).outcome ≡ Refused PoolFull)
+    × ((queue_at (offered (Some PoolFull)).left.queues 0).all ≡ [])
 
 -- ---- a failure
 

@@ -16,17 +16,15 @@ ghost use Rattle.exchange_rules.specs.Receiving.{received_is_counted, takes_rece
 ghost use Rattle.exchange_rules.specs.LawsOfMessages.{user_messages_are_conserved, takes_leave_user_messages};
 ghost use Rattle.exchange_rules.specs.LawsOfMessages.{all_that_came_adds_up};
 ghost use Rattle.exchange_rules.specs.LawsOfMessages.{carried_messages_have_a_fate, submissions_have_a_fate};
-ghost use Rattle.exchange_rules.specs.LawsOfMessages.{completions_name_what_they_lose, releases_name_what_they_lose};
+ghost use Rattle.exchange_rules.specs.LawsOfLosses.{events_account_for_losses, takes_flag_nothing};
 ghost use Rattle.exchange_rules.specs.Lasting.{places_at_first, places_stay};
 ghost use Rattle.exchange_rules.specs.Lasting.{no_flag_at_first, losses_stay, lateness_stays};
 ghost use Rattle.exchange_rules.specs.Lasting.{notices_raise_flags, unreasonable_numbers_raise_it};
 ghost use Rattle.exchange_rules.specs.Lasting.{notices_made_are_counted, new_notices_are_the_last};
 ghost use Rattle.exchange_rules.specs.Lasting.{notices_keep_their_limits};
-ghost use Rattle.exchange_rules.specs.Flagging.{events_flag_for_a_reason, completions_flag_for_a_reason};
-ghost use Rattle.exchange_rules.specs.Flagging.{takes_flag_nothing};
 ghost use Rattle.exchange_rules.specs.TimerSettings.{events_set_timers_to_their_settings, timers_keep_their_settings};
 ghost use Rattle.exchange_rules.specs.TimerSettings.{takes_set_timers_to_their_settings};
-ghost use Rattle.exchange_rules.specs.Aligning.{links_have_their_timers};
+ghost use Rattle.exchange_rules.specs.Aligning.{links_are_proved_first, links_have_their_timers};
 ghost use Rattle.exchange_rules.specs.Testing.{unsure_routes_are_tested, tests_are_repeated};
 ghost use Rattle.exchange_rules.specs.LawsOfFailures.{failures_hold_their_flows, failures_by_peer_hold_their_flows};
 ghost use Rattle.exchange_rules.specs.LawsOfFailures.{idle_failures_hold_nothing, idle_failures_by_peer_hold_nothing};
@@ -159,17 +157,6 @@ pub fn flags_never_fall()
     ensures number { unreasonable_numbers_raise_it }
 {}
 
-/// Flags rise only for a reason. Of each lateness that an event counts a notice tells that it makes, and so it is of
-/// each loss, unless by the event an association comes up, a frame comes or a link timer runs out, a changeover was
-/// incomplete, or a link fails. How many losses no notice tells of then is said of a completion alone: one where it has
-/// no reasonable number, and else none. A take counts neither. So a submission, an order or a tick at which no link
-/// timer runs out raises a flag only with its notice, while all changeovers are complete.
-pub fn flags_rise_for_a_reason()
-    ensures event { events_flag_for_a_reason }
-    ensures completion { completions_flag_for_a_reason }
-    ensures take { takes_flag_nothing }
-{}
-
 /// Each link is steady, at first, and whatever happens and whatever is taken: its counts are in order, it is down while
 /// it has no association or its changeover isn't complete, and out of service messages stand in its queue only until
 /// its changeover is complete. L7 of it runs exactly while it is in service, its peer isn't busy, and something that
@@ -186,6 +173,13 @@ pub fn links_stay_steady()
 /// state.
 pub fn links_have_the_timers_of_their_states()
     ensures { links_have_their_timers }
+{}
+
+/// A link is proved before it enters service (Q.703 §7). By an event it enters service only at a tick, as its proving
+/// ends and its peer is ready; or, once its proving has ended, by a frame that comes by it. Its proving ends only at a
+/// tick.
+pub fn links_are_proved_before_they_enter_service()
+    ensures { links_are_proved_first }
 {}
 
 /// Every hold has its timer or its word, whatever happens and whatever is taken. The changeover that holds a flow isn't
@@ -288,9 +282,12 @@ pub fn user_messages_are_conserved()
     ensures always { all_that_came_adds_up }
 {}
 
-/// What is lost is named: a completion notes each message that it loses, and a release each that has no route any more,
-/// and each once, in order.
+/// What is lost is named, and flags rise only for a reason. Of every event the notices that name a user message as lost
+/// are those of what it loses, in order, and no others: what its completions leave in doubt, then what its release finds
+/// without a route. It counts a possible loss for each of its notices that tells of one (Lost, Unsent, Expired of T2) and
+/// for each completion without a reasonable number, and no other; and a possible lateness for each notice of one (Late).
+/// How many notices of other kinds it makes has a bound. A take counts neither.
 pub fn what_is_lost_is_named()
-    ensures completion { completions_name_what_they_lose }
-    ensures release { releases_name_what_they_lose }
+    ensures event { events_account_for_losses }
+    ensures take { takes_flag_nothing }
 {}

@@ -19,7 +19,7 @@ use Rattle.sccp_codec.specs.declared.address.Routing.TheVariants.{Title, Ssn}
 use Rattle.sccp_codec.specs.Messages.{AddressValue, AreOctets, IsAddressValue, PartsValue, UnitdataValue, UdtValue, UdtsValue, IsPartsValue, IsUnitdataValue, kind_of, second_of, parts_of, spelled, read_unitdata}
 use Rattle.sccp_codec.specs.Titles.{TitleValue, read_title}
 use Rattle.sccp_codec.proofs.MessageTexts.{is_unitdata-read, read_unitdata-field}
-use Rattle.sccp_relay.specs.Led.{SameTitle, IsLed, IsSeenFrom, IsSent, GoesOn, IsReturned, AreInRange, what_goes_on_reads_back, a_udts_returns_a_udt}
+use Rattle.sccp_relay.specs.Led.{SameTitle, IsLed, IsSeenFrom, IsSent, GoesOn, GoesBack, IsReturned, AreInRange, what_goes_on_reads_back, a_udts_returns_a_udt}
 use Rattle.sccp_relay.specs.Relay.{OwnValue, RelayedValue, Delivered, Onward, Refused, relay, relay_read, relay_by_routing, relay_by_row, row_of, row_of_title, translated, from_point, ssn_by, label_to, written, is_writable, onward, with_new_parts, led_on, is_equipped, is_connectionless, return_cause, return_to, return_by, return_by_row, return_read, returned, sent_back, led_back, translation, or_refusal}
 use Rattle.sccp_relay.specs.Ways.{IsRow, IsRoute}
 use Rattle.sccp_relay.proofs.LongestRow.{is_translation-longest}
@@ -240,7 +240,7 @@ record Returns (own : OwnValue) (rows : List TitleEntry) (label : Label) (number
   pub writes : written point own.point label (UdtsValue number goes) ≡ Some field
   pub calling : goes.calling ≡ came.called
   pub called : SameTitle came.calling goes.called
-  pub by_number : came.calling.routing ≡ Ssn → goes.called ≡ came.calling
+  pub back : GoesBack rows label.opc came.calling point goes.called
   pub carried : goes.data ≡ came.data
 
 otherwise : (b : Bool) (text : Option (List ℕ)) (field : List ℕ) → cond b None text ≡ Some field → (b ≡ false) × (text ≡ Some field)
@@ -251,11 +251,11 @@ in-case : (b : Bool) (text : Option (List ℕ)) (field : List ℕ) → cond b te
 in-case true text field e = (refl, e)
 in-case false text field e = absurd cc
 
-record GoesBack (own : ℕ) (label : Label) (point : ℕ) (udts : UnitdataValue) (field : List ℕ) : Type 0 where
+record IsWritten (own : ℕ) (label : Label) (point : ℕ) (udts : UnitdataValue) (field : List ℕ) : Type 0 where
   pub elsewhere : point ≢ own
   pub writes : written point own label udts ≡ Some field
 
-goes-back : (own : ℕ) (label : Label) (point : ℕ) (udts : UnitdataValue) (field : List ℕ) → return_to own label point udts ≡ Some field → GoesBack own label point udts field
+goes-back : (own : ℕ) (label : Label) (point : ℕ) (udts : UnitdataValue) (field : List ℕ) → return_to own label point udts ≡ Some field → IsWritten own label point udts field
 goes-back own label point udts field e =
     let r = otherwise (nat_eq point own) (written point own label udts) field e in
     record { elsewhere = λ same. absurd (let yes = eq-eqb point own same in let no = r.0 in cc); writes = r.1 }
@@ -279,7 +279,7 @@ row-returns own rows label number came (Ok row) field t all h f e =
       writes = b.writes;
       calling = refl;
       called = (translated-led row came.calling).kept;
-      by_number = λ s. absurd cc;
+      back = record { by_number = λ s. absurd cc; by_title = λ s. (row, f, refl, translated-led row came.calling) };
       carried = refl;
     }
 
@@ -297,7 +297,7 @@ routing-returns Ssn own rows label number came field r l all h e =
       writes = b.writes;
       calling = refl;
       called = record { national = refl; title_indicator = refl; title = refl };
-      by_number = λ s. refl;
+      back = record { by_number = λ s. (refl, refl); by_title = λ s. absurd cc };
       carried = refl;
     }
 
@@ -322,7 +322,7 @@ read-returns own rows label (Some number) (Ok (UdtValue class_octet came)) field
     record { class_octet = class_octet; came = came; number = number; reads = refl; asks = eqb-true (class_octet / 16) 8 r.0; has = refl; returns = r.1 }
 
 is-returned : (own : OwnValue) (rows : List TitleEntry) (sif : List ℕ) (cause : Cause) (field : List ℕ) → AreInRange own rows → AreOctets (drop 4 sif)
-    → ReadsAndReturns own rows (label_at sif) (return_cause cause) (read_unitdata (drop 4 sif)) field → IsReturned own sif cause field
+    → ReadsAndReturns own rows (label_at sif) (return_cause cause) (read_unitdata (drop 4 sif)) field → IsReturned own rows sif cause field
 is-returned own rows sif cause field range octets r =
     let came = is_unitdata-read (drop 4 sif) (UdtValue r.class_octet r.came) octets r.reads in
     let h : IsPartsValue r.came = record { called = came.called.address.value; calling = came.calling.address.value } in
@@ -340,7 +340,7 @@ is-returned own rows sif cause field range octets r =
       reads_back = w.back;
       calling = b.calling;
       called = b.called;
-      by_number = b.by_number;
+      back = subst (λ (point : ℕ). GoesBack rows (label_at sif).opc r.came.calling point b.goes.called) (sym (ap (λ (label : Label). label.dpc) w.labelled)) b.back;
       carried = b.carried;
     }
 

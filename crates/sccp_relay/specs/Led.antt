@@ -1,5 +1,5 @@
 -- What goes on, and what is returned, as it reads where it arrives: laws (Q.714 §2.3, §2.4, §4.2).
-use Rattle.std.specs.Prelude.{◌≡◌, ◌≢◌, ℕ, ◌/◌, ◌<◌, ◌^◌, All, List, drop, Some, None, Ok}
+use Rattle.std.specs.Prelude.{◌≡◌, ◌≢◌, ℕ, ◌/◌, ◌<◌, ◌^◌, All, List, drop, Some, None, Ok, unwrap_or}
 use Rattle.signalling_types.specs.declared.cause.Cause.{Cause}
 use Rattle.settings_rows.specs.Configuration.{TitleEntry}
 use Rattle.settings_rows.specs.declared.title_row.TitleRoute.TheVariants as route
@@ -54,8 +54,17 @@ pub record GoesOn (own : OwnValue) (rows : List TitleEntry) (sif field : List �
   pub calling : IsSeenFrom (label_at sif).opc (parts_of came).calling (parts_of goes).calling
   pub carried : (parts_of goes).data ≡ (parts_of came).data
 
+-- to which point a message goes back, and how its called address reads there: to an address by subsystem number, the
+-- point that this names, and without one the point that the message came from; to one by title, where its row leads
+pub record GoesBack (rows : List TitleEntry) (origin : ℕ) (to : AddressValue) (point : ℕ) (called : AddressValue)
+    : Type 0 where
+  pub by_number : to.routing ≡ Ssn → (point ≡ unwrap_or to.point origin) × (called ≡ to)
+  pub by_title : to.routing ≡ Title →
+      (row : TitleEntry) × (row_of rows to ≡ Ok row) × (point ≡ row.point) × IsLed row to called
+
 -- a UDT that asks for it is returned: a UDTS with the return cause, the addresses exchanged, and the data
-pub record IsReturned (own : OwnValue) (sif : List ℕ) (cause : Cause) (field : List ℕ) : Type 0 where
+pub record IsReturned (own : OwnValue) (rows : List TitleEntry) (sif : List ℕ) (cause : Cause) (field : List ℕ)
+    : Type 0 where
   pub class_octet : ℕ
   pub came : PartsValue
   pub reads : read_unitdata (drop 4 sif) ≡ Ok (UdtValue class_octet came)
@@ -67,7 +76,7 @@ pub record IsReturned (own : OwnValue) (sif : List ℕ) (cause : Cause) (field :
   pub reads_back : read_unitdata (drop 4 field) ≡ Ok (UdtsValue number goes)
   pub calling : goes.calling ≡ came.called
   pub called : SameTitle came.calling goes.called
-  pub by_number : came.calling.routing ≡ Ssn → goes.called ≡ came.calling
+  pub back : GoesBack rows (label_at sif).opc came.calling (label_at field).dpc goes.called
   pub carried : goes.data ≡ came.data
 
 -- a node whose point has 14 bits, and rows in their ranges
@@ -83,4 +92,4 @@ what_goes_on_reads_back =
 abbrev pub a_udts_returns_a_udt : Type 0
 a_udts_returns_a_udt =
     (own : OwnValue) (rows : List TitleEntry) (sif : List ℕ) (cause : Cause) (field : List ℕ) → AreInRange own rows
-    → AreOctets sif → returned own rows sif cause ≡ Some field → IsReturned own sif cause field
+    → AreOctets sif → returned own rows sif cause ≡ Some field → IsReturned own rows sif cause field

@@ -32,8 +32,9 @@ pub fn what_goes_on_reads_back()
     ensures { led.what_goes_on_reads_back }
 {}
 
-/// A UDTS returns a UDT that asked for it, and nothing else: with the addresses exchanged and the same data
-/// (Q.714 §4.2).
+/// A UDTS returns a UDT that asked for it, and nothing else: with the addresses exchanged and the same data. To an
+/// address by subsystem number it goes to the point that this names, or where the UDT came from; to one by title, where
+/// the row of the title leads (Q.714 §4.2).
 pub fn a_udts_returns_a_udt()
     ensures { led.a_udts_returns_a_udt }
 {}

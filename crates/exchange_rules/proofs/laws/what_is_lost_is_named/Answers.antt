@@ -1,8 +1,8 @@
-use Rattle.exchange_rules.proofs.Naming.{completions-name, releases-name}
+use Rattle.exchange_rules.proofs.NamedAll.{events-account, takes-flag}
 use Rattle.exchange_rules.proofs.laws.what_is_lost_is_named.Goals as goal
 
-pub returns-clause-completion : goal.returns-clause-completion
-returns-clause-completion c = completions-name
+pub returns-clause-event : goal.returns-clause-event
+returns-clause-event c = events-account
 
-pub returns-clause-release : goal.returns-clause-release
-returns-clause-release c = releases-name
+pub returns-clause-take : goal.returns-clause-take
+returns-clause-take c = takes-flag

@@ -1,0 +1,157 @@
+-- Links that fail and return lose nothing by that: how many notices each rule makes.
+use Rattle.exchange_rules.proofs.Basics.{Bool, None, Option, Some, arith, false, length, not, refl, suc, true, zero, ℕ, ◌&&◌, if◌then◌else◌}
+use Rattle.exchange_rules.proofs.Definitions.{action_at, Action, Expiry, Status, LinkTimer, Transition, LinkStatus, Facts, Configuration, FailureReason, FrameFault, Handled, Ignored, changeover_order, code_for, fail_link, links_with, timed_busy, timed_busy_ended, hold_flows, loses_flows, suspended, take_back_each, without_tests, fail_by_order, begin, begin_by_peer, change_over, changing, fail, fail_by_peer, has_other, make_unavailable, leave_aside, down, in_service, is_link, link_at, activate, association_down, deactivate, end_association, fail_if_up, set_active, set_of, WholeQueues, whole, facts, Done, Node, Parts, answer, refuse, with_parts, act_by_status, act_by_timer, advance, begun_anew_if, enters, moved_on, step_on, on_link_status, return_if, run_out, serve_status}
+use Rattle.link.specs.declared.action.Action.TheVariants as act
+use Rattle.signalling_types.specs.declared.cause.Cause.TheVariants as causes
+use Rattle.signalling_types.specs.declared.notice.FrameFault.TheVariants as faults
+use Rattle.signalling_types.specs.declared.notice.Notice.TheVariants as notices
+use Rattle.signalling_types.specs.declared.notice.FailureReason.TheVariants as reasons
+use Rattle.m2pa_codec.specs.declared.status.LinkStatus.TheVariants as says
+use Rattle.exchange_rules.proofs.Naming.{Quiet, any-quiet, both-quiet, either-quiet, either_done-quiet, more-quiet, one-quiet, same-quiet, then-quiet}
+use Rattle.exchange_rules.proofs.QuietMessages.{routed-quiet}
+
+module _ (c : Configuration) where
+  -- ---- links fail
+
+  gone-quiet : (served : Bool) (link : ℕ) (why : FailureReason) (n : Node WholeQueues) → Quiet 1 n (make_unavailable whole c served link why n)
+  gone-quiet false link why n = one-quiet (notices.Failed link why) n _ refl refl refl refl
+  gone-quiet true link why n = by (has_other c link failed)
+    where
+      failed : Parts
+      failed = fail_link link why (suspended c link (whole.unconfirmed n.queues link) n.parts)
+
+      by : (others : Bool) → Quiet 1 n (with_parts n (if others then failed else without_tests (set_of c link) failed))
+      by true = one-quiet (notices.Failed link why) n _ refl refl refl refl
+      by false = one-quiet (notices.Failed link why) n _ refl refl refl refl
+
+  begun-quiet : (ordered : Bool) (link : ℕ) (n : Node WholeQueues) → Quiet 1 n (begin whole c ordered link n)
+  begun-quiet true link n =
+      let next : Node WholeQueues = with_parts n (changing c true link n.parts) in
+      then-quiet 1 n next _ refl refl refl (routed-quiet c (changeover_order c link (whole.last_accepted n.queues link)) next)
+  begun-quiet false link n = more-quiet 0 1 n _ (omega arith) (same-quiet n _ refl refl refl)
+
+  changed-quiet : (served : Bool) (link : ℕ) (n : Node WholeQueues) → Quiet 1 n (change_over whole c served link n)
+  changed-quiet true link n = begun-quiet (has_other c link n.parts) link n
+  changed-quiet false link n = any-quiet 1 n
+
+  pub fail-quiet : (link : ℕ) (why : FailureReason) (n : Node WholeQueues) → Quiet 2 n (fail whole c link why n)
+  fail-quiet link why n =
+      let serves : Bool = in_service n.parts link in
+      let gone : Node WholeQueues = make_unavailable whole c serves link why n in
+      both-quiet 1 1 n gone _ (gone-quiet serves link why n) (changed-quiet serves link gone)
+
+  fail_if_up-quiet : (link : ℕ) (why : FailureReason) (n : Node WholeQueues) → Quiet 2 n (fail_if_up whole c link why n)
+  fail_if_up-quiet link why n = either-quiet 2 (down n.parts link) n n (fail whole c link why n) (any-quiet 2 n) (fail-quiet link why n)
+
+  begun_by_peer-quiet : (served : Bool) (link : ℕ) (n : Node WholeQueues) → Quiet 0 n (begin_by_peer whole c served link n)
+  begun_by_peer-quiet true link n = same-quiet n _ refl refl refl
+  begun_by_peer-quiet false link n = any-quiet 0 n
+
+  by_peer-quiet : (link : ℕ) (n : Node WholeQueues) → Quiet 1 n (fail_by_peer whole c link n)
+  by_peer-quiet link n =
+      let serves : Bool = in_service n.parts link in
+      let gone : Node WholeQueues = make_unavailable whole c serves link reasons.Changeover n in
+      both-quiet 1 0 n gone _ (gone-quiet serves link reasons.Changeover n) (begun_by_peer-quiet serves link gone)
+
+  pub fail_by_order-quiet : (link : ℕ) (n : Node WholeQueues) → Quiet 1 n (fail_by_order whole c link n)
+  fail_by_order-quiet link n = either-quiet 1 (down n.parts link) n n (fail_by_peer whole c link n) (any-quiet 1 n) (by_peer-quiet link n)
+
+  pub association_down-quiet : (link : ℕ) (n : Node WholeQueues) → Quiet 2 n (association_down whole c link n).left
+  association_down-quiet link n =
+      let failed : Node WholeQueues = fail_if_up whole c link reasons.Association n in
+      let ended : Done WholeQueues = answer Handled (end_association whole c link failed) in
+      either_done-quiet 2 (is_link n.parts link) n (if (link_at n.parts link).association then ended else answer Ignored n) (refuse causes.NoSuchName n)
+      (either_done-quiet 2 (link_at n.parts link).association n ended (answer Ignored n)
+      (both-quiet 2 0 n failed _ (fail_if_up-quiet link reasons.Association n) (same-quiet failed _ refl refl refl)) (any-quiet 2 n)) (any-quiet 2 n)
+
+  pub activate-quiet : (link : ℕ) (n : Node WholeQueues) → Quiet 0 n (activate whole c link n).left
+  activate-quiet link n =
+      either_done-quiet 0 (is_link n.parts link) n (answer Handled (set_active whole c true link n)) (refuse causes.NoSuchName n) (same-quiet n _ refl refl refl) (any-quiet 0 n)
+
+  pub deactivate-quiet : (link : ℕ) (n : Node WholeQueues) → Quiet 2 n (deactivate whole c link n).left
+  deactivate-quiet link n =
+      let failed : Node WholeQueues = fail_if_up whole c link reasons.Operator n in
+      either_done-quiet 2 (is_link n.parts link) n (answer Handled (set_active whole c false link failed)) (refuse causes.NoSuchName n)
+      (both-quiet 2 0 n failed _ (fail_if_up-quiet link reasons.Operator n) (same-quiet failed _ refl refl refl)) (any-quiet 2 n)
+
+  -- ---- links return
+
+  hold_flows-quiet : (before after : Facts) (code : Option ℕ) (link other : ℕ) (n : Node WholeQueues) → Quiet 0 n (hold_flows whole c before after code link other n)
+  hold_flows-quiet before after (Some code) link other n = same-quiet n _ refl refl refl
+  hold_flows-quiet before after None link other n = same-quiet n _ refl refl refl
+
+  take_back_each-quiet : (before after : Facts) (link many : ℕ) (n : Node WholeQueues) → Quiet 0 n (take_back_each whole c before after link many n)
+  unfolding take_back_each
+  take_back_each-quiet before after link zero n = any-quiet 0 n
+  take_back_each-quiet before after link (suc other) n =
+      let one : Node WholeQueues = take_back_each whole c before after link other n in
+      let code : Option ℕ = code_for whole c link other one in
+      both-quiet 0 0 n one _ (take_back_each-quiet before after link other n)
+      (either-quiet 0 (loses_flows c before after other link) one (hold_flows whole c before after code link other one) one (hold_flows-quiet before after code link other one) (any-quiet 0 one))
+
+  return-quiet : (entered : Bool) (link : ℕ) (before : Facts) (n : Node WholeQueues) → Quiet 0 n (return_if whole c entered link before n)
+  return-quiet true link before n = take_back_each-quiet before (facts c n.parts) link (length c.links) n
+  return-quiet false link before n = any-quiet 0 n
+
+  moved-quiet : (first : Bool) (link : ℕ) (step : Transition) (n : Node WholeQueues) → Quiet 0 n (with_parts n (begun_anew_if first c link (step_on c link step n.parts)))
+  moved-quiet true link step n = same-quiet n _ refl refl refl
+  moved-quiet false link step n = same-quiet n _ refl refl refl
+
+  pub advance-quiet : (link : ℕ) (step : Transition) (n : Node WholeQueues) → Quiet 0 n (advance whole c link step n)
+  advance-quiet link step n =
+      let moved : Node WholeQueues = with_parts n (moved_on c link step n.parts) in
+      both-quiet 0 0 n moved _ (moved-quiet (enters link step n.parts && not (has_other c link n.parts)) link step n)
+      (return-quiet (enters link step n.parts) link (facts c n.parts) moved)
+
+  -- ---- statuses, timers of links, and frames that can't be read
+
+  serve_status-quiet : (link : ℕ) (status : LinkStatus) (n : Node WholeQueues) → Quiet 0 n (serve_status whole c link status n)
+  serve_status-quiet link says.Busy n = by (link_at n.parts link).peer_busy
+    where
+      by : (busy : Bool) → Quiet 0 n (with_parts n (if busy then n.parts else record n.parts {
+        links = links_with n.parts link (record (link_at n.parts link) { peer_busy = true });
+        timers = timed_busy c link n.parts.timers;
+      }))
+      by true = same-quiet n _ refl refl refl
+      by false = same-quiet n _ refl refl refl
+  serve_status-quiet link says.BusyEnded n = by (link_at n.parts link).peer_busy
+    where
+      by : (busy : Bool) → Quiet 0 n (with_parts n (if busy then record n.parts {
+        links = links_with n.parts link (record (link_at n.parts link) { peer_busy = false });
+        timers = timed_busy_ended c link (whole.outstanding n.queues link) n.parts.timers;
+      } else n.parts))
+      by true = same-quiet n _ refl refl refl
+      by false = same-quiet n _ refl refl refl
+  serve_status-quiet link says.Alignment n = any-quiet 0 n
+  serve_status-quiet link says.ProvingNormal n = any-quiet 0 n
+  serve_status-quiet link says.ProvingEmergency n = any-quiet 0 n
+  serve_status-quiet link says.Ready n = any-quiet 0 n
+  serve_status-quiet link says.ProcessorOutage n = any-quiet 0 n
+  serve_status-quiet link says.ProcessorRecovered n = any-quiet 0 n
+  serve_status-quiet link says.OutOfService n = any-quiet 0 n
+
+  act_by_status-quiet : (a : Action) (link : ℕ) (status : LinkStatus) (n : Node WholeQueues) → Quiet 2 n (act_by_status whole c a link status n).left
+  act_by_status-quiet act.Ignored link status n = any-quiet 2 n
+  act_by_status-quiet act.Fail link status n = fail-quiet link reasons.Status n
+  act_by_status-quiet (act.Go step) link status n =
+      let moved : Node WholeQueues = advance whole c link step n in
+      more-quiet 0 2 n _ (omega arith)
+      (both-quiet 0 0 n moved _ (advance-quiet link step n)
+      (either-quiet 0 step.serve moved (serve_status whole c link status moved) moved (serve_status-quiet link status moved) (any-quiet 0 moved)))
+
+  pub on_link_status-quiet : (link : ℕ) (status : LinkStatus) (n : Node WholeQueues) → Quiet 2 n (on_link_status whole c link status n).left
+  on_link_status-quiet link status n = act_by_status-quiet (action_at (link_at n.parts link).alignment (Status status)) link status n
+
+  act_by_timer-quiet : (a : Action) (link : ℕ) (n : Node WholeQueues) → Quiet 2 n (act_by_timer whole c a link n)
+  act_by_timer-quiet act.Ignored link n = any-quiet 2 n
+  act_by_timer-quiet act.Fail link n = fail-quiet link reasons.Timer n
+  act_by_timer-quiet (act.Go step) link n = more-quiet 0 2 n _ (omega arith) (advance-quiet link step n)
+
+  pub run_out-quiet : (link : ℕ) (its : LinkTimer) (n : Node WholeQueues) → Quiet 2 n (run_out whole c link its n)
+  run_out-quiet link its n = act_by_timer-quiet (action_at (link_at n.parts link).alignment (Expiry its)) link n
+
+  pub leave_aside-quiet : (link : ℕ) (fault : FrameFault) (n : Node WholeQueues) → Quiet 2 n (leave_aside whole c link fault n).left
+  leave_aside-quiet link faults.Length n = fail-quiet link reasons.Length n
+  leave_aside-quiet link faults.Short n = more-quiet 1 2 n _ (omega arith) (one-quiet (notices.Frame faults.Short link) n _ refl refl refl refl)
+  leave_aside-quiet link faults.Version n = more-quiet 1 2 n _ (omega arith) (one-quiet (notices.Frame faults.Version link) n _ refl refl refl refl)
+  leave_aside-quiet link faults.Unknown n = more-quiet 1 2 n _ (omega arith) (one-quiet (notices.Frame faults.Unknown link) n _ refl refl refl refl)

@@ -1,0 +1,85 @@
+-- Each loss is among the notices of its event, and counted: laws.
+use Rattle.std.specs.Prelude.{Bool, List, count_by, false, filter, length, map, not, suc, true, zero, ℕ, ◌*◌, ◌+◌, ◌++◌, ◌≡◌, ◌≤◌}
+use Rattle.signalling_types.specs.Message.{Message, flow_of}
+use Rattle.signalling_types.specs.declared.cause.Cause.{Cause}
+use Rattle.signalling_types.specs.declared.cause.Cause.TheVariants.{LostUnconfirmed, NoRoute}
+use Rattle.signalling_types.specs.declared.notice.Notice.{Notice}
+use Rattle.signalling_types.specs.declared.notice.Notice.TheVariants as notices
+use Rattle.timers.specs.Timers.{due_count, ticked}
+use Rattle.route_management.specs.Told.{owed}
+use Rattle.exchange_rules.specs.State.{Ticked, Happening, Node, Parts, noted_all, once_more}
+use Rattle.exchange_rules.specs.Routing.{facts}
+use Rattle.exchange_rules.specs.Exchange.{after, handle_event, release, taken}
+use Rattle.exchange_rules.specs.Queues.{WholeQueues, whole}
+use Rattle.exchange_rules.specs.First.{Abstract}
+use Rattle.exchange_rules.specs.Lasting.{tells_of_lateness, tells_of_loss}
+use Rattle.exchange_rules.specs.Conserving.{gone, gone_by, gone_by_release}
+
+-- the notice that names a message as lost
+abbrev pub naming : Cause → Message → Notice
+naming cause m = notices.Lost cause (flow_of m).point (flow_of m).sls
+
+-- whether a notice names a user message as lost
+abbrev pub names_a_message : Notice → Bool
+names_a_message (notices.Lost cause point sls) = true
+names_a_message (notices.Unsent cause point) = false
+names_a_message (notices.Expired timer link) = false
+names_a_message (notices.Refused cause link) = false
+names_a_message (notices.Frame fault link) = false
+names_a_message (notices.Failed link why) = false
+names_a_message (notices.Late timer number) = false
+
+abbrev pub names_none : Notice → Bool
+names_none notice = not (names_a_message notice)
+
+-- what happened that often was counted each time
+abbrev pub counted : ℕ → (times : ℕ) → ℕ
+counted zero times = times
+counted (suc more) times = counted more (once_more times)
+
+-- Some notices were made. Those that name a message as lost are these, in order, and at most so many are of other kinds.
+-- Each possible loss of which one tells was counted, and so many more; and each possible lateness of which one tells.
+pub record AreAccounted (lost : List Notice) (doubts others : ℕ) (old new : Parts) : Type 0 where
+  pub made : List Notice
+  pub noted : new.notices ≡ noted_all made old.notices
+  pub names : filter names_a_message made ≡ lost
+  pub few : count_by names_none made ≤ others
+  pub times_lost : new.times_lost ≡ counted (count_by tells_of_loss made + doubts) old.times_lost
+  pub times_late : new.times_late ≡ counted (count_by tells_of_lateness made) old.times_late
+
+-- the node that an event leaves before it is told what adjacent points are owed
+abbrev pub released : Happening → Abstract → Node WholeQueues
+released what a = release whole a.settings (handle_event whole a.settings what a.node).left
+
+-- the notices that name what an event loses: by completions, and then by the release at its end
+abbrev pub losses_of : Happening → Abstract → List Notice
+losses_of what a =
+    map (naming LostUnconfirmed) (gone_by what a).lost
+    ++ map (naming NoRoute) (gone_by_release a.settings (handle_event whole a.settings what a.node).left).lost
+
+-- how many rules run by an event: at a tick one for each timer that is due
+abbrev pub rules_run : Happening → Parts → ℕ
+rules_run Ticked p = due_count (ticked p.timers)
+rules_run what p = 1
+
+-- how many notices of other kinds are made at most: three by each rule, one for each message that a completion queues
+-- anew, and one for each status that an adjacent point is owed
+abbrev pub others_of : Happening → Abstract → ℕ
+others_of what a =
+    length (gone_by what a).queued_anew + 3 * rules_run what a.node.parts
+    + length (owed (facts a.settings (released what a).parts) (released what a).parts.told)
+
+-- Of every event the notices that name a message as lost are those of what it loses. It counts as many losses as its
+-- notices tell of, and one more for each completion without a reasonable number.
+abbrev pub events_account_for_losses : Type 0
+events_account_for_losses =
+    (what : Happening) (a : Abstract) →
+    AreAccounted (losses_of what a) (gone what a).doubts (others_of what a) a.node.parts
+    (after whole what a).node.parts
+
+-- a take counts neither
+abbrev pub takes_flag_nothing : Type 0
+takes_flag_nothing =
+    (a : Abstract) (link : ℕ) →
+    ((taken whole a link).node.parts.times_lost ≡ a.node.parts.times_lost)
+    × ((taken whole a link).node.parts.times_late ≡ a.node.parts.times_late)
