@@ -1,4 +1,5 @@
--- Changeovers that are completed, by words of the peer and by timers, and the release: what each loses is named and counted.
+-- Changeovers that are completed, by the peer's messages and by timers, and the release: what each loses is named and
+-- counted.
 use Rattle.exchange_rules.proofs.Basics.{Bool, Err, List, None, Ok, Option, Result, Some, [], ap, append-nil, arith, false, filter, filter_agree, is_some, length, length-append, map, nat_eq, not, refl, suc, sym, true, zero, ℕ, ◌&&◌, ◌*◌, ◌+◌, ◌++◌, ◌∙◌, ◌∷◌, ◌≡◌, ◌≤◌, if◌then◌else◌}
 use Rattle.exchange_rules.proofs.Definitions.{AreAccounted, naming, LostUnconfirmed, completed, changeover_of, complete_by_order, concluded, judged, lose, lose_each, changeover_acknowledgement, changeback_acknowledgement, on_changeover_order, on_changeover_timer, with_changeover, with_changeover_acknowledged, with_expiry, complete_if, fail_by_order, read_link_test, read_management, MgmtFault, Management, ChangebackAcknowledgement, ChangebackDeclaration, EmergencyChangeoverAcknowledgement, EmergencyChangeoverOrder, ExtendedChangeoverAcknowledgement, ExtendedChangeoverOrder, RouteSetTestProhibited, RouteSetTestRestricted, TrafficRestartAllowed, TransferAllowed, TransferProhibited, TransferRestricted, Allowed, Prohibited, Restricted, Configuration, Message, flow_of, is_management, opc_of, service_indicator, ChangeoverTimer, Handled, Ignored, destination_place, set_place, after_due, due_count, due_name, ticked, TimerName, Gone, both_gone, gone_by_answer, gone_by_completion, gone_by_expiry, gone_by_message, gone_by_order, gone_by_tick, gone_by_timer, gone_by_timers, gone_by_word, is_stranded, nothing_gone, only_accepted, waits, is_link, do_acknowledgement, do_management, do_order, do_test, is_adjacent, link_with_code, local, manage, testing, deliver_to, route_about, WholeQueues, whole, go, go_by, go_each, go_on, link_of, Found, Node, Parts, Done, answer, refuse, with_parts, run_due, run_next, run_times, tick, with_timers, Discrimination}
 use Rattle.std.proofs.lemmas.List.{map-append}

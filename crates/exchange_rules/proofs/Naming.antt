@@ -1,4 +1,4 @@
--- Notices that are made one after another, and what is counted by them.
+-- Notices that are made one after another, and what they count.
 use Rattle.exchange_rules.proofs.Basics.{Bool, List, [], ap, arith, cond, count_by, false, filter, filter-append, refl, suc, sum_by-append, sym, true, zero, ℕ, ◌+◌, ◌++◌, ◌∙◌, ◌∷◌, ◌≡◌, ◌≤◌, if◌then◌else◌}
 use Rattle.exchange_rules.proofs.Definitions.{AreAccounted, counted, names_a_message, names_none, tells_of_lateness, tells_of_loss, Notice, Noted, note, noted, noted_all, Done, Node, Parts, WholeQueues}
 use Rattle.exchange_rules.specs.State.{once_more}

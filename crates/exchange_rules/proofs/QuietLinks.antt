@@ -1,4 +1,4 @@
--- Links that fail and return lose nothing by that: how many notices each rule makes.
+-- Links that fail and return lose nothing by this: how many notices each rule makes.
 use Rattle.exchange_rules.proofs.Basics.{Bool, None, Option, Some, arith, false, length, not, refl, suc, true, zero, ℕ, ◌&&◌, if◌then◌else◌}
 use Rattle.exchange_rules.proofs.Definitions.{action_at, Action, Expiry, Status, LinkTimer, Transition, LinkStatus, Facts, Configuration, FailureReason, FrameFault, Handled, Ignored, changeover_order, code_for, fail_link, links_with, timed_busy, timed_busy_ended, hold_flows, loses_flows, suspended, take_back_each, without_tests, fail_by_order, begin, begin_by_peer, change_over, changing, fail, fail_by_peer, has_other, make_unavailable, leave_aside, down, in_service, is_link, link_at, activate, association_down, deactivate, end_association, fail_if_up, set_active, set_of, WholeQueues, whole, facts, Done, Node, Parts, answer, refuse, with_parts, act_by_status, act_by_timer, advance, begun_anew_if, enters, moved_on, step_on, on_link_status, return_if, run_out, serve_status}
 use Rattle.link.specs.declared.action.Action.TheVariants as act

@@ -62,8 +62,8 @@ state_of p link = (link_at p link).alignment
 abbrev pub IsFrameOf : (link : ℕ) → Happening → Type 0
 IsFrameOf link what = (text : List ℕ) × (what ≡ FrameCame link text)
 
--- By an event a link enters service only at a tick, when it was being proved and its peer was ready, or by a frame, when
--- its proving had ended. And its proving ends only at a tick.
+-- A link enters service only at a tick, if it was being proved and its peer was ready, or by a frame, if its proving
+-- had ended. Its proving ends only at a tick.
 pub record IsProvedFirst (what : Happening) (link : ℕ) (before after : Alignment) : Type 0 where
   pub enters : after ≡ InService → before ≢ InService →
       ((what ≡ Ticked) × (before ≡ Proving true)) ⊎ (IsFrameOf link what × (before ≡ AlignedReady))

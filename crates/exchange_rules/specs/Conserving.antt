@@ -114,7 +114,7 @@ pub record Gone : Type 0 where
   -- the messages that the peer accepted, and those that are named as lost
   pub accepted : List Message
   pub lost : List Message
-  -- the management messages that a completion queues anew on other links
+  -- the management messages that a completion queues again on other links
   pub queued_anew : List Message
   -- how many completions had no reasonable number
   pub doubts : ℕ

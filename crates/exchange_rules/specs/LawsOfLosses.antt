@@ -32,13 +32,13 @@ names_a_message (notices.Late timer number) = false
 abbrev pub names_none : Notice → Bool
 names_none notice = not (names_a_message notice)
 
--- what happened that often was counted each time
+-- what happened this often was counted each time
 abbrev pub counted : ℕ → (times : ℕ) → ℕ
 counted zero times = times
 counted (suc more) times = counted more (once_more times)
 
--- Some notices were made. Those that name a message as lost are these, in order, and at most so many are of other kinds.
--- Each possible loss of which one tells was counted, and so many more; and each possible lateness of which one tells.
+-- Some notices were made. Those that name a message as lost are these, in order, and at most `others` are of other
+-- kinds. Each possible loss that one of them tells of was counted, and `doubts` more; so was each possible lateness.
 pub record AreAccounted (lost : List Notice) (doubts others : ℕ) (old new : Parts) : Type 0 where
   pub made : List Notice
   pub noted : new.notices ≡ noted_all made old.notices
@@ -51,25 +51,25 @@ pub record AreAccounted (lost : List Notice) (doubts others : ℕ) (old new : Pa
 abbrev pub released : Happening → Abstract → Node WholeQueues
 released what a = release whole a.settings (handle_event whole a.settings what a.node).left
 
--- the notices that name what an event loses: by completions, and then by the release at its end
+-- the notices that name what an event loses: first by completions, then by the release at its end
 abbrev pub losses_of : Happening → Abstract → List Notice
 losses_of what a =
     map (naming LostUnconfirmed) (gone_by what a).lost
     ++ map (naming NoRoute) (gone_by_release a.settings (handle_event whole a.settings what a.node).left).lost
 
--- how many rules run by an event: at a tick one for each timer that is due
+-- how many rules an event runs: at a tick one for each timer that is due
 abbrev pub rules_run : Happening → Parts → ℕ
 rules_run Ticked p = due_count (ticked p.timers)
 rules_run what p = 1
 
--- how many notices of other kinds are made at most: three by each rule, one for each message that a completion queues
--- anew, and one for each status that an adjacent point is owed
+-- the most notices of other kinds: three for each rule, one for each message that a completion queues again, and one
+-- for each status that an adjacent point is owed
 abbrev pub others_of : Happening → Abstract → ℕ
 others_of what a =
     length (gone_by what a).queued_anew + 3 * rules_run what a.node.parts
     + length (owed (facts a.settings (released what a).parts) (released what a).parts.told)
 
--- Of every event the notices that name a message as lost are those of what it loses. It counts as many losses as its
+-- The notices of an event that name a message as lost are those of what it loses. It counts as many losses as its
 -- notices tell of, and one more for each completion without a reasonable number.
 abbrev pub events_account_for_losses : Type 0
 events_account_for_losses =

@@ -54,8 +54,8 @@ pub record GoesOn (own : OwnValue) (rows : List TitleEntry) (sif field : List �
   pub calling : IsSeenFrom (label_at sif).opc (parts_of came).calling (parts_of goes).calling
   pub carried : (parts_of goes).data ≡ (parts_of came).data
 
--- to which point a message goes back, and how its called address reads there: to an address by subsystem number, the
--- point that this names, and without one the point that the message came from; to one by title, where its row leads
+-- The point that a message goes back to, and how its called address reads there. By subsystem number it is the point
+-- that the address names, or if there is none the point that the message came from; by title, where its row leads.
 pub record GoesBack (rows : List TitleEntry) (origin : ℕ) (to : AddressValue) (point : ℕ) (called : AddressValue)
     : Type 0 where
   pub by_number : to.routing ≡ Ssn → (point ≡ unwrap_or to.point origin) × (called ≡ to)
