@@ -16,8 +16,8 @@ use signalling_types::{Limits, LinkId, SetId, Sls};
 
 /// Which links lose flows to a link, compared with when it is out of service (Q.704 §6.2).
 ///
-/// It looks at the sets of each destination, and at its 16 flows: once for all destinations whose messages took one and
-/// the same set before and take one and the same now, and for each other destination.
+/// It looks at the sets of each destination, and at its 16 flows, unless messages to an earlier one took the same set
+/// alone, and take the same set alone now: those lose the same links.
 pub fn losing(links: &NodeLinks, link: LinkId) -> [bool; Limits::LINKS]
     requires { length links.now.links ≤ Limits.LINKS }
     ensures { (other : ℕ) → slice_index_or result other false

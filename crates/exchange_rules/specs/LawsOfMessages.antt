@@ -14,8 +14,8 @@ use Rattle.exchange_rules.specs.Queues.{whole}
 use Rattle.exchange_rules.specs.Receiving.{new_message}
 use Rattle.exchange_rules.specs.Conserving.{Gone, both_gone, brought_in, gone, gone_that, nothing_gone, standing, users_that}
 
--- By any test: of the user messages that were there before an event or came by it, as many as are there after it, were
--- accepted by a peer, or are named as lost; none is doubled, and none is gone in any other way
+-- By any test: of the user messages that were there before an event or came by it, as many are there after it, were
+-- accepted by a peer, or are named as lost. None is doubled, and none is gone in any other way
 abbrev pub user_messages_are_conserved : Type 0
 user_messages_are_conserved =
     (what : Happening) (a : Abstract) (of : Message → Bool) → HasAllPlaces a.settings a.node →

@@ -6,9 +6,9 @@ ghost use Rattle.gate_rules.specs.Promises.{runs_are_runs_of_nodes, each_message
 ghost use Rattle.gate_rules.specs.Promises.{alone_is_special};
 
 /// Whatever was done at two nodes before: each call of the gate of a link between them does what a list of steps of its
-/// node does, and that may do each of them: when a datagram or the time comes, when the gate settles, when it takes
-/// frames, and when it closes. So a gate is as careful as the promises of two nodes ask. A new gate goes with a new
-/// node.
+/// node does, each of which the node may do. A call is made when a datagram or the time comes, when the gate settles,
+/// when it takes frames, and when it closes. So a gate is as careful as the promises of two nodes ask. A new gate goes
+/// with a new node.
 pub fn calls_of_gates_are_steps()
     ensures calls { calls_are_steps }
     ensures new { new_gates_show }

@@ -1,5 +1,5 @@
-//! The sums that a pair keeps between any two steps, while no end says that a message may be lost: of any messages, as
-//! many were accepted at an end as the other received, together with those that wait.
+//! The sums that a pair keeps between any two steps, while no end says that a message may be lost. Of any messages, as
+//! many were accepted at one end as the other received, together with those that wait.
 
 ghost use Rattle.std.specs.Prelude.{true};
 ghost use Rattle.std.specs.Str.{bytes_eq};

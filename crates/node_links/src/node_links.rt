@@ -95,8 +95,8 @@ impl NodeLinks {
         self.routes.in_service_without(link)
     }
 
-    /// The link of a flow, by the number of its destination and its selection, out of the group that messages to that
-    /// destination take: of the links in service whose set they take, the one that the selection tries first (Q.704
+    /// The link of a flow, by the number of its destination and its selection. Messages to that destination take the
+    /// sets of one group. Of the links in service in these sets, it is the one that the selection tries first (Q.704
     /// §4.2).
     pub fn link_of(&self, destination: usize, sls: Sls) -> Option<LinkId>
         ensures link { result ≡ chosen_link (facts_of self.now) destination sls }

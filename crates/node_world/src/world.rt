@@ -34,9 +34,10 @@ use std::marker::Model;
 /// Two nodes, each an exchange with a gate for each of its links, and all datagrams that any gate ever put out.
 ///
 /// The network is no more than these datagrams: any of them may come to the gate at the other end of its link, at any
-/// moment, any number of times, in any order, or never. It stands for two nodes of `gate_rules` to which steps led from
-/// two new ones on (`StandsFor`): `new` makes it so, and each `step` and `call` keeps it, but one by which a datagram
-/// comes that is too old (`MayCome`). A datagram for which memory runs out isn't kept, as if the network had lost it.
+/// moment, any number of times, in any order, or never. The world stands for two nodes of `gate_rules` to which steps
+/// led from two new ones (`StandsFor`). `new` makes it so, and each `step` and `call` keeps it so, except one by which
+/// a datagram comes that is too old (`MayCome`). A datagram for which memory runs out isn't kept, as if the network had
+/// lost it.
 #[derive(Drop)]
 pub struct World {
     near: Node,

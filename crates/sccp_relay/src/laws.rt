@@ -26,8 +26,8 @@ pub fn removing_a_row_leaves_the_others()
     ensures others { removed_leaves }
 {}
 
-/// A message that goes on has the class or the return cause, the data, the selection and the title of the one that
-/// came, and its addresses read at the point of its row as they should (Q.714 §2.3, §2.4, §2.7).
+/// A message that goes on keeps the class or the return cause, the data, the selection and the title of the one that
+/// came. Its addresses read at the point of its row as they should (Q.714 §2.3, §2.4, §2.7).
 pub fn what_goes_on_reads_back()
     ensures { led.what_goes_on_reads_back }
 {}

@@ -19,18 +19,19 @@ pub fn associations_come_up_where_wanted()
     ensures { told_as_wished }
 {}
 
-/// Whatever happens: all that the user is told in an association, from Up to Down, is what a receiver tells that got
-/// the DATA that came with the tag of the packet that opened it, in that packet or later, counted from some TSN. While
-/// DATA counts that receiver is the endpoint's, the tag is the association's own, and the TSN is the peer's first.
+/// Whatever happens: what the user is told in an association, from Up to Down, is what a receiver tells. That receiver
+/// got the DATA that came, in the packet that opened the association or later, with that packet's tag, counted from
+/// some TSN. While DATA counts that receiver is the endpoint's, the tag is the association's own, and the TSN is the
+/// peer's first.
 pub fn what_is_told_was_received()
     ensures { messages_are_received }
 {}
 
-/// Whatever happens: each DATA chunk in a packet that goes out carries a message that the user gave in that
-/// association, whole, under its first TSN and the index of the message, on the stream that it was given for and under
-/// its number there. It goes to the association's peer. What isn't confirmed is what was given without its beginning,
-/// and the peer said how much that is, in the packet that opened the association or in one with its tag since. A
-/// sending half alone does so under any list of calls.
+/// Whatever happens: each DATA chunk in a packet that goes out carries a whole message that the user gave in that
+/// association. Its TSN is the first one plus the index of the message, its stream is the one that the message was
+/// given for, and its number there is the message's. It goes to the association's peer. What isn't confirmed is what
+/// was given without its beginning. The peer said how much that is, in the packet that opened the association or in one
+/// with its tag since. A sending half alone does so under any list of calls.
 pub fn what_goes_out_was_given()
     ensures sent { given_messages_are_sent }
     ensures kept { given_messages_are_kept }

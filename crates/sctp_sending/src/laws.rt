@@ -37,7 +37,7 @@ pub fn a_message_that_finds_room_goes_out_next()
 {}
 
 /// If there is room after what didn't go out yet, a message of at most 290 octets that is given goes out after it, and
-/// nothing holds any of it up: when packets are next asked for, all goes out in order, one message after another.
+/// nothing holds any of it up. When packets are next asked for, all goes out in order, one message after another.
 pub fn messages_that_find_room_behind_others_go_out_with_them()
     ensures { (s : Sending) (m : Message) (octets now place : ℕ) → waiting_octets s ≤ octets
         → has_room_behind s octets ≡ true → length m.octets ≤ most_octets → s.went + place ≤ length s.out
