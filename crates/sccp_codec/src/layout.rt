@@ -6,20 +6,14 @@ pub(crate) const UDT: u8 = 0x09;
 /// The message type of unitdata service (Q.713 §2.1).
 pub(crate) const UDTS: u8 = 0x0a;
 
-/// Where the pointer to the called party address stands (Q.713 §4.10).
-pub(crate) const CALLED_POINTER: usize = 2;
-
-/// Where the pointer to the calling party address stands (Q.713 §4.10).
-pub(crate) const CALLING_POINTER: usize = 3;
-
-/// Where the pointer to the data stands (Q.713 §4.10).
-pub(crate) const DATA_POINTER: usize = 4;
+/// Where the pointers to the called address, the calling address and the data stand (Q.713 §4.10).
+pub(crate) const POINTERS_AT: usize = 2;
 
 /// Where the first part may stand: behind the message type, the octet after it and the pointers.
 pub(crate) const PARTS_AT: usize = 5;
 
 /// The pointer to a part that stands first: from the first pointer to the first length.
-pub(crate) const FIRST_POINTER: u8 = (PARTS_AT - CALLED_POINTER) as u8;
+pub(crate) const FIRST_POINTER: u8 = (PARTS_AT - POINTERS_AT) as u8;
 
 /// Octets of the routing label, which stands before the message (Q.704 §2.2).
 pub(crate) const LABEL_OCTETS: usize = 4;
