@@ -1,3 +1,4 @@
 pub mod AddressTexts
 pub mod DigitTexts
 pub mod MessageTexts
+pub mod OptionalTexts

@@ -3,9 +3,11 @@
 #![tactic(auto)]
 
 pub mod address;
+pub mod extended;
 pub mod fault;
 pub mod laws;
 mod layout;
+pub mod optional;
 pub mod reading;
 pub mod title;
 pub mod title_indicator;
@@ -13,7 +15,9 @@ pub mod unitdata;
 pub mod writing;
 
 pub use address::{Address, Routing};
+pub use extended::{ExtendedKind, ExtendedUnitdata};
 pub use fault::SccpFault;
+pub use optional::OptionalPart;
 pub use title::{EncodingScheme, GlobalTitle, TitleKey};
 pub use title_indicator::TitleIndicator;
 pub use unitdata::{Parts, Udt, Udts, Unitdata};
