@@ -1,4 +1,5 @@
 pub mod AddressTexts
 pub mod DigitTexts
+pub mod ExtendedTexts
 pub mod MessageTexts
 pub mod OptionalTexts

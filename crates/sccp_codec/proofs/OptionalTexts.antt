@@ -141,7 +141,7 @@ begin-next most name octets ps other true whole next e =
     let m = more-of (first_parameter (name ∷ octets)) (read_up_to most (behind_first (name ∷ octets))) ps e in
     rw m.same (begin-whole name octets m.others other whole (next m.others m.read))
 
-begin-read : (most : ℕ) (octets : List ℕ) (ps : List ParameterValue) → read_up_to most octets ≡ Some ps → BeginWith octets ps
+pub begin-read : (most : ℕ) (octets : List ℕ) (ps : List ParameterValue) → read_up_to most octets ≡ Some ps → BeginWith octets ps
 unfolding read_up_to
 begin-read zero [] ps e = absurd cc
 begin-read (suc most) [] ps e = absurd cc
@@ -237,3 +237,10 @@ begins-rest octets at = ap begins_whole (take_all (length octets - at) (drop at 
 pub none-named : (text : List ℕ) (pointer : ℕ) → slice_index text pointer ≢ 0 → length text ≤ length_place text pointer → read_optional text pointer ≡ None
 none-named text pointer other past =
     rw (ne_eqb (slice_index text pointer) 0 other) (ap read_parameters (drop_all (length_place text pointer) text past) ∙ read-nil)
+
+-- no octets are no parameters
+pub none-octets : (octets : List ℕ) (ps : List ParameterValue) → octets ≡ parameters_octets ps → (length octets == 0) ≡ (length ps == 0)
+none-octets octets [] e = ap (λ (octets : List ℕ). length octets == 0) e
+none-octets octets (p ∷ ps) e =
+    let some : length octets ≡ suc (suc (length (p.octets ++ parameters_octets ps))) = ap length e in
+    ne_eqb (length octets) 0 (λ none. omega (arith, some, none)) ∙ sym (ne_eqb (length (p ∷ ps)) 0 (λ none. omega (arith, none)))

@@ -80,13 +80,11 @@ pub record IsExtended (text : List ℕ) (v : ExtendedValue) : Type 0 where
 
 -- the octets of the optional part: the parameters, and the octet 0 behind them; nothing, if there are none
 abbrev pub optional_octets : List ParameterValue → List ℕ
-optional_octets [] = []
-optional_octets (p ∷ ps) = parameters_octets (p ∷ ps) ++ 0 ∷ []
+optional_octets ps = if length ps == 0 then [] else parameters_octets ps ++ 0 ∷ []
 
 -- the pointer to the optional part, if it is so far away; 0, if there is none
-abbrev pub optional_pointer : List ParameterValue → ℕ → ℕ
-optional_pointer [] away = 0
-optional_pointer (p ∷ ps) away = away
+abbrev pub optional_pointer : List ParameterValue → (away : ℕ) → ℕ
+optional_pointer ps away = if length ps == 0 then 0 else away
 
 -- how far the octet behind the parts is from its pointer, the last of four
 abbrev pub behind_parts : PartsValue → ℕ

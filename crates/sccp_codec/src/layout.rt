@@ -15,6 +15,25 @@ pub(crate) const PARTS_AT: usize = 5;
 /// The pointer to a part that stands first: from the first pointer to the first length.
 pub(crate) const FIRST_POINTER: u8 = (PARTS_AT - POINTERS_AT) as u8;
 
+/// The message type of extended unitdata (Q.713 §2.1).
+pub(crate) const XUDT: u8 = 0x11;
+
+/// The message type of extended unitdata service (Q.713 §2.1).
+pub(crate) const XUDTS: u8 = 0x12;
+
+/// Where the pointers of an extended message stand: to the called address, the calling address, the
+/// data and the optional part (Q.713 §4.18).
+pub(crate) const EXTENDED_POINTERS_AT: usize = 3;
+
+/// Where the pointer to the optional part stands (Q.713 §4.18).
+pub(crate) const OPTIONAL_POINTER: usize = 6;
+
+/// Where the first part of an extended message may stand.
+pub(crate) const EXTENDED_PARTS_AT: usize = 7;
+
+/// The pointer to a part of an extended message that stands first.
+pub(crate) const FIRST_EXTENDED_POINTER: u8 = (EXTENDED_PARTS_AT - EXTENDED_POINTERS_AT) as u8;
+
 /// Octets of the routing label, which stands before the message (Q.704 §2.2).
 pub(crate) const LABEL_OCTETS: usize = 4;
 

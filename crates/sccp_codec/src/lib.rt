@@ -4,6 +4,8 @@
 
 pub mod address;
 pub mod extended;
+pub mod extended_reading;
+pub mod extended_writing;
 pub mod fault;
 pub mod laws;
 mod layout;

@@ -1,11 +1,12 @@
 //! The optional part of an extended message.
 
-ghost use Rattle.std.specs.Prelude.{◌≡◌, ◌≤◌, ◌<◌, ◌++◌, ◌+◌, [], ◌∷◌, length, slice_index, IsTrue, MatchOption, true, false};
-ghost use Rattle.sccp_codec.specs.Extended.{AreParameters, begins_whole, has_its_length, read_parameters, read_optional, parameters_octets};
+ghost use Rattle.std.specs.Prelude.{◌≡◌, ◌≤◌, ◌<◌, ◌==◌, ◌^◌, ◌++◌, ◌+◌, [], ◌∷◌, length, slice_index, IsTrue, MatchOption, true, false};
+ghost use Rattle.sccp_codec.specs.Extended.{AreParameters, begins_whole, has_its_length, read_parameters, read_optional, parameters_octets, optional_octets, is_parameter};
+ghost use Rattle.std.specs.List.{list_all};
 ghost use Rattle.sccp_codec.specs.Optional.{OptionallyGives, extent};
 
 /// The name that ends the optional part (Q.713 §3.1).
-const END: u8 = 0;
+pub(crate) const END: u8 = 0;
 
 /// The name of segmentation, and its octets (Q.713 §3.17).
 const SEGMENTATION: u8 = 0x10;
@@ -35,9 +36,30 @@ impl<'a> OptionalPart<'a> {
 
     /// The octets of the parameters, one after another, without the octet 0 behind them.
     pub fn octets(&self) -> &'a [u8]
-        ensures { result.now ≡ parameters_octets (parameters_of self.now) }
+        ensures octets { result.now ≡ parameters_octets (parameters_of self.now) }
+        ensures legal { list_all is_parameter (parameters_of self.now) ≡ true }
     {
         self.octets
+    }
+
+    /// Whether there are no parameters.
+    pub fn is_empty(&self) -> bool
+        ensures { result ≡ (length (parameters_of self.now) == 0) }
+    {
+        self.octets.is_empty()
+    }
+
+    /// Octets of the optional part: those of the parameters, and the octet 0 behind them, if there are
+    /// any.
+    pub(crate) fn octets_with_end(&self) -> usize
+        ensures value { result ≡ length (optional_octets (parameters_of self.now)) }
+        ensures fits { result ≤ 2 ^ 63 }
+    {
+        if self.is_empty() {
+            0
+        } else {
+            self.octets.len() + 1
+        }
     }
 
     /// The parameters at the front of these octets, before the octet 0 that ends them. None if they
