@@ -1,5 +1,5 @@
 -- Octets are an extended message that says something exactly if reading them gives it.
-use Rattle.std.proofs.Common.{◌≡◌, ◌≢◌, ℕ, ◌+◌, ◌<◌, ◌≤◌, ◌⊎◌, Bool, true, false, List, [], ◌∷◌, ◌++◌, length, take, drop, Option, Some, None, Result, Ok, Err, refl, sym, ap, subst, ◌∙◌, inl, inr, append_assoc, arith}
+use Rattle.std.proofs.Common.{◌≡◌, ℕ, ◌+◌, ◌<◌, ◌≤◌, ◌⊎◌, Bool, true, List, [], ◌∷◌, ◌++◌, length, take, drop, Option, Some, None, Result, Ok, Err, refl, sym, ap, subst, ◌∙◌, inl, inr, append_assoc, arith}
 use Rattle.std.proofs.lemmas.Bool.{cases_eq, eq-eqb, ne_eqb}
 use Rattle.std.proofs.lemmas.Bool.Decides.{nat_tests}
 use Rattle.std.proofs.lemmas.List.{length-append}
@@ -12,8 +12,8 @@ use Rattle.sccp_codec.specs.declared.fault.SccpFault.TheVariants.{Pointer}
 use Rattle.sccp_codec.specs.declared.extended.ExtendedKind.{ExtendedKind}
 use Rattle.sccp_codec.specs.declared.extended.ExtendedKind.TheVariants.{Xudt, Xudts}
 use Rattle.sccp_codec.specs.declared.extended.ExtendedUnitdata.{ExtendedUnitdata}
-use Rattle.sccp_codec.specs.Messages.{AreOctets, IsPart, counted, length_place, address_octets, header_fault, parts_fault, unless}
-use Rattle.sccp_codec.specs.Extended.{ParameterValue, ExtendedValue, BeginWith, HasOptional, IsExtended, IsExtendedValue, is_parameter, type_of, behind_type, parameters_octets, optional_octets, optional_pointer, behind_parts, extended_octets, read_parameters, read_optional, optional_fault, extended_fault, kind_in, extended_in, read_extended}
+use Rattle.sccp_codec.specs.Messages.{AreOctets, IsPart, counted, length_place, address_octets, header_fault, parts_fault}
+use Rattle.sccp_codec.specs.Extended.{ParameterValue, ExtendedValue, HasOptional, IsExtended, IsExtendedValue, is_parameter, type_of, behind_type, parameters_octets, optional_octets, optional_pointer, behind_parts, extended_octets, read_parameters, read_optional, optional_fault, extended_fault, extended_in, read_extended}
 use Rattle.sccp_codec.specs.Values.{Gives}
 use Rattle.sccp_codec.specs.ExtendedValues.{extended_of}
 use Rattle.sccp_codec.proofs.AddressTexts.{unless-ok, unless-err, unless-none}

@@ -1,5 +1,7 @@
 pub mod AddressTexts
 pub mod DigitTexts
+pub mod Examples
 pub mod ExtendedTexts
+pub mod ManagementTexts
 pub mod MessageTexts
 pub mod OptionalTexts

@@ -1,5 +1,5 @@
--- Extended unitdata: what they say, the octets that say it, and how they are read (Q.713 §2.4, §4.18, §4.19).
-use Rattle.std.specs.Prelude.{◌≡◌, ℕ, zero, suc, ◌+◌, ◌^◌, ◌<◌, ◌⊎◌, Bool, true, false, ◌==◌, ◌&&◌, not, nat_le, if◌then◌else◌, List, [], ◌∷◌, ◌++◌, slice_index, length, take, drop, Option, Some, None, is_some, unwrap_or, ◌≤◌, Result}
+-- Extended unitdata: what they say, the octets that say it, and how they are read (Q.713 §1.6, §4.18, §4.19).
+use Rattle.std.specs.Prelude.{◌≡◌, ℕ, zero, suc, ◌+◌, ◌^◌, ◌<◌, ◌⊎◌, Bool, true, ◌==◌, ◌&&◌, not, nat_le, if◌then◌else◌, List, [], ◌∷◌, ◌++◌, slice_index, length, take, drop, Option, Some, None, is_some, unwrap_or, ◌≤◌, Result}
 use Rattle.std.specs.List.{list_all}
 use Rattle.signalling_types.specs.declared.limits.TheConstants.Limits.{SIF_OCTETS}
 use Rattle.sccp_codec.specs.declared.fault.SccpFault.{SccpFault}
@@ -10,7 +10,7 @@ use Rattle.sccp_codec.specs.Messages.{PartsValue, IsPartsValue, HasAddress, IsPa
 
 -- ---- optional parameters
 
--- an optional parameter: its name, and its octets (Q.713 §2.4)
+-- an optional parameter: its name, and its octets (Q.713 §1.6)
 pub record ParameterValue : Type 0 where
   pub name : ℕ
   pub octets : List ℕ

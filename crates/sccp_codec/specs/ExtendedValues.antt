@@ -1,5 +1,5 @@
 -- What the extended messages of the code say, without where their octets lie.
-use Rattle.std.specs.Prelude.{List, ℕ}
+use Rattle.std.specs.Prelude.{List}
 use Rattle.sccp_codec.specs.declared.optional.OptionalPart.{OptionalPart}
 use Rattle.sccp_codec.specs.declared.extended.ExtendedUnitdata.{ExtendedUnitdata}
 use Rattle.sccp_codec.specs.Extended.{ExtendedValue, ParameterValue, parameters_in}

@@ -3,6 +3,8 @@ pub mod Messages
 pub mod Extended
 pub mod Optional
 pub mod ExtendedValues
+pub mod Examples
 pub mod Layout
+pub mod Management
 pub mod Titles
 pub mod Values

@@ -59,7 +59,12 @@ fn write_extended(
     }
     let at = write_at(field, 0, &label);
     let at = write_at(field, at, &start_of(message));
-    let pointers = [FIRST_EXTENDED_POINTER, layout.calling_pointer, layout.data_pointer, pointer];
+    let pointers = [
+        FIRST_EXTENDED_POINTER,
+        layout.calling_pointer,
+        layout.data_pointer,
+        pointer,
+    ];
     let at = write_at(field, at, &pointers);
     let at = write_parts(&message.parts, &layout, at, field);
     Ok(write_optional(&message.optional, at, field))

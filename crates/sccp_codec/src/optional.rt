@@ -10,14 +10,16 @@ pub(crate) const END: u8 = 0;
 
 /// The name of segmentation, and its octets (Q.713 §3.17).
 const SEGMENTATION: u8 = 0x10;
+
 const SEGMENTATION_OCTETS: u8 = 4;
 
 /// The name of importance, and its octets (Q.713 §3.19).
 const IMPORTANCE: u8 = 0x12;
+
 const IMPORTANCE_OCTETS: u8 = 1;
 
 /// Optional parameters, one after another, as they came: each is a name, a length and as many octets
-/// (Q.713 §2.4). None is named 0, segmentation has four octets, and importance has one.
+/// (Q.713 §1.6). None is named 0, segmentation has four octets, and importance has one.
 #[derive(Clone, Copy)]
 pub struct OptionalPart<'a> {
     octets: &'a [u8],

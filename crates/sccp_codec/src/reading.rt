@@ -65,7 +65,11 @@ fn read(octets: &[u8]) -> Result<Unitdata<'_>, SccpFault>
 
 /// The addresses and the data, or the first fault of a pointer, then of an address. Their pointers
 /// stand from the first of these places on, the parts behind the second.
-pub(crate) fn read_parts(octets: &[u8], pointers: usize, start: usize) -> Result<Parts<'_>, SccpFault>
+pub(crate) fn read_parts(
+    octets: &[u8],
+    pointers: usize,
+    start: usize,
+) -> Result<Parts<'_>, SccpFault>
     requires { pointers + 3 ≤ length octets.now }
     ensures { Gives parts_value result (unless (parts_fault pointers start octets.now) (parts_in pointers octets.now)) }
 {

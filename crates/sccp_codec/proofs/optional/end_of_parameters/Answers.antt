@@ -1,5 +1,4 @@
-use Rattle.std.proofs.Common.{rules, ◌≡◌, ◌≢◌, ℕ, true, false, ◌+◌, ◌<◌, ◌≤◌, length, drop, slice_index, sym, ap, ◌∙◌, arith}
-use Rattle.std.proofs.lemmas.Bool.Decides.{nat_tests}
+use Rattle.std.proofs.Common.{rules, ◌≡◌, ◌≢◌, ℕ, true, false, ◌+◌, ◌<◌, ◌≤◌, length, drop, slice_index, sym, ap, ◌∙◌}
 use Rattle.sccp_codec.specs.Extended.{read_parameters}
 use Rattle.sccp_codec.specs.Optional.{extent}
 use Rattle.sccp_codec.proofs.OptionalTexts.{begins-rest, step, ends, breaks, goes-out}

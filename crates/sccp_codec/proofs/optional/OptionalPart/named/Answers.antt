@@ -1,4 +1,4 @@
-use Rattle.std.proofs.Common.{rules, ◌≡◌, ◌≢◌, ◌≤◌, length, slice_index}
+use Rattle.std.proofs.Common.{rules, ◌≢◌, ◌≤◌, length, slice_index}
 use Rattle.sccp_codec.specs.Messages.{length_place}
 use Rattle.sccp_codec.proofs.OptionalTexts.{none-named}
 use Rattle.sccp_codec.proofs.optional.OptionalPart.named.Goals as goal

@@ -1,4 +1,4 @@
-use Rattle.std.proofs.Common.{rules, ◌≡◌, Some, sym, length, take, arith}
+use Rattle.std.proofs.Common.{rules, ◌≡◌, Some, sym}
 use Rattle.std.proofs.lemmas.List.{length-take-le}
 use Rattle.sccp_codec.specs.Extended.{read_parameters}
 use Rattle.sccp_codec.specs.Optional.{extent}
