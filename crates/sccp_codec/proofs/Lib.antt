@@ -4,4 +4,5 @@ pub mod Examples
 pub mod ExtendedTexts
 pub mod ManagementTexts
 pub mod MessageTexts
+pub mod NamedTexts
 pub mod OptionalTexts

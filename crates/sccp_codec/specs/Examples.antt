@@ -1,4 +1,4 @@
--- Worked octets of extended messages and of management, which tshark reads as they are described here.
+-- Worked octets of extended messages and of management. tshark reads those that are read here as these definitions do.
 use Rattle.std.specs.Prelude.{◌≡◌, ℕ, false, List, [], ◌∷◌, ◌++◌, Some, None, Ok, Err}
 use Rattle.sccp_codec.specs.declared.address.Routing.TheVariants.{Title, Ssn}
 use Rattle.sccp_codec.specs.declared.fault.SccpFault.TheVariants.{Short, Pointer, Kind}
@@ -87,8 +87,8 @@ with_optional optional =
 -- a parameter of any other name is kept as it came, and what stands behind the end is ignored
 abbrev pub other_parameter_is_kept : Type 0
 other_parameter_is_kept =
-    read_extended (with_optional (9 ∷ 2 ∷ 0 ∷ 0 ∷ 0 ∷ 7 ∷ []))
-    ≡ Ok (record returned { optional = record { name = 9; octets = 0 ∷ 0 ∷ [] } ∷ [] })
+    read_extended (with_optional (32 ∷ 2 ∷ 0 ∷ 0 ∷ 0 ∷ 7 ∷ []))
+    ≡ Ok (record returned { optional = record { name = 32; octets = 0 ∷ 0 ∷ [] } ∷ [] })
 
 -- what is refused: importance without an end behind it, a parameter that runs beyond the end, segmentation of three
 -- octets, an optional part beyond the end; a UDT; six octets
@@ -96,7 +96,7 @@ abbrev pub no_end_is_refused : Type 0
 no_end_is_refused = read_extended (with_optional (18 ∷ 1 ∷ 5 ∷ [])) ≡ Err Pointer
 
 abbrev pub beyond_the_end_is_refused : Type 0
-beyond_the_end_is_refused = read_extended (with_optional (9 ∷ 3 ∷ 0 ∷ 0 ∷ [])) ≡ Err Pointer
+beyond_the_end_is_refused = read_extended (with_optional (32 ∷ 3 ∷ 0 ∷ 0 ∷ [])) ≡ Err Pointer
 
 abbrev pub short_segmentation_is_refused : Type 0
 short_segmentation_is_refused = read_extended (with_optional (16 ∷ 3 ∷ 193 ∷ 1 ∷ 2 ∷ 0 ∷ [])) ≡ Err Pointer

@@ -32,6 +32,11 @@ abbrev pub parameters_octets : List ParameterValue → List ℕ
 parameters_octets [] = []
 parameters_octets (p ∷ ps) = parameter_octets p ++ parameters_octets ps
 
+-- the octets of the first parameter of this name
+abbrev pub first_named : (name : ℕ) → List ParameterValue → Option (List ℕ)
+first_named name [] = None
+first_named name (p ∷ ps) = if p.name == name then Some p.octets else first_named name ps
+
 -- ---- what a message says
 
 pub record ExtendedValue : Type 0 where
@@ -128,10 +133,13 @@ first_parameter octets = record {
 abbrev pub behind_first : List ℕ → List ℕ
 behind_first octets = drop (2 + slice_index octets 1) octets
 
--- the first parameter stands there whole, and has the length of its name
+-- the first parameter stands there whole
+abbrev pub is_there : List ℕ → Bool
+is_there octets = nat_le (2 + slice_index octets 1) (length octets)
+
+-- and it has the length of its name
 abbrev pub begins_whole : List ℕ → Bool
-begins_whole octets =
-    nat_le (2 + slice_index octets 1) (length octets) && has_its_length (slice_index octets 0) (slice_index octets 1)
+begins_whole octets = is_there octets && has_its_length (slice_index octets 0) (slice_index octets 1)
 
 abbrev pub with_first : ParameterValue → Option (List ParameterValue) → Option (List ParameterValue)
 with_first p None = None

@@ -1,5 +1,6 @@
-//! Unitdata of the signalling connection control part, read and written: UDT and UDTS, their
-//! addresses and their global titles (Q.713).
+//! Unitdata of the signalling connection control part, read and written: UDT and UDTS, XUDT and XUDTS,
+//! their addresses and their global titles; and its management of subsystems: SSA, SSP and SST
+//! (Q.713).
 #![tactic(auto)]
 
 pub mod address;

@@ -1,7 +1,7 @@
 //! The optional part of an extended message.
 
 ghost use Rattle.std.specs.Prelude.{◌≡◌, ◌≤◌, ◌<◌, ◌==◌, ◌^◌, ◌++◌, ◌+◌, [], ◌∷◌, length, slice_index, IsTrue, MatchOption, true, false};
-ghost use Rattle.sccp_codec.specs.Extended.{AreParameters, begins_whole, has_its_length, read_parameters, read_optional, parameters_octets, optional_octets, is_parameter};
+ghost use Rattle.sccp_codec.specs.Extended.{AreParameters, is_there, first_parameter, behind_first, begins_whole, has_its_length, read_parameters, read_optional, first_named, parameters_octets, optional_octets, is_parameter};
 ghost use Rattle.std.specs.List.{list_all};
 ghost use Rattle.sccp_codec.specs.Optional.{OptionallyGives, extent};
 
@@ -51,6 +51,21 @@ impl<'a> OptionalPart<'a> {
         self.octets.is_empty()
     }
 
+    /// The octets of the first parameter of this name. None if there is none. It takes a step for each
+    /// parameter before it.
+    pub fn parameter(&self, name: u8) -> Option<&'a [u8]>
+        ensures { OptionallyGives (λ octets. octets.now) result (first_named name (parameters_of self.now)) }
+    {
+        let mut rest = self.octets;
+        'each_parameter: while let Some((this, own, behind)) = first(rest) {
+            if this == name {
+                return Some(own);
+            }
+            rest = behind;
+        }
+        None
+    }
+
     /// Octets of the optional part: those of the parameters, and the octet 0 behind them, if there are
     /// any.
     pub(crate) fn octets_with_end(&self) -> usize
@@ -90,6 +105,23 @@ impl<'a> OptionalPart<'a> {
         }
         OptionalPart::read(&octets[pointer + away..])
     }
+}
+
+/// The name and the octets of the first parameter, and what stands behind it. None if it isn't there
+/// whole.
+fn first(octets: &[u8]) -> Option<(u8, &[u8], &[u8])>
+    ensures { MatchOption result (is_there octets.now ≡ false) (λ found.
+        (is_there octets.now ≡ true) × (found.0 ≡ slice_index octets.now 0)
+        × (found.1.now ≡ (first_parameter octets.now).octets) × (found.2.now ≡ behind_first octets.now)) }
+{
+    let [name, count, ..] = *octets else {
+        return None;
+    };
+    let end = 2 + usize::from(count);
+    if octets.len() < end {
+        return None;
+    }
+    Some((name, &octets[2..end], &octets[end..]))
 }
 
 /// Where the octet 0 stands that ends the parameters at the front of these octets.
