@@ -13,7 +13,7 @@ use Rattle.sccp_codec.specs.declared.extended.ExtendedKind.{ExtendedKind}
 use Rattle.sccp_codec.specs.declared.extended.ExtendedKind.TheVariants.{Xudt, Xudts}
 use Rattle.sccp_codec.specs.declared.extended.ExtendedUnitdata.{ExtendedUnitdata}
 use Rattle.sccp_codec.specs.Messages.{AreOctets, IsPart, counted, length_place, address_octets, header_fault, parts_fault}
-use Rattle.sccp_codec.specs.Extended.{ParameterValue, ExtendedValue, HasOptional, IsExtended, IsExtendedValue, is_parameter, type_of, behind_type, parameters_octets, optional_octets, optional_pointer, behind_parts, extended_octets, read_parameters, read_optional, optional_fault, extended_fault, extended_in, read_extended}
+use Rattle.sccp_codec.specs.Extended.{ParameterValue, ExtendedValue, HasOptional, IsExtended, IsExtendedValue, is_parameter, type_of, after_type, parameters_octets, optional_octets, optional_pointer, after_parts, extended_octets, read_parameters, read_optional, optional_fault, extended_fault, extended_in, read_extended}
 use Rattle.sccp_codec.specs.Values.{Gives}
 use Rattle.sccp_codec.specs.ExtendedValues.{extended_of}
 use Rattle.sccp_codec.proofs.AddressTexts.{unless-ok, unless-err, unless-none}
@@ -44,7 +44,7 @@ well-some (Some ps) e = refl
 
 -- ---- what is read, the octets say
 
-kind-types : (first second : ℕ) → (first ≡ 17) ⊎ (first ≡ 18) → (first ≡ type_of (if first == 17 then Xudt second else Xudts second)) × (second ≡ behind_type (if first == 17 then Xudt second else Xudts second))
+kind-types : (first second : ℕ) → (first ≡ 17) ⊎ (first ≡ 18) → (first ≡ type_of (if first == 17 then Xudt second else Xudts second)) × (second ≡ after_type (if first == 17 then Xudt second else Xudts second))
 kind-types first second (inl one) = rw (eq-eqb first 17 one) (one, refl)
 kind-types first second (inr other) = rw (ne_eqb first 17 (λ one. omega (arith, one, other))) (other, refl)
 
@@ -74,7 +74,7 @@ is_extended-read text v fits e =
 
 -- ---- what the octets say is read
 
-kind-said : (first second : ℕ) (kind : ExtendedKind) → first ≡ type_of kind → second ≡ behind_type kind → (if first == 17 then Xudt second else Xudts second) ≡ kind
+kind-said : (first second : ℕ) (kind : ExtendedKind) → first ≡ type_of kind → second ≡ after_type kind → (if first == 17 then Xudt second else Xudts second) ≡ kind
 kind-said first second (Xudt class_octet) f s = rw (eq-eqb first 17 f) (ap Xudt s)
 kind-said first second (Xudts return_cause) f s = rw (ne_eqb first 17 (λ one. omega (arith, one, f))) (ap Xudts s)
 
@@ -98,7 +98,7 @@ one-extended text v w h k = let a = read_extended-is_extended text v h in let b 
 
 -- ---- what is written
 
--- the parts behind seven octets, and what stands behind them
+-- the parts after seven octets, and what comes after them
 record Placed (text called calling carried behind : List ℕ) : Type 0 where
   pub called_part : IsPart 7 text 3 called
   pub calling_part : IsPart 7 text 4 calling
@@ -137,7 +137,7 @@ pub written-is_extended : (v : ExtendedValue) → IsExtendedValue v → IsExtend
 written-is_extended v h =
     let called = address_octets 0 v.parts.called in
     let calling = address_octets 0 v.parts.calling in
-    let p = placed (type_of v.kind) (behind_type v.kind) v.hop_counter (optional_pointer v.optional (behind_parts v.parts)) called calling v.parts.data (optional_octets v.optional) in
+    let p = placed (type_of v.kind) (after_type v.kind) v.hop_counter (optional_pointer v.optional (after_parts v.parts)) called calling v.parts.data (optional_octets v.optional) in
     record {
       long = omega arith;
       type = refl;
@@ -146,7 +146,7 @@ written-is_extended v h =
       called = record { octets = called; part = p.called_part; address = spelled-address called v.parts.called h.parts.called refl };
       calling = record { octets = calling; part = p.calling_part; address = spelled-address calling v.parts.calling h.parts.calling refl };
       carried = p.carried_part;
-      optional = has_optional-written (extended_octets v) (behind_parts v.parts) v.optional (omega arith) h.optional refl p.rest;
+      optional = has_optional-written (extended_octets v) (after_parts v.parts) v.optional (omega arith) h.optional refl p.rest;
     }
 
 pub read_extended-written : (v : ExtendedValue) → IsExtendedValue v → read_extended (extended_octets v) ≡ Ok v

@@ -61,7 +61,7 @@ is_management-long (a ∷ b ∷ c ∷ d ∷ []) fits h = absurd (omega (arith, h
 is_management-long (format ∷ ssn ∷ low ∷ high ∷ multiplicity ∷ behind) fits h = record {
   spare = high / 2 ^ 6;
   spare_fits = omega (arith, fits 3);
-  behind = behind;
+  rest = behind;
   says = ap (λ (octets : List ℕ). format ∷ ssn ∷ octets) (point-says low high (multiplicity ∷ behind) (fits 2) (fits 3))
       ∙ ap (λ (n : ℕ). n ∷ ssn ∷ (low + high * 2 ^ 8) % 2 ^ 14 % 2 ^ 8 ∷ ((low + high * 2 ^ 8) % 2 ^ 14 / 2 ^ 8 + high / 2 ^ 6 * 2 ^ 6) ∷ multiplicity ∷ behind) (with-format format h.known);
   point = omega arith;
@@ -88,7 +88,7 @@ read-said spare v behind s p =
     unless-none (management_fault text) (management_in text) v well (rw (kind, point-read v.point spare p s) refl)
 
 pub read_management-is_management : (text : List ℕ) (v : ManagementValue) → IsManagement text v → read_management text ≡ Ok v
-read_management-is_management text v h = ap read_management h.says ∙ read-said h.spare v h.behind h.spare_fits h.point
+read_management-is_management text v h = ap read_management h.says ∙ read-said h.spare v h.rest h.spare_fits h.point
 
 pub one-management : (text : List ℕ) (v w : ManagementValue) → IsManagement text v → IsManagement text w → v ≡ w
 one-management text v w h k = let a = read_management-is_management text v h in let b = read_management-is_management text w k in cc
@@ -96,7 +96,7 @@ one-management text v w h k = let a = read_management-is_management text v h in 
 -- ---- what is written
 
 pub written-is_management : (v : ManagementValue) → v.point < 2 ^ 14 → IsManagement (management_octets 0 v) v
-written-is_management v h = record { spare = 0; spare_fits = omega arith; behind = []; says = refl; point = h }
+written-is_management v h = record { spare = 0; spare_fits = omega arith; rest = []; says = refl; point = h }
 
 pub read_management-written : (v : ManagementValue) → v.point < 2 ^ 14 → read_management (management_octets 0 v) ≡ Ok v
 read_management-written v h = read_management-is_management (management_octets 0 v) v (written-is_management v h)

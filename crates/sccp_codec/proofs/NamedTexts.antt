@@ -4,7 +4,7 @@ use Rattle.std.proofs.lemmas.Bool.{eq-eqb, ne_eqb}
 use Rattle.std.proofs.lemmas.Bool.Decides.{nat_tests}
 use Rattle.std.proofs.lemmas.List.{length-append, take_at, drop_at}
 use Rattle.std.specs.Prelude.{slice_index}
-use Rattle.sccp_codec.specs.Extended.{ParameterValue, first_named, parameters_octets, is_there, first_parameter, behind_first}
+use Rattle.sccp_codec.specs.Extended.{ParameterValue, first_named, parameters_octets, is_there, first_parameter, after_first}
 
 -- what is left of the octets of these parameters is parameters, and the first of this name is the same
 pub record Left (all : List ParameterValue) (name : ℕ) (rest : List ℕ) : Type 0 where
@@ -25,7 +25,7 @@ found-in all name rest l there is =
     (found-first all l.parameters name l.same) there is
 
 next-first : (all ps : List ParameterValue) (name : ℕ) → first_named name ps ≡ first_named name all → is_there (parameters_octets ps) ≡ true → slice_index (parameters_octets ps) 0 ≢ name
-    → Left all name (behind_first (parameters_octets ps))
+    → Left all name (after_first (parameters_octets ps))
 next-first all [] name same there other = absurd (grind (arith, nat_tests, there))
 next-first all (p ∷ ps) name same there other = record {
   parameters = ps;
@@ -33,9 +33,9 @@ next-first all (p ∷ ps) name same there other = record {
   same = sym (rw (ne_eqb p.name name other) refl) ∙ same;
 }
 
-pub next-in : (all : List ParameterValue) (name : ℕ) (rest : List ℕ) → Left all name rest → is_there rest ≡ true → slice_index rest 0 ≢ name → Left all name (behind_first rest)
+pub next-in : (all : List ParameterValue) (name : ℕ) (rest : List ℕ) → Left all name rest → is_there rest ≡ true → slice_index rest 0 ≢ name → Left all name (after_first rest)
 next-in all name rest l there other =
-    subst (λ (octets : List ℕ). is_there octets ≡ true → slice_index octets 0 ≢ name → Left all name (behind_first octets)) (sym l.there)
+    subst (λ (octets : List ℕ). is_there octets ≡ true → slice_index octets 0 ≢ name → Left all name (after_first octets)) (sym l.there)
     (next-first all l.parameters name l.same) there other
 
 none-first : (all ps : List ParameterValue) (name : ℕ) → first_named name ps ≡ first_named name all → is_there (parameters_octets ps) ≡ false → first_named name all ≡ None

@@ -5,7 +5,7 @@ use Rattle.std.proofs.lemmas.Bool.Decides.{nat_tests}
 use Rattle.std.proofs.lemmas.List.{get_or-drop, take_all, drop_all, length-drop, length-append, take_at, drop_at, drop-drop, take-append-drop, length-take-le}
 use Rattle.std.specs.List.{list_all}
 use Rattle.std.specs.Prelude.{slice_index, if◌then◌else◌, ◌==◌, ◌&&◌, not, nat_le, unwrap_or}
-use Rattle.sccp_codec.specs.Extended.{ParameterValue, BeginWith, AreParameters, parameters_in, is_parameter, has_its_length, parameter_octets, parameters_octets, first_parameter, behind_first, begins_whole, with_first, read_up_to, read_parameters, read_optional}
+use Rattle.sccp_codec.specs.Extended.{ParameterValue, BeginWith, AreParameters, parameters_in, is_parameter, has_its_length, parameter_octets, parameters_octets, first_parameter, after_first, begins_whole, with_first, read_up_to, read_parameters, read_optional}
 use Rattle.sccp_codec.specs.Messages.{length_place}
 use Rattle.sccp_codec.specs.Optional.{extent}
 
@@ -26,7 +26,7 @@ named name e none = let test = eq-eqb name 0 none in absurd cc
 
 -- ---- a step of reading
 
-shorter : (octets : List ℕ) (most : ℕ) → begins_whole octets ≡ true → length octets ≤ suc most → length (behind_first octets) ≤ most
+shorter : (octets : List ℕ) (most : ℕ) → begins_whole octets ≡ true → length octets ≤ suc most → length (after_first octets) ≤ most
 shorter octets most whole fits =
     let long : 2 + slice_index octets 1 ≤ length octets = grind (arith, nat_tests, whole) in
     omega (arith, length-drop (2 + slice_index octets 1) octets, long, fits)
@@ -42,8 +42,8 @@ enough (suc m) zero (octet ∷ octets) a b = absurd (omega (arith, b))
 enough (suc m) (suc n) (octet ∷ octets) a b =
     let text = octet ∷ octets in
     ap (λ (others : Option (List ParameterValue)). if octet == 0 then Some [] else others)
-    (either (begins_whole text) (with_first (first_parameter text) (read_up_to m (behind_first text))) (with_first (first_parameter text) (read_up_to n (behind_first text))) None
-    (λ whole. ap (with_first (first_parameter text)) (enough m n (behind_first text) (shorter text m whole a) (shorter text n whole b))))
+    (either (begins_whole text) (with_first (first_parameter text) (read_up_to m (after_first text))) (with_first (first_parameter text) (read_up_to n (after_first text))) None
+    (λ whole. ap (with_first (first_parameter text)) (enough m n (after_first text) (shorter text m whole a) (shorter text n whole b))))
 
 pub read-nil : read_parameters [] ≡ None
 unfolding read_up_to
@@ -54,12 +54,12 @@ unfolding read_up_to
 read-end octets = refl
 
 pub read-whole : (name : ℕ) (octets : List ℕ) → name ≢ 0 → begins_whole (name ∷ octets) ≡ true
-    → read_parameters (name ∷ octets) ≡ with_first (first_parameter (name ∷ octets)) (read_parameters (behind_first (name ∷ octets)))
+    → read_parameters (name ∷ octets) ≡ with_first (first_parameter (name ∷ octets)) (read_parameters (after_first (name ∷ octets)))
 unfolding read_up_to
 read-whole name octets other whole =
     let text = name ∷ octets in
     let less = shorter text (length octets) whole (omega arith) in
-    rw (ne_eqb name 0 other, whole) (ap (with_first (first_parameter text)) (enough (length octets) (length (behind_first text)) (behind_first text) less (omega arith)))
+    rw (ne_eqb name 0 other, whole) (ap (with_first (first_parameter text)) (enough (length octets) (length (after_first text)) (after_first text) less (omega arith)))
 
 pub read-broken : (name : ℕ) (octets : List ℕ) → name ≢ 0 → begins_whole (name ∷ octets) ≡ false → read_parameters (name ∷ octets) ≡ None
 unfolding read_up_to
@@ -67,11 +67,11 @@ read-broken name octets other broken = rw (ne_eqb name 0 other, broken) refl
 
 -- ---- parameters are read back
 
--- a parameter with something behind it
+-- a parameter with something after it
 record BeginsWith (text : List ℕ) (p : ParameterValue) (rest : List ℕ) : Type 0 where
   pub whole : begins_whole text ≡ true
   pub first : first_parameter text ≡ p
-  pub behind : behind_first text ≡ rest
+  pub behind : after_first text ≡ rest
 
 begins : (p : ParameterValue) (more rest : List ℕ) → is_parameter p ≡ true → BeginsWith ((parameter_octets p ++ more) ++ rest) p (more ++ rest)
 begins p more rest h =
@@ -93,10 +93,10 @@ read-back (p ∷ ps) rest h =
     let b = begins p (parameters_octets ps) (0 ∷ rest) here in
     let text = (parameter_octets p ++ parameters_octets ps) ++ 0 ∷ rest in
     read-whole p.name (length p.octets ∷ (p.octets ++ parameters_octets ps) ++ 0 ∷ rest) (named p.name (first-true (not (p.name == 0)) _ here)) b.whole
-    ∙ ap (λ (first : ParameterValue). with_first first (read_parameters (behind_first text))) b.first
+    ∙ ap (λ (first : ParameterValue). with_first first (read_parameters (after_first text))) b.first
     ∙ ap (λ (octets : List ℕ). with_first p (read_parameters octets)) b.behind ∙ ap (with_first p) others
 
--- ---- what is read stands there
+-- ---- what is read is there
 
 record More (p : ParameterValue) (o : Option (List ParameterValue)) (ps : List ParameterValue) : Type 0 where
   pub others : List ParameterValue
@@ -107,7 +107,7 @@ more-of : (p : ParameterValue) (o : Option (List ParameterValue)) (ps : List Par
 more-of p None ps e = absurd cc
 more-of p (Some others) ps e = record { others = others; read = refl; same = cc }
 
--- a parameter that stands there whole, with what follows
+-- a parameter that is there whole, with what follows
 whole-says : (name count : ℕ) (octets : List ℕ) (ps : List ParameterValue) (rest : List ℕ) → count ≤ length octets → drop count octets ≡ parameters_octets ps ++ 0 ∷ rest
     → name ∷ count ∷ octets ≡ parameters_octets (record { name = name; octets = take count octets } ∷ ps) ++ 0 ∷ rest
 whole-says name count octets ps rest long e =
@@ -116,7 +116,7 @@ whole-says name count octets ps rest long e =
     sym (take-append-drop count octets) ∙ ap (λ (behind : List ℕ). take count octets ++ behind) e ∙ sym (append_assoc (take count octets) (parameters_octets ps) (0 ∷ rest)) in
     ap (λ (behind : List ℕ). name ∷ count ∷ behind) parts ∙ ap (λ (k : ℕ). name ∷ k ∷ (take count octets ++ parameters_octets ps) ++ 0 ∷ rest) (sym n)
 
-begin-whole : (name : ℕ) (octets : List ℕ) (ps : List ParameterValue) → name ≢ 0 → begins_whole (name ∷ octets) ≡ true → BeginWith (behind_first (name ∷ octets)) ps
+begin-whole : (name : ℕ) (octets : List ℕ) (ps : List ParameterValue) → name ≢ 0 → begins_whole (name ∷ octets) ≡ true → BeginWith (after_first (name ∷ octets)) ps
     → BeginWith (name ∷ octets) (first_parameter (name ∷ octets) ∷ ps)
 begin-whole name [] ps other whole b = absurd (grind (arith, nat_tests, whole))
 begin-whole name (count ∷ octets) ps other whole b =
@@ -134,11 +134,11 @@ begin-end name octets [] end e = record { rest = octets; says = ap (λ (n : ℕ)
 begin-end name octets (p ∷ ps) end e = absurd cc
 
 begin-next : (most name : ℕ) (octets : List ℕ) (ps : List ParameterValue) → name ≢ 0 → (whole : Bool) → begins_whole (name ∷ octets) ≡ whole
-    → ((qs : List ParameterValue) → read_up_to most (behind_first (name ∷ octets)) ≡ Some qs → BeginWith (behind_first (name ∷ octets)) qs)
-    → (if whole then with_first (first_parameter (name ∷ octets)) (read_up_to most (behind_first (name ∷ octets))) else None) ≡ Some ps → BeginWith (name ∷ octets) ps
+    → ((qs : List ParameterValue) → read_up_to most (after_first (name ∷ octets)) ≡ Some qs → BeginWith (after_first (name ∷ octets)) qs)
+    → (if whole then with_first (first_parameter (name ∷ octets)) (read_up_to most (after_first (name ∷ octets))) else None) ≡ Some ps → BeginWith (name ∷ octets) ps
 begin-next most name octets ps other false whole next e = absurd cc
 begin-next most name octets ps other true whole next e =
-    let m = more-of (first_parameter (name ∷ octets)) (read_up_to most (behind_first (name ∷ octets))) ps e in
+    let m = more-of (first_parameter (name ∷ octets)) (read_up_to most (after_first (name ∷ octets))) ps e in
     rw m.same (begin-whole name octets m.others other whole (next m.others m.read))
 
 pub begin-read : (most : ℕ) (octets : List ℕ) (ps : List ParameterValue) → read_up_to most octets ≡ Some ps → BeginWith octets ps
@@ -149,7 +149,7 @@ begin-read zero (name ∷ octets) ps e = absurd cc
 begin-read (suc most) (name ∷ octets) ps e =
     elim (cases_eq name 0) [
       | inl end ↦ begin-end name octets ps end (sym (rw (eq-eqb name 0 end) refl) ∙ e)
-      | inr other ↦ begin-next most name octets ps other (begins_whole (name ∷ octets)) refl (begin-read most (behind_first (name ∷ octets))) (sym (rw (ne_eqb name 0 other) refl) ∙ e)
+      | inr other ↦ begin-next most name octets ps other (begins_whole (name ∷ octets)) refl (begin-read most (after_first (name ∷ octets))) (sym (rw (ne_eqb name 0 other) refl) ∙ e)
     ]
 
 -- octets that are legal parameters, as the code keeps them
@@ -165,7 +165,7 @@ some-extent : (o : Option (List ParameterValue)) (end : ℕ) → extent 0 o ≡ 
 some-extent None end e = absurd cc
 some-extent (Some ps) end e = (refl, total (length (parameters_octets ps)) end e)
 
--- what stands before the end of the parameters is these
+-- what comes before the end of the parameters is these
 pub found : (octets : List ℕ) (end : ℕ) → extent 0 (read_parameters octets) ≡ Some end
     → AreParameters (take end octets) × (read_parameters octets ≡ Some (parameters_in (take end octets))) × (end ≤ length octets)
 found octets end e =
@@ -195,11 +195,11 @@ whole-count name [] whole = absurd (grind (arith, nat_tests, whole))
 whole-count name (count ∷ octets) whole = length-take-le count octets (grind (arith, nat_tests, whole))
 
 past-first : (at : ℕ) (text : List ℕ) → 0 < length text → slice_index text 0 ≢ 0 → begins_whole text ≡ true
-    → extent at (read_parameters text) ≡ extent (at + (2 + slice_index text 1)) (read_parameters (behind_first text))
+    → extent at (read_parameters text) ≡ extent (at + (2 + slice_index text 1)) (read_parameters (after_first text))
 past-first at [] some other whole = absurd (omega (arith, some))
 past-first at (name ∷ octets) some other whole =
     ap (extent at) (read-whole name octets other whole)
-    ∙ at-first at (slice_index (name ∷ octets) 1) (first_parameter (name ∷ octets)) (read_parameters (behind_first (name ∷ octets))) (whole-count name octets whole)
+    ∙ at-first at (slice_index (name ∷ octets) 1) (first_parameter (name ∷ octets)) (read_parameters (after_first (name ∷ octets))) (whole-count name octets whole)
 
 pub step : (octets : List ℕ) (at : ℕ) → at < length octets → slice_index octets at ≢ 0 → begins_whole (drop at octets) ≡ true
     → extent (at + (2 + slice_index octets (at + 1))) (read_parameters (drop (at + (2 + slice_index octets (at + 1))) octets)) ≡ extent at (read_parameters (drop at octets))

@@ -84,13 +84,13 @@ abbrev pub with_optional : List ℕ → List ℕ
 with_optional optional =
     (18 ∷ 1 ∷ 14 ∷ 4 ∷ 6 ∷ 8 ∷ 10 ∷ []) ++ (2 ∷ 66 ∷ 8 ∷ []) ++ (2 ∷ 66 ∷ 6 ∷ []) ++ (2 ∷ 170 ∷ 187 ∷ []) ++ optional
 
--- a parameter of any other name is kept as it came, and what stands behind the end is ignored
+-- a parameter of any other name is kept as it came, and what comes after the end is ignored
 abbrev pub other_parameter_is_kept : Type 0
 other_parameter_is_kept =
     read_extended (with_optional (32 ∷ 2 ∷ 0 ∷ 0 ∷ 0 ∷ 7 ∷ []))
     ≡ Ok (record returned { optional = record { name = 32; octets = 0 ∷ 0 ∷ [] } ∷ [] })
 
--- what is refused: importance without an end behind it, a parameter that runs beyond the end, segmentation of three
+-- what is refused: importance without an end after it, a parameter that runs beyond the end, segmentation of three
 -- octets, an optional part beyond the end; a UDT; six octets
 abbrev pub no_end_is_refused : Type 0
 no_end_is_refused = read_extended (with_optional (18 ∷ 1 ∷ 5 ∷ [])) ≡ Err Pointer
@@ -138,7 +138,7 @@ test_is_written = management_octets 0 (about SubsystemStatusTest) ≡ about_octe
 abbrev pub test_is_read : Type 0
 test_is_read = read_management (about_octets 3) ≡ Ok (about SubsystemStatusTest)
 
--- the two top bits of the point code are ignored, and so is what stands behind
+-- the two top bits of the point code are ignored, and so is what comes after
 abbrev pub spare_bits_are_ignored : Type 0
 spare_bits_are_ignored = read_management (1 ∷ 8 ∷ 44 ∷ 193 ∷ 0 ∷ 9 ∷ []) ≡ Ok (about SubsystemAllowed)
 

@@ -50,14 +50,14 @@ abbrev pub type_of : ExtendedKind → ℕ
 type_of (Xudt class_octet) = 17
 type_of (Xudts return_cause) = 18
 
--- the octet behind the message type
-abbrev pub behind_type : ExtendedKind → ℕ
-behind_type (Xudt class_octet) = class_octet
-behind_type (Xudts return_cause) = return_cause
+-- the octet after the message type
+abbrev pub after_type : ExtendedKind → ℕ
+after_type (Xudt class_octet) = class_octet
+after_type (Xudts return_cause) = return_cause
 
 -- ---- what octets say
 
--- these octets begin with the parameters, behind which stands the octet 0
+-- these octets begin with the parameters, and then the octet 0
 pub record BeginWith (octets : List ℕ) (parameters : List ParameterValue) : Type 0 where
   pub rest : List ℕ
   pub says : octets ≡ parameters_octets parameters ++ 0 ∷ rest
@@ -69,12 +69,12 @@ HasOptional text pointer parameters =
     ((slice_index text pointer ≡ 0) × (parameters ≡ []))
     ⊎ ((0 < slice_index text pointer) × BeginWith (drop (length_place text pointer) text) parameters)
 
--- the octets are a message that says this; its parts may lie anywhere behind the seven octets of type, class or cause,
+-- the octets are a message that says this; its parts may lie anywhere after the seven octets of type, class or cause,
 -- hop counter and pointers
 pub record IsExtended (text : List ℕ) (v : ExtendedValue) : Type 0 where
   pub long : 7 ≤ length text
   pub type : slice_index text 0 ≡ type_of v.kind
-  pub second : slice_index text 1 ≡ behind_type v.kind
+  pub second : slice_index text 1 ≡ after_type v.kind
   pub hops : slice_index text 2 ≡ v.hop_counter
   pub called : HasAddress 7 text 3 v.parts.called
   pub calling : HasAddress 7 text 4 v.parts.calling
@@ -83,7 +83,7 @@ pub record IsExtended (text : List ℕ) (v : ExtendedValue) : Type 0 where
 
 -- ---- the octets that are written
 
--- the octets of the optional part: the parameters, and the octet 0 behind them; nothing, if there are none
+-- the octets of the optional part: the parameters, and the octet 0 after them; nothing, if there are none
 abbrev pub optional_octets : List ParameterValue → List ℕ
 optional_octets ps = if length ps == 0 then [] else parameters_octets ps ++ 0 ∷ []
 
@@ -91,9 +91,9 @@ optional_octets ps = if length ps == 0 then [] else parameters_octets ps ++ 0 �
 abbrev pub optional_pointer : List ParameterValue → (away : ℕ) → ℕ
 optional_pointer ps away = if length ps == 0 then 0 else away
 
--- how far the octet behind the parts is from its pointer, the last of four
-abbrev pub behind_parts : PartsValue → ℕ
-behind_parts parts =
+-- how far the octet after the parts is from its pointer, the last of four
+abbrev pub after_parts : PartsValue → ℕ
+after_parts parts =
     4 + length (address_octets 0 parts.called) + length (address_octets 0 parts.calling) + length parts.data
 
 -- the pointers to the parts, in their order, without gaps
@@ -101,19 +101,19 @@ abbrev pub four_pointers : PartsValue → List ParameterValue → List ℕ
 four_pointers parts optional =
     4 ∷ (4 + length (address_octets 0 parts.called))
     ∷ (4 + length (address_octets 0 parts.called) + length (address_octets 0 parts.calling))
-    ∷ optional_pointer optional (behind_parts parts) ∷ []
+    ∷ optional_pointer optional (after_parts parts) ∷ []
 
 -- the message, with every spare bit 0
 abbrev pub extended_octets : ExtendedValue → List ℕ
 extended_octets v =
-    (type_of v.kind ∷ behind_type v.kind ∷ v.hop_counter ∷ []) ++ four_pointers v.parts v.optional
+    (type_of v.kind ∷ after_type v.kind ∷ v.hop_counter ∷ []) ++ four_pointers v.parts v.optional
     ++ counted_parts v.parts ++ optional_octets v.optional
 
 -- what can be written: each pointer and each length is an octet, and the label of four octets and the message fit a
 -- signalling information field
 pub record IsExtendedWritable (v : ExtendedValue) : Type 0 where
   pub octets : HasOctets 4 v.parts
-  pub pointer : optional_pointer v.optional (behind_parts v.parts) < 2 ^ 8
+  pub pointer : optional_pointer v.optional (after_parts v.parts) < 2 ^ 8
   pub field : 4 + length (extended_octets v) ≤ SIF_OCTETS
 
 -- what a message can say
@@ -123,17 +123,17 @@ pub record IsExtendedValue (v : ExtendedValue) : Type 0 where
 
 -- ---- reading, with the first fault that is met
 
--- the first parameter of these octets, and what stands behind it
+-- the first parameter of these octets, and what comes after it
 abbrev pub first_parameter : List ℕ → ParameterValue
 first_parameter octets = record {
   name = slice_index octets 0;
   octets = take (slice_index octets 1) (drop 2 octets);
 }
 
-abbrev pub behind_first : List ℕ → List ℕ
-behind_first octets = drop (2 + slice_index octets 1) octets
+abbrev pub after_first : List ℕ → List ℕ
+after_first octets = drop (2 + slice_index octets 1) octets
 
--- the first parameter stands there whole
+-- the first parameter is there whole
 abbrev pub is_there : List ℕ → Bool
 is_there octets = nat_le (2 + slice_index octets 1) (length octets)
 
@@ -152,13 +152,13 @@ read_up_to zero (name ∷ octets) = None
 read_up_to (suc most) (name ∷ octets) =
     if name == 0 then Some []
     else if begins_whole (name ∷ octets)
-    then with_first (first_parameter (name ∷ octets)) (read_up_to most (behind_first (name ∷ octets)))
+    then with_first (first_parameter (name ∷ octets)) (read_up_to most (after_first (name ∷ octets)))
     else None
 
 abbrev pub read_parameters : List ℕ → Option (List ParameterValue)
 read_parameters octets = read_up_to (length octets) octets
 
--- the parameters that the octets are, without the octet 0 behind them
+-- the parameters that the octets are, without the octet 0 after them
 abbrev pub parameters_in : List ℕ → List ParameterValue
 parameters_in octets = unwrap_or (read_parameters (octets ++ 0 ∷ [])) []
 

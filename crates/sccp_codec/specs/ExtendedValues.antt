@@ -1,4 +1,4 @@
--- What the extended messages of the code say, without where their octets lie.
+-- What the extended messages of the code say, without the places of their octets.
 use Rattle.std.specs.Prelude.{List}
 use Rattle.sccp_codec.specs.declared.optional.OptionalPart.{OptionalPart}
 use Rattle.sccp_codec.specs.declared.extended.ExtendedUnitdata.{ExtendedUnitdata}

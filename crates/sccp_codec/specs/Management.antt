@@ -28,12 +28,12 @@ format_of SubsystemStatusTest = 3
 abbrev pub management_octets : (spare : ℕ) → ManagementValue → List ℕ
 management_octets spare v = format_of v.kind ∷ v.ssn ∷ point_octets spare (Some v.point) ++ v.multiplicity ∷ []
 
--- the octets are a message that says this; the spare bits, and what stands behind it, may be any
+-- the octets are a message that says this; the spare bits, and what comes after it, may be any
 pub record IsManagement (text : List ℕ) (v : ManagementValue) : Type 0 where
   pub spare : ℕ
   pub spare_fits : spare < 2 ^ 2
-  pub behind : List ℕ
-  pub says : text ≡ management_octets spare v ++ behind
+  pub rest : List ℕ
+  pub says : text ≡ management_octets spare v ++ rest
   pub point : v.point < 2 ^ 14
 
 -- ---- reading, with the first fault that is met

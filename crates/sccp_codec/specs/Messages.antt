@@ -106,8 +106,8 @@ parts_of (UdtsValue return_cause parts) = parts
 abbrev pub length_place : List ℕ → ℕ → ℕ
 length_place text pointer = pointer + slice_index text pointer
 
--- the pointer at this octet names this part: behind the pointers, from the octet `start` on, stands its length, and
--- then the part itself
+-- the pointer at this octet names this part: after the pointers, from the octet `start` on, comes its length, and then
+-- the part itself
 pub record IsPart (start : ℕ) (text : List ℕ) (pointer : ℕ) (part : List ℕ) : Type 0 where
   pub behind : start ≤ length_place text pointer
   pub rest : List ℕ

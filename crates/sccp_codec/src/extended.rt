@@ -3,7 +3,7 @@
 use crate::optional::OptionalPart;
 use crate::unitdata::Parts;
 
-/// Which extended message it is, and the octet behind its message type.
+/// Which extended message it is, and the octet after its message type.
 #[derive(Clone, Copy, PartialEq, Eq)]
 pub enum ExtendedKind {
     /// An XUDT, with the octet of its protocol class: the class in its low half, the message handling

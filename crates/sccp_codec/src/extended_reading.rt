@@ -12,13 +12,13 @@ use crate::optional::OptionalPart;
 use crate::reading::read_parts;
 
 impl<'a> ExtendedUnitdata<'a> {
-    /// The message that the octets behind a routing label are, or their first fault. Its titles, its
+    /// The message that the octets after a routing label are, or their first fault. Its titles, its
     /// data and its optional parameters are slices of the octets. It takes a step for each optional
     /// parameter.
     ///
     /// In this order: Short if there is no octet; Kind if the first isn't that of an XUDT or an XUDTS;
     /// Short under seven octets; Pointer for the called address, the calling address and the data in
-    /// turn, if its pointer names no length octet behind the pointers, or a part that isn't there
+    /// turn, if its pointer names no length octet after the pointers, or a part that isn't there
     /// whole; Short for each address in turn that has fewer octets than it announces; Pointer if the
     /// pointer to the optional part isn't 0 and this doesn't end, or has a parameter that isn't there
     /// whole, or segmentation or importance of another length than theirs. Parts may lie apart and

@@ -1,8 +1,8 @@
-//! Extended unitdata written behind a routing label.
+//! Extended unitdata written after a routing label.
 
 ghost use Rattle.std.specs.Prelude.{◌≡◌, ◌+◌, ◌<◌, ◌≤◌, ◌^◌, ◌++◌, ◌↔◌, [], ◌∷◌, length, take, drop, IsOk, IsSome, IfSome, IfOk, IfErr, OnOk, OnErr, Ok, true};
 ghost use Rattle.std.specs.List.{list_all};
-ghost use Rattle.sccp_codec.specs.Extended.{ExtendedValue, IsExtendedWritable, IsExtendedValue, extended_octets, read_extended, optional_pointer, optional_octets, is_parameter, type_of, behind_type};
+ghost use Rattle.sccp_codec.specs.Extended.{ExtendedValue, IsExtendedWritable, IsExtendedValue, extended_octets, read_extended, optional_pointer, optional_octets, is_parameter, type_of, after_type};
 ghost use Rattle.sccp_codec.specs.ExtendedValues.{extended_of, parameters_of};
 
 use crate::extended::{ExtendedKind, ExtendedUnitdata};
@@ -12,11 +12,11 @@ use crate::writing::{Field, Layout, write_at, write_parts};
 use signalling_types::{Cause, Limits};
 
 impl ExtendedUnitdata<'_> {
-    /// Writes a signalling information field, the label and the message behind it, at the front of
-    /// the buffer, and answers how many octets it has. The parts stand in the order called, calling,
+    /// Writes a signalling information field, the label and the message after it, at the front of
+    /// the buffer, and answers how many octets it has. The parts come in the order called, calling,
     /// data, optional part, without gaps; the optional parameters are those that were read, octet by
     /// octet; spare bits are 0. If there are no optional parameters, there is no optional part. The
-    /// buffer behind the field may hold anything afterwards (Q.713 §4.18, §4.19).
+    /// buffer after the field may hold anything afterwards (Q.713 §4.18, §4.19).
     ///
     /// Refused TooLong exactly if a pointer or the length of a part is over 255, or the field over 272
     /// octets; then the buffer is unchanged.
@@ -70,7 +70,7 @@ fn write_extended(
     Ok(write_optional(&message.optional, at, field))
 }
 
-/// The pointer to the optional part behind parts that are so laid out. None if it is over 255.
+/// The pointer to the optional part after parts that are so laid out. None if it is over 255.
 fn optional_pointer(layout: &Layout, optional: &OptionalPart<'_>) -> Option<u8>
     ensures fits { IsSome result
         ↔ (optional_pointer (parameters_of optional.now) (layout.now.data_pointer + layout.now.carried) < 2 ^ 8) }
@@ -87,7 +87,7 @@ fn optional_pointer(layout: &Layout, optional: &OptionalPart<'_>) -> Option<u8>
 /// The octets before the pointers.
 fn start_of(message: &ExtendedUnitdata<'_>) -> [u8; 3]
     ensures { result ≡ type_of (extended_of message.now).kind
-        ∷ behind_type (extended_of message.now).kind ∷ (extended_of message.now).hop_counter ∷ [] }
+        ∷ after_type (extended_of message.now).kind ∷ (extended_of message.now).hop_counter ∷ [] }
 {
     match message.kind {
         ExtendedKind::Xudt(class_octet) => [XUDT, class_octet, message.hop_counter],
@@ -95,7 +95,7 @@ fn start_of(message: &ExtendedUnitdata<'_>) -> [u8; 3]
     }
 }
 
-/// Writes the optional part from a place on, if there is one, and answers the place behind it.
+/// Writes the optional part from a place on, if there is one, and answers the place after it.
 fn write_optional(optional: &OptionalPart<'_>, at: usize, field: &mut Field) -> usize
     requires { at + length (optional_octets (parameters_of optional.now)) ≤ Limits.SIF_OCTETS }
     ensures count { result ≡ at + length (optional_octets (parameters_of optional.now)) }

@@ -47,7 +47,7 @@ impl SubsystemManagement {
     /// The message that the data of a UDT are, or its first fault.
     ///
     /// In this order: Short if there is no octet; Kind if the format identifier is neither of SSA, of
-    /// SSP nor of SST; Short under five octets. The two top bits of the point code, and octets behind
+    /// SSP nor of SST; Short under five octets. The two top bits of the point code, and octets after
     /// the fifth, are ignored (Q.713 §5).
     pub fn read(octets: &[u8]) -> Result<SubsystemManagement, SccpFault>
         // What reading gives.

@@ -1,7 +1,7 @@
 //! The optional part of an extended message.
 
 ghost use Rattle.std.specs.Prelude.{◌≡◌, ◌≤◌, ◌<◌, ◌==◌, ◌^◌, ◌++◌, ◌+◌, [], ◌∷◌, length, slice_index, IsTrue, MatchOption, true, false};
-ghost use Rattle.sccp_codec.specs.Extended.{AreParameters, is_there, first_parameter, behind_first, begins_whole, has_its_length, read_parameters, read_optional, first_named, parameters_octets, optional_octets, is_parameter};
+ghost use Rattle.sccp_codec.specs.Extended.{AreParameters, is_there, first_parameter, after_first, begins_whole, has_its_length, read_parameters, read_optional, first_named, parameters_octets, optional_octets, is_parameter};
 ghost use Rattle.std.specs.List.{list_all};
 ghost use Rattle.sccp_codec.specs.Optional.{OptionallyGives, extent};
 
@@ -36,7 +36,7 @@ impl<'a> OptionalPart<'a> {
         OptionalPart { octets: &[] }
     }
 
-    /// The octets of the parameters, one after another, without the octet 0 behind them.
+    /// The octets of the parameters, one after another, without the octet 0 after them.
     pub fn octets(&self) -> &'a [u8]
         ensures octets { result.now ≡ parameters_octets (parameters_of self.now) }
         ensures legal { list_all is_parameter (parameters_of self.now) ≡ true }
@@ -57,16 +57,16 @@ impl<'a> OptionalPart<'a> {
         ensures { OptionallyGives (λ octets. octets.now) result (first_named name (parameters_of self.now)) }
     {
         let mut rest = self.octets;
-        'each_parameter: while let Some((this, own, behind)) = first(rest) {
+        'each_parameter: while let Some((this, own, after)) = first(rest) {
             if this == name {
                 return Some(own);
             }
-            rest = behind;
+            rest = after;
         }
         None
     }
 
-    /// Octets of the optional part: those of the parameters, and the octet 0 behind them, if there are
+    /// Octets of the optional part: those of the parameters, and the octet 0 after them, if there are
     /// any.
     pub(crate) fn octets_with_end(&self) -> usize
         ensures value { result ≡ length (optional_octets (parameters_of self.now)) }
@@ -107,12 +107,12 @@ impl<'a> OptionalPart<'a> {
     }
 }
 
-/// The name and the octets of the first parameter, and what stands behind it. None if it isn't there
+/// The name and the octets of the first parameter, and what comes after it. None if it isn't there
 /// whole.
 fn first(octets: &[u8]) -> Option<(u8, &[u8], &[u8])>
     ensures { MatchOption result (is_there octets.now ≡ false) (λ found.
         (is_there octets.now ≡ true) × (found.0 ≡ slice_index octets.now 0)
-        × (found.1.now ≡ (first_parameter octets.now).octets) × (found.2.now ≡ behind_first octets.now)) }
+        × (found.1.now ≡ (first_parameter octets.now).octets) × (found.2.now ≡ after_first octets.now)) }
 {
     let [name, count, ..] = *octets else {
         return None;
@@ -124,7 +124,7 @@ fn first(octets: &[u8]) -> Option<(u8, &[u8], &[u8])>
     Some((name, &octets[2..end], &octets[end..]))
 }
 
-/// Where the octet 0 stands that ends the parameters at the front of these octets.
+/// The place of the octet 0 that ends the parameters at the front of these octets.
 fn end_of_parameters(octets: &[u8]) -> Option<usize>
     ensures { result ≡ extent 0 (read_parameters octets.now) }
 {
@@ -141,7 +141,7 @@ fn end_of_parameters(octets: &[u8]) -> Option<usize>
     None
 }
 
-/// Whether the first parameter stands there whole, and has the length of its name.
+/// Whether the first parameter is there whole, and has the length of its name.
 fn begins_whole(octets: &[u8]) -> bool
     requires { 0 < length octets.now }
     ensures { result ≡ begins_whole octets.now }

@@ -64,7 +64,7 @@ fn read(octets: &[u8]) -> Result<Unitdata<'_>, SccpFault>
 }
 
 /// The addresses and the data, or the first fault of a pointer, then of an address. Their pointers
-/// stand from the first of these places on, the parts behind the second.
+/// are from the first of these places on, the parts from the second on.
 pub(crate) fn read_parts(
     octets: &[u8],
     pointers: usize,
@@ -90,7 +90,8 @@ pub(crate) fn read_parts(
 /// part's length, and behind that the part (Q.713 §2.3).
 fn part(octets: &[u8], pointer: usize, start: usize) -> Result<&[u8], SccpFault>
     requires { pointer < length octets.now }
-    ensures { Gives (λ part. part.now) result (unless (pointer_fault start octets.now pointer) (part_at octets.now pointer)) }
+    ensures { Gives (λ part. part.now) result
+        (unless (pointer_fault start octets.now pointer) (part_at octets.now pointer)) }
 {
     let length_at = pointer + usize::from(octets[pointer]);
     if length_at < start || octets.len() <= length_at {

@@ -1,5 +1,5 @@
 use Rattle.std.proofs.Common.{rules, ◌≡◌, ◌≢◌, true, false, Some, slice_index, sym, ap, subst, ◌∙◌}
-use Rattle.sccp_codec.specs.Extended.{is_there, first_parameter, behind_first}
+use Rattle.sccp_codec.specs.Extended.{is_there, first_parameter, after_first}
 use Rattle.sccp_codec.specs.ExtendedValues.{parameters_of}
 use Rattle.sccp_codec.proofs.NamedTexts.{Left, found-in, next-in, none-in}
 use Rattle.sccp_codec.proofs.optional.OptionalPart.parameter.Goals as goal
@@ -17,8 +17,8 @@ each_parameter-preserved c =
     let rest = c.each_parameter.rest.now in
     let there : is_there rest ≡ true = search rules in
     let other : slice_index rest 0 ≢ c.args.name = search rules in
-    let behind : c.in-Some.behind.now ≡ behind_first rest = search rules in
-    subst (Left (parameters_of c.args.self.now) c.args.name) (sym behind)
+    let after : c.in-Some.after.now ≡ after_first rest = search rules in
+    subst (Left (parameters_of c.args.self.now) c.args.name) (sym after)
     (next-in (parameters_of c.args.self.now) c.args.name rest c.each_parameter.invariant there other)
 
 pub returns : goal.returns
