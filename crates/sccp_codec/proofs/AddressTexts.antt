@@ -97,7 +97,7 @@ record Behind (octets : List ℕ) (point ssn : Option ℕ) (title : List ℕ) : 
   pub point_fits : IfSome point (λ p. p < 2 ^ 14)
   pub ssn_fits : IfSome ssn (λ s. s < 2 ^ 8)
 
-point-says : (low high : ℕ) (rest : List ℕ) → low < 2 ^ 8 → high < 2 ^ 8
+pub point-says : (low high : ℕ) (rest : List ℕ) → low < 2 ^ 8 → high < 2 ^ 8
     → low ∷ high ∷ rest ≡ (low + high * 2 ^ 8) % 2 ^ 14 % 2 ^ 8 ∷ ((low + high * 2 ^ 8) % 2 ^ 14 / 2 ^ 8 + high / 2 ^ 6 * 2 ^ 6) ∷ rest
 point-says low high rest l h =
     let first : low ≡ (low + high * 2 ^ 8) % 2 ^ 14 % 2 ^ 8 = omega arith in
@@ -165,7 +165,7 @@ routing-said : (octet : ℕ) (b0 b1 b7 : Bool) (routing : Routing) (number : ℕ
     → (if is_set octet 6 then Ssn else Title) ≡ routing
 routing-said octet b0 b1 b7 routing number s = rw s.by_ssn (routing-by_ssn routing)
 
-point-read : (point spare : ℕ) → point < 2 ^ 14 → spare < 2 ^ 2 → (point % 2 ^ 8 + (point / 2 ^ 8 + spare * 2 ^ 6) * 2 ^ 8) % 2 ^ 14 ≡ point
+pub point-read : (point spare : ℕ) → point < 2 ^ 14 → spare < 2 ^ 2 → (point % 2 ^ 8 + (point / 2 ^ 8 + spare * 2 ^ 6) * 2 ^ 8) % 2 ^ 14 ≡ point
 point-read point spare p s = omega arith
 
 pub unless-none : {V : Type 0} (f : Option SccpFault) (v w : V) → f ≡ None → v ≡ w → unless f v ≡ Ok w

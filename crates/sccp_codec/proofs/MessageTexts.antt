@@ -30,9 +30,9 @@ part-octets text pointer fits i =
       | inr past ↦ rw (get_or_past (part_at text pointer) i 0 (omega (arith, past, length-take (part_length text pointer) (drop (length_place text pointer + 1) text)))) (omega arith)
     ]
 
-pub is_part-read : (text : List ℕ) (pointer : ℕ) → pointer_fault text pointer ≡ None → IsPart text pointer (part_at text pointer)
-is_part-read text pointer e =
-    let behind : 5 ≤ length_place text pointer = grind (arith, nat_tests, e) in
+pub is_part-read : (start : ℕ) (text : List ℕ) (pointer : ℕ) → pointer_fault start text pointer ≡ None → IsPart start text pointer (part_at text pointer)
+is_part-read start text pointer e =
+    let behind : start ≤ length_place text pointer = grind (arith, nat_tests, e) in
     let within : length_place text pointer < length text = grind (arith, nat_tests, e) in
     let whole : length_place text pointer + 1 + part_length text pointer ≤ length text = grind (arith, nat_tests, e) in
     let rest = drop (length_place text pointer + 1) text in
@@ -45,12 +45,12 @@ is_part-read text pointer e =
           ∙ ap (λ (n : ℕ). n ∷ part_at text pointer ++ drop (part_length text pointer) rest) (sym n);
     }
 
-pub record ReadsPart (text : List ℕ) (pointer : ℕ) (part : List ℕ) : Type 0 where
-  pub well : pointer_fault text pointer ≡ None
+pub record ReadsPart (start : ℕ) (text : List ℕ) (pointer : ℕ) (part : List ℕ) : Type 0 where
+  pub well : pointer_fault start text pointer ≡ None
   pub same : part_at text pointer ≡ part
 
-pub reads_part-is_part : (text : List ℕ) (pointer : ℕ) (part : List ℕ) → IsPart text pointer part → ReadsPart text pointer part
-reads_part-is_part text pointer part h =
+pub reads_part-is_part : (start : ℕ) (text : List ℕ) (pointer : ℕ) (part : List ℕ) → IsPart start text pointer part → ReadsPart start text pointer part
+reads_part-is_part start text pointer part h =
     let place = length_place text pointer in
     let long : length text - place ≡ suc (length (part ++ h.rest)) = sym (length-drop place text) ∙ ap length h.there in
     let within : place < length text = omega arith in
@@ -60,52 +60,52 @@ reads_part-is_part text pointer part h =
     let rest : drop (place + 1) text ≡ part ++ h.rest = cc in
     let whole : place + 1 + part_length text pointer ≤ length text = omega (arith, length-append part h.rest) in
     record {
-      well = rw (le-ltb place 5 h.behind, lt-leb (length text) place within, le-ltb (length text) (place + 1 + part_length text pointer) whole) refl;
+      well = rw (le-ltb place start h.behind, lt-leb (length text) place within, le-ltb (length text) (place + 1 + part_length text pointer) whole) refl;
       same = rw (n, rest) (take-append_seam part h.rest);
     }
 
 -- ---- a text without fault
 
-record IsHeader (text : List ℕ) : Type 0 where
-  pub long : 5 ≤ length text
-  pub kind : (slice_index text 0 ≡ 9) ⊎ (slice_index text 0 ≡ 10)
+pub record IsHeader (message service start : ℕ) (text : List ℕ) : Type 0 where
+  pub long : start ≤ length text
+  pub kind : (slice_index text 0 ≡ message) ⊎ (slice_index text 0 ≡ service)
 
-header-well : (text : List ℕ) → header_fault text ≡ None → IsHeader text
-header-well text e = record {
+pub header-well : (message service start : ℕ) (text : List ℕ) → header_fault message service start text ≡ None → IsHeader message service start text
+header-well message service start text e = record {
   long = grind (arith, nat_tests, e);
   kind =
-      elim (cases_eq (slice_index text 0) 9) [
+      elim (cases_eq (slice_index text 0) message) [
         | inl udt ↦ inl udt
         | inr other ↦ inr (grind (arith, nat_tests, e, other))
       ];
 }
 
-record PartsWell (text : List ℕ) : Type 0 where
-  pub called : pointer_fault text 2 ≡ None
-  pub calling : pointer_fault text 3 ≡ None
-  pub carried : pointer_fault text 4 ≡ None
-  pub called_address : address_fault (part_at text 2) ≡ None
-  pub calling_address : address_fault (part_at text 3) ≡ None
+pub record PartsWell (pointers start : ℕ) (text : List ℕ) : Type 0 where
+  pub called : pointer_fault start text pointers ≡ None
+  pub calling : pointer_fault start text (pointers + 1) ≡ None
+  pub carried : pointer_fault start text (pointers + 2) ≡ None
+  pub called_address : address_fault (part_at text pointers) ≡ None
+  pub calling_address : address_fault (part_at text (pointers + 1)) ≡ None
 
-parts_well : (text : List ℕ) → parts_fault text ≡ None → PartsWell text
-parts_well text e =
-    let a = first-none (pointer_fault text 2) _ e in
-    let b = first-none (pointer_fault text 3) _ a.1 in
-    let c = first-none (pointer_fault text 4) _ b.1 in
-    let d = first-none (address_fault (part_at text 2)) _ c.1 in
-    let f = first-none (address_fault (part_at text 3)) _ d.1 in
+pub parts_well : (pointers start : ℕ) (text : List ℕ) → parts_fault pointers start text ≡ None → PartsWell pointers start text
+parts_well pointers start text e =
+    let a = first-none (pointer_fault start text pointers) _ e in
+    let b = first-none (pointer_fault start text (pointers + 1)) _ a.1 in
+    let c = first-none (pointer_fault start text (pointers + 2)) _ b.1 in
+    let d = first-none (address_fault (part_at text pointers)) _ c.1 in
+    let f = first-none (address_fault (part_at text (pointers + 1))) _ d.1 in
     record { called = a.0; calling = b.0; carried = c.0; called_address = d.0; calling_address = f.0 }
 
-no-parts_fault : (text : List ℕ) → PartsWell text → parts_fault text ≡ None
-no-parts_fault text w = rw (w.called, w.calling, w.carried, w.called_address, w.calling_address) refl
+no-parts_fault : (pointers start : ℕ) (text : List ℕ) → PartsWell pointers start text → parts_fault pointers start text ≡ None
+no-parts_fault pointers start text w = rw (w.called, w.calling, w.carried, w.called_address, w.calling_address) refl
 
 -- the value has the octets before the parts, and the parts
 record SaysHeader (text : List ℕ) (v : UnitdataValue) : Type 0 where
   pub kind : slice_index text 0 ≡ kind_of v
   pub second : slice_index text 1 ≡ second_of v
-  pub parts : parts_in text ≡ parts_of v
+  pub parts : parts_in 2 text ≡ parts_of v
 
-value-says : (text : List ℕ) → IsHeader text → SaysHeader text (value_in text)
+value-says : (text : List ℕ) → IsHeader 9 10 5 text → SaysHeader text (value_in text)
 value-says text h =
     elim h.kind [
       | inl udt ↦ rw (eq-eqb (slice_index text 0) 9 udt) (record { kind = udt; second = refl; parts = refl })
@@ -114,58 +114,71 @@ value-says text h =
 
 -- ---- what is read, the octets say
 
-has_address-read : (text : List ℕ) (pointer : ℕ) → AreOctets text → pointer_fault text pointer ≡ None → address_fault (part_at text pointer) ≡ None
-    → HasAddress text pointer (address_in (part_at text pointer))
-has_address-read text pointer fits e f = record {
+pub has_address-read : (start : ℕ) (text : List ℕ) (pointer : ℕ) → AreOctets text → pointer_fault start text pointer ≡ None → address_fault (part_at text pointer) ≡ None
+    → HasAddress start text pointer (address_in (part_at text pointer))
+has_address-read start text pointer fits e f = record {
   octets = part_at text pointer;
-  part = is_part-read text pointer e;
+  part = is_part-read start text pointer e;
   address = is_address-read (part_at text pointer) _ (part-octets text pointer fits) (ap (λ (fault : Option SccpFault). unless fault (address_in (part_at text pointer))) f);
 }
 
-is_unitdata-parts : (text : List ℕ) (v : UnitdataValue) → AreOctets text → IsHeader text → SaysHeader text v → PartsWell text → IsUnitdata text v
+is_unitdata-parts : (text : List ℕ) (v : UnitdataValue) → AreOctets text → IsHeader 9 10 5 text → SaysHeader text v → PartsWell 2 5 text → IsUnitdata text v
 is_unitdata-parts text v fits h says well = record {
   long = h.long;
   kind = says.kind;
   second = says.second;
-  called = subst (λ (p : PartsValue). HasAddress text 2 p.called) says.parts (has_address-read text 2 fits well.called well.called_address);
-  calling = subst (λ (p : PartsValue). HasAddress text 3 p.calling) says.parts (has_address-read text 3 fits well.calling well.calling_address);
-  carried = subst (λ (p : PartsValue). IsPart text 4 p.data) says.parts (is_part-read text 4 well.carried);
+  called = subst (λ (p : PartsValue). HasAddress 5 text 2 p.called) says.parts (has_address-read 5 text 2 fits well.called well.called_address);
+  calling = subst (λ (p : PartsValue). HasAddress 5 text 3 p.calling) says.parts (has_address-read 5 text 3 fits well.calling well.calling_address);
+  carried = subst (λ (p : PartsValue). IsPart 5 text 4 p.data) says.parts (is_part-read 5 text 4 well.carried);
 }
 
 pub is_unitdata-read : (text : List ℕ) (v : UnitdataValue) → AreOctets text → read_unitdata text ≡ Ok v → IsUnitdata text v
 is_unitdata-read text v fits e =
     let parts = unless-ok (fault_of text) (value_in text) v e in
-    let well = first-none (header_fault text) (parts_fault text ∷ []) parts.0 in
-    is_unitdata-parts text v fits (header-well text well.0) (subst (SaysHeader text) parts.1 (value-says text (header-well text well.0))) (parts_well text (first-none (parts_fault text) [] well.1).0)
+    let well = first-none (header_fault 9 10 5 text) (parts_fault 2 5 text ∷ []) parts.0 in
+    let header = header-well 9 10 5 text well.0 in
+    is_unitdata-parts text v fits header (subst (SaysHeader text) parts.1 (value-says text header)) (parts_well 2 5 text (first-none (parts_fault 2 5 text) [] well.1).0)
 
 -- ---- what the octets say is read
 
-no-header_fault : (text : List ℕ) (v : UnitdataValue) → 5 ≤ length text → slice_index text 0 ≡ kind_of v → header_fault text ≡ None
+no-header_fault : (text : List ℕ) (v : UnitdataValue) → 5 ≤ length text → slice_index text 0 ≡ kind_of v → header_fault 9 10 5 text ≡ None
 no-header_fault text (UdtValue class_octet parts) long kind = grind (arith, nat_tests, long, kind)
 no-header_fault text (UdtsValue return_cause parts) long kind = grind (arith, nat_tests, long, kind)
 
-value-said : (text : List ℕ) (v : UnitdataValue) → slice_index text 0 ≡ kind_of v → slice_index text 1 ≡ second_of v → parts_in text ≡ parts_of v → value_in text ≡ v
-value-said text (UdtValue class_octet parts) kind second same = rw (eq-eqb (slice_index text 0) 9 kind) (ap (λ (n : ℕ). UdtValue n (parts_in text)) second ∙ ap (UdtValue class_octet) same)
+value-said : (text : List ℕ) (v : UnitdataValue) → slice_index text 0 ≡ kind_of v → slice_index text 1 ≡ second_of v → parts_in 2 text ≡ parts_of v → value_in text ≡ v
+value-said text (UdtValue class_octet parts) kind second same = rw (eq-eqb (slice_index text 0) 9 kind) (ap (λ (n : ℕ). UdtValue n (parts_in 2 text)) second ∙ ap (UdtValue class_octet) same)
 value-said text (UdtsValue return_cause parts) kind second same =
-    rw (ne_eqb (slice_index text 0) 9 (λ udt. omega (arith, udt, kind))) (ap (λ (n : ℕ). UdtsValue n (parts_in text)) second ∙ ap (UdtsValue return_cause) same)
+    rw (ne_eqb (slice_index text 0) 9 (λ udt. omega (arith, udt, kind))) (ap (λ (n : ℕ). UdtsValue n (parts_in 2 text)) second ∙ ap (UdtsValue return_cause) same)
+
+-- the parts that the pointers from this octet on name
+pub record ReadsParts (pointers start : ℕ) (text : List ℕ) (parts : PartsValue) : Type 0 where
+  pub well : parts_fault pointers start text ≡ None
+  pub same : parts_in pointers text ≡ parts
+
+pub reads_parts : (pointers start : ℕ) (text : List ℕ) (parts : PartsValue) → HasAddress start text pointers parts.called → HasAddress start text (pointers + 1) parts.calling
+    → IsPart start text (pointers + 2) parts.data → ReadsParts pointers start text parts
+reads_parts pointers start text parts has_called has_calling has_data =
+    let called = reads_part-is_part start text pointers has_called.octets has_called.part in
+    let calling = reads_part-is_part start text (pointers + 1) has_calling.octets has_calling.part in
+    let carried = reads_part-is_part start text (pointers + 2) parts.data has_data in
+    let a = unless-ok (address_fault has_called.octets) (address_in has_called.octets) _ (read_address-is_address has_called.octets parts.called has_called.address) in
+    let b = unless-ok (address_fault has_calling.octets) (address_in has_calling.octets) _ (read_address-is_address has_calling.octets parts.calling has_calling.address) in
+    record {
+      well = no-parts_fault pointers start text (record { called = called.well; calling = calling.well; carried = carried.well; called_address = rw called.same a.0; calling_address = rw calling.same b.0 });
+      same = rw (called.same, calling.same, carried.same, a.1, b.1) refl;
+    }
 
 pub read_unitdata-is_unitdata : (text : List ℕ) (v : UnitdataValue) → IsUnitdata text v → read_unitdata text ≡ Ok v
 read_unitdata-is_unitdata text v h =
-    let called = reads_part-is_part text 2 h.called.octets h.called.part in
-    let calling = reads_part-is_part text 3 h.calling.octets h.calling.part in
-    let carried = reads_part-is_part text 4 (parts_of v).data h.carried in
-    let a = unless-ok (address_fault h.called.octets) (address_in h.called.octets) _ (read_address-is_address h.called.octets (parts_of v).called h.called.address) in
-    let b = unless-ok (address_fault h.calling.octets) (address_in h.calling.octets) _ (read_address-is_address h.calling.octets (parts_of v).calling h.calling.address) in
-    let parts : parts_in text ≡ parts_of v = rw (called.same, calling.same, carried.same, a.1, b.1) refl in
-    let well : parts_fault text ≡ None =
-    no-parts_fault text (record { called = called.well; calling = calling.well; carried = carried.well; called_address = rw called.same a.0; calling_address = rw calling.same b.0 }) in
-    unless-none (fault_of text) (value_in text) v (none-first (header_fault text) (parts_fault text ∷ []) (no-header_fault text v h.long h.kind) (none-first (parts_fault text) [] well refl)) (value-said text v h.kind h.second parts)
+    let parts = reads_parts 2 5 text (parts_of v) h.called h.calling h.carried in
+    unless-none (fault_of text) (value_in text) v (none-first (header_fault 9 10 5 text) (parts_fault 2 5 text ∷ []) (no-header_fault text v h.long h.kind) (none-first (parts_fault 2 5 text) [] parts.well refl)) (value-said text v h.kind h.second parts.same)
 
 -- ---- what is written
 
 -- a part between what comes before it and what comes after it
-between : (text front part behind : List ℕ) (pointer : ℕ) → text ≡ front ++ (counted part ++ behind) → length_place text pointer ≡ length front → 5 ≤ length front → IsPart text pointer part
-between text front part behind pointer e place long = record {
+pub between : (start : ℕ) (text front part behind : List ℕ) (pointer : ℕ) → text ≡ front ++ (counted part ++ behind) → length_place text pointer ≡ length front → start ≤ length front
+    → IsPart start text pointer part
+between start text front part behind pointer e place long = record {
   behind = rw place long;
   rest = behind;
   there = rw (place, e) (drop-append_seam front (counted part ++ behind));
@@ -185,15 +198,15 @@ laid_out-is_unitdata v h called calling c d =
       second = refl;
       called = record {
         octets = called;
-        part = between text head called (counted calling ++ counted (parts_of v).data) 2 (grind (arith, append_assoc {A = ℕ})) refl (omega arith);
+        part = between 5 text head called (counted calling ++ counted (parts_of v).data) 2 (grind (arith, append_assoc {A = ℕ})) refl (omega arith);
         address = spelled-address called (parts_of v).called h.called c;
       };
       calling = record {
         octets = calling;
-        part = between text (head ++ counted called) calling (counted (parts_of v).data) 3 (grind (arith, append_assoc {A = ℕ})) (omega (arith, length-append head (counted called))) (omega (arith, length-append head (counted called)));
+        part = between 5 text (head ++ counted called) calling (counted (parts_of v).data) 3 (grind (arith, append_assoc {A = ℕ})) (omega (arith, length-append head (counted called))) (omega (arith, length-append head (counted called)));
         address = spelled-address calling (parts_of v).calling h.calling d;
       };
-      carried = between text (head ++ counted called ++ counted calling) (parts_of v).data [] 4 (grind (arith, append_assoc {A = ℕ}, append-nil {A = ℕ})) (omega (arith, length-append (head ++ counted called) (counted calling), length-append head (counted called))) (omega (arith, length-append (head ++ counted called) (counted calling), length-append head (counted called)));
+      carried = between 5 text (head ++ counted called ++ counted calling) (parts_of v).data [] 4 (grind (arith, append_assoc {A = ℕ}, append-nil {A = ℕ})) (omega (arith, length-append (head ++ counted called) (counted calling), length-append head (counted called))) (omega (arith, length-append (head ++ counted called) (counted calling), length-append head (counted called)));
     }
 
 pub spelled-is_unitdata : (v : UnitdataValue) → IsUnitdataValue v → IsUnitdata (spelled v) v

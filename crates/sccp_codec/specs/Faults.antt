@@ -1,4 +1,4 @@
--- The faults of unitdata, by number.
+-- The faults of messages, by number.
 use Rattle.std.specs.Prelude.{ℕ}
 use Rattle.sccp_codec.specs.declared.fault.SccpFault.{SccpFault}
 use Rattle.sccp_codec.specs.declared.fault.SccpFault.TheVariants.{Short, Pointer, Kind}

@@ -1,5 +1,10 @@
 pub mod Faults
 pub mod Messages
+pub mod Extended
+pub mod Optional
+pub mod ExtendedValues
+pub mod Examples
 pub mod Layout
+pub mod Management
 pub mod Titles
 pub mod Values

@@ -106,17 +106,17 @@ parts_of (UdtsValue return_cause parts) = parts
 abbrev pub length_place : List ℕ → ℕ → ℕ
 length_place text pointer = pointer + slice_index text pointer
 
--- the pointer at this octet names this part: its length comes after the five octets of type, class and pointers, and
--- then the part itself
-pub record IsPart (text : List ℕ) (pointer : ℕ) (part : List ℕ) : Type 0 where
-  pub behind : 5 ≤ length_place text pointer
+-- the pointer at this octet names this part: after the pointers, from the octet `start` on, comes its length, and then
+-- the part itself
+pub record IsPart (start : ℕ) (text : List ℕ) (pointer : ℕ) (part : List ℕ) : Type 0 where
+  pub behind : start ≤ length_place text pointer
   pub rest : List ℕ
   pub there : drop (length_place text pointer) text ≡ length part ∷ part ++ rest
 
 -- the pointer at this octet names an address that says this
-pub record HasAddress (text : List ℕ) (pointer : ℕ) (a : AddressValue) : Type 0 where
+pub record HasAddress (start : ℕ) (text : List ℕ) (pointer : ℕ) (a : AddressValue) : Type 0 where
   pub octets : List ℕ
-  pub part : IsPart text pointer octets
+  pub part : IsPart start text pointer octets
   pub address : IsAddress octets a
 
 -- the octets are a message that says this; its parts may lie anywhere after the pointers
@@ -124,9 +124,9 @@ pub record IsUnitdata (text : List ℕ) (v : UnitdataValue) : Type 0 where
   pub long : 5 ≤ length text
   pub kind : slice_index text 0 ≡ kind_of v
   pub second : slice_index text 1 ≡ second_of v
-  pub called : HasAddress text 2 (parts_of v).called
-  pub calling : HasAddress text 3 (parts_of v).calling
-  pub carried : IsPart text 4 (parts_of v).data
+  pub called : HasAddress 5 text 2 (parts_of v).called
+  pub calling : HasAddress 5 text 3 (parts_of v).calling
+  pub carried : IsPart 5 text 4 (parts_of v).data
 
 -- ---- the octets that are written
 
@@ -140,7 +140,12 @@ laid_out called calling carried =
     (3 ∷ (3 + length called) ∷ (3 + length called + length calling) ∷ [])
     ++ counted called ++ counted calling ++ counted carried
 
--- the same, of what the parts say, with every spare bit 0
+-- the parts that say this, each after its length, with every spare bit 0
+abbrev pub counted_parts : PartsValue → List ℕ
+counted_parts parts =
+    counted (address_octets 0 parts.called) ++ counted (address_octets 0 parts.calling) ++ counted parts.data
+
+-- the pointers and the parts, with every spare bit 0
 abbrev pub pointed : PartsValue → List ℕ
 pointed parts = laid_out (address_octets 0 parts.called) (address_octets 0 parts.calling) parts.data
 
@@ -148,15 +153,15 @@ pointed parts = laid_out (address_octets 0 parts.called) (address_octets 0 parts
 abbrev pub spelled : UnitdataValue → List ℕ
 spelled v = (kind_of v ∷ second_of v ∷ []) ++ pointed (parts_of v)
 
--- each pointer to such parts, and the length of each, is an octet
-pub record HasOctets (parts : PartsValue) : Type 0 where
-  pub pointers : 3 + length (address_octets 0 parts.called) + length (address_octets 0 parts.calling) < 2 ^ 8
+-- each pointer to such parts, of which the first is this, and the length of each, is an octet
+pub record HasOctets (first : ℕ) (parts : PartsValue) : Type 0 where
+  pub pointers : first + length (address_octets 0 parts.called) + length (address_octets 0 parts.calling) < 2 ^ 8
   pub carried : length parts.data < 2 ^ 8
 
 -- what can be written: the label of four octets, the two octets before the pointers, the pointers and the parts fit a
 -- signalling information field
 pub record IsWritable (parts : PartsValue) : Type 0 where
-  pub octets : HasOctets parts
+  pub octets : HasOctets 3 parts
   pub field : 4 + 2 + length (pointed parts) ≤ SIF_OCTETS
 
 -- what parts can say
@@ -222,12 +227,12 @@ read_address octets = unless (address_fault octets) (address_in octets)
 
 -- ---- a message
 
--- its first octet is that of a UDT or a UDTS, and it has five octets at least
-abbrev pub header_fault : List ℕ → Option SccpFault
-header_fault text =
+-- its first octet is one of these two message types, and it has the octets before its parts
+abbrev pub header_fault : (message service start : ℕ) → List ℕ → Option SccpFault
+header_fault message service start text =
     if length text == 0 then Some Short
-    else if not (slice_index text 0 == 9 || slice_index text 0 == 10) then Some Kind
-    else if nat_lt (length text) 5 then Some Short
+    else if not (slice_index text 0 == message || slice_index text 0 == service) then Some Kind
+    else if nat_lt (length text) start then Some Short
     else None
 
 -- the length of the part that the pointer at this octet names
@@ -235,9 +240,9 @@ abbrev pub part_length : List ℕ → ℕ → ℕ
 part_length text pointer = slice_index text (length_place text pointer)
 
 -- the length octet is after the pointers and before the end, and the part before the end too
-abbrev pub pointer_fault : List ℕ → ℕ → Option SccpFault
-pointer_fault text pointer =
-    if nat_lt (length_place text pointer) 5 then Some Pointer
+abbrev pub pointer_fault : (start : ℕ) → List ℕ → ℕ → Option SccpFault
+pointer_fault start text pointer =
+    if nat_lt (length_place text pointer) start then Some Pointer
     else if nat_le (length text) (length_place text pointer) then Some Pointer
     else if nat_lt (length text) (length_place text pointer + 1 + part_length text pointer) then Some Pointer
     else None
@@ -246,29 +251,30 @@ pointer_fault text pointer =
 abbrev pub part_at : List ℕ → ℕ → List ℕ
 part_at text pointer = take (part_length text pointer) (drop (length_place text pointer + 1) text)
 
--- each pointer in turn, then each address in turn
-abbrev pub parts_fault : List ℕ → Option SccpFault
-parts_fault text =
-    first_fault (pointer_fault text 2 ∷ pointer_fault text 3 ∷ pointer_fault text 4
-    ∷ address_fault (part_at text 2) ∷ address_fault (part_at text 3) ∷ [])
+-- each of the three pointers in turn, from this octet on, then each address in turn
+abbrev pub parts_fault : (pointers start : ℕ) → List ℕ → Option SccpFault
+parts_fault pointers start text =
+    first_fault (pointer_fault start text pointers ∷ pointer_fault start text (pointers + 1)
+    ∷ pointer_fault start text (pointers + 2) ∷ address_fault (part_at text pointers)
+    ∷ address_fault (part_at text (pointers + 1)) ∷ [])
 
-abbrev pub parts_in : List ℕ → PartsValue
-parts_in text = record {
-  called = address_in (part_at text 2);
-  calling = address_in (part_at text 3);
-  «data» = part_at text 4;
+abbrev pub parts_in : (pointers : ℕ) → List ℕ → PartsValue
+parts_in pointers text = record {
+  called = address_in (part_at text pointers);
+  calling = address_in (part_at text (pointers + 1));
+  «data» = part_at text (pointers + 2);
 }
 
 -- the first fault of a text
 abbrev pub fault_of : List ℕ → Option SccpFault
-fault_of text = first_fault (header_fault text ∷ parts_fault text ∷ [])
+fault_of text = first_fault (header_fault 9 10 5 text ∷ parts_fault 2 5 text ∷ [])
 
 -- what a text without fault says
 abbrev pub value_in : List ℕ → UnitdataValue
 value_in text =
     if slice_index text 0 == 9
-    then UdtValue (slice_index text 1) (parts_in text)
-    else UdtsValue (slice_index text 1) (parts_in text)
+    then UdtValue (slice_index text 1) (parts_in 2 text)
+    else UdtsValue (slice_index text 1) (parts_in 2 text)
 
 -- what reading a text gives: the first fault, or what it says
 abbrev pub read_unitdata : List ℕ → Result UnitdataValue SccpFault

@@ -1,16 +1,17 @@
-//! What is wrong with a unitdata message.
+//! What is wrong with a message.
 
 ghost use Rattle.std.specs.Prelude.{◌≡◌};
 ghost use Rattle.sccp_codec.specs.Faults.{fault_number};
 
-/// What is wrong with a unitdata message that can't be read. The numbers are part of the interface.
+/// What is wrong with a message that can't be read. The numbers are part of the interface.
 #[derive(Clone, Copy, Debug, PartialEq, Eq)]
 pub enum SccpFault {
     /// The message has too few octets, or an address fewer than it announces.
     Short = 1,
-    /// A pointer names no whole part of the message.
+    /// A pointer names no whole part of the message, or an optional part that doesn't end, or that has
+    /// a parameter of a wrong length.
     Pointer = 2,
-    /// The message is neither a UDT nor a UDTS.
+    /// The message isn't of a kind that is read.
     Kind = 3,
 }
 

@@ -6,7 +6,7 @@ ghost use Rattle.sccp_codec.specs.Values.{unitdata_of, parts_value, Gives};
 
 use crate::address::Address;
 use crate::fault::SccpFault;
-use crate::layout::{CALLED_POINTER, CALLING_POINTER, DATA_POINTER, PARTS_AT, UDT, UDTS};
+use crate::layout::{PARTS_AT, POINTERS_AT, UDT, UDTS};
 use crate::unitdata::{Parts, Udt, Udts, Unitdata};
 
 impl<'a> Unitdata<'a> {
@@ -45,7 +45,7 @@ fn read(octets: &[u8]) -> Result<Unitdata<'_>, SccpFault>
     if octets.len() < PARTS_AT {
         return Err(SccpFault::Short);
     }
-    let parts = match read_parts(octets) {
+    let parts = match read_parts(octets, POINTERS_AT, PARTS_AT) {
         Ok(parts) => parts,
         Err(fault) => return Err(fault),
     };
@@ -62,14 +62,19 @@ fn read(octets: &[u8]) -> Result<Unitdata<'_>, SccpFault>
     }
 }
 
-/// The addresses and the data, or the first fault of a pointer, then of an address.
-fn read_parts(octets: &[u8]) -> Result<Parts<'_>, SccpFault>
-    requires { 5 ≤ length octets.now }
-    ensures { Gives parts_value result (unless (parts_fault octets.now) (parts_in octets.now)) }
+/// The addresses and the data, or the first fault of a pointer, then of an address. Their pointers
+/// are from the first of these places on, the parts from the second on.
+pub(crate) fn read_parts(
+    octets: &[u8],
+    pointers: usize,
+    start: usize,
+) -> Result<Parts<'_>, SccpFault>
+    requires { pointers + 3 ≤ length octets.now }
+    ensures { Gives parts_value result (unless (parts_fault pointers start octets.now) (parts_in pointers octets.now)) }
 {
-    let called = part(octets, CALLED_POINTER)?;
-    let calling = part(octets, CALLING_POINTER)?;
-    let data = part(octets, DATA_POINTER)?;
+    let called = part(octets, pointers, start)?;
+    let calling = part(octets, pointers + 1, start)?;
+    let data = part(octets, pointers + 2, start)?;
     match (Address::read(called), Address::read(calling)) {
         (Ok(called), Ok(calling)) => Ok(Parts {
             called,
@@ -82,12 +87,13 @@ fn read_parts(octets: &[u8]) -> Result<Parts<'_>, SccpFault>
 
 /// The part that the pointer at this octet names: its value is the distance to the part's length, and the part follows
 /// that (Q.713 §2.3).
-fn part(octets: &[u8], pointer: usize) -> Result<&[u8], SccpFault>
+fn part(octets: &[u8], pointer: usize, start: usize) -> Result<&[u8], SccpFault>
     requires { pointer < length octets.now }
-    ensures { Gives (λ part. part.now) result (unless (pointer_fault octets.now pointer) (part_at octets.now pointer)) }
+    ensures { Gives (λ part. part.now) result
+        (unless (pointer_fault start octets.now pointer) (part_at octets.now pointer)) }
 {
     let length_at = pointer + usize::from(octets[pointer]);
-    if length_at < PARTS_AT || octets.len() <= length_at {
+    if length_at < start || octets.len() <= length_at {
         return Err(SccpFault::Pointer);
     }
     let start = length_at + 1;

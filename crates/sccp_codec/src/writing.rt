@@ -1,7 +1,7 @@
 //! Unitdata written after a routing label.
 
 ghost use Rattle.std.specs.Prelude.{◌≡◌, ◌+◌, ◌<◌, ◌≤◌, ◌^◌, ◌++◌, ◌↔◌, length, take, drop, IsOk, IsSome, IfSome, IfOk, IfErr, OnOk, OnErr, Ok};
-ghost use Rattle.sccp_codec.specs.Messages.{address_octets, point_octets, ssn_octets, indicator_octet, bit, IsAddressValue, spelled, counted, pointed, IsWritable, IsPartsValue, HasOctets, read_unitdata};
+ghost use Rattle.sccp_codec.specs.Messages.{address_octets, point_octets, ssn_octets, indicator_octet, bit, IsAddressValue, spelled, counted, counted_parts, pointed, IsWritable, IsPartsValue, HasOctets, read_unitdata};
 ghost use Rattle.sccp_codec.specs.Layout.{LaysOut};
 ghost use Rattle.sccp_codec.specs.Values.{address_of, parts_value, udt_of, udts_of};
 
@@ -71,36 +71,36 @@ fn write_message(
     ensures label { length label ≡ 4 }
     ensures value { OnOk result (IsPartsValue (parts_value parts.now)) }
 {
-    let Some(layout) = Layout::of(parts) else {
+    let Some(layout) = Layout::of(parts, FIRST_POINTER) else {
         return Err(Cause::TooLong);
     };
-    if LABEL_OCTETS + layout.message_octets() > Limits::SIF_OCTETS {
+    if LABEL_OCTETS + PARTS_AT + layout.parts_octets() > Limits::SIF_OCTETS {
         return Err(Cause::TooLong);
     }
     let at = write_at(field, 0, &label);
     let at = write_at(field, at, &start);
-    Ok(write_parts(parts, &layout, at, field))
+    Ok(write_pointed(parts, &layout, at, field))
 }
 
 /// The lengths of the parts, and the pointers after the first: an octet each.
 #[derive(Clone, Copy)]
-struct Layout {
-    called: u8,
-    calling: u8,
-    carried: u8,
-    calling_pointer: u8,
-    data_pointer: u8,
+pub(crate) struct Layout {
+    pub(crate) called: u8,
+    pub(crate) calling: u8,
+    pub(crate) carried: u8,
+    pub(crate) calling_pointer: u8,
+    pub(crate) data_pointer: u8,
 }
 
 impl Layout {
-    /// How such parts are laid out. None if a length or a pointer is over 255.
-    fn of(parts: &Parts<'_>) -> Option<Layout>
-        ensures fits { IsSome result ↔ HasOctets (parts_value parts.now) }
-        ensures value { IfSome result (LaysOut (parts_value parts.now)) }
+    /// How such parts are laid out after pointers of which the first is this. None if a length or a pointer is over 255.
+    pub(crate) fn of(parts: &Parts<'_>, first: u8) -> Option<Layout>
+        ensures fits { IsSome result ↔ HasOctets first (parts_value parts.now) }
+        ensures value { IfSome result (LaysOut first (parts_value parts.now)) }
     {
         let called = octets_of_address(&parts.called)?;
         let calling = octets_of_address(&parts.calling)?;
-        let calling_pointer = FIRST_POINTER.checked_add(called)?;
+        let calling_pointer = first.checked_add(called)?;
         Some(Layout {
             called,
             calling,
@@ -110,15 +110,11 @@ impl Layout {
         })
     }
 
-    /// Octets of the message.
-    fn message_octets(&self) -> usize
-        ensures { result ≡ 8 + self.now.called + self.now.calling + self.now.carried }
+    /// Octets of the parts, each after its length.
+    pub(crate) fn parts_octets(&self) -> usize
+        ensures { result ≡ 3 + self.now.called + self.now.calling + self.now.carried }
     {
-        PARTS_AT
-            + 3
-            + usize::from(self.called)
-            + usize::from(self.calling)
-            + usize::from(self.carried)
+        3 + usize::from(self.called) + usize::from(self.calling) + usize::from(self.carried)
     }
 }
 
@@ -145,8 +141,8 @@ fn octets_of_address(address: &Address<'_>) -> Option<u8>
 }
 
 /// Writes the pointers and the parts at an offset, and returns the offset after them.
-fn write_parts(parts: &Parts<'_>, layout: &Layout, at: usize, field: &mut Field) -> usize
-    requires lengths { LaysOut (parts_value parts.now) layout.now }
+fn write_pointed(parts: &Parts<'_>, layout: &Layout, at: usize, field: &mut Field) -> usize
+    requires lengths { LaysOut 3 (parts_value parts.now) layout.now }
     requires room { at + length (pointed (parts_value parts.now)) ≤ Limits.SIF_OCTETS }
     ensures count { result ≡ at + length (pointed (parts_value parts.now)) }
     ensures text { take result field.new ≡ take at field.old ++ pointed (parts_value parts.now) }
@@ -154,6 +150,19 @@ fn write_parts(parts: &Parts<'_>, layout: &Layout, at: usize, field: &mut Field)
 {
     let pointers = [FIRST_POINTER, layout.calling_pointer, layout.data_pointer];
     let at = write_at(field, at, &pointers);
+    write_parts(parts, layout, at, field)
+}
+
+/// Writes the parts at an offset, each after its length, and returns the offset after them.
+pub(crate) fn write_parts(parts: &Parts<'_>, layout: &Layout, at: usize, field: &mut Field) -> usize
+    requires called { layout.now.called ≡ length (address_octets 0 (parts_value parts.now).called) }
+    requires calling { layout.now.calling ≡ length (address_octets 0 (parts_value parts.now).calling) }
+    requires carried { layout.now.carried ≡ length (parts_value parts.now).data }
+    requires room { at + length (counted_parts (parts_value parts.now)) ≤ Limits.SIF_OCTETS }
+    ensures count { result ≡ at + length (counted_parts (parts_value parts.now)) }
+    ensures text { take result field.new ≡ take at field.old ++ counted_parts (parts_value parts.now) }
+    ensures value { IsPartsValue (parts_value parts.now) }
+{
     let at = write_address(field, at, layout.called, &parts.called);
     let at = write_address(field, at, layout.calling, &parts.calling);
     let at = write_at(field, at, &[layout.carried]);
@@ -220,7 +229,7 @@ fn bit(set: bool, number: u32) -> u8
 }
 
 /// Writes the octets at an offset, and returns the offset after them.
-fn write_at(field: &mut Field, at: usize, octets: &[u8]) -> usize
+pub(crate) fn write_at(field: &mut Field, at: usize, octets: &[u8]) -> usize
     requires { at + length octets.now ≤ Limits.SIF_OCTETS }
     ensures count { result ≡ at + length octets.now }
     ensures text { take result field.new ≡ take at field.old ++ octets.now }
