@@ -15,3 +15,8 @@ pub mod Always
 pub mod Promised
 pub mod Row
 pub mod Transit
+pub mod LaidOut
+pub mod Unheld
+pub mod RowSettings
+pub mod Offering
+pub mod TwoFailures

@@ -7,6 +7,7 @@ ghost use Rattle.network_rules.specs.Pairs.{flows_stay_between, nothing_is_await
 ghost use Rattle.network_rules.specs.Pairs.{nobody_speaks_for_another, runs_are_runs_of_neighbours};
 ghost use Rattle.network_rules.specs.Row.{OpensInRow};
 ghost use Rattle.network_rules.specs.Transit.{messages_pass_through};
+ghost use Rattle.network_rules.specs.TwoFailures.{CrossesTwoFailures};
 
 /// Each set of a network is a pair of neighbours: by some steps of two neighbours (`neighbour_rules`) the same two
 /// exchanges come to be, with the same books and the same in flight between them.
@@ -72,4 +73,12 @@ pub fn messages_pass_through()
 /// other, on either side of the middle one.
 pub fn links_open_in_a_row()
     ensures { OpensInRow }
+{}
+
+/// These laws aren't empty: three nodes in a row keep the premises, each two neighbours share two links, and a user
+/// message that one end of the row has for the other is sent on a link that fails at both ends before it comes, on
+/// either side of the middle node. By the other links it comes to each node on its way, once; no flag is raised, and
+/// nothing waits in the end.
+pub fn a_message_crosses_two_failures()
+    ensures { CrossesTwoFailures }
 {}
