@@ -9,7 +9,7 @@ use Rattle.exchange_rules.specs.State.{note_refusal}
 use Rattle.exchange_rules.specs.Telling.{tell_owed}
 use Rattle.pair_rules.specs.Pairs.{Submits, Delivers}
 use Rattle.neighbour_rules.specs.ThirdNode.{the_message}
-use Rattle.network_rules.specs.Networks.{NetworkNode, NetworkState, Step, after_steps, deliver_frame, did_here}
+use Rattle.network_rules.specs.Networks.{NetworkNode, NetworkState, Step, after_steps, deliver_frame, did_here, entered_by, refused_by}
 use Rattle.network_rules.specs.TwoFailures.{end_settings, middle_settings}
 use Rattle.network_rules.proofs.LaidOut.{Three, changed_at, network_of, node_at, placing, run, run-is}
 
@@ -26,10 +26,15 @@ abbrev submitted_as : Configuration → NetworkNode → NetworkNode
 submitted_as c x = record x {
   exchange = record { settings = c; node = (apply whole c (Submitted the_message) x.exchange.node).left };
   accepted = x.accepted ++ brought_in (Submitted the_message) (record { settings = c; node = x.exchange.node });
+  entered = x.entered ++ brought_in (Submitted the_message) (record { settings = c; node = x.exchange.node });
 }
 
 abbrev queued_as : Done WholeQueues → NetworkNode → NetworkNode
-queued_as d x = record x { exchange = record { settings = third; node = d.left }; accepted = x.accepted ++ taken_in d.outcome the_message }
+queued_as d x = record x {
+  exchange = record { settings = third; node = d.left };
+  accepted = x.accepted ++ taken_in d.outcome the_message;
+  entered = x.entered ++ taken_in d.outcome the_message;
+}
 
 abbrev pub queued : NetworkNode → NetworkNode
 queued x = queued_as (settled whole third (offered third None false x.exchange.node)) x
@@ -58,6 +63,8 @@ booked_as link new c accepted d x = record x {
   incoming = without_data link x.incoming;
   accepted = x.accepted ++ brought_by new d.outcome c accepted;
   arrived = x.arrived ++ map (λ (m : Message). record { link = link; message = m }) (option_to_list new);
+  entered = x.entered ++ entered_by new c (brought_by new d.outcome c accepted);
+  refused = x.refused ++ refused_by new c d.outcome;
 }
 
 abbrev accepted_of : (link : ℕ) (text : List ℕ) → Configuration → Node WholeQueues → Node WholeQueues

@@ -303,6 +303,26 @@ far-waits : standing (λ m. true) (at10 s0).second.exchange.node.queues ≡ 0
 unfolding apply tell_owed first_sets links_below status_of set_timer clear_timer start_unless_running clear_set due_name after_due due_count names_of choice_among link_by changes_of changes take_back_each owes_nothing any_flow flows rerouted
 far-waits = refl
 
+it-third_entered : (at10 s0).third.entered ≡ the_message ∷ []
+unfolding apply tell_owed first_sets links_below status_of set_timer clear_timer start_unless_running clear_set due_name after_due due_count names_of choice_among link_by changes_of changes take_back_each owes_nothing any_flow flows rerouted
+it-third_entered = refl
+
+it-near_entered : (at10 s0).first.entered ≡ []
+unfolding apply tell_owed first_sets links_below status_of set_timer clear_timer start_unless_running clear_set due_name after_due due_count names_of choice_among link_by changes_of changes take_back_each owes_nothing any_flow flows rerouted
+it-near_entered = refl
+
+third-refused : (at10 s0).third.refused ≡ []
+unfolding apply tell_owed first_sets links_below status_of set_timer clear_timer start_unless_running clear_set due_name after_due due_count names_of choice_among link_by changes_of changes take_back_each owes_nothing any_flow flows rerouted
+third-refused = refl
+
+near-refused : (at10 s0).first.refused ≡ []
+unfolding apply tell_owed first_sets links_below status_of set_timer clear_timer start_unless_running clear_set due_name after_due due_count names_of choice_among link_by changes_of changes take_back_each owes_nothing any_flow flows rerouted
+near-refused = refl
+
+far-refused : (at10 s0).second.refused ≡ []
+unfolding apply tell_owed first_sets links_below status_of set_timer clear_timer start_unless_running clear_set due_name after_due due_count names_of choice_among link_by changes_of changes take_back_each owes_nothing any_flow flows rerouted
+far-refused = refl
+
 pub crosses : CrossesTwoFailures
 crosses = record {
   points = points;
@@ -322,22 +342,27 @@ crosses = record {
   comes = ap (λ (w : NetworkState). users_come (w.node 2)) come-is ∙ it-comes;
   comes_through = ap (λ (w : NetworkState). users_come (w.node 1)) come-is ∙ it-comes_through;
   goes_in = ap (λ (w : NetworkState). users_come (w.node 3)) come-is ∙ it-goes_in;
+  third_entered = ap (λ (w : NetworkState). (w.node 3).entered) come-is ∙ it-third_entered;
+  near_entered = ap (λ (w : NetworkState). (w.node 1).entered) come-is ∙ it-near_entered;
   third_accepted = ap (λ (w : NetworkState). (w.node 3).accepted) come-is ∙ it-third_accepted;
   near_accepted = ap (λ (w : NetworkState). (w.node 1).accepted) come-is ∙ it-near_accepted;
   far_accepted = ap (λ (w : NetworkState). (w.node 2).accepted) come-is ∙ it-far_accepted;
   third_done = record {
     lost_nothing = ap (λ (w : NetworkState). lost_any (w.node 3).exchange.node.parts) come-is ∙ third-lost;
     punctual = ap (λ (w : NetworkState). late_any (w.node 3).exchange.node.parts) come-is ∙ third-late;
+    refused = ap (λ (w : NetworkState). (w.node 3).refused) come-is ∙ third-refused;
     none_waits = ap (λ (w : NetworkState). standing (λ m. true) (w.node 3).exchange.node.queues) come-is ∙ third-waits;
   };
   near_done = record {
     lost_nothing = ap (λ (w : NetworkState). lost_any (w.node 1).exchange.node.parts) come-is ∙ near-lost;
     punctual = ap (λ (w : NetworkState). late_any (w.node 1).exchange.node.parts) come-is ∙ near-late;
+    refused = ap (λ (w : NetworkState). (w.node 1).refused) come-is ∙ near-refused;
     none_waits = ap (λ (w : NetworkState). standing (λ m. true) (w.node 1).exchange.node.queues) come-is ∙ near-waits;
   };
   far_done = record {
     lost_nothing = ap (λ (w : NetworkState). lost_any (w.node 2).exchange.node.parts) come-is ∙ far-lost;
     punctual = ap (λ (w : NetworkState). late_any (w.node 2).exchange.node.parts) come-is ∙ far-late;
+    refused = ap (λ (w : NetworkState). (w.node 2).refused) come-is ∙ far-refused;
     none_waits = ap (λ (w : NetworkState). standing (λ m. true) (w.node 2).exchange.node.queues) come-is ∙ far-waits;
   };
 }

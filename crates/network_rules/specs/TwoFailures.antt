@@ -166,10 +166,12 @@ users_come x = filter (λ a. not (is_management a.message)) x.arrived
 abbrev pub its_text : (bsn fsn : ℕ) → List ℕ
 its_text bsn fsn = spelled (MessageFrame bsn fsn the_message.sio the_message.sif)
 
--- no flag was raised at a node, and no user message waits there, in Held or on a link
+-- no flag was raised at a node, it refused nothing that came for another point, and no user message waits there, in Held
+-- or on a link
 pub record IsDone (x : NetworkNode) : Type 0 where
   pub lost_nothing : lost_any x.exchange.node.parts ≡ false
   pub punctual : late_any x.exchange.node.parts ≡ false
+  pub refused : x.refused ≡ []
   pub none_waits : standing (λ m. true) x.exchange.node.queues ≡ 0
 
 pub record CrossesTwoFailures : Type 0 where
@@ -192,14 +194,16 @@ pub record CrossesTwoFailures : Type 0 where
   pub near_down_on : is_down_at (end_of (failed_on.node 1)) 2 ≡ true
   pub far_down : is_down_at (end_of (failed_on.node 2)) 0 ≡ true
   pub missing_on : users_come (moved_on.node 2) ≡ []
-  -- it comes there by the second link: so each of the three nodes saw it once
+  -- it comes there by the second link: so it entered the network once, and each node on its way saw it once
   pub comes : users_come (come.node 2) ≡ record { link = 1; message = the_message } ∷ []
   pub comes_through : users_come (come.node 1) ≡ record { link = 1; message = the_message } ∷ []
   pub goes_in : users_come (come.node 3) ≡ []
+  pub third_entered : (come.node 3).entered ≡ the_message ∷ []
+  pub near_entered : (come.node 1).entered ≡ []
   pub third_accepted : (come.node 3).accepted ≡ the_message ∷ []
   pub near_accepted : (come.node 1).accepted ≡ the_message ∷ []
   pub far_accepted : (come.node 2).accepted ≡ []
-  -- no flag is raised, and nothing waits any more
+  -- no flag is raised, nothing was refused, and nothing waits any more
   pub third_done : IsDone (come.node 3)
   pub near_done : IsDone (come.node 1)
   pub far_done : IsDone (come.node 2)
