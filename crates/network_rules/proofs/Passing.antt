@@ -2,10 +2,10 @@
 -- is fine of all these is fine of all that stands there.
 use Rattle.exchange_rules.proofs.Basics.{◌<◌, ◌^◌, ◌≡◌, ◌&&◌, ℕ, zero, suc, Bool, true, false, not, List, [], ◌∷◌, ◌++◌, Option, Some, None, Result, Ok, Err, refl, sym, subst, ◌∙◌, if◌then◌else◌, filter, drop, slice_set, nat_eq, nat_lt, length, list_all, and_from as pair}
 use Rattle.std.proofs.lemmas.List.Folds.{list_all-append}
-use Rattle.exchange_rules.proofs.Definitions.{Message, is_management, dpc_of, flow_of, service_indicator, Configuration, Cause, Management, ExtendedChangeoverOrder, ExtendedChangeoverAcknowledgement, ChangebackDeclaration, RouteSetTestProhibited, RouteSetTestRestricted, LinkTestValue, RelayedValue, relay, returned, FailureReason, ChangeoverTimer, LinkStatus, LinkTimer, Transition, Expiry, Facts, RouteStatus, Allowed, Restricted, Prohibited, RouteTest, Heard, Owed, Node, Done, Parts, with_parts, answer, refuse, WholeQueues, queue_at, whole, queue_on, Queue, first_queue, emptied, appended, behind, moved, accepted_count, declaration, test_answer, link_of, no_room, waits, is_destination, destination_place, is_link, link_at, down, in_service, set_of, peer_of, point_of, adjacent_of, telling, entry_of, facts, owed}
+use Rattle.exchange_rules.proofs.Definitions.{Message, is_management, dpc_of, flow_of, service_indicator, Configuration, Cause, Management, ExtendedChangeoverOrder, ExtendedChangeoverAcknowledgement, ChangebackDeclaration, RouteSetTestProhibited, RouteSetTestRestricted, LinkTestValue, RelayedValue, relay, returned, FailureReason, ChangeoverTimer, LinkStatus, LinkTimer, Transition, Expiry, Facts, RouteStatus, Allowed, Restricted, Prohibited, RouteTest, Heard, Owed, Node, Done, Parts, with_parts, answer, refuse, WholeQueues, queue_at, whole, queue_on, hold, Queue, first_queue, emptied, appended, behind, moved, accepted_count, declaration, test_answer, link_of, no_room, waits, is_destination, destination_place, is_link, link_at, down, in_service, set_of, peer_of, point_of, adjacent_of, telling, entry_of, facts, owed}
 use Rattle.exchange_rules.proofs.Definitions.{send, send_routed, send_anew, send_each, transfer, offer, route_message, told_parts, tell, tell_if, tell_each, tell_owed, may_tell, inhibited, is_inhibited, prohibit, answer_no_route, answered_parts, send_route_status, on_route_test, on_route_status, apply_route_status, ask_by, ask_again, with_next_test, prohibited_test, restricted_test, status_of, management_to, own_of, in_place_of, send_udts, return_outcome, relay_by, on_unitdata}
 use Rattle.exchange_rules.proofs.Definitions.{is_user, sccp, local, make_unavailable, begin, change_over, fail, begin_by_peer, fail_by_peer, fail_by_order, conclude, complete_if, concluded, complete_by_order, on_changeover_order, on_changeover_acknowledgement, on_changeover_timer, changeover_order, changeover_acknowledgement, changeover_of, with_changeover, completed, changing, has_other, with_changeover_acknowledged, with_expiry}
-use Rattle.exchange_rules.proofs.Definitions.{hold_flows, code_for, take_back_each, loses_flows, advance, moved_on, return_if, enters, serve_status, act_by_status, act_by_timer, run_out, action_at}
+use Rattle.exchange_rules.proofs.Definitions.{hold_flows, code_in_use, code_for, take_back_each, loses_flows, advance, moved_on, return_if, enters, serve_status, act_by_status, act_by_timer, run_out, action_at}
 use Rattle.exchange_rules.proofs.Lists.{each-set}
 use Rattle.exchange_rules.proofs.Settling.{left-true, right-true}
 use Rattle.link.specs.declared.action.Action.{Action}
@@ -26,110 +26,75 @@ pub record IsFine (c : Configuration) (fine : Message → Bool) : Type 0 where
   pub tested : (point : ℕ) (test : LinkTestValue) → fine (test_answer c point test) ≡ true
   pub users : (m : Message) → is_management m ≡ false → fine m ≡ true
 
-module _ (c : Configuration) (fine : Message → Bool) (f : IsFine c fine) where
+-- R holds of what rules do that no changeover ends by and no frame: parts change, and a message that is fine goes to the end of a queue, or into Held
+pub record IsPassing (c : Configuration) (fine : Message → Bool) (R : Node WholeQueues → Node WholeQueues → Type 0) : Type 0 where
+  pub same : (n m : Node WholeQueues) → m.queues ≡ n.queues → R n m
+  pub both : (n m o : Node WholeQueues) → R n m → R m o → R n o
+  pub queued : (link : ℕ) (m : Message) (n : Node WholeQueues) → fine m ≡ true → R n (queue_on whole c link m n)
+  pub held : (m : Message) (n : Node WholeQueues) → fine m ≡ true → R n (hold whole m n)
+
+module _ (fine : Message → Bool) where
   abbrev pub AllFine : List Message → Type 0
   AllFine ms = list_all fine ms ≡ true
 
-  pub record AreFine (qs : WholeQueues) : Type 0 where
-    pub held : AllFine qs.held
-    pub links : (link : ℕ) → AllFine (queue_at qs link).all
-
-  -- ---- lists
-
-  joined : (ms ks : List Message) → AllFine ms → AllFine ks → AllFine (ms ++ ks)
+  pub joined : (ms ks : List Message) → AllFine ms → AllFine ks → AllFine (ms ++ ks)
   joined ms ks e g = list_all-append fine ms ks ∙ pair (list_all fine ms) (list_all fine ks) e g
 
-  one-more : (ms : List Message) (m : Message) → AllFine ms → fine m ≡ true → AllFine (ms ++ m ∷ [])
+  pub one-more : (ms : List Message) (m : Message) → AllFine ms → fine m ≡ true → AllFine (ms ++ m ∷ [])
   one-more ms m e g = joined ms (m ∷ []) e (pair (fine m) true g refl)
 
-  either-all : (b : Bool) (ms ks : List Message) → AllFine ms → AllFine ks → AllFine (if b then ms else ks)
+  pub either-all : (b : Bool) (ms ks : List Message) → AllFine ms → AllFine ks → AllFine (if b then ms else ks)
   either-all true ms ks e g = e
   either-all false ms ks e g = g
 
-  filtered : (test : Message → Bool) (ms : List Message) → AllFine ms → AllFine (filter test ms)
-  filtered test [] e = refl
-  filtered test (m ∷ ms) e =
-      let others : AllFine (filter test ms) = filtered test ms (right-true (fine m) (list_all fine ms) e) in
-      either-all (test m) (m ∷ filter test ms) (filter test ms) (pair (fine m) (list_all fine (filter test ms)) (left-true (fine m) (list_all fine ms) e) others) others
+module _ (c : Configuration) (fine : Message → Bool) (f : IsFine c fine) {R : Node WholeQueues → Node WholeQueues → Type 0} (r : IsPassing c fine R) where
+  -- ---- tests decide
 
-  dropped : (n : ℕ) (ms : List Message) → AllFine ms → AllFine (drop n ms)
-  dropped zero ms e = e
-  dropped (suc n) [] e = e
-  dropped (suc n) (m ∷ ms) e = dropped n ms (right-true (fine m) (list_all fine ms) e)
+  pub stays : (n : Node WholeQueues) → R n n
+  stays n = r.same n n refl
 
-  behind-fine : (q : Queue) (count : Option ℕ) → AllFine q.all → AllFine (behind q count)
-  behind-fine q (Some n) e = dropped n q.all e
-  behind-fine q None e = dropped q.sent q.all e
-
-  -- ---- what keeps all fine
-
-  pub record Keeps (n m : Node WholeQueues) : Type 0 where
-    pub stay : AreFine n.queues → AreFine m.queues
-
-  pub same : (n m : Node WholeQueues) → m.queues ≡ n.queues → Keeps n m
-  same n m e = record { stay = λ h. subst AreFine (sym e) h }
-
-  pub and-then : (n m o : Node WholeQueues) → Keeps n m → Keeps m o → Keeps n o
-  and-then n m o e g = record { stay = λ h. g.stay (e.stay h) }
-
-  -- the queue of one link changes, and Held with it
-  pub queue-keeps : (n m : Node WholeQueues) (held : List Message) (link : ℕ) (q : Queue) → m.queues ≡ record { held = held; links = slice_set n.queues.links link q }
-      → (AreFine n.queues → AllFine held) → (AreFine n.queues → AllFine q.all) → Keeps n m
-  queue-keeps n m held link q e g k = record {
-    stay = λ h. subst AreFine (sym e) (record {
-      held = g h;
-      links = λ l. each-set (λ (p : Queue). AllFine p.all) n.queues.links link l q first_queue h.links (k h);
-    });
-  }
-
-  pub either : (b : Bool) (n m o : Node WholeQueues) → Keeps n m → Keeps n o → Keeps n (if b then m else o)
+  pub either : (b : Bool) (n m o : Node WholeQueues) → R n m → R n o → R n (if b then m else o)
   either true n m o e g = e
   either false n m o e g = g
 
-  pub either_done : (b : Bool) (n : Node WholeQueues) (d e : Done WholeQueues) → Keeps n d.left → Keeps n e.left → Keeps n (if b then d else e).left
+  pub either_done : (b : Bool) (n : Node WholeQueues) (d e : Done WholeQueues) → R n d.left → R n e.left → R n (if b then d else e).left
   either_done true n d e g k = g
   either_done false n d e g k = k
 
-  pub stays : (n : Node WholeQueues) → Keeps n n
-  stays n = same n n refl
-
   -- ---- messages that go out
 
-  pub queued : (link : ℕ) (m : Message) (n : Node WholeQueues) → fine m ≡ true → Keeps n (queue_on whole c link m n)
-  queued link m n e = queue-keeps n _ n.queues.held link (appended (queue_at n.queues link) m) refl (λ h. h.held) (λ h. one-more (queue_at n.queues link).all m (h.links link) e)
+  pub send-keeps : (room : Option Cause) (link : Option ℕ) (m : Message) (n : Node WholeQueues) → fine m ≡ true → R n (send whole c room link m n)
+  send-keeps (Some cause) link m n e = r.same n _ refl
+  send-keeps None None m n e = r.same n _ refl
+  send-keeps None (Some link) m n e = r.queued link m n e
 
-  pub send-keeps : (room : Option Cause) (link : Option ℕ) (m : Message) (n : Node WholeQueues) → fine m ≡ true → Keeps n (send whole c room link m n)
-  send-keeps (Some cause) link m n e = same n _ refl
-  send-keeps None None m n e = same n _ refl
-  send-keeps None (Some link) m n e = queued link m n e
-
-  pub routed : (m : Message) (n : Node WholeQueues) → fine m ≡ true → Keeps n (send_routed whole c m n)
+  pub routed : (m : Message) (n : Node WholeQueues) → fine m ≡ true → R n (send_routed whole c m n)
   routed m n e = send-keeps (no_room whole c m n.queues) (link_of c n.parts (flow_of m)) m n e
 
   -- with other parts
-  routed-with : (m : Message) (n : Node WholeQueues) (p : Parts) → fine m ≡ true → Keeps n (send_routed whole c m (with_parts n p))
-  routed-with m n p e = and-then n (with_parts n p) _ (same n _ refl) (routed m (with_parts n p) e)
+  routed-with : (m : Message) (n : Node WholeQueues) (p : Parts) → fine m ≡ true → R n (send_routed whole c m (with_parts n p))
+  routed-with m n p e = r.both n (with_parts n p) _ (r.same n _ refl) (routed m (with_parts n p) e)
 
-  each-sent : (ms : List Message) (n : Node WholeQueues) → AllFine ms → Keeps n (send_each whole c ms n)
+  pub each-sent : (ms : List Message) (n : Node WholeQueues) → AllFine fine ms → R n (send_each whole c ms n)
   each-sent [] n e = stays n
   each-sent (m ∷ ms) n e =
-      and-then n (send_anew whole c m n) _ (send-keeps None (link_of c n.parts (flow_of m)) m n (left-true (fine m) (list_all fine ms) e))
+      r.both n (send_anew whole c m n) _ (send-keeps None (link_of c n.parts (flow_of m)) m n (left-true (fine m) (list_all fine ms) e))
       (each-sent ms (send_anew whole c m n) (right-true (fine m) (list_all fine ms) e))
 
   -- ---- what adjacent points are told
 
-  tell-keeps : (o : Owed) (n : Node WholeQueues) → Keeps n (tell whole c o n)
+  tell-keeps : (o : Owed) (n : Node WholeQueues) → R n (tell whole c o n)
   tell-keeps o n = routed-with (route_message c o.set o.destination o.status) n (told_parts c o n.parts) (f.made (adjacent_of c o.set) (telling o.status (point_of c o.destination)) (f.adjacent o.set))
 
-  tell_each-keeps : (os : List Owed) (n : Node WholeQueues) → Keeps n (tell_each whole c os n)
+  tell_each-keeps : (os : List Owed) (n : Node WholeQueues) → R n (tell_each whole c os n)
   tell_each-keeps [] n = stays n
-  tell_each-keeps (o ∷ os) n = and-then n (tell_if whole c o n) _ (either (may_tell whole c n) n (tell whole c o n) n (tell-keeps o n) (stays n)) (tell_each-keeps os (tell_if whole c o n))
+  tell_each-keeps (o ∷ os) n = r.both n (tell_if whole c o n) _ (either (may_tell whole c n) n (tell whole c o n) n (tell-keeps o n) (stays n)) (tell_each-keeps os (tell_if whole c o n))
 
-  pub tell_owed-keeps : (n : Node WholeQueues) → Keeps n (tell_owed whole c n)
+  pub tell_owed-keeps : (n : Node WholeQueues) → R n (tell_owed whole c n)
   unfolding tell_owed
   tell_owed-keeps n = tell_each-keeps (owed (facts c n.parts) n.parts.told) n
 
-  no_route-keeps : (link destination : Option ℕ) (n : Node WholeQueues) → Keeps n (answer_no_route whole c link destination n)
+  no_route-keeps : (link destination : Option ℕ) (n : Node WholeQueues) → R n (answer_no_route whole c link destination n)
   no_route-keeps (Some link) (Some destination) n =
       let set : ℕ = set_of c link in
       either (may_tell whole c n && not (is_inhibited set destination n.parts)) n (prohibit whole c set destination n) n
@@ -137,57 +102,57 @@ module _ (c : Configuration) (fine : Message → Bool) (f : IsFine c fine) where
   no_route-keeps (Some link) None n = stays n
   no_route-keeps None destination n = stays n
 
-  route_status-keeps : (status : Option RouteStatus) (set destination : ℕ) (n : Node WholeQueues) → Keeps n (send_route_status whole c status set destination n)
+  route_status-keeps : (status : Option RouteStatus) (set destination : ℕ) (n : Node WholeQueues) → R n (send_route_status whole c status set destination n)
   route_status-keeps (Some status) set destination n = routed-with (route_message c set destination status) n (answered_parts set destination status n.parts) (f.made (adjacent_of c set) (telling status (point_of c destination)) (f.adjacent set))
   route_status-keeps None set destination n = stays n
 
-  pub test-keeps : (test : RouteTest) (route : Result (ℕ × ℕ) Outcome) (n : Node WholeQueues) → Keeps n (on_route_test whole c test route n).left
+  pub test-keeps : (test : RouteTest) (route : Result (ℕ × ℕ) Outcome) (n : Node WholeQueues) → R n (on_route_test whole c test route n).left
   test-keeps test (Ok (set, destination)) n =
       let status : Option RouteStatus = told.answer_to_test (facts c n.parts) n.parts.told set destination test in
       either_done (told.is_own_point n.parts.told set destination) n (answer Ignored n) (answer Handled (send_route_status whole c status set destination n))
       (stays n) (route_status-keeps status set destination n)
   test-keeps test (Err outcome) n = stays n
 
-  status-by : (x : Heard) (set destination : ℕ) (status : RouteStatus) (n : Node WholeQueues) → Keeps n (apply_route_status whole c x set destination status n).left
+  status-by : (x : Heard) (set destination : ℕ) (status : RouteStatus) (n : Node WholeQueues) → R n (apply_route_status whole c x set destination status n).left
   status-by hears.Ignored set destination status n = stays n
   status-by hears.Unchanged set destination status n = stays n
-  status-by hears.Changed set destination status n = same n _ refl
+  status-by hears.Changed set destination status n = r.same n _ refl
 
-  pub status-keeps : (status : RouteStatus) (route : Result (ℕ × ℕ) Outcome) (n : Node WholeQueues) → Keeps n (on_route_status whole c status route n).left
+  pub status-keeps : (status : RouteStatus) (route : Result (ℕ × ℕ) Outcome) (n : Node WholeQueues) → R n (on_route_status whole c status route n).left
   status-keeps status (Ok (set, destination)) n = status-by (told.heard (facts c n.parts) n.parts.told set destination status) set destination status n
   status-keeps status (Err outcome) n = stays n
 
-  ask-by : (status : Option RouteStatus) (set destination : ℕ) (n : Node WholeQueues) → Keeps n (ask_by whole c status set destination n)
+  ask-by : (status : Option RouteStatus) (set destination : ℕ) (n : Node WholeQueues) → R n (ask_by whole c status set destination n)
   ask-by (Some Prohibited) set destination n = routed-with (prohibited_test whole c set destination) n (with_next_test whole c set destination n.parts) (f.made (adjacent_of c set) (RouteSetTestProhibited (point_of c destination)) (f.adjacent set))
   ask-by (Some Restricted) set destination n = routed-with (restricted_test whole c set destination) n (with_next_test whole c set destination n.parts) (f.made (adjacent_of c set) (RouteSetTestRestricted (point_of c destination)) (f.adjacent set))
   ask-by (Some Allowed) set destination n = stays n
   ask-by None set destination n = stays n
 
-  pub ask-keeps : (set destination : ℕ) (n : Node WholeQueues) → Keeps n (ask_again whole c set destination n)
+  pub ask-keeps : (set destination : ℕ) (n : Node WholeQueues) → R n (ask_again whole c set destination n)
   ask-keeps set destination n =
       let status : Option RouteStatus = status_of (facts c n.parts) destination set in
       either (nat_lt set (length c.sets) && nat_lt destination (length c.destinations)) n (ask_by whole c status set destination n) n (ask-by status set destination n) (stays n)
 
   -- ---- messages for other points, and SCCP
 
-  offer-keeps : (room : Option Cause) (waiting : Bool) (link from : Option ℕ) (m : Message) (n : Node WholeQueues) → fine m ≡ true → Keeps n (offer whole c room waiting link from m n).left
+  offer-keeps : (room : Option Cause) (waiting : Bool) (link from : Option ℕ) (m : Message) (n : Node WholeQueues) → fine m ≡ true → R n (offer whole c room waiting link from m n).left
   offer-keeps (Some cause) waiting link from m n e = stays n
-  offer-keeps None true link from m n e = record { stay = λ h. record { held = one-more n.queues.held m h.held e; links = h.links } }
+  offer-keeps None true link from m n e = r.held m n e
   offer-keeps None false None from m n e = no_route-keeps from (destination_place c (dpc_of m)) n
-  offer-keeps None false (Some link) from m n e = queued link m n e
+  offer-keeps None false (Some link) from m n e = r.queued link m n e
 
-  pub transfer-keeps : (from : Option ℕ) (m : Message) (n : Node WholeQueues) → fine m ≡ true → Keeps n (transfer whole c from m n).left
+  pub transfer-keeps : (from : Option ℕ) (m : Message) (n : Node WholeQueues) → fine m ≡ true → R n (transfer whole c from m n).left
   transfer-keeps from m n e =
       let waiting : Bool = waits c n.parts.holds m in
       let link : Option ℕ = link_of c n.parts (flow_of m) in
       either_done (is_destination c (dpc_of m)) n (offer whole c (no_room whole c m n.queues) waiting link from m n) (refuse causes.UnknownDestination n)
       (offer-keeps (no_room whole c m n.queues) waiting link from m n e) (stays n)
 
-  udts-keeps : (udts : Option (List ℕ)) (m : Message) (n : Node WholeQueues) → is_management m ≡ false → Keeps n (send_udts whole c udts m n)
+  udts-keeps : (udts : Option (List ℕ)) (m : Message) (n : Node WholeQueues) → is_management m ≡ false → R n (send_udts whole c udts m n)
   udts-keeps (Some sif) m n e = transfer-keeps None (in_place_of m sif) n (f.users (in_place_of m sif) e)
   udts-keeps None m n e = stays n
 
-  return-keeps : (outcome : Outcome) (m : Message) (n : Node WholeQueues) → is_management m ≡ false → Keeps n (return_outcome whole c outcome m n)
+  return-keeps : (outcome : Outcome) (m : Message) (n : Node WholeQueues) → is_management m ≡ false → R n (return_outcome whole c outcome m n)
   return-keeps (Refused cause) m n e = udts-keeps (returned (own_of c) n.parts.titles m.sif cause) m n e
   return-keeps (Queued link) m n e = stays n
   return-keeps Held m n e = stays n
@@ -195,17 +160,17 @@ module _ (c : Configuration) (fine : Message → Bool) (f : IsFine c fine) where
   return-keeps Handled m n e = stays n
   return-keeps Ignored m n e = stays n
 
-  relay-keeps : (becomes : RelayedValue) (m : Message) (n : Node WholeQueues) → is_management m ≡ false → Keeps n (relay_by whole c becomes m n).left
+  relay-keeps : (becomes : RelayedValue) (m : Message) (n : Node WholeQueues) → is_management m ≡ false → R n (relay_by whole c becomes m n).left
   relay-keeps relays.Delivered m n e = stays n
   relay-keeps (relays.Onward sif) m n e = transfer-keeps None (in_place_of m sif) n (f.users (in_place_of m sif) e)
   relay-keeps (relays.Refused cause) m n e = stays n
 
-  unitdata-keeps : (m : Message) (n : Node WholeQueues) → is_management m ≡ false → Keeps n (on_unitdata whole c m n).left
+  unitdata-keeps : (m : Message) (n : Node WholeQueues) → is_management m ≡ false → R n (on_unitdata whole c m n).left
   unitdata-keeps m n e =
       let d : Done WholeQueues = relay_by whole c (relay (own_of c) n.parts.titles m.sif) m n in
-      and-then n d.left _ (relay-keeps (relay (own_of c) n.parts.titles m.sif) m n e) (return-keeps d.outcome m d.left e)
+      r.both n d.left _ (relay-keeps (relay (own_of c) n.parts.titles m.sif) m n e) (return-keeps d.outcome m d.left e)
 
-  pub local-keeps : (m : Message) (n : Node WholeQueues) → is_management m ≡ false → Keeps n (local whole c m n).left
+  pub local-keeps : (m : Message) (n : Node WholeQueues) → is_management m ≡ false → R n (local whole c m n).left
   local-keeps m n e =
       either_done (nat_eq (service_indicator m) sccp) n (on_unitdata whole c m n) (if is_user c (service_indicator m) then answer Local n else refuse causes.NoUserPart n) (unitdata-keeps m n e)
       (either_done (is_user c (service_indicator m)) n (answer Local n) (refuse causes.NoUserPart n) (stays n) (stays n))
@@ -216,112 +181,81 @@ module _ (c : Configuration) (fine : Message → Bool) (f : IsFine c fine) where
   unavailable-same true link why n = refl
   unavailable-same false link why n = refl
 
-  begin-keeps : (ordered : Bool) (link : ℕ) (n : Node WholeQueues) → Keeps n (begin whole c ordered link n)
+  begin-keeps : (ordered : Bool) (link : ℕ) (n : Node WholeQueues) → R n (begin whole c ordered link n)
   begin-keeps true link n = routed-with (changeover_order c link (whole.last_accepted n.queues link)) n (changing c true link n.parts) (f.made (peer_of c link) (ExtendedChangeoverOrder (entry_of c link).slc (whole.last_accepted n.queues link)) (f.adjacent (set_of c link)))
-  begin-keeps false link n = same n _ refl
+  begin-keeps false link n = r.same n _ refl
 
-  over-keeps : (served : Bool) (link : ℕ) (n : Node WholeQueues) → Keeps n (change_over whole c served link n)
+  over-keeps : (served : Bool) (link : ℕ) (n : Node WholeQueues) → R n (change_over whole c served link n)
   over-keeps true link n = begin-keeps (has_other c link n.parts) link n
   over-keeps false link n = stays n
 
-  pub fail-keeps : (link : ℕ) (why : FailureReason) (n : Node WholeQueues) → Keeps n (fail whole c link why n)
+  pub fail-keeps : (link : ℕ) (why : FailureReason) (n : Node WholeQueues) → R n (fail whole c link why n)
   fail-keeps link why n =
       let gone : Node WholeQueues = make_unavailable whole c (in_service n.parts link) link why n in
-      and-then n gone _ (same n gone (unavailable-same (in_service n.parts link) link why n)) (over-keeps (in_service n.parts link) link gone)
+      r.both n gone _ (r.same n gone (unavailable-same (in_service n.parts link) link why n)) (over-keeps (in_service n.parts link) link gone)
 
-  peer-keeps : (served : Bool) (link : ℕ) (n : Node WholeQueues) → Keeps n (begin_by_peer whole c served link n)
-  peer-keeps true link n = same n _ refl
+  peer-keeps : (served : Bool) (link : ℕ) (n : Node WholeQueues) → R n (begin_by_peer whole c served link n)
+  peer-keeps true link n = r.same n _ refl
   peer-keeps false link n = stays n
 
-  by_order-keeps : (link : ℕ) (n : Node WholeQueues) → Keeps n (fail_by_order whole c link n)
+  pub by_order-keeps : (link : ℕ) (n : Node WholeQueues) → R n (fail_by_order whole c link n)
   by_order-keeps link n =
       let gone : Node WholeQueues = make_unavailable whole c (in_service n.parts link) link reasons.Changeover n in
       either (down n.parts link) n n (fail_by_peer whole c link n) (stays n)
-      (and-then n gone _ (same n gone (unavailable-same (in_service n.parts link) link reasons.Changeover n)) (peer-keeps (in_service n.parts link) link gone))
-
-  conclude-keeps : (link : ℕ) (number : Option ℕ) (n : Node WholeQueues) → Keeps n (conclude whole c (whole.found n.queues link number) link number n)
-  conclude-keeps link number n = record {
-    stay = λ h.
-        let q : Queue = queue_at n.queues link in
-        let left : List Message = behind q (accepted_count q number) in
-        let fine_left : AllFine left = behind-fine q (accepted_count q number) (h.links link) in
-        let done : Node WholeQueues = record { queues = whole.completed n.queues link number; parts = concluded link (whole.found n.queues link number) n.parts } in
-        let completes : Keeps n done =
-        queue-keeps n done (moved q number ++ n.queues.held) link (emptied q) refl (λ i. joined (moved q number) n.queues.held (filtered (λ m. not (is_management m)) left fine_left) i.held) (λ i. refl) in
-        (each-sent (whole.found n.queues link number).queued_anew done (filtered is_management left fine_left)).stay (completes.stay h);
-  }
-
-  complete-keeps : (incomplete : Bool) (link : ℕ) (number : Option ℕ) (n : Node WholeQueues) (p : Parts) → Keeps n (complete_if whole c incomplete link number (with_parts n p))
-  complete-keeps true link number n p = and-then n (with_parts n p) _ (same n _ refl) (conclude-keeps link number (with_parts n p))
-  complete-keeps false link number n p = same n _ refl
-
-  pub order-keeps : (link : ℕ) (number : Option ℕ) (n : Node WholeQueues) → Keeps n (on_changeover_order whole c link number n).left
-  order-keeps link number n =
-      let one : Node WholeQueues = fail_by_order whole c link n in
-      let two : Node WholeQueues = complete_by_order whole c link number one in
-      and-then n one _ (by_order-keeps link n)
-      (and-then one two _ (complete-keeps (changeover_of one.parts link).incomplete link number one (with_changeover link (completed (changeover_of one.parts link)) one.parts))
-      (routed (changeover_acknowledgement c link (whole.last_accepted two.queues link)) two (f.made (peer_of c link) (ExtendedChangeoverAcknowledgement (entry_of c link).slc (whole.last_accepted two.queues link)) (f.adjacent (set_of c link)))))
-
-  pub acknowledged-keeps : (link : ℕ) (number : Option ℕ) (n : Node WholeQueues) → Keeps n (on_changeover_acknowledgement whole c link number n).left
-  acknowledged-keeps link number n =
-      let done : Node WholeQueues = complete_if whole c (changeover_of n.parts link).incomplete link number (with_parts n (with_changeover_acknowledged link n.parts)) in
-      either_done (changeover_of n.parts link).awaited n (answer Handled done) (answer Ignored n)
-      (complete-keeps (changeover_of n.parts link).incomplete link number n (with_changeover_acknowledged link n.parts)) (stays n)
-
-  pub expired-keeps : (timer : ChangeoverTimer) (link : ℕ) (n : Node WholeQueues) → Keeps n (on_changeover_timer whole c timer link n)
-  expired-keeps timer link n =
-      let done : Node WholeQueues = complete_if whole c (changeover_of n.parts link).incomplete link None (with_parts n (with_expiry timer link n.parts)) in
-      either (is_link n.parts link) n done n (complete-keeps (changeover_of n.parts link).incomplete link None n (with_expiry timer link n.parts)) (stays n)
+      (r.both n gone _ (r.same n gone (unavailable-same (in_service n.parts link) link reasons.Changeover n)) (peer-keeps (in_service n.parts link) link gone))
 
   -- ---- a link takes its flows back
 
-  hold-keeps : (before after : Facts) (code : Option ℕ) (link other : ℕ) (n : Node WholeQueues) → Keeps n (hold_flows whole c before after code link other n)
-  hold-keeps before after (Some code) link other n = record { stay = (queued other (declaration c link code) n (f.made (peer_of c link) (ChangebackDeclaration (entry_of c link).slc code) (f.adjacent (set_of c link)))).stay }
-  hold-keeps before after None link other n = same n _ refl
+  hold-keeps : (before after : Facts) (code : Option ℕ) (link other : ℕ) (n : Node WholeQueues) → R n (hold_flows whole c before after code link other n)
+  hold-keeps before after (Some code) link other n =
+      let used : Node WholeQueues = with_parts n (code_in_use c (set_of c link) code n.parts) in
+      let declared : Node WholeQueues = queue_on whole c other (declaration c link code) used in
+      let made : fine (declaration c link code) ≡ true = f.made (peer_of c link) (ChangebackDeclaration (entry_of c link).slc code) (f.adjacent (set_of c link)) in
+      r.both n declared _ (r.both n used declared (r.same n used refl) (r.queued other (declaration c link code) used made)) (r.same declared _ refl)
+  hold-keeps before after None link other n = r.same n _ refl
 
-  back_each-keeps : (before after : Facts) (link many : ℕ) (n : Node WholeQueues) → Keeps n (take_back_each whole c before after link many n)
+  back_each-keeps : (before after : Facts) (link many : ℕ) (n : Node WholeQueues) → R n (take_back_each whole c before after link many n)
   unfolding take_back_each
   back_each-keeps before after link zero n = stays n
   back_each-keeps before after link (suc other) n =
       let one : Node WholeQueues = take_back_each whole c before after link other n in
-      and-then n one _ (back_each-keeps before after link other n)
+      r.both n one _ (back_each-keeps before after link other n)
       (either (loses_flows c before after other link) one (hold_flows whole c before after (code_for whole c link other one) link other one) one
       (hold-keeps before after (code_for whole c link other one) link other one) (stays one))
 
-  return_if-keeps : (entered : Bool) (link : ℕ) (before : Facts) (n : Node WholeQueues) → Keeps n (return_if whole c entered link before n)
+  return_if-keeps : (entered : Bool) (link : ℕ) (before : Facts) (n : Node WholeQueues) → R n (return_if whole c entered link before n)
   return_if-keeps true link before n = back_each-keeps before (facts c n.parts) link (length c.links) n
   return_if-keeps false link before n = stays n
 
-  pub advance-keeps : (link : ℕ) (step : Transition) (n : Node WholeQueues) → Keeps n (advance whole c link step n)
+  pub advance-keeps : (link : ℕ) (step : Transition) (n : Node WholeQueues) → R n (advance whole c link step n)
   advance-keeps link step n =
       let went : Node WholeQueues = with_parts n (moved_on c link step n.parts) in
-      and-then n went _ (same n went refl) (return_if-keeps (enters link step n.parts) link (facts c n.parts) went)
+      r.both n went _ (r.same n went refl) (return_if-keeps (enters link step n.parts) link (facts c n.parts) went)
 
   -- ---- frames, and the timers of a link
 
-  serve-keeps : (link : ℕ) (status : LinkStatus) (n : Node WholeQueues) → Keeps n (serve_status whole c link status n)
+  serve-keeps : (link : ℕ) (status : LinkStatus) (n : Node WholeQueues) → R n (serve_status whole c link status n)
   serve-keeps link says.Alignment n = stays n
   serve-keeps link says.ProvingNormal n = stays n
   serve-keeps link says.ProvingEmergency n = stays n
   serve-keeps link says.Ready n = stays n
   serve-keeps link says.ProcessorOutage n = stays n
   serve-keeps link says.ProcessorRecovered n = stays n
-  serve-keeps link says.Busy n = same n _ refl
-  serve-keeps link says.BusyEnded n = same n _ refl
+  serve-keeps link says.Busy n = r.same n _ refl
+  serve-keeps link says.BusyEnded n = r.same n _ refl
   serve-keeps link says.OutOfService n = stays n
 
-  pub by_status-keeps : (a : Action) (link : ℕ) (status : LinkStatus) (n : Node WholeQueues) → Keeps n (act_by_status whole c a link status n).left
+  pub by_status-keeps : (a : Action) (link : ℕ) (status : LinkStatus) (n : Node WholeQueues) → R n (act_by_status whole c a link status n).left
   by_status-keeps act.Ignored link status n = stays n
   by_status-keeps act.Fail link status n = fail-keeps link reasons.Status n
   by_status-keeps (act.Go step) link status n =
       let next : Node WholeQueues = advance whole c link step n in
-      and-then n next _ (advance-keeps link step n) (either step.serve next (serve_status whole c link status next) next (serve-keeps link status next) (stays next))
+      r.both n next _ (advance-keeps link step n) (either step.serve next (serve_status whole c link status next) next (serve-keeps link status next) (stays next))
 
-  by_timer-keeps : (a : Action) (link : ℕ) (n : Node WholeQueues) → Keeps n (act_by_timer whole c a link n)
+  by_timer-keeps : (a : Action) (link : ℕ) (n : Node WholeQueues) → R n (act_by_timer whole c a link n)
   by_timer-keeps act.Ignored link n = stays n
   by_timer-keeps act.Fail link n = fail-keeps link reasons.Timer n
   by_timer-keeps (act.Go step) link n = advance-keeps link step n
 
-  pub run_out-keeps : (link : ℕ) (timer : LinkTimer) (n : Node WholeQueues) → Keeps n (run_out whole c link timer n)
+  pub run_out-keeps : (link : ℕ) (timer : LinkTimer) (n : Node WholeQueues) → R n (run_out whole c link timer n)
   run_out-keeps link timer n = by_timer-keeps (action_at (link_at n.parts link).alignment (Expiry timer)) link n

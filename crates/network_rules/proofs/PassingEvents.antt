@@ -24,7 +24,9 @@ use Rattle.mtp3_codec.specs.Management.{read_link_test, read_management}
 use Rattle.route_management.specs.declared.heard.RouteTest.TheVariants as tests
 use Rattle.link.specs.declared.action.LinkTimer.TheVariants as its
 use Rattle.signalling_types.specs.declared.notice.ChangeoverTimer.TheVariants as changeover
-use Rattle.network_rules.proofs.Passing.{IsFine, AllFine, Keeps, same, and-then, either, either_done, stays, queue-keeps, send-keeps, queued, routed, tell_owed-keeps, test-keeps, status-keeps, ask-keeps, transfer-keeps, local-keeps, fail-keeps, order-keeps, acknowledged-keeps, expired-keeps, advance-keeps, by_status-keeps, run_out-keeps}
+use Rattle.network_rules.proofs.Passing.{IsFine, IsPassing, AllFine, either, either_done, stays, send-keeps, routed, tell_owed-keeps, test-keeps, status-keeps, ask-keeps, transfer-keeps, local-keeps, fail-keeps, advance-keeps, by_status-keeps, run_out-keeps}
+use Rattle.network_rules.proofs.PassingLinks.{do_test-keeps, confirmed-keeps, submit_to-keeps, aside-keeps, down-keeps, activate-keeps, deactivate-keeps, added-keeps, removed-keeps, go_each-keeps, settles}
+use Rattle.network_rules.proofs.Fine.{Keeps, keeping, same, and-then, queue-keeps, order-keeps, acknowledged-keeps, expired-keeps}
 
 low-bits : (n : ℕ) → n % 2 ^ 14 < 2 ^ 14
 low-bits n = omega arith
@@ -36,24 +38,16 @@ module _ (c : Configuration) (fine : Message → Bool) (f : IsFine c fine) where
   abbrev K : (n m : Node WholeQueues) → Type 0
   K n m = Keeps c fine f n m
 
+  r : IsPassing c fine K
+  r = keeping c fine f
+
   stay : (n : Node WholeQueues) → K n n
-  stay n = stays c fine f n
+  stay n = stays c fine f r n
 
   to : (n m : Node WholeQueues) → m.queues ≡ n.queues → K n m
   to n m e = same c fine f n m e
 
   -- ---- messages for this point
-
-  send_on-keeps : (link : ℕ) (m : Message) (n : Node WholeQueues) → fine m ≡ true → K n (send_on whole c link m n)
-  send_on-keeps link m n e = send-keeps c fine f (no_room whole c m n.queues) (Some link) m n e
-
-  kind-keeps : (kind : TestKind) (link point : ℕ) (test : LinkTestValue) (n : Node WholeQueues) → K n (do_kind whole c kind link point test n).left
-  kind-keeps Test link point test n = send_on-keeps link (test_answer c point test) n (f.tested point test)
-  kind-keeps Acknowledgement link point test n = stay n
-
-  do_test-keeps : (r : Result LinkTestValue MgmtFault) (link point : ℕ) (n : Node WholeQueues) → K n (do_test whole c r link point n).left
-  do_test-keeps (Err fault) link point n = stay n
-  do_test-keeps (Ok test) link point n = kind-keeps test.kind link point test n
 
   do_order-keeps : (link number : Option ℕ) (n : Node WholeQueues) → K n (do_order whole c link number n).left
   do_order-keeps (Some link) number n = order-keeps c fine f link number n
@@ -63,11 +57,6 @@ module _ (c : Configuration) (fine : Message → Bool) (f : IsFine c fine) where
   do_answer-keeps (Some link) number n = acknowledged-keeps c fine f link number n
   do_answer-keeps None number n = stay n
 
-  confirmed-keeps : (set : Option ℕ) (code : ℕ) (n : Node WholeQueues) → K n (on_changeback_acknowledgement whole c set code n).left
-  confirmed-keeps (Some set) code n =
-      either_done c fine f (is_outstanding n.parts.codes set code) n (answer Handled (with_parts n (freed set code n.parts))) (answer Ignored n) (to n _ refl) (stay n)
-  confirmed-keeps None code n = stay n
-
   management-keeps : (r : Result Management MgmtFault) (point : ℕ) (n : Node WholeQueues) → point < 2 ^ 14 → K n (do_management whole c r point n).left
   management-keeps (Err fault) point n fits = stay n
   management-keeps (Ok TrafficRestartAllowed) point n fits = stay n
@@ -75,47 +64,35 @@ module _ (c : Configuration) (fine : Message → Bool) (f : IsFine c fine) where
   management-keeps (Ok (ExtendedChangeoverAcknowledgement slc number)) point n fits = do_answer-keeps (link_with_code c point slc) (Some number) n
   management-keeps (Ok (EmergencyChangeoverOrder slc)) point n fits = do_order-keeps (link_with_code c point slc) None n
   management-keeps (Ok (EmergencyChangeoverAcknowledgement slc)) point n fits = do_answer-keeps (link_with_code c point slc) None n
-  management-keeps (Ok (ChangebackDeclaration slc code)) point n fits = routed c fine f (changeback_acknowledgement c point slc code) n (f.made point (ChangebackAcknowledgement slc code) fits)
-  management-keeps (Ok (ChangebackAcknowledgement slc code)) point n fits = confirmed-keeps (set_place c point) code n
-  management-keeps (Ok (TransferProhibited about)) point n fits = status-keeps c fine f Prohibited (route_about (set_place c point) (destination_place c about)) n
-  management-keeps (Ok (TransferRestricted about)) point n fits = status-keeps c fine f Restricted (route_about (set_place c point) (destination_place c about)) n
-  management-keeps (Ok (TransferAllowed about)) point n fits = status-keeps c fine f Allowed (route_about (set_place c point) (destination_place c about)) n
-  management-keeps (Ok (RouteSetTestProhibited about)) point n fits = test-keeps c fine f tests.Prohibited (route_about (set_place c point) (destination_place c about)) n
-  management-keeps (Ok (RouteSetTestRestricted about)) point n fits = test-keeps c fine f tests.Restricted (route_about (set_place c point) (destination_place c about)) n
+  management-keeps (Ok (ChangebackDeclaration slc code)) point n fits = routed c fine f r (changeback_acknowledgement c point slc code) n (f.made point (ChangebackAcknowledgement slc code) fits)
+  management-keeps (Ok (ChangebackAcknowledgement slc code)) point n fits = confirmed-keeps c fine f r (set_place c point) code n
+  management-keeps (Ok (TransferProhibited about)) point n fits = status-keeps c fine f r Prohibited (route_about (set_place c point) (destination_place c about)) n
+  management-keeps (Ok (TransferRestricted about)) point n fits = status-keeps c fine f r Restricted (route_about (set_place c point) (destination_place c about)) n
+  management-keeps (Ok (TransferAllowed about)) point n fits = status-keeps c fine f r Allowed (route_about (set_place c point) (destination_place c about)) n
+  management-keeps (Ok (RouteSetTestProhibited about)) point n fits = test-keeps c fine f r tests.Prohibited (route_about (set_place c point) (destination_place c about)) n
+  management-keeps (Ok (RouteSetTestRestricted about)) point n fits = test-keeps c fine f r tests.Restricted (route_about (set_place c point) (destination_place c about)) n
 
   manage-keeps : (link : ℕ) (m : Message) (n : Node WholeQueues) → K n (manage whole c link m n).left
   manage-keeps link m n =
-      either_done c fine f (is_adjacent c (opc_of m)) n
+      either_done c fine f r (is_adjacent c (opc_of m)) n
       (if nat_eq (service_indicator m) 1 then do_test whole c (read_link_test m.sif) link (opc_of m) n else do_management whole c (read_management m.sif) (opc_of m) n) (refuse causes.NotFromAdjacent n)
-      (either_done c fine f (nat_eq (service_indicator m) 1) n (do_test whole c (read_link_test m.sif) link (opc_of m) n) (do_management whole c (read_management m.sif) (opc_of m) n)
-      (do_test-keeps (read_link_test m.sif) link (opc_of m) n) (management-keeps (read_management m.sif) (opc_of m) n (opc-fits m)))
+      (either_done c fine f r (nat_eq (service_indicator m) 1) n (do_test whole c (read_link_test m.sif) link (opc_of m) n) (do_management whole c (read_management m.sif) (opc_of m) n)
+      (do_test-keeps c fine f r (read_link_test m.sif) link (opc_of m) n) (management-keeps (read_management m.sif) (opc_of m) n (opc-fits m)))
       (stay n)
 
   distribute-keeps : (b : Bool) (link : ℕ) (m : Message) (n : Node WholeQueues) → is_management m ≡ b → K n (if b then manage whole c link m n else local whole c m n).left
   distribute-keeps true link m n e = manage-keeps link m n
-  distribute-keeps false link m n e = local-keeps c fine f m n e
+  distribute-keeps false link m n e = local-keeps c fine f r m n e
 
   deliver_to-keeps : (d : Discrimination) (link : ℕ) (m : Message) (n : Node WholeQueues) → fine m ≡ true → K n (deliver_to whole c d link m n).left
   deliver_to-keeps (whither.Refused cause) link m n e = stay n
   deliver_to-keeps (whither.Here label) link m n e = distribute-keeps (is_management m) link m n refl
-  deliver_to-keeps (whither.Transfer label) link m n e = transfer-keeps c fine f (Some link) m n e
+  deliver_to-keeps (whither.Transfer label) link m n e = transfer-keeps c fine f r (Some link) m n e
 
   deliver-keeps : (link : ℕ) (m : Message) (n : Node WholeQueues) → fine m ≡ true → K n (deliver whole c link m n).left
   deliver-keeps link m n e =
       let d : Done WholeQueues = deliver_to whole c (whither_goes c m) link m n in
       and-then c fine f n d.left _ (deliver_to-keeps (whither_goes c m) link m n e) (to d.left _ refl)
-
-  -- ---- a message that is handed over is no management
-
-  submitted-keeps : (b : Bool) (d e : Done WholeQueues) (m : Message) (n : Node WholeQueues) → is_management m ≡ b → K n d.left → (is_management m ≡ false → K n e.left) → K n (if b then d else e).left
-  submitted-keeps true d e m n i g k = g
-  submitted-keeps false d e m n i g k = k i
-
-  submit_to-keeps : (d : Discrimination) (m : Message) (n : Node WholeQueues) → K n (submit_to whole c d m n).left
-  submit_to-keeps (whither.Refused cause) m n = stay n
-  submit_to-keeps (whither.Here label) m n = submitted-keeps (is_management m) (refuse causes.NotInProfile n) (local whole c m n) m n refl (stay n) (local-keeps c fine f m n)
-  submit_to-keeps (whither.Transfer label) m n =
-      submitted-keeps (is_management m) (refuse causes.NotInProfile n) (transfer whole c None m n) m n refl (stay n) (λ e. transfer-keeps c fine f None m n (f.users m e))
 
   -- ---- a frame
 
@@ -134,34 +111,28 @@ module _ (c : Configuration) (fine : Message → Bool) (f : IsFine c fine) where
       (queue-keeps c fine f n next n.queues.held link (queue.accepted q d.fsn d.bsn (carries d)) refl (λ h. h.held)
       (λ h. ap (list_all fine) (accepted-all q (carries d) (accept_answer q d.fsn d.bsn (carries d))) ∙ h.links link))
       (carry-keeps link d.message next e)
-  handle-keeps (Err fault) link d n e = fail-keeps c fine f link reasons.Sequence n
+  handle-keeps (Err fault) link d n e = fail-keeps c fine f r link reasons.Sequence n
 
   by_data-keeps : (a : Action) (link : ℕ) (d : Carrying) (n : Node WholeQueues) → IsFineOf d.message → K n (act_by_data whole c a link d n).left
   by_data-keeps act.Ignored link d n e = stay n
-  by_data-keeps act.Fail link d n e = fail-keeps c fine f link reasons.Sequence n
+  by_data-keeps act.Fail link d n e = fail-keeps c fine f r link reasons.Sequence n
   by_data-keeps (act.Go step) link d n e =
       let next : Node WholeQueues = advance whole c link step n in
-      and-then c fine f n next _ (advance-keeps c fine f link step n) (handle-keeps (numbers whole c link d next) link d next e)
+      and-then c fine f n next _ (advance-keeps c fine f r link step n) (handle-keeps (numbers whole c link d next) link d next e)
 
   frame-keeps : (link : ℕ) (frame : FrameValue) (n : Node WholeQueues) → IsFineOf (carried_message (Ok frame)) → K n (receive_frame whole c link frame n).left
   frame-keeps link (EmptyFrame bsn fsn) n e = by_data-keeps (action_at (link_at n.parts link).alignment UserData) link (empty_data bsn fsn) n e
   frame-keeps link (MessageFrame bsn fsn sio sif) n e = by_data-keeps (action_at (link_at n.parts link).alignment UserData) link (message_data bsn fsn sio sif) n e
-  frame-keeps link (StatusFrame bsn fsn status) n e = by_status-keeps c fine f (action_at (link_at n.parts link).alignment (Status status)) link status n
-
-  aside-keeps : (link : ℕ) (fault : FrameFault) (n : Node WholeQueues) → K n (leave_aside whole c link fault n).left
-  aside-keeps link faults.Length n = fail-keeps c fine f link reasons.Length n
-  aside-keeps link faults.Short n = to n _ refl
-  aside-keeps link faults.Version n = to n _ refl
-  aside-keeps link faults.Unknown n = to n _ refl
+  frame-keeps link (StatusFrame bsn fsn status) n e = by_status-keeps c fine f r (action_at (link_at n.parts link).alignment (Status status)) link status n
 
   read-keeps : (link : ℕ) (r : Result FrameValue FrameFault) (n : Node WholeQueues) → IsFineOf (carried_message r) → K n (read whole c link r n).left
   read-keeps link (Ok frame) n e = frame-keeps link frame n e
-  read-keeps link (Err fault) n e = aside-keeps link fault n
+  read-keeps link (Err fault) n e = aside-keeps c fine f r link fault n
 
   receive-keeps : (link : ℕ) (text : List ℕ) (n : Node WholeQueues) → IsFineOf (carried_message (read_frame text)) → K n (receive whole c link text n).left
   receive-keeps link text n e =
-      either_done c fine f (is_link n.parts link) n (if down n.parts link then answer Ignored n else read whole c link (read_frame text) n) (refuse causes.NoSuchName n)
-      (either_done c fine f (down n.parts link) n (answer Ignored n) (read whole c link (read_frame text) n) (stay n) (read-keeps link (read_frame text) n e))
+      either_done c fine f r (is_link n.parts link) n (if down n.parts link then answer Ignored n else read whole c link (read_frame text) n) (refuse causes.NoSuchName n)
+      (either_done c fine f r (down n.parts link) n (answer Ignored n) (read whole c link (read_frame text) n) (stay n) (read-keeps link (read_frame text) n e))
       (stay n)
 
   -- ---- associations, and the operator's word
@@ -170,82 +141,41 @@ module _ (c : Configuration) (fine : Message → Bool) (f : IsFine c fine) where
   up-keeps link n =
       let opened : Done WholeQueues = answer Handled (open_link whole c link n) in
       let restarted : Done WholeQueues = if may_restart (changeover_of n.parts link) then opened else refuse causes.ChangeoverPending n in
-      either_done c fine f (is_link n.parts link) n (if may_open (link_at n.parts link) then restarted else refuse causes.LinkNotReady n) (refuse causes.NoSuchName n)
-      (either_done c fine f (may_open (link_at n.parts link)) n restarted (refuse causes.LinkNotReady n)
-      (either_done c fine f (may_restart (changeover_of n.parts link)) n opened (refuse causes.ChangeoverPending n)
+      either_done c fine f r (is_link n.parts link) n (if may_open (link_at n.parts link) then restarted else refuse causes.LinkNotReady n) (refuse causes.NoSuchName n)
+      (either_done c fine f r (may_open (link_at n.parts link)) n restarted (refuse causes.LinkNotReady n)
+      (either_done c fine f r (may_restart (changeover_of n.parts link)) n opened (refuse causes.ChangeoverPending n)
       (queue-keeps c fine f n _ n.queues.held link first_queue refl (λ h. h.held) (λ h. refl)) (stay n))
       (stay n))
       (stay n)
 
-  if_up-keeps : (link : ℕ) (why : FailureReason) (n : Node WholeQueues) → K n (fail_if_up whole c link why n)
-  if_up-keeps link why n = either c fine f (down n.parts link) n n (fail whole c link why n) (stay n) (fail-keeps c fine f link why n)
-
-  down-keeps : (link : ℕ) (n : Node WholeQueues) → K n (association_down whole c link n).left
-  down-keeps link n =
-      let fell : Node WholeQueues = fail_if_up whole c link reasons.Association n in
-      let gone : Done WholeQueues = answer Handled (end_association whole c link fell) in
-      either_done c fine f (is_link n.parts link) n (if (link_at n.parts link).association then gone else answer Ignored n) (refuse causes.NoSuchName n)
-      (either_done c fine f (link_at n.parts link).association n gone (answer Ignored n)
-      (and-then c fine f n fell _ (if_up-keeps link reasons.Association n) (to fell _ refl)) (stay n))
-      (stay n)
-
-  activate-keeps : (link : ℕ) (n : Node WholeQueues) → K n (activate whole c link n).left
-  activate-keeps link n = either_done c fine f (is_link n.parts link) n (answer Handled (set_active whole c true link n)) (refuse causes.NoSuchName n) (to n _ refl) (stay n)
-
-  deactivate-keeps : (link : ℕ) (n : Node WholeQueues) → K n (deactivate whole c link n).left
-  deactivate-keeps link n =
-      let fell : Node WholeQueues = fail_if_up whole c link reasons.Operator n in
-      either_done c fine f (is_link n.parts link) n (answer Handled (set_active whole c false link fell)) (refuse causes.NoSuchName n)
-      (and-then c fine f n fell _ (if_up-keeps link reasons.Operator n) (to fell _ refl)) (stay n)
-
-  added-keeps : (refusal : Option Cause) (row : TitleEntry) (n : Node WholeQueues) → K n (add_title_unless refusal row n).left
-  added-keeps (Some cause) row n = stay n
-  added-keeps None row n = to n _ refl
-
-  removed-keeps : (key : TitleKey) (digits : List ℕ) (n : Node WholeQueues) → K n (remove_title key digits n).left
-  removed-keeps key digits n =
-      either_done c fine f (has_row n.parts.titles (place_of key digits)) n
-      (answer Handled (with_parts n (with_titles (without_row (place_of key digits) n.parts.titles) n.parts))) (refuse causes.NoSuchName n) (to n _ refl) (stay n)
-
   -- ---- release
-
-  go-keeps : (waiting : Bool) (link : Option ℕ) (m : Message) (n : Node WholeQueues) → link_of c n.parts (flow_of m) ≡ link → fine m ≡ true → K n (go_by whole c waiting m n)
-  go-keeps true link m n e g = record { stay = λ h. record { held = list_all-append fine n.queues.held (m ∷ []) ∙ pair (list_all fine n.queues.held) (fine m && true) h.held (pair (fine m) true g refl); links = h.links } }
-  go-keeps false (Some link) m n e g = subst (λ (o : Option ℕ). K n (go_on whole c o m n)) (sym e) (queued c fine f link m n g)
-  go-keeps false None m n e g = subst (λ (o : Option ℕ). K n (go_on whole c o m n)) (sym e) (to n _ refl)
-
-  go_each-keeps : (ms : List Message) (n : Node WholeQueues) → AllFine c fine f ms → K n (go_each whole c ms n)
-  go_each-keeps [] n e = stay n
-  go_each-keeps (m ∷ ms) n e =
-      and-then c fine f n (go whole c m n) _ (go-keeps (waits c n.parts.holds m) (link_of c n.parts (flow_of m)) m n refl (left-true (fine m) (list_all fine ms) e))
-      (go_each-keeps ms (go whole c m n) (right-true (fine m) (list_all fine ms) e))
 
   release-keeps : (n : Node WholeQueues) → K n (release whole c n)
   release-keeps n = record {
     stay = λ h.
         let out : Node WholeQueues = record n { queues = whole.without_held n.queues } in
-        (go_each-keeps n.queues.held out h.held).stay (record { held = refl; links = h.links });
+        (go_each-keeps c fine f r n.queues.held out h.held).stay (record { held = refl; links = h.links });
   }
 
   settled-keeps : (n : Node WholeQueues) → K n (tell_owed whole c (release whole c n))
-  settled-keeps n = and-then c fine f n (release whole c n) _ (release-keeps n) (tell_owed-keeps c fine f (release whole c n))
+  settled-keeps n = settles c fine f r n (release-keeps n)
 
   -- ---- a tick
 
   timer-keeps : (timer : TimerName) (n : Node WholeQueues) → K n (run_timer whole c timer n)
-  timer-keeps (name.L1 link) n = run_out-keeps c fine f link its.L1 n
-  timer-keeps (name.L2 link) n = run_out-keeps c fine f link its.L2 n
-  timer-keeps (name.L3 link) n = run_out-keeps c fine f link its.L3 n
-  timer-keeps (name.L4 link) n = run_out-keeps c fine f link its.L4 n
-  timer-keeps (name.L6 link) n = run_out-keeps c fine f link its.L6 n
-  timer-keeps (name.L7 link) n = run_out-keeps c fine f link its.L7 n
+  timer-keeps (name.L1 link) n = run_out-keeps c fine f r link its.L1 n
+  timer-keeps (name.L2 link) n = run_out-keeps c fine f r link its.L2 n
+  timer-keeps (name.L3 link) n = run_out-keeps c fine f r link its.L3 n
+  timer-keeps (name.L4 link) n = run_out-keeps c fine f r link its.L4 n
+  timer-keeps (name.L6 link) n = run_out-keeps c fine f r link its.L6 n
+  timer-keeps (name.L7 link) n = run_out-keeps c fine f r link its.L7 n
   timer-keeps (name.T1 link) n = expired-keeps c fine f changeover.T1 link n
   timer-keeps (name.T2 link) n = expired-keeps c fine f changeover.T2 link n
   timer-keeps (name.T3 link) n = to n _ refl
   timer-keeps (name.T4 set code) n = to n _ refl
   timer-keeps (name.T6 destination) n = to n _ refl
   timer-keeps (name.T8 set destination) n = stay n
-  timer-keeps (name.T10 set destination) n = ask-keeps c fine f set destination n
+  timer-keeps (name.T10 set destination) n = ask-keeps c fine f r set destination n
 
   due-keeps : (timer : Option TimerName) (n : Node WholeQueues) → K n (run_due whole c timer n)
   due-keeps (Some timer) n = timer-keeps timer n
@@ -279,14 +209,14 @@ module _ (c : Configuration) (fine : Message → Bool) (f : IsFine c fine) where
 
   handled-keeps : (what : Happening) (n : Node WholeQueues) → IsFineAt what → K n (handle_event whole c what n).left
   handled-keeps (CameUp link) n e = up-keeps link n
-  handled-keeps (WentDown link) n e = down-keeps link n
+  handled-keeps (WentDown link) n e = down-keeps c fine f r link n
   handled-keeps (FrameCame link text) n e = receive-keeps link text n e
   handled-keeps Ticked n e = tick-keeps n
-  handled-keeps (Submitted message) n e = submit_to-keeps (whither_goes c message) message n
-  handled-keeps (Activated link) n e = activate-keeps link n
-  handled-keeps (Deactivated link) n e = deactivate-keeps link n
-  handled-keeps (TitleAdded row is_memory_refused) n e = added-keeps (title_refusal n.parts.titles row is_memory_refused) row n
-  handled-keeps (TitleRemoved key digits) n e = removed-keeps key digits n
+  handled-keeps (Submitted message) n e = submit_to-keeps c fine f r (whither_goes c message) message n
+  handled-keeps (Activated link) n e = activate-keeps c fine f r link n
+  handled-keeps (Deactivated link) n e = deactivate-keeps c fine f r link n
+  handled-keeps (TitleAdded row is_memory_refused) n e = added-keeps c fine f r (title_refusal n.parts.titles row is_memory_refused) row n
+  handled-keeps (TitleRemoved key digits) n e = removed-keeps c fine f r key digits n
 
   pub event-keeps : (what : Happening) (n : Node WholeQueues) → IsFineAt what → K n (apply whole c what n).left
   unfolding apply

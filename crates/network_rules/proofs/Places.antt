@@ -44,6 +44,20 @@ module _ (c z : Configuration) (point slc link : ℕ) where
       ∙ ap (λ (s : ℕ). not (nat_eq (adjacent_of c s) z.own)) same
       ∙ ap (λ (n : ℕ). not (nat_eq n z.own)) (sym (eqb-true _ _ its.1))
 
+  -- and there is a link so named
+  in-set : (set : ℕ) → link_in_set c slc set ≡ Some link → link < length c.links
+  in-set set f =
+      (let found : (link < length c.links) × ((nat_eq (slice_index_or c.links link no_link).set set && nat_eq (slice_index_or c.links link no_link).slc slc) ≡ true)
+      × ((k : ℕ) → k < link → (nat_eq (slice_index_or c.links k no_link).set set && nat_eq (slice_index_or c.links k no_link).slc slc) ≡ false) = position-Some _ c.links link no_link f in
+      found.0)
+
+  pub named-inside : link_with_code c point slc ≡ Some link → link < length c.links
+  named-inside e = by (set_place c point) e
+    where
+      by : (set : Option ℕ) → option_and_then (link_in_set c slc) set ≡ Some link → link < length c.links
+      by (Some set) f = in-set set f
+      by None f = absurd cc
+
   pub named-leads : link_with_code c point slc ≡ Some link → leads_elsewhere_by c z (slice_get c.links link) ≡ not (nat_eq point z.own)
   named-leads e = by (set_place c point) refl
     where

@@ -21,10 +21,10 @@ use Rattle.network_rules.proofs.Always.{runs}
 
 -- ---- a pair that is alike, with its books and exchanges written out
 
-abbrev written_end : (one other : End) → End
+abbrev pub written_end : (one other : End) → End
 written_end one other = record other { exchange = one.exchange; accepted = one.accepted; received = one.received }
 
-abbrev written : (one other : PairState) → PairState
+abbrev pub written : (one other : PairState) → PairState
 written one other = record { near = written_end one.near other.near; far = written_end one.far other.far }
 
 end-written : (near far : Configuration) (one other : End) → AreAlike near far one other → other ≡ written_end one other
@@ -42,21 +42,21 @@ is-written one other h =
 
 module _ (settings : (point : ℕ) → Configuration) (steps : List Step) (near far : ℕ) (points : AreTheirPoints settings) (well : AreWellOrAlone settings)
     (sharing : AreSharing (settings near) (settings far)) where
-  abbrev p : PairState
+  abbrev pub p : PairState
   p = pair_of (after_steps steps (first_network settings)) near far
 
-  run : IsRunOfNeighbours p
+  pub run : IsRunOfNeighbours p
   run = runs settings steps near far points well sharing
 
-  abbrev its : PairState
+  abbrev pub its : PairState
   its = written p (neighbours.after_steps run.steps (first_pair p.near.exchange.settings p.far.exchange.settings))
 
-  still-sharing : AreSharing p.near.exchange.settings p.far.exchange.settings
+  pub still-sharing : AreSharing p.near.exchange.settings p.far.exchange.settings
   still-sharing =
       subst (λ (c : Configuration). AreSharing c p.far.exchange.settings) (sym (steps-keep steps (first_network settings) near))
       (subst (AreSharing (settings near)) (sym (steps-keep steps (first_network settings) far)) sharing)
 
-  holds-of : (Statement : PairState → Type 0) → neighbours_promise.Always Statement → Statement its
+  pub holds-of : (Statement : PairState → Type 0) → neighbours_promise.Always Statement → Statement its
   holds-of Statement always =
       subst Statement (is-written p (neighbours.after_steps run.steps (first_pair p.near.exchange.settings p.far.exchange.settings)) run.is_alike)
       (always p.near.exchange.settings p.far.exchange.settings run.steps still-sharing)

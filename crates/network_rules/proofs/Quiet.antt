@@ -19,7 +19,8 @@ use Rattle.network_rules.specs.Pairs.{AreTheirPoints, AreWellOrAlone}
 use Rattle.network_rules.proofs.Alike.{away}
 use Rattle.network_rules.proofs.Thirds.{third-fine}
 use Rattle.network_rules.proofs.Ends.{EndOk, all-get, event-ok, is_fine, take-ok, taken-harmless}
-use Rattle.network_rules.proofs.Passing.{AreFine, IsFine}
+use Rattle.network_rules.proofs.Fine.{AreFine}
+use Rattle.network_rules.proofs.Passing.{IsFine}
 use Rattle.network_rules.proofs.PassingEvents.{IsFineAt, event-keeps, take-keeps}
 use Rattle.network_rules.proofs.Texts.{IsHarmless}
 use Rattle.network_rules.proofs.Elsewhere.{SaysElsewhere, end-harmless, harmless-turned}

@@ -29,7 +29,7 @@ other-origin a true d e = absurd cc
 other-origin true false d e = refl
 other-origin false false d e = refl
 
-adjacent-fits : (c : Configuration) → IsWell c → (set : ℕ) → adjacent_of c set < 2 ^ 14
+pub adjacent-fits : (c : Configuration) → IsWell c → (set : ℕ) → adjacent_of c set < 2 ^ 14
 adjacent-fits c well set =
     let none : SetEntry = record { name = []; adjacent = 0 } in
     ⊎_elim

@@ -16,7 +16,7 @@ use Rattle.network_rules.proofs.Places.{node-same}
 use Rattle.network_rules.proofs.Texts.{same-some}
 
 -- queued, held or refused
-abbrev goes_on : Outcome → Bool
+abbrev pub goes_on : Outcome → Bool
 goes_on (Queued link) = true
 goes_on Held = true
 goes_on (Refused cause) = true
@@ -72,7 +72,7 @@ module _ (c : Configuration) (link : ℕ) (m : Message) (label : Label) (away : 
   receive-goes true true r n e = absurd cc
   receive-goes true false r n e = frame-goes r n e
 
-  frame-outcome : (n : Node WholeQueues) (text : List ℕ) → new_message link text (record { settings = c; node = n }) ≡ Some m
+  pub frame-outcome : (n : Node WholeQueues) (text : List ℕ) → new_message link text (record { settings = c; node = n }) ≡ Some m
       → goes_on (outcome_of whole (FrameCame link text) (record { settings = c; node = n })) ≡ true
   unfolding apply
   frame-outcome n text e = receive-goes (is_link n.parts link) (down n.parts link) (read_frame text) n e

@@ -1,4 +1,5 @@
 pub mod Networks
 pub mod Pairs
 pub mod Transit
-pub mod Row
+pub mod Totals
+pub mod TwoFailures

@@ -1,18 +1,23 @@
 -- A network: a node at each point, what is done at any of them, and the frames in flight on the links that join them.
 -- Streams, and what may be done, are those of `pair_rules`.
-use Rattle.std.specs.Prelude.{ℕ, Bool, true, false, nat_eq, List, ◌∷◌, [], ◌++◌, length, map, replicate, Option, Some, None, slice_get, slice_set, option_to_list, if◌then◌else◌}
+use Rattle.std.specs.Prelude.{◌&&◌, ℕ, Bool, true, false, nat_eq, List, ◌∷◌, [], ◌++◌, length, map, replicate, Option, Some, None, slice_get, slice_set, option_to_list, if◌then◌else◌}
 use Rattle.std.specs.Option.{option_map}
 use Rattle.signalling_types.specs.Message.{Message}
+use Rattle.signalling_types.specs.declared.outcome.Outcome.{Outcome}
+use Rattle.signalling_types.specs.declared.outcome.Outcome.TheVariants as outcomes
 use Rattle.settings_rows.specs.Configuration.{Configuration, LinkEntry}
 use Rattle.m2pa_codec.specs.Frames.{FrameValue}
+use Rattle.mtp3_codec.specs.declared.discrimination.Discrimination.{Discrimination}
+use Rattle.mtp3_codec.specs.declared.discrimination.Discrimination.TheVariants as whither
+use Rattle.changeover.specs.Changeover.{users_of}
 use Rattle.exchange_rules.specs.Conserving.{brought_in}
 use Rattle.exchange_rules.specs.declared.wants.Wants.{Wants}
 use Rattle.exchange_rules.specs.declared.wants.Wants.TheVariants.{Open}
 use Rattle.exchange_rules.specs.State.{Happening, CameUp, WentDown, FrameCame, Ticked, Submitted, Activated, Deactivated, TitleAdded, TitleRemoved}
 use Rattle.exchange_rules.specs.First.{Abstract, first_state}
 use Rattle.exchange_rules.specs.Queues.{whole}
-use Rattle.exchange_rules.specs.Exchange.{after, frame_to_take, taken, wants_of}
-use Rattle.exchange_rules.specs.Messages.{link_with_code}
+use Rattle.exchange_rules.specs.Exchange.{outcome_of, after, frame_to_take, taken, wants_of}
+use Rattle.exchange_rules.specs.Messages.{link_with_code, whither_goes}
 use Rattle.exchange_rules.specs.Receiving.{new_message}
 use Rattle.exchange_rules.specs.Routing.{adjacent_of}
 use Rattle.pair_rules.specs.Pairs.{Doing, Submits, Takes, Delivers, DeliversStatus, LosesStatus, DoublesStatus, Loses, Ticks, Activates, Deactivates, AddsTitle, RemovesTitle, OpensFirst, OpensSecond, End, Streams, in_flight, may_follow, may_open_at, launched, without_status, without_data, with_status_twice, emptied, nothing_in_flight}
@@ -23,13 +28,16 @@ pub record Arrival : Type 0 where
   pub message : Message
 
 -- a node: its exchange; what is in flight to it on each of its links; of each link whether it may follow the other end,
--- which opened first; all messages that it took in, whomever they are for, and all that came to it
+-- which opened first; all messages that it took in, whomever they are for, and all that came to it; of those that it took
+-- in, the ones that entered the network here; and the user messages that came for another point and were refused
 pub record NetworkNode : Type 0 where
   pub exchange : Abstract
   pub incoming : Streams
   pub following : List Bool
   pub accepted : List Message
   pub arrived : List Arrival
+  pub entered : List Message
+  pub refused : List Message
 
 -- the node at each point. A point with no node has one with no links
 pub record NetworkState : Type 0 where
@@ -77,6 +85,37 @@ abbrev pub may_open_there : NetworkState → Option Place → Bool
 may_open_there w (Some there) = may_open_at (end_of (w.node there.point)) there.link
 may_open_there w None = false
 
+-- ---- a message for another point
+
+-- whether a message that comes to a node is for another point
+abbrev pub is_onward : Discrimination → Bool
+is_onward (whither.Transfer label) = true
+is_onward (whither.Here label) = false
+is_onward (whither.Refused fault) = false
+
+abbrev pub goes_onward : Configuration → Message → Bool
+goes_onward c m = is_onward (whither_goes c m)
+
+-- of what a frame brings in, what enters the network here: a message for another point that came by the frame entered
+-- before, but what SCCP here makes of one for this point didn't
+abbrev pub entered_by : Option Message → Configuration → (brought : List Message) → List Message
+entered_by (Some m) c brought = if goes_onward c m then [] else brought
+entered_by None c brought = brought
+
+-- whether an outcome is a refusal
+abbrev pub is_refused : Outcome → Bool
+is_refused (outcomes.Refused cause) = true
+is_refused (outcomes.Queued link) = false
+is_refused outcomes.Held = false
+is_refused outcomes.Local = false
+is_refused outcomes.Handled = false
+is_refused outcomes.Ignored = false
+
+-- the user message for another point that a frame newly carries, where it is refused
+abbrev pub refused_by : Option Message → Configuration → Outcome → List Message
+refused_by (Some m) c outcome = if goes_onward c m && is_refused outcome then users_of (m ∷ []) else []
+refused_by None c outcome = []
+
 -- ---- what is done at one node
 
 -- what its exchange does about what happens
@@ -88,6 +127,7 @@ abbrev pub submit : Message → NetworkNode → NetworkNode
 submit m x = record x {
   exchange = after whole (Submitted m) x.exchange;
   accepted = x.accepted ++ brought_in (Submitted m) x.exchange;
+  entered = x.entered ++ brought_in (Submitted m) x.exchange;
 }
 
 -- a frame comes that was in flight on a link, and with it the message that it newly carries. So much is left in flight
@@ -102,6 +142,18 @@ deliver_frame (Some text) link left x = record x {
       ++ map
       (λ m. record { link = link; message = m })
       (option_to_list (new_message link text x.exchange));
+  entered =
+      x.entered
+      ++ entered_by
+      (new_message link text x.exchange)
+      x.exchange.settings
+      (brought_in (FrameCame link text) x.exchange);
+  refused =
+      x.refused
+      ++ refused_by
+      (new_message link text x.exchange)
+      x.exchange.settings
+      (outcome_of whole (FrameCame link text) x.exchange);
 }
 
 -- what is in flight to it changes, where a link status is in flight there
@@ -211,6 +263,8 @@ first_node c = record {
   following = replicate (length c.links) false;
   accepted = [];
   arrived = [];
+  entered = [];
+  refused = [];
 }
 
 abbrev pub first_network : (settings : (point : ℕ) → Configuration) → NetworkState

@@ -5,8 +5,9 @@
 ghost use Rattle.network_rules.specs.Pairs.{books_are_of_the_two, each_flow_in_order, each_message_once};
 ghost use Rattle.network_rules.specs.Pairs.{flows_stay_between, nothing_is_awaited_in_vain, nothing_is_held_in_vain};
 ghost use Rattle.network_rules.specs.Pairs.{nobody_speaks_for_another, runs_are_runs_of_neighbours};
-ghost use Rattle.network_rules.specs.Row.{OpensInRow};
+ghost use Rattle.network_rules.specs.Totals.{each_message_is_accounted_for};
 ghost use Rattle.network_rules.specs.Transit.{messages_pass_through};
+ghost use Rattle.network_rules.specs.TwoFailures.{CrossesTwoFailures};
 
 /// Each set of a network is a pair of neighbours: by some steps of two neighbours (`neighbour_rules`) the same two
 /// exchanges come to be, with the same books and the same in flight between them.
@@ -68,8 +69,19 @@ pub fn messages_pass_through()
     ensures { messages_pass_through }
 {}
 
-/// The premises aren't empty: three nodes in a row keep them, and in four steps a link opens, at one end before the
-/// other, on either side of the middle one.
-pub fn links_open_in_a_row()
-    ensures { OpensInRow }
+/// From end to end, whatever the shape of the network and its routes: while no node may have lost a message, each user
+/// message that entered the network, at any node, was received at a node that it isn't to leave, or waits in a node, or
+/// was refused by a node on the way, for want of a route or of room; and each just once. Counted by any test, so many
+/// entered as were received, as wait, and as were refused. A message enters where a user part submits it, and where SCCP
+/// passes it on or returns it. It waits in Held, or on a link, until the other end of that received it.
+pub fn each_message_is_accounted_for()
+    ensures { each_message_is_accounted_for }
+{}
+
+/// These laws aren't empty: three nodes in a row keep the premises, each two neighbours share two links, and a user
+/// message that one end of the row has for the other is sent on a link that fails at both ends before it comes, on
+/// either side of the middle node. By the other links it comes to each node on its way, once; no flag is raised, and
+/// nothing waits in the end.
+pub fn a_message_crosses_two_failures()
+    ensures { CrossesTwoFailures }
 {}

@@ -1,0 +1,194 @@
+-- What becomes of the message of the run at one node, where nothing holds its flow: as it is submitted, as it comes for
+-- another point, and as a changeover that held it completes.
+use Rattle.pair_rules.proofs.Basics.{◌≡◌, ℕ, Bool, true, false, List, [], ◌∷◌, ◌++◌, Option, Some, None, map, refl, ap, ◌∙◌, slice_get, slice_index_or, option_to_list, is_some}
+use Rattle.pair_rules.proofs.Definitions.{Message, flow_of, Configuration, Done, Node, WholeQueues, whole, no_room, waits, link_of, go_by, go_each, deliver, receive, read_frame, FrameCame, Submitted, Outcome, new_message, handle_event, outcome_of, settled, in_flight, without_data, brought_in, brought_by, taken_in, accept_text}
+unfoldable use Rattle.exchange_rules.specs.Exchange.{apply}
+use Rattle.exchange_rules.specs.First.{Abstract}
+use Rattle.exchange_rules.specs.Messages.{offer}
+use Rattle.exchange_rules.specs.State.{note_refusal}
+use Rattle.exchange_rules.specs.Telling.{tell_owed}
+use Rattle.pair_rules.specs.Pairs.{Submits, Delivers}
+use Rattle.neighbour_rules.specs.ThirdNode.{the_message}
+use Rattle.network_rules.specs.Networks.{NetworkNode, NetworkState, Step, after_steps, deliver_frame, did_here, entered_by, refused_by}
+use Rattle.network_rules.specs.TwoFailures.{end_settings, middle_settings}
+use Rattle.network_rules.proofs.LaidOut.{Three, changed_at, network_of, node_at, placing, run, run-is}
+
+-- it is offered at a node, where it waits or not
+abbrev pub offered : Configuration → (from : Option ℕ) → (waiting : Bool) → Node WholeQueues → Done WholeQueues
+offered c from waiting n = offer whole c (no_room whole c the_message n.queues) waiting (link_of c n.parts (flow_of the_message)) from the_message n
+
+-- ---- at point 3 it is submitted
+
+abbrev pub third : Configuration
+third = end_settings 3 2
+
+abbrev submitted_as : Configuration → NetworkNode → NetworkNode
+submitted_as c x = record x {
+  exchange = record { settings = c; node = (apply whole c (Submitted the_message) x.exchange.node).left };
+  accepted = x.accepted ++ brought_in (Submitted the_message) (record { settings = c; node = x.exchange.node });
+  entered = x.entered ++ brought_in (Submitted the_message) (record { settings = c; node = x.exchange.node });
+}
+
+abbrev queued_as : Done WholeQueues → NetworkNode → NetworkNode
+queued_as d x = record x {
+  exchange = record { settings = third; node = d.left };
+  accepted = x.accepted ++ taken_in d.outcome the_message;
+  entered = x.entered ++ taken_in d.outcome the_message;
+}
+
+abbrev pub queued : NetworkNode → NetworkNode
+queued x = queued_as (settled whole third (offered third None false x.exchange.node)) x
+
+submits : (n : Node WholeQueues) → apply whole third (Submitted the_message) n ≡ settled whole third (offered third None (waits third n.parts.holds the_message) n)
+unfolding apply
+submits n = refl
+
+pub is-queued : (x : NetworkNode) → x.exchange.settings ≡ third → waits third x.exchange.node.parts.holds the_message ≡ false → did_here (Submits the_message) x ≡ queued x
+is-queued x e f =
+    ap (λ (c : Configuration). submitted_as c x) e
+    ∙ ap (λ (d : Done WholeQueues). queued_as d x) (submits x.exchange.node ∙ ap (λ (b : Bool). settled whole third (offered third None b x.exchange.node)) f)
+
+pub outcome-is : (x : NetworkNode) → x.exchange.settings ≡ third → waits third x.exchange.node.parts.holds the_message ≡ false
+    → outcome_of whole (Submitted the_message) x.exchange ≡ (offered third None false x.exchange.node).outcome
+outcome-is x e f =
+    ap (λ (c : Configuration). (apply whole c (Submitted the_message) x.exchange.node).outcome) e
+    ∙ ap (λ (d : Done WholeQueues). d.outcome) (submits x.exchange.node)
+    ∙ ap (λ (b : Bool). (offered third None b x.exchange.node).outcome) f
+
+-- ---- a frame comes to a node
+
+abbrev booked_as : (link : ℕ) → Option Message → Configuration → (accepted : Node WholeQueues) → Done WholeQueues → NetworkNode → NetworkNode
+booked_as link new c accepted d x = record x {
+  exchange = record { settings = c; node = d.left };
+  incoming = without_data link x.incoming;
+  accepted = x.accepted ++ brought_by new d.outcome c accepted;
+  arrived = x.arrived ++ map (λ (m : Message). record { link = link; message = m }) (option_to_list new);
+  entered = x.entered ++ entered_by new c (brought_by new d.outcome c accepted);
+  refused = x.refused ++ refused_by new c d.outcome;
+}
+
+abbrev accepted_of : (link : ℕ) (text : List ℕ) → Configuration → Node WholeQueues → Node WholeQueues
+accepted_of link text c n = accept_text link (read_frame text) (record { settings = c; node = n })
+
+abbrev pub new_of : (link : ℕ) (text : List ℕ) → Configuration → Node WholeQueues → Option Message
+new_of link text c n = new_message link text (record { settings = c; node = n })
+
+abbrev delivered_as : (link : ℕ) (text : List ℕ) → Configuration → NetworkNode → NetworkNode
+delivered_as link text c x =
+    booked_as link (new_of link text c x.exchange.node) c (accepted_of link text c x.exchange.node) (apply whole c (FrameCame link text) x.exchange.node) x
+
+is-delivered : (link : ℕ) (text : List ℕ) (c : Configuration) (x : NetworkNode) → x.exchange.settings ≡ c → slice_get (in_flight x.incoming.user_data link) 0 ≡ Some text
+    → did_here (Delivers link) x ≡ delivered_as link text c x
+is-delivered link text c x e f =
+    ap (λ (o : Option (List ℕ)). deliver_frame o link (without_data link x.incoming) x) f ∙ ap (λ (s : Configuration). delivered_as link text s x) e
+
+as-applied : (c : Configuration) (link : ℕ) (text : List ℕ) (n : Node WholeQueues) → apply whole c (FrameCame link text) n ≡ settled whole c (handle_event whole c (FrameCame link text) n)
+unfolding apply
+as-applied c link text n = refl
+
+-- ---- to point 1 it comes for another point; this node is left once its frame is accepted
+
+abbrev passed_as : (accepted : Node WholeQueues) → (waiting : Bool) → Done WholeQueues
+passed_as accepted waiting = settled whole middle_settings (note_refusal 1 (offered middle_settings (Some 1) waiting accepted))
+
+abbrev pub passed_on : (accepted : Node WholeQueues) → NetworkNode → NetworkNode
+passed_on accepted x = booked_as 1 (Some the_message) middle_settings accepted (passed_as accepted false) x
+
+offers : (n : Node WholeQueues) → deliver whole middle_settings 1 the_message n ≡ note_refusal 1 (offered middle_settings (Some 1) (waits middle_settings n.parts.holds the_message) n)
+offers n = refl
+
+pub record ComesOn (text : List ℕ) (accepted : Node WholeQueues) (x : NetworkNode) : Type 0 where
+  pub settings : x.exchange.settings ≡ middle_settings
+  pub there : slice_get (in_flight x.incoming.user_data 1) 0 ≡ Some text
+  pub is_new : new_of 1 text middle_settings x.exchange.node ≡ Some the_message
+  pub goes : receive whole middle_settings 1 text x.exchange.node ≡ deliver whole middle_settings 1 the_message accepted
+  pub unheld : waits middle_settings accepted.parts.holds the_message ≡ false
+
+pub is-passed : (text : List ℕ) (accepted : Node WholeQueues) (x : NetworkNode) → ComesOn text accepted x → did_here (Delivers 1) x ≡ passed_on accepted x
+is-passed text accepted x h =
+    is-delivered 1 text middle_settings x h.settings h.there
+    ∙ ap (λ (o : Option Message). booked_as 1 o middle_settings (accepted_of 1 text middle_settings x.exchange.node) (apply whole middle_settings (FrameCame 1 text) x.exchange.node) x) h.is_new
+    ∙ ap (λ (d : Done WholeQueues). booked_as 1 (Some the_message) middle_settings accepted d x)
+    (as-applied middle_settings 1 text x.exchange.node
+    ∙ ap (settled whole middle_settings) (h.goes ∙ offers accepted)
+    ∙ ap (passed_as accepted) h.unheld)
+
+-- ---- by an order a changeover is complete, and the message goes on
+
+abbrev pub ends : (link : ℕ) (text : List ℕ) → Configuration → NetworkNode → Done WholeQueues
+ends link text c x = handle_event whole c (FrameCame link text) x.exchange.node
+
+abbrev released : Configuration → Done WholeQueues → (waiting : Bool) → Node WholeQueues
+released c d waiting = tell_owed whole c (go_by whole c waiting the_message (record d.left { queues = whole.without_held d.left.queues }))
+
+abbrev gone_on : (link : ℕ) (text : List ℕ) → Configuration → Node WholeQueues → NetworkNode → NetworkNode
+gone_on link text c n x = record (delivered_as link text c x) { exchange = record { settings = c; node = n } }
+
+abbrev pub completed : (link : ℕ) (text : List ℕ) → Configuration → NetworkNode → NetworkNode
+completed link text c x = gone_on link text c (released c (ends link text c x) false) x
+
+one-held : (c : Configuration) (d : Done WholeQueues) → d.left.queues.held ≡ the_message ∷ [] → (settled whole c d).left ≡ released c d (waits c d.left.parts.holds the_message)
+one-held c d e = ap (λ (ms : List Message). tell_owed whole c (go_each whole c ms (record d.left { queues = whole.without_held d.left.queues }))) e
+
+pub record Completes (link : ℕ) (text : List ℕ) (c : Configuration) (x : NetworkNode) : Type 0 where
+  pub settings : x.exchange.settings ≡ c
+  pub there : slice_get (in_flight x.incoming.user_data link) 0 ≡ Some text
+  pub held : (ends link text c x).left.queues.held ≡ the_message ∷ []
+  pub unheld : waits c (ends link text c x).left.parts.holds the_message ≡ false
+
+pub is-completed : (link : ℕ) (text : List ℕ) (c : Configuration) (x : NetworkNode) → Completes link text c x → did_here (Delivers link) x ≡ completed link text c x
+is-completed link text c x h =
+    is-delivered link text c x h.settings h.there
+    ∙ ap (λ (n : Node WholeQueues). gone_on link text c n x)
+    (ap (λ (d : Done WholeQueues). d.left) (as-applied c link text x.exchange.node)
+    ∙ one-held c (ends link text c x) h.held
+    ∙ ap (released c (ends link text c x)) h.unheld)
+
+-- ---- so a network goes on
+
+-- the User Data in flight to a node that comes next
+abbrev pub next_text : (link : ℕ) → NetworkNode → List ℕ
+next_text link x = slice_index_or (in_flight x.incoming.user_data link) 0 []
+
+first-of : (texts : List (List ℕ)) → is_some (slice_get texts 0) ≡ true → slice_get texts 0 ≡ Some (slice_index_or texts 0 [])
+first-of [] e = absurd cc
+first-of (text ∷ texts) e = refl
+
+pub is-next : (link : ℕ) (x : NetworkNode) → is_some (slice_get (in_flight x.incoming.user_data link) 0) ≡ true → slice_get (in_flight x.incoming.user_data link) 0 ≡ Some (next_text link x)
+is-next link x e = first-of (in_flight x.incoming.user_data link) e
+
+-- point 1 once it accepted that
+abbrev pub next_accepted : NetworkNode → Node WholeQueues
+next_accepted x = accepted_of 1 (next_text 1 x) middle_settings x.exchange.node
+
+abbrev pub submitting : Three → Three
+submitting t = record t { third = queued t.third }
+
+abbrev pub passing : Three → Three
+passing t = record t { first = passed_on (next_accepted t.first) t.first }
+
+abbrev pub completing : (point link : ℕ) → Configuration → Three → Three
+completing point link c t = changed_at point (λ old. completed link (next_text link (node_at t point)) c (node_at t point)) t
+
+module _ (w : NetworkState) (t : Three) (same : w ≡ network_of t) where
+  pub runs-on : (steps : List Step) → after_steps steps w ≡ network_of (run steps t)
+  runs-on steps = ap (after_steps steps) same ∙ run-is steps t
+
+  pub submits-on : t.third.exchange.settings ≡ third → waits third t.third.exchange.node.parts.holds the_message ≡ false
+      → after_steps (record { point = 3; what = Submits the_message } ∷ []) w ≡ network_of (submitting t)
+  submits-on e f = ap (after_steps (record { point = 3; what = Submits the_message } ∷ [])) same ∙ placing 3 (did_here (Submits the_message)) (queued t.third) t (is-queued t.third e f)
+
+  pub passes-on : ComesOn (next_text 1 t.first) (next_accepted t.first) t.first → (steps : List Step)
+      → after_steps (record { point = 1; what = Delivers 1 } ∷ steps) w ≡ network_of (run steps (passing t))
+  passes-on h steps =
+      ap (after_steps (record { point = 1; what = Delivers 1 } ∷ steps)) same
+      ∙ ap (after_steps steps) (placing 1 (did_here (Delivers 1)) (passed_on (next_accepted t.first) t.first) t (is-passed (next_text 1 t.first) (next_accepted t.first) t.first h))
+      ∙ run-is steps (passing t)
+
+  pub completes-on : (point link : ℕ) (c : Configuration) → Completes link (next_text link (node_at t point)) c (node_at t point) → (steps : List Step)
+      → after_steps (record { point = point; what = Delivers link } ∷ steps) w ≡ network_of (run steps (completing point link c t))
+  completes-on point link c h steps =
+      ap (after_steps (record { point = point; what = Delivers link } ∷ steps)) same
+      ∙ ap (after_steps steps)
+      (placing point (did_here (Delivers link)) (completed link (next_text link (node_at t point)) c (node_at t point)) t (is-completed link (next_text link (node_at t point)) c (node_at t point) h))
+      ∙ run-is steps (completing point link c t)

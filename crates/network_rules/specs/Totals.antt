@@ -1,0 +1,84 @@
+-- What becomes of all user messages of a network, from end to end.
+use Rattle.std.specs.Prelude.{◌≡◌, ◌<◌, ◌+◌, ℕ, Bool, true, false, not, nat_eq, List, [], ◌++◌, count_by, drop, filter, length, map, sum_by, Option, Some, None}
+use Rattle.std.specs.List.{list_any}
+use Rattle.signalling_types.specs.Message.{Message}
+use Rattle.settings_rows.specs.Configuration.{Configuration}
+use Rattle.settings.specs.Well.{IsWell}
+use Rattle.exchange_rules.specs.Conserving.{users_that}
+use Rattle.exchange_rules.specs.Routing.{peer_of}
+use Rattle.exchange_rules.specs.State.{lost_any}
+use Rattle.pair_moves.specs.Order.{join_to}
+use Rattle.pair_rules.specs.Promises.{queue_of}
+use Rattle.pair_rules.specs.Sharing.{AreSharing}
+use Rattle.network_rules.specs.Networks.{NetworkState, Place, Step, after_steps, end_of, first_network, goes_onward, other_end}
+use Rattle.network_rules.specs.Pairs.{AreTheirPoints}
+
+-- ---- what a node received, and what waits there
+
+-- all that came to it and isn't for another point
+abbrev pub received_at : NetworkState → (point : ℕ) → List Message
+received_at w point =
+    filter
+    (λ m. not (goes_onward (w.node point).exchange.settings m))
+    (map (λ a. a.message) (w.node point).arrived)
+
+-- how many messages of a link the other end of it received
+abbrev pub received_there : NetworkState → Option Place → ℕ
+received_there w (Some there) = (queue_of (end_of (w.node there.point)) there.link).received
+received_there w None = 0
+
+-- the messages of a link that wait: those after that count
+abbrev pub waiting_on : NetworkState → (point link : ℕ) → List Message
+waiting_on w point link =
+    drop (received_there w (other_end w point link)) (queue_of (end_of (w.node point)) link).all
+
+-- all that wait at a node: those of each link, and those in Held
+abbrev pub waiting_at : NetworkState → (point : ℕ) → List Message
+waiting_at w point =
+    join_to (waiting_on w point) (length (w.node point).exchange.settings.links)
+    ++ (w.node point).exchange.node.queues.held
+
+-- ---- the premises
+
+abbrev pub is_listed : (points : List ℕ) → (point : ℕ) → Bool
+is_listed points point = list_any (nat_eq point) points
+
+pub record IsJoined (settings : (point : ℕ) → Configuration) (points : List ℕ) : Type 0 where
+  -- each node is told the point at which it is
+  pub own : AreTheirPoints settings
+  -- each point of the list is there once, and the settings of its node keep every limit
+  pub once : (point : ℕ) → is_listed points point ≡ true → count_by (nat_eq point) points ≡ 1
+  pub well : (point : ℕ) → is_listed points point ≡ true → IsWell (settings point)
+  -- no other point has a link
+  pub others : (point : ℕ) → is_listed points point ≡ false → (settings point).links ≡ []
+  -- each link leads to a point whose node shares its set
+  pub shared : (point link : ℕ) → link < length (settings point).links →
+      AreSharing (settings point) (settings (peer_of (settings point) link))
+
+-- none of these nodes may have lost a message
+abbrev pub HaveLostNothing : (points : List ℕ) → NetworkState → Type 0
+HaveLostNothing points w =
+    (point : ℕ) → is_listed points point ≡ true → lost_any (w.node point).exchange.node.parts ≡ false
+
+-- ---- from end to end
+
+-- how many user messages satisfy a test, of those that are listed for each point
+abbrev pub total : (of : Message → Bool) → (points : List ℕ) → (list : (point : ℕ) → List Message) → ℕ
+total of points list = sum_by (λ point. users_that of (list point)) points
+
+-- by any test, as many user messages entered the network as were received at a node that they aren't to leave, as wait
+-- in nodes, and as were refused by a node on the way
+abbrev pub IsAccounted : (points : List ℕ) → NetworkState → Type 0
+IsAccounted points w =
+    (of : Message → Bool) →
+    total of points (λ point. (w.node point).entered)
+    ≡ total of points (received_at w)
+    + total of points (waiting_at w)
+    + total of points (λ point. (w.node point).refused)
+
+-- so it is after every list of steps
+abbrev pub each_message_is_accounted_for : Type 0
+each_message_is_accounted_for =
+    (settings : (point : ℕ) → Configuration) (points : List ℕ) (steps : List Step) → IsJoined settings points →
+    HaveLostNothing points (after_steps steps (first_network settings)) →
+    IsAccounted points (after_steps steps (first_network settings))
