@@ -1,6 +1,6 @@
 -- What the run shows in which a message crosses two failures, by computation.
-use Rattle.pair_rules.proofs.Basics.{◌≡◌, false, true, [], ◌∷◌, None, ap, refl, ◌∙◌}
-use Rattle.pair_rules.proofs.Definitions.{set_timer, start_unless_running, clear_timer, clear_set, due_name, after_due, due_count, first_sets, choice_among, link_by, any_flow, flows, lost_any, late_any, whole, apply, outcome_of, Submitted, take_back_each, in_flight, is_down_at}
+use Rattle.pair_rules.proofs.Basics.{◌≡◌, ℕ, Bool, false, true, List, [], ◌∷◌, None, ap, refl, ◌∙◌}
+use Rattle.pair_rules.proofs.Definitions.{Message, set_timer, start_unless_running, clear_timer, clear_set, due_name, after_due, due_count, first_sets, choice_among, link_by, any_flow, flows, lost_any, late_any, whole, apply, outcome_of, Submitted, take_back_each, in_flight, is_down_at}
 use Rattle.timers.specs.Timers.{names_of}
 use Rattle.routes.specs.Routes.{links_below}
 use Rattle.route_management.specs.Told.{owes_nothing}
@@ -11,8 +11,8 @@ use Rattle.signalling_types.specs.declared.outcome.Outcome.TheVariants.{Queued}
 use Rattle.exchange_rules.specs.Conserving.{standing}
 use Rattle.exchange_rules.specs.Telling.{tell_owed}
 use Rattle.neighbour_rules.specs.ThirdNode.{the_message}
-use Rattle.network_rules.specs.Networks.{NetworkState, end_of}
-use Rattle.network_rules.specs.TwoFailures.{CrossesTwoFailures, its_text, users_come}
+use Rattle.network_rules.specs.Networks.{Arrival, NetworkNode, NetworkState, end_of}
+use Rattle.network_rules.specs.TwoFailures.{CrossesTwoFailures, IsDone, come, its_text, users_come}
 use Rattle.network_rules.proofs.Offering.{offered, outcome-is, third}
 use Rattle.network_rules.proofs.RowSettings.{first-sharing, points, second-sharing, well}
 use Rattle.network_rules.proofs.TwoFailures.{come-is, come_from, failed-is, failed_from, failed_on-is, failed_on_from, first_three, moved-is, moved_from, moved_on-is, moved_on_from, passed-is, passed_from, sent-is, sent_from, sent_on-is, sent_on_from, served-is, served_from, third-settings, third-unheld}
@@ -57,85 +57,63 @@ it-missing_on : users_come (moved_on_from first_three).second ≡ []
 unfolding apply tell_owed first_sets links_below status_of set_timer clear_timer start_unless_running clear_set due_name after_due due_count names_of choice_among link_by changes_of changes take_back_each owes_nothing any_flow flows rerouted
 it-missing_on = refl
 
-it-comes : users_come (come_from first_three).second ≡ record { link = 1; message = the_message } ∷ []
-unfolding apply tell_owed first_sets links_below status_of set_timer clear_timer start_unless_running clear_set due_name after_due due_count names_of choice_among link_by changes_of changes take_back_each owes_nothing any_flow flows rerouted
-it-comes = refl
+-- ---- in the end
 
-it-comes_through : users_come (come_from first_three).first ≡ record { link = 1; message = the_message } ∷ []
-unfolding apply tell_owed first_sets links_below status_of set_timer clear_timer start_unless_running clear_set due_name after_due due_count names_of choice_among link_by changes_of changes take_back_each owes_nothing any_flow flows rerouted
-it-comes_through = refl
+record Shown : Type 0 where
+  come : List Arrival
+  accepted : List Message
+  entered : List Message
+  refused : List Message
+  lost : Bool
+  late : Bool
+  waiting : ℕ
 
-it-goes_in : users_come (come_from first_three).third ≡ []
-unfolding apply tell_owed first_sets links_below status_of set_timer clear_timer start_unless_running clear_set due_name after_due due_count names_of choice_among link_by changes_of changes take_back_each owes_nothing any_flow flows rerouted
-it-goes_in = refl
+abbrev shown : NetworkNode → Shown
+shown x = record {
+  come = users_come x;
+  accepted = x.accepted;
+  entered = x.entered;
+  refused = x.refused;
+  lost = lost_any x.exchange.node.parts;
+  late = late_any x.exchange.node.parts;
+  waiting = standing (λ m. true) x.exchange.node.queues;
+}
 
-it-third_accepted : (come_from first_three).third.accepted ≡ the_message ∷ []
-unfolding apply tell_owed first_sets links_below status_of set_timer clear_timer start_unless_running clear_set due_name after_due due_count names_of choice_among link_by changes_of changes take_back_each owes_nothing any_flow flows rerouted
-it-third_accepted = refl
+-- a node at which all is done
+abbrev shows : List Arrival → (accepted entered : List Message) → Shown
+shows arrivals accepted entered = record { come = arrivals; accepted = accepted; entered = entered; refused = []; lost = false; late = false; waiting = 0 }
 
-it-near_accepted : (come_from first_three).first.accepted ≡ the_message ∷ []
-unfolding apply tell_owed first_sets links_below status_of set_timer clear_timer start_unless_running clear_set due_name after_due due_count names_of choice_among link_by changes_of changes take_back_each owes_nothing any_flow flows rerouted
-it-near_accepted = refl
+abbrev its_arrival : Arrival
+its_arrival = record { link = 1; message = the_message }
 
-it-far_accepted : (come_from first_three).second.accepted ≡ []
+third-shows : shown (come_from first_three).third ≡ shows [] (the_message ∷ []) (the_message ∷ [])
 unfolding apply tell_owed first_sets links_below status_of set_timer clear_timer start_unless_running clear_set due_name after_due due_count names_of choice_among link_by changes_of changes take_back_each owes_nothing any_flow flows rerouted
-it-far_accepted = refl
+third-shows = refl
 
-third-lost : lost_any (come_from first_three).third.exchange.node.parts ≡ false
+near-shows : shown (come_from first_three).first ≡ shows (its_arrival ∷ []) (the_message ∷ []) []
 unfolding apply tell_owed first_sets links_below status_of set_timer clear_timer start_unless_running clear_set due_name after_due due_count names_of choice_among link_by changes_of changes take_back_each owes_nothing any_flow flows rerouted
-third-lost = refl
+near-shows = refl
 
-third-late : late_any (come_from first_three).third.exchange.node.parts ≡ false
+far-shows : shown (come_from first_three).second ≡ shows (its_arrival ∷ []) [] []
 unfolding apply tell_owed first_sets links_below status_of set_timer clear_timer start_unless_running clear_set due_name after_due due_count names_of choice_among link_by changes_of changes take_back_each owes_nothing any_flow flows rerouted
-third-late = refl
+far-shows = refl
 
-third-waits : standing (λ m. true) (come_from first_three).third.exchange.node.queues ≡ 0
-unfolding apply tell_owed first_sets links_below status_of set_timer clear_timer start_unless_running clear_set due_name after_due due_count names_of choice_among link_by changes_of changes take_back_each owes_nothing any_flow flows rerouted
-third-waits = refl
+third-is : shown (come.node 3) ≡ shows [] (the_message ∷ []) (the_message ∷ [])
+third-is = ap (λ (w : NetworkState). shown (w.node 3)) come-is ∙ third-shows
 
-near-lost : lost_any (come_from first_three).first.exchange.node.parts ≡ false
-unfolding apply tell_owed first_sets links_below status_of set_timer clear_timer start_unless_running clear_set due_name after_due due_count names_of choice_among link_by changes_of changes take_back_each owes_nothing any_flow flows rerouted
-near-lost = refl
+near-is : shown (come.node 1) ≡ shows (its_arrival ∷ []) (the_message ∷ []) []
+near-is = ap (λ (w : NetworkState). shown (w.node 1)) come-is ∙ near-shows
 
-near-late : late_any (come_from first_three).first.exchange.node.parts ≡ false
-unfolding apply tell_owed first_sets links_below status_of set_timer clear_timer start_unless_running clear_set due_name after_due due_count names_of choice_among link_by changes_of changes take_back_each owes_nothing any_flow flows rerouted
-near-late = refl
+far-is : shown (come.node 2) ≡ shows (its_arrival ∷ []) [] []
+far-is = ap (λ (w : NetworkState). shown (w.node 2)) come-is ∙ far-shows
 
-near-waits : standing (λ m. true) (come_from first_three).first.exchange.node.queues ≡ 0
-unfolding apply tell_owed first_sets links_below status_of set_timer clear_timer start_unless_running clear_set due_name after_due due_count names_of choice_among link_by changes_of changes take_back_each owes_nothing any_flow flows rerouted
-near-waits = refl
-
-far-lost : lost_any (come_from first_three).second.exchange.node.parts ≡ false
-unfolding apply tell_owed first_sets links_below status_of set_timer clear_timer start_unless_running clear_set due_name after_due due_count names_of choice_among link_by changes_of changes take_back_each owes_nothing any_flow flows rerouted
-far-lost = refl
-
-far-late : late_any (come_from first_three).second.exchange.node.parts ≡ false
-unfolding apply tell_owed first_sets links_below status_of set_timer clear_timer start_unless_running clear_set due_name after_due due_count names_of choice_among link_by changes_of changes take_back_each owes_nothing any_flow flows rerouted
-far-late = refl
-
-far-waits : standing (λ m. true) (come_from first_three).second.exchange.node.queues ≡ 0
-unfolding apply tell_owed first_sets links_below status_of set_timer clear_timer start_unless_running clear_set due_name after_due due_count names_of choice_among link_by changes_of changes take_back_each owes_nothing any_flow flows rerouted
-far-waits = refl
-
-it-third_entered : (come_from first_three).third.entered ≡ the_message ∷ []
-unfolding apply tell_owed first_sets links_below status_of set_timer clear_timer start_unless_running clear_set due_name after_due due_count names_of choice_among link_by changes_of changes take_back_each owes_nothing any_flow flows rerouted
-it-third_entered = refl
-
-it-near_entered : (come_from first_three).first.entered ≡ []
-unfolding apply tell_owed first_sets links_below status_of set_timer clear_timer start_unless_running clear_set due_name after_due due_count names_of choice_among link_by changes_of changes take_back_each owes_nothing any_flow flows rerouted
-it-near_entered = refl
-
-third-refused : (come_from first_three).third.refused ≡ []
-unfolding apply tell_owed first_sets links_below status_of set_timer clear_timer start_unless_running clear_set due_name after_due due_count names_of choice_among link_by changes_of changes take_back_each owes_nothing any_flow flows rerouted
-third-refused = refl
-
-near-refused : (come_from first_three).first.refused ≡ []
-unfolding apply tell_owed first_sets links_below status_of set_timer clear_timer start_unless_running clear_set due_name after_due due_count names_of choice_among link_by changes_of changes take_back_each owes_nothing any_flow flows rerouted
-near-refused = refl
-
-far-refused : (come_from first_three).second.refused ≡ []
-unfolding apply tell_owed first_sets links_below status_of set_timer clear_timer start_unless_running clear_set due_name after_due due_count names_of choice_among link_by changes_of changes take_back_each owes_nothing any_flow flows rerouted
-far-refused = refl
+done : (x : NetworkNode) (arrivals : List Arrival) (accepted entered : List Message) → shown x ≡ shows arrivals accepted entered → IsDone x
+done x arrivals accepted entered e = record {
+  lost_nothing = ap (λ (s : Shown). s.lost) e;
+  punctual = ap (λ (s : Shown). s.late) e;
+  refused = ap (λ (s : Shown). s.refused) e;
+  none_waits = ap (λ (s : Shown). s.waiting) e;
+}
 
 pub crosses : CrossesTwoFailures
 crosses = record {
@@ -153,30 +131,15 @@ crosses = record {
   near_down_on = ap (λ (w : NetworkState). is_down_at (end_of (w.node 1)) 2) failed_on-is ∙ it-near_down_on;
   far_down = ap (λ (w : NetworkState). is_down_at (end_of (w.node 2)) 0) failed_on-is ∙ it-far_down;
   missing_on = ap (λ (w : NetworkState). users_come (w.node 2)) moved_on-is ∙ it-missing_on;
-  comes = ap (λ (w : NetworkState). users_come (w.node 2)) come-is ∙ it-comes;
-  comes_through = ap (λ (w : NetworkState). users_come (w.node 1)) come-is ∙ it-comes_through;
-  goes_in = ap (λ (w : NetworkState). users_come (w.node 3)) come-is ∙ it-goes_in;
-  third_entered = ap (λ (w : NetworkState). (w.node 3).entered) come-is ∙ it-third_entered;
-  near_entered = ap (λ (w : NetworkState). (w.node 1).entered) come-is ∙ it-near_entered;
-  third_accepted = ap (λ (w : NetworkState). (w.node 3).accepted) come-is ∙ it-third_accepted;
-  near_accepted = ap (λ (w : NetworkState). (w.node 1).accepted) come-is ∙ it-near_accepted;
-  far_accepted = ap (λ (w : NetworkState). (w.node 2).accepted) come-is ∙ it-far_accepted;
-  third_done = record {
-    lost_nothing = ap (λ (w : NetworkState). lost_any (w.node 3).exchange.node.parts) come-is ∙ third-lost;
-    punctual = ap (λ (w : NetworkState). late_any (w.node 3).exchange.node.parts) come-is ∙ third-late;
-    refused = ap (λ (w : NetworkState). (w.node 3).refused) come-is ∙ third-refused;
-    none_waits = ap (λ (w : NetworkState). standing (λ m. true) (w.node 3).exchange.node.queues) come-is ∙ third-waits;
-  };
-  near_done = record {
-    lost_nothing = ap (λ (w : NetworkState). lost_any (w.node 1).exchange.node.parts) come-is ∙ near-lost;
-    punctual = ap (λ (w : NetworkState). late_any (w.node 1).exchange.node.parts) come-is ∙ near-late;
-    refused = ap (λ (w : NetworkState). (w.node 1).refused) come-is ∙ near-refused;
-    none_waits = ap (λ (w : NetworkState). standing (λ m. true) (w.node 1).exchange.node.queues) come-is ∙ near-waits;
-  };
-  far_done = record {
-    lost_nothing = ap (λ (w : NetworkState). lost_any (w.node 2).exchange.node.parts) come-is ∙ far-lost;
-    punctual = ap (λ (w : NetworkState). late_any (w.node 2).exchange.node.parts) come-is ∙ far-late;
-    refused = ap (λ (w : NetworkState). (w.node 2).refused) come-is ∙ far-refused;
-    none_waits = ap (λ (w : NetworkState). standing (λ m. true) (w.node 2).exchange.node.queues) come-is ∙ far-waits;
-  };
+  comes = ap (λ (s : Shown). s.come) far-is;
+  comes_through = ap (λ (s : Shown). s.come) near-is;
+  goes_in = ap (λ (s : Shown). s.come) third-is;
+  third_entered = ap (λ (s : Shown). s.entered) third-is;
+  near_entered = ap (λ (s : Shown). s.entered) near-is;
+  third_accepted = ap (λ (s : Shown). s.accepted) third-is;
+  near_accepted = ap (λ (s : Shown). s.accepted) near-is;
+  far_accepted = ap (λ (s : Shown). s.accepted) far-is;
+  third_done = done (come.node 3) [] (the_message ∷ []) (the_message ∷ []) third-is;
+  near_done = done (come.node 1) (its_arrival ∷ []) (the_message ∷ []) [] near-is;
+  far_done = done (come.node 2) (its_arrival ∷ []) [] [] far-is;
 }

@@ -1,6 +1,6 @@
 -- The settings of three nodes in a row keep every limit, and each two neighbours share a set.
-use Rattle.pair_rules.proofs.Basics.{◌≡◌, ◌≢◌, ◌≤◌, ◌<◌, ◌^◌, ◌⊎◌, inl, inr, ℕ, zero, suc, Bool, true, false, [], ◌∷◌, Some, refl, sym, subst, arith, nat_eq, IsTrue, slice_get, IsDistinct, list_any, if◌then◌else◌, nat_tests, All-from_recursion}
-use Rattle.pair_rules.proofs.Definitions.{Configuration, SetEntry, LinkEntry, DestinationEntry, LINKS, SETS, DESTINATIONS, POOL, WINDOW, TICKS, IsLink, IsSet, IsDestination, IsTitle, IsWell, IsWithin, all_ticks, is_led_first}
+use Rattle.pair_rules.proofs.Basics.{◌≡◌, ◌≢◌, ◌≤◌, ◌<◌, ◌^◌, ◌⊎◌, inl, inr, ℕ, zero, suc, Bool, true, false, [], ◌∷◌, Some, refl, sym, subst, arith, nat_eq, IsTrue, slice_get, IsDistinct, list_any, if◌then◌else◌, All-from_recursion}
+use Rattle.pair_rules.proofs.Definitions.{Configuration, SetEntry, LinkEntry, LINKS, SETS, DESTINATIONS, POOL, WINDOW, TICKS, IsLink, IsSet, IsDestination, IsTitle, IsWell, IsWithin, all_ticks, is_led_first}
 use Rattle.std.proofs.lemmas.List.Sums.{count_by-le-length}
 use Rattle.exchange_rules.proofs.Basics.{eqb-true}
 use Rattle.pair_rules.specs.OneEndFirst.{ticks}

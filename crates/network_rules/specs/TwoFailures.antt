@@ -1,7 +1,7 @@
 -- A run of three nodes in a row, of which each two neighbours share two links. A message that one end of the row has for
 -- the other is sent on a link that fails, on either side of the middle node. It comes by the other links, once.
 use Rattle.std.specs.Prelude.{◌≡◌, ℕ, false, true, nat_eq, not, List, [], ◌∷◌, ◌++◌, filter, if◌then◌else◌}
-use Rattle.signalling_types.specs.Message.{Message, is_management}
+use Rattle.signalling_types.specs.Message.{is_management}
 use Rattle.signalling_types.specs.declared.outcome.Outcome.TheVariants.{Queued}
 use Rattle.settings_rows.specs.Configuration.{Configuration}
 use Rattle.m2pa_codec.specs.Frames.{MessageFrame, spelled}
