@@ -9,6 +9,7 @@ use Rattle.neighbour_rules.specs.Neighbours.{leads_elsewhere}
 use Rattle.neighbour_rules.specs.ThirdNode.{near_settings}
 use Rattle.network_rules.specs.Networks.{NetworkState, Step, after_steps, end_of, first_network}
 use Rattle.network_rules.specs.Pairs.{AreTheirPoints, AreWellOrAlone, pair_of}
+use Rattle.network_rules.specs.Totals.{HaveLostNothing, IsJoined}
 
 -- point 3, with a link to point 1
 abbrev pub third_settings : Configuration
@@ -38,10 +39,11 @@ opening =
 abbrev pub opened : NetworkState
 opened = after_steps opening (first_network row)
 
--- the premises hold of both pairs, and each of the two links is up at both ends
+-- the premises hold of both pairs and of the whole, and each of the two links is up at both ends
 pub record OpensInRow : Type 0 where
   pub points : AreTheirPoints row
   pub well : AreWellOrAlone row
+  pub joined : IsJoined row (1 ∷ 2 ∷ 3 ∷ [])
   pub far_sharing : AreSharing (row 1) (row 2)
   pub third_sharing : AreSharing (row 1) (row 3)
   pub elsewhere : leads_elsewhere (pair_of opened 1 2) 0 ≡ true
@@ -52,3 +54,5 @@ pub record OpensInRow : Type 0 where
   pub far_up : is_down_at (end_of (opened.node 2)) 0 ≡ false
   -- while no other one between points 1 and 2 is
   pub others_down : is_down_at (end_of (opened.node 1)) 2 ≡ true
+  -- and nothing may have been lost
+  pub kept : HaveLostNothing (1 ∷ 2 ∷ 3 ∷ []) opened
