@@ -14,7 +14,7 @@ use Rattle.neighbour_rules.specs.ThirdNode.{the_message}
 use Rattle.network_rules.specs.Networks.{Arrival, NetworkNode, NetworkState, end_of}
 use Rattle.network_rules.specs.TwoFailures.{CrossesTwoFailures, IsDone, come, its_text, users_come}
 use Rattle.network_rules.proofs.Offering.{offered, outcome-is, third}
-use Rattle.network_rules.proofs.RowSettings.{first-sharing, points, second-sharing, well}
+use Rattle.network_rules.proofs.RowSettings.{first-sharing, joined, of-three, points, second-sharing, well}
 use Rattle.network_rules.proofs.TwoFailures.{come-is, come_from, failed-is, failed_from, failed_on-is, failed_on_from, first_three, moved-is, moved_from, moved_on-is, moved_on_from, passed-is, passed_from, sent-is, sent_from, sent_on-is, sent_on_from, served-is, served_from, third-settings, third-unheld}
 
 its-outcome : (offered third None false (served_from first_three).third.exchange.node).outcome ≡ Queued 0
@@ -121,6 +121,10 @@ crosses = record {
   well = well;
   first_sharing = first-sharing;
   second_sharing = second-sharing;
+  joined = joined;
+  kept =
+      of-three (λ point. lost_any (come.node point).exchange.node.parts ≡ false)
+      (ap (λ (s : Shown). s.lost) near-is) (ap (λ (s : Shown). s.lost) far-is) (ap (λ (s : Shown). s.lost) third-is);
   outcome = ap (λ (w : NetworkState). outcome_of whole (Submitted the_message) (w.node 3).exchange) served-is ∙ outcome-is (served_from first_three).third third-settings third-unheld ∙ its-outcome;
   flies = ap (λ (w : NetworkState). in_flight (w.node 1).incoming.user_data 0) sent-is ∙ it-flies;
   third_down = ap (λ (w : NetworkState). is_down_at (end_of (w.node 3)) 0) failed-is ∙ it-third_down;
