@@ -1,20 +1,20 @@
 -- After every list of steps of a network that loses nothing each message is accounted for.
-use Rattle.pair_rules.proofs.Basics.{◌≡◌, ◌≢◌, ◌<◌, ◌≤◌, ℕ, ◌+◌, zero, suc, Bool, true, false, not, List, [], ◌∷◌, ◌++◌, length, nat_eq, refl, ap, sym, subst, ◌∙◌, arith, drop, append-nil, filter, Option, ⊎_elim, cases_eq, if◌then◌else◌}
+use Rattle.pair_rules.proofs.Basics.{◌≡◌, ◌≢◌, ℕ, ◌+◌, zero, suc, Bool, true, false, not, List, [], ◌∷◌, ◌++◌, length, refl, ap, sym, subst, ◌∙◌, arith, drop, append-nil, filter, Option, ⊎_elim, cases_eq, if◌then◌else◌}
 use Rattle.exchange_rules.proofs.Basics.{append_assoc, sum_by, sum_by-cons}
 use Rattle.pair_rules.proofs.Definitions.{Message, Configuration, Queue, first_queue, queue_at, lost_any, each-replicate}
 use Rattle.exchange_rules.specs.Conserving.{users_that}
-use Rattle.exchange_rules.specs.First.{Abstract, first_state}
-use Rattle.exchange_rules.proofs.Tallies.{append, one-first}
+use Rattle.exchange_rules.specs.First.{first_state}
+use Rattle.exchange_rules.proofs.Tallies.{append}
 use Rattle.pair_moves.specs.Laws.{sum_to}
 use Rattle.pair_moves.specs.Order.{join_to}
 use Rattle.pair_moves.proofs.Counts.{sum-alike}
-use Rattle.network_rules.specs.Networks.{Arrival, NetworkNode, NetworkState, Place, Step, after_step, after_steps, end_of, first_network, goes_onward, other_end}
-use Rattle.network_rules.specs.Totals.{HaveLostNothing, IsAccounted, IsJoined, each_message_is_accounted_for, is_listed, received_at, received_there, total, waiting_at, waiting_on}
+use Rattle.network_rules.specs.Networks.{NetworkNode, NetworkState, Place, Step, after_step, after_steps, first_network, goes_onward}
+use Rattle.network_rules.specs.Totals.{HaveLostNothing, IsJoined, each_message_is_accounted_for, received_at, received_there, total, waiting_at, waiting_on}
 use Rattle.network_rules.proofs.Ahead.{drop-none}
 use Rattle.network_rules.proofs.AtState.{there_of}
 use Rattle.network_rules.proofs.Booked.{IsBooked, books-as, onward_of, texts_of, turn-booked}
 use Rattle.network_rules.proofs.AllRuns.{did-keeps}
-use Rattle.network_rules.proofs.Joined.{end_at, ends-are}
+use Rattle.network_rules.proofs.Joined.{ends-are}
 use Rattle.network_rules.proofs.OneStep.{one-step}
 use Rattle.network_rules.proofs.Reached.{reached, settings-kept, steps-lost}
 use Rattle.network_rules.proofs.Staying.{all_waits, waits_at}

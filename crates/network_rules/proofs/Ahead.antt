@@ -1,10 +1,9 @@
 -- What the far end of a link received and didn't confirm: how it goes as a queue grows, as some are confirmed, and as a changeover ends.
-use Rattle.exchange_rules.proofs.Basics.{◌≡◌, ◌≢◌, ◌<◌, ◌≤◌, ◌⊎◌, inl, inr, ◌+◌, ◌-◌, ◌%◌, ℕ, zero, suc, Bool, true, false, is_some, List, [], ◌∷◌, ◌++◌, length, Option, Some, None, Result, Ok, Err, refl, ap, sym, subst, ◌∙◌, arith, take, ⊎_elim, cases_eq, cases_lt, slice_set, slice_index_or, get_or_past, get_or-set_same, get_or-set_other, take-append-drop}
+use Rattle.exchange_rules.proofs.Basics.{◌≡◌, ◌≢◌, ◌<◌, ◌≤◌, ◌+◌, ◌-◌, ◌%◌, ℕ, zero, suc, Bool, List, [], ◌∷◌, ◌++◌, length, Some, Ok, refl, ap, sym, subst, ◌∙◌, arith, take, ⊎_elim, cases_eq, slice_set, slice_index_or, get_or-set_same, get_or-set_other, take-append-drop}
 use Rattle.std.proofs.Common.{drop}
 use Rattle.std.proofs.lemmas.List.{drop-append-le, take-append-le, drop-drop, length-drop}
-use Rattle.exchange_rules.proofs.Definitions.{Message, Queue, first_queue, emptied, unconfirmed, IsQueue, SeqFault, accept_answer, after_answer, accepted, sound-accepted, accepted_count, users_that, WholeQueues, queue_at, AreQueues}
+use Rattle.exchange_rules.proofs.Definitions.{Message, Queue, first_queue, unconfirmed, IsQueue, after_answer, users_that, WholeQueues, queue_at, AreQueues}
 use Rattle.exchange_rules.specs.Touching.{IsGrown}
-use Rattle.exchange_rules.proofs.Tallies.{append}
 use Rattle.link.specs.Queue.{Names, named_count}
 use Rattle.signalling_types.specs.Numbers.{modulus}
 use Rattle.link.proofs.Naming.{finds_named}

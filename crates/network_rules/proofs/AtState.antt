@@ -1,19 +1,15 @@
 -- What holds of the queues of a network in a state that it comes to, where nothing was lost.
-use Rattle.pair_rules.proofs.Basics.{◌≡◌, ◌≢◌, ◌⊎◌, inl, inr, ◌<◌, ◌≤◌, ◌||◌, ℕ, Bool, true, false, not, List, [], ◌∷◌, length, nat_eq, Option, Some, None, refl, ap, sym, subst, ◌∙◌, if◌then◌else◌, slice_get, option_to_list, eq-eqb, ⊎_elim}
-use Rattle.pair_rules.proofs.Definitions.{Message, Configuration, LinkEntry, Queue, IsWell, named_count, queue_at, WholeQueues, LostNothing, lost_any, in_flight, may_follow, may_open_at, turned, new_message, opc_of, link_with_code, Word}
+use Rattle.pair_rules.proofs.Basics.{◌≡◌, ◌⊎◌, inl, inr, ◌<◌, ◌≤◌, ◌||◌, ℕ, Bool, true, false, not, List, [], length, nat_eq, Option, Some, None, refl, ap, sym, subst, ◌∙◌, slice_get, option_to_list, ⊎_elim}
+use Rattle.pair_rules.proofs.Definitions.{Message, Configuration, LinkEntry, Queue, named_count, queue_at, LostNothing, in_flight, may_follow, may_open_at, turned, new_message, opc_of, link_with_code}
 use Rattle.std.specs.List.{list_any}
 use Rattle.exchange_rules.specs.First.{Abstract}
-use Rattle.exchange_rules.specs.Laws.{carried_message}
 use Rattle.exchange_rules.specs.Routing.{adjacent_of}
 use Rattle.exchange_rules.proofs.Basics.{eqb-true}
 use Rattle.exchange_rules.proofs.CarriedMessages.{new-carried}
-use Rattle.m2pa_codec.specs.Frames.{read_frame}
-use Rattle.mtp3_codec.specs.declared.discrimination.Discrimination.TheVariants as whither
 use Rattle.pair_rules.specs.Laws.{about}
-use Rattle.pair_rules.specs.Sharing.{AreSharing}
 use Rattle.neighbour_rules.specs.Neighbours.{end_there, is_management_between, leads_elsewhere_by, speaks_for_either}
 use Rattle.neighbour_rules.specs.Laws.{IsUnderWay}
-use Rattle.network_rules.specs.Networks.{NetworkState, Place, Step, after_steps, end_of, first_network}
+use Rattle.network_rules.specs.Networks.{NetworkState, Step, end_of}
 use Rattle.network_rules.specs.Pairs.{AreWellOrAlone, HearsNothingElsewhere, pair_of}
 use Rattle.network_rules.specs.Totals.{HaveLostNothing, IsJoined, is_listed, received_there}
 use Rattle.network_rules.proofs.Always.{silence}

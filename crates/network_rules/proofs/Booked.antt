@@ -1,13 +1,12 @@
 -- The books of a node: what it accepted entered there, or came for another point and wasn't refused.
-use Rattle.exchange_rules.proofs.Basics.{◌≡◌, ◌≢◌, ◌&&◌, ℕ, ◌+◌, Bool, true, false, not, List, [], ◌∷◌, ◌++◌, filter, Option, Some, None, refl, ap, sym, subst, ◌∙◌, arith, if◌then◌else◌, option_to_list, append-nil, filter-append, count_by}
+use Rattle.exchange_rules.proofs.Basics.{◌≡◌, ◌&&◌, ℕ, ◌+◌, Bool, true, List, [], ◌∷◌, ◌++◌, filter, Option, Some, None, refl, ap, sym, ◌∙◌, arith, if◌then◌else◌, option_to_list, filter-append, count_by}
 use Rattle.std.proofs.Common.{map}
 use Rattle.std.proofs.lemmas.List.{map-append}
-use Rattle.exchange_rules.proofs.Definitions.{Message, is_management, Configuration, Discrimination, Node, WholeQueues, whole, users_that, brought_in, brought_by, brought_to, taken_in, new_message, whither_goes, accept_text, read_frame, FrameCame, Submitted, Abstract}
+use Rattle.exchange_rules.proofs.Definitions.{Message, Configuration, Discrimination, Node, WholeQueues, whole, users_that, brought_in, brought_by, brought_to, taken_in, new_message, whither_goes, accept_text, read_frame, FrameCame, Submitted, Abstract}
 use Rattle.exchange_rules.specs.Exchange.{outcome_of}
 use Rattle.exchange_rules.proofs.Tallies.{again, append}
 use Rattle.changeover.specs.Changeover.{users_of}
 use Rattle.mtp3_codec.specs.declared.discrimination.Discrimination.TheVariants as whither
-use Rattle.mtp3_codec.specs.declared.label.Label.{Label}
 use Rattle.signalling_types.specs.declared.outcome.Outcome.{Outcome}
 use Rattle.signalling_types.specs.declared.outcome.Outcome.TheVariants.{Handled, Held, Ignored, Local, Queued, Refused}
 use Rattle.network_rules.specs.Networks.{Arrival, NetworkNode, NetworkState, deliver_frame, entered_by, goes_onward, is_onward, is_refused, refused_by}

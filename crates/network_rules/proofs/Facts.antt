@@ -1,6 +1,6 @@
 -- What the laws of neighbours say of the queues at the two ends of a link of a network.
-use Rattle.pair_rules.proofs.Basics.{◌≡◌, ◌≢◌, ◌⊎◌, inl, inr, ◌<◌, ◌≤◌, ◌&&◌, ◌||◌, ℕ, Bool, true, false, not, List, [], ◌∷◌, ◌++◌, length, nat_eq, Option, Some, None, refl, ap, sym, subst, ◌∙◌, if◌then◌else◌, slice_get, cons_option, ⊎_elim}
-use Rattle.pair_rules.proofs.Definitions.{Message, Configuration, LinkEntry, Queue, named_count, last_accepted, PairState, LostNothing, in_flight, may_follow, may_open_at, turned, first_pair, is_down_at, is_incomplete_at, queue_of, new_message, Word, down, changeover_of, may_restart, link_at, queue_at, link_with_code}
+use Rattle.pair_rules.proofs.Basics.{◌≡◌, ◌⊎◌, inl, inr, ◌<◌, ◌≤◌, ◌&&◌, ◌||◌, ℕ, Bool, true, false, not, List, [], ◌∷◌, length, nat_eq, Option, Some, None, refl, ap, sym, ◌∙◌, if◌then◌else◌, slice_get, cons_option, ⊎_elim}
+use Rattle.pair_rules.proofs.Definitions.{Message, Configuration, LinkEntry, Queue, named_count, last_accepted, PairState, LostNothing, in_flight, may_follow, turned, first_pair, is_down_at, is_incomplete_at, queue_of, new_message, Word, down, changeover_of, may_restart, link_at, queue_at, link_with_code}
 use Rattle.exchange_rules.specs.First.{Abstract}
 use Rattle.exchange_rules.specs.Routing.{adjacent_of}
 use Rattle.exchange_rules.specs.LastingLinks.{AreLinksSteady, IsSteady, is_l7_running}
@@ -12,12 +12,12 @@ use Rattle.exchange_rules.specs.Laws.{carried_message}
 use Rattle.m2pa_codec.specs.Frames.{read_frame}
 use Rattle.neighbour_rules.specs.Neighbours as neighbours
 use Rattle.neighbour_rules.specs.Neighbours.{end_there, far_end, leads_elsewhere_by}
-use Rattle.neighbour_rules.specs.Laws.{AreFinal, FramesCarry, IsCarried, IsFinal, IsUnderWay, MovesLacked, OpenedAlone, is_in_use, word_there}
+use Rattle.neighbour_rules.specs.Laws.{AreFinal, FramesCarry, IsCarried, IsFinal, IsUnderWay, MovesLacked, is_in_use, word_there}
 use Rattle.neighbour_rules.proofs.FourLaws.{frames-carry, moves-lacked, words-final}
 use Rattle.neighbour_rules.proofs.FarEnds.{AreEnds, ends-turned, is-line, its-far}
 use Rattle.neighbour_rules.proofs.Sharing.{AreFacing, are-facing, far_joint, near_joint}
-use Rattle.network_rules.specs.Networks.{Step, after_steps, first_network, end_of}
-use Rattle.network_rules.specs.Pairs.{ArePairsAlike, AreTheirPoints, AreWellOrAlone, IsRunOfNeighbours, pair_of}
+use Rattle.network_rules.specs.Networks.{Step}
+use Rattle.network_rules.specs.Pairs.{ArePairsAlike, AreTheirPoints, AreWellOrAlone}
 use Rattle.network_rules.proofs.Texts.{same-some}
 use Rattle.network_rules.proofs.PartingEvents.{complete, not-serving}
 use Rattle.network_rules.proofs.Promised.{holds-of, its, p, run, still-sharing}

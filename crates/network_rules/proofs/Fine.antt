@@ -1,22 +1,10 @@
 -- What keeps all messages of a node fine: what rules do, a completion, and what frames confirm.
-use Rattle.exchange_rules.proofs.Basics.{◌<◌, ◌^◌, ◌≡◌, ◌&&◌, ℕ, zero, suc, Bool, true, false, not, List, [], ◌∷◌, ◌++◌, Option, Some, None, Result, Ok, Err, refl, sym, subst, ◌∙◌, if◌then◌else◌, filter, drop, slice_set, nat_eq, nat_lt, length, list_all, and_from as pair}
-use Rattle.std.proofs.lemmas.List.Folds.{list_all-append}
-use Rattle.exchange_rules.proofs.Definitions.{Message, is_management, dpc_of, flow_of, service_indicator, Configuration, Cause, Management, ExtendedChangeoverOrder, ExtendedChangeoverAcknowledgement, ChangebackDeclaration, RouteSetTestProhibited, RouteSetTestRestricted, LinkTestValue, RelayedValue, relay, returned, FailureReason, ChangeoverTimer, LinkStatus, LinkTimer, Transition, Expiry, Facts, RouteStatus, Allowed, Restricted, Prohibited, RouteTest, Heard, Owed, Node, Done, Parts, with_parts, answer, refuse, WholeQueues, queue_at, whole, queue_on, hold, Queue, first_queue, emptied, appended, behind, moved, accepted_count, declaration, test_answer, link_of, no_room, waits, is_destination, destination_place, is_link, link_at, down, in_service, set_of, peer_of, point_of, adjacent_of, telling, entry_of, facts, owed}
-use Rattle.exchange_rules.proofs.Definitions.{send, send_routed, send_anew, send_each, transfer, offer, route_message, told_parts, tell, tell_if, tell_each, tell_owed, may_tell, inhibited, is_inhibited, prohibit, answer_no_route, answered_parts, send_route_status, on_route_test, on_route_status, apply_route_status, ask_by, ask_again, with_next_test, prohibited_test, restricted_test, status_of, management_to, own_of, in_place_of, send_udts, return_outcome, relay_by, on_unitdata}
-use Rattle.exchange_rules.proofs.Definitions.{is_user, sccp, local, make_unavailable, begin, change_over, fail, begin_by_peer, fail_by_peer, fail_by_order, conclude, complete_if, concluded, complete_by_order, on_changeover_order, on_changeover_acknowledgement, on_changeover_timer, changeover_order, changeover_acknowledgement, changeover_of, with_changeover, completed, changing, has_other, with_changeover_acknowledged, with_expiry}
-use Rattle.exchange_rules.proofs.Definitions.{hold_flows, code_in_use, code_for, take_back_each, loses_flows, advance, moved_on, return_if, enters, serve_status, act_by_status, act_by_timer, run_out, action_at}
+use Rattle.exchange_rules.proofs.Basics.{◌≡◌, ℕ, zero, suc, Bool, true, false, not, List, [], ◌∷◌, ◌++◌, Option, Some, None, refl, sym, subst, filter, drop, slice_set, list_all, and_from as pair}
+use Rattle.exchange_rules.proofs.Definitions.{Message, is_management, Configuration, ExtendedChangeoverAcknowledgement, ChangeoverTimer, Node, Parts, with_parts, answer, WholeQueues, queue_at, whole, queue_on, Queue, first_queue, emptied, appended, behind, moved, accepted_count, is_link, set_of, peer_of, entry_of}
+use Rattle.exchange_rules.proofs.Definitions.{fail_by_order, conclude, complete_if, concluded, complete_by_order, on_changeover_order, on_changeover_acknowledgement, on_changeover_timer, changeover_acknowledgement, changeover_of, with_changeover, completed, with_changeover_acknowledged, with_expiry}
 use Rattle.exchange_rules.proofs.Lists.{each-set}
 use Rattle.exchange_rules.proofs.Settling.{left-true, right-true}
-use Rattle.link.specs.declared.action.Action.{Action}
-use Rattle.link.specs.declared.action.Action.TheVariants as act
-use Rattle.m2pa_codec.specs.declared.status.LinkStatus.TheVariants as says
-use Rattle.route_management.specs.Told as told
-use Rattle.route_management.specs.declared.heard.Heard.TheVariants as hears
-use Rattle.sccp_relay.specs.Relay as relays
-use Rattle.signalling_types.specs.declared.cause.Cause.TheVariants as causes
-use Rattle.signalling_types.specs.declared.notice.FailureReason.TheVariants as reasons
-use Rattle.signalling_types.specs.declared.outcome.Outcome.{Outcome}
-use Rattle.signalling_types.specs.declared.outcome.Outcome.TheVariants.{Queued, Held, Local, Handled, Ignored, Refused}
+use Rattle.signalling_types.specs.declared.outcome.Outcome.TheVariants.{Handled, Ignored}
 use Rattle.network_rules.proofs.Passing.{IsFine, IsPassing, AllFine, joined, one-more, either-all, either, either_done, stays, routed, each-sent, by_order-keeps}
 
 module _ (c : Configuration) (fine : Message → Bool) (f : IsFine c fine) where
@@ -109,4 +97,3 @@ module _ (c : Configuration) (fine : Message → Bool) (f : IsFine c fine) where
   expired-keeps timer link n =
       let done : Node WholeQueues = complete_if whole c (changeover_of n.parts link).incomplete link None (with_parts n (with_expiry timer link n.parts)) in
       either c fine f keeping (is_link n.parts link) n done n (complete-keeps (changeover_of n.parts link).incomplete link None n (with_expiry timer link n.parts)) (stays c fine f keeping n)
-

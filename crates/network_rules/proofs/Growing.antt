@@ -1,6 +1,6 @@
 -- What rules do that no changeover ends by and no frame: messages go behind those that stand in queues.
-use Rattle.exchange_rules.proofs.Basics.{◌≡◌, ◌<◌, ◌≤◌, ◌^◌, ℕ, Bool, true, false, List, [], ◌∷◌, ◌++◌, length, refl, ap, sym, subst, ◌∙◌, arith, slice_set, ⊎_elim, cases_eq, cases_lt, append-nil, append_assoc, get_or_past, get_or-set_same, get_or-set_other, length-set}
-use Rattle.exchange_rules.proofs.Definitions.{Message, Configuration, Queue, first_queue, appended, Node, WholeQueues, queue_at, whole, queue_on, hold, adjacent_of, release}
+use Rattle.exchange_rules.proofs.Basics.{◌≡◌, ◌<◌, ◌≤◌, ◌^◌, ℕ, Bool, true, List, [], ◌∷◌, ◌++◌, length, refl, ap, sym, subst, ◌∙◌, arith, slice_set, ⊎_elim, cases_eq, cases_lt, append-nil, append_assoc, get_or_past, get_or-set_same, get_or-set_other, length-set}
+use Rattle.exchange_rules.proofs.Definitions.{Message, Configuration, Queue, first_queue, appended, Node, WholeQueues, queue_at, whole, adjacent_of, release}
 use Rattle.exchange_rules.specs.Touching.{IsGrown}
 use Rattle.network_rules.proofs.Passing.{AllFine, IsFine, IsPassing}
 use Rattle.network_rules.proofs.PassingLinks.{go_each-keeps}

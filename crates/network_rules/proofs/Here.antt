@@ -1,6 +1,6 @@
 -- A step at a node of a network that loses nothing: what waits there grows by what the node accepts.
-use Rattle.pair_rules.proofs.Basics.{◌≡◌, ◌≢◌, ◌⊎◌, inl, inr, ◌<◌, ◌≤◌, ◌&&◌, ℕ, ◌+◌, ◌^◌, Bool, true, false, not, List, [], ◌∷◌, ◌++◌, length, nat_eq, nat_lt, Option, Some, None, refl, ap, sym, subst, ◌∙◌, arith, nat_tests, slice_get, append-nil, drop, ⊎_elim, if◌then◌else◌}
-use Rattle.pair_rules.proofs.Definitions.{Message, Configuration, Queue, first_queue, queue_at, WholeQueues, whole, lost_any, in_flight, new_message, is_link, down, Happening, CameUp, FrameCame, Submitted, Streams}
+use Rattle.pair_rules.proofs.Basics.{◌≡◌, ◌≢◌, ◌⊎◌, inl, inr, ◌<◌, ◌≤◌, ◌&&◌, ℕ, ◌+◌, Bool, true, false, not, List, [], ◌∷◌, ◌++◌, length, Option, Some, None, refl, ap, sym, subst, ◌∙◌, arith, nat_tests, slice_get, drop, if◌then◌else◌}
+use Rattle.pair_rules.proofs.Definitions.{Message, Configuration, Queue, first_queue, queue_at, WholeQueues, whole, lost_any, in_flight, new_message, is_link, down, Happening, CameUp, FrameCame, Submitted}
 use Rattle.exchange_rules.specs.State.{WentDown, Ticked, Activated, Deactivated, TitleAdded, TitleRemoved}
 use Rattle.exchange_rules.specs.First.{Abstract}
 use Rattle.exchange_rules.specs.Conserving.{brought_in, users_that}
@@ -15,11 +15,11 @@ use Rattle.pair_moves.proofs.Counts.{sum-alike}
 use Rattle.exchange_rules.proofs.Definitions.{Node, Outgoing, SendsStatus, SendsMessage, Acknowledges, SendsNothing, after_sending, goes_out, to_send}
 use Rattle.link.specs.Queue as queue
 use Rattle.pair_moves.specs.Laws.{sum_to}
-use Rattle.network_rules.specs.Networks.{NetworkNode, NetworkState, Step, after_steps, first_network}
+use Rattle.network_rules.specs.Networks.{NetworkState, Step}
 use Rattle.network_rules.specs.Totals.{HaveLostNothing, IsJoined, is_listed, received_there}
-use Rattle.network_rules.proofs.AtState.{between-at, exchange_of, names-at, no-status, there_of}
+use Rattle.network_rules.proofs.AtState.{between-at, names-at, no-status, there_of}
 use Rattle.network_rules.proofs.Growing.{MayMake}
-use Rattle.network_rules.proofs.Joined.{HasOther, end_at, has-other, other-apart}
+use Rattle.network_rules.proofs.Joined.{HasOther, has-other, other-apart}
 use Rattle.network_rules.proofs.Letting.{Named}
 use Rattle.network_rules.proofs.Parting.{SaysWord}
 use Rattle.network_rules.proofs.PartingEvents.{IsOther}

@@ -1,11 +1,10 @@
 -- The other end of each link of a network, by the settings of its nodes.
-use Rattle.pair_rules.proofs.Basics.{◌≡◌, ◌≢◌, ◌⊎◌, inl, inr, ◌<◌, ◌≤◌, ℕ, Bool, true, false, not, List, [], length, nat_eq, Option, Some, None, refl, ap, sym, subst, ◌∙◌, arith, if◌then◌else◌, option_map, slice_get, eq-eqb}
-use Rattle.std.proofs.lemmas.Option.{slice_get-get_or}
+use Rattle.pair_rules.proofs.Basics.{◌≡◌, ◌≢◌, ◌⊎◌, inl, inr, ◌<◌, ℕ, Bool, true, false, List, [], length, nat_eq, Option, Some, None, refl, ap, sym, ◌∙◌, arith, if◌then◌else◌, option_map, slice_get}
 use Rattle.exchange_rules.proofs.Basics.{eqb-true}
 use Rattle.exchange_rules.proofs.NamedLinks.{set-named}
 use Rattle.exchange_rules.proofs.Onward.{link-set}
 use Rattle.exchange_rules.specs.Routing.{adjacent_of, peer_of}
-use Rattle.pair_rules.proofs.Definitions.{Configuration, LinkEntry, entry_of, link_with_code, set_of, set_place}
+use Rattle.pair_rules.proofs.Definitions.{Configuration, LinkEntry, link_with_code, set_of, set_place}
 use Rattle.pair_rules.specs.Sharing.{AreSharing}
 use Rattle.neighbour_rules.specs.Neighbours.{end_there}
 use Rattle.neighbour_rules.proofs.FarEnds.{AreEnds, HasEnd, ends-turned, has-end, is-line, its-far}

@@ -1,7 +1,6 @@
 -- What a message says that was heard as a word: to whom, from whom, and of which link.
-use Rattle.exchange_rules.proofs.Basics.{◌≡◌, ◌<◌, ◌&&◌, ◌||◌, ℕ, Bool, true, false, not, List, [], ◌∷◌, length, nat_eq, nat_lt, Option, Some, None, Result, Ok, Err, refl, ap, sym, subst, ◌∙◌, arith, nat_tests, if◌then◌else◌, option_map}
-use Rattle.exchange_rules.proofs.Basics.{eqb-true}
-use Rattle.exchange_rules.proofs.Definitions.{Message, is_management, opc_of, dpc_of, service_indicator, network_indicator, Configuration, Management, MgmtFault, read_management, link_with_code, whither_goes, Discrimination, Cause}
+use Rattle.exchange_rules.proofs.Basics.{◌≡◌, ◌&&◌, ◌||◌, ℕ, Bool, true, false, not, length, nat_eq, nat_lt, Some, None, Result, refl, ap, ◌∙◌, arith, nat_tests, if◌then◌else◌, option_map}
+use Rattle.exchange_rules.proofs.Definitions.{Message, is_management, opc_of, dpc_of, service_indicator, network_indicator, Configuration, Management, MgmtFault, read_management, link_with_code, whither_goes}
 use Rattle.exchange_rules.specs.Conserving.{is_word}
 use Rattle.exchange_rules.specs.Messages.{is_adjacent, testing}
 use Rattle.exchange_rules.proofs.Settling.{left-true, right-true}
@@ -10,10 +9,10 @@ use Rattle.signalling_types.specs.declared.cause.Cause.TheVariants.{NoLabel, Too
 use Rattle.mtp3_codec.specs.Headings.{fault_or_destination, label_at}
 use Rattle.mtp3_codec.specs.declared.discrimination.Discrimination.TheVariants as whither
 use Rattle.mtp3_codec.specs.declared.label.Label.{Label}
-use Rattle.pair_rules.specs.Laws.{Word, about, word_in, word_read}
+use Rattle.pair_rules.specs.Laws.{about, word_read}
 use Rattle.neighbour_rules.specs.Neighbours.{is_management_between}
 use Rattle.neighbour_rules.specs.Laws.{word_from}
-use Rattle.network_rules.proofs.Parting.{IsWord, SaysWord, answers, orders}
+use Rattle.network_rules.proofs.Parting.{IsWord, answers, orders}
 
 decided-own : (long short ours own : Bool) (its label : Label)
     → (if long then whither.Refused TooLong

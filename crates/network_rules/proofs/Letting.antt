@@ -1,6 +1,6 @@
 -- An event lets go of queues what the far ends received, and nothing else: so what is ahead falls by what went.
-use Rattle.exchange_rules.proofs.Basics.{◌≡◌, ◌≢◌, ◌<◌, ◌≤◌, ◌⊎◌, inl, inr, ◌+◌, ◌-◌, ℕ, zero, suc, Bool, true, false, is_some, List, [], ◌∷◌, ◌++◌, length, Option, Some, None, Result, Ok, Err, refl, ap, sym, subst, ◌∙◌, arith, take, ⊎_elim, cases_eq, cases_lt, slice_set, slice_index_or, get_or_past, get_or-set_same, get_or-set_other, length-set, length-append}
-use Rattle.exchange_rules.proofs.Definitions.{Message, Configuration, Queue, first_queue, emptied, unconfirmed, IsQueue, AreQueues, SeqFault, accept_answer, after_answer, accepted, sound-accepted, sound-emptied, sound-first, accepted_count, users_that, WholeQueues, queue_at, whole, Node, Carrying, carries, lost_any, Gone, gone_by_completion}
+use Rattle.exchange_rules.proofs.Basics.{◌≡◌, ◌≢◌, ◌<◌, ◌≤◌, ◌⊎◌, inl, inr, ◌+◌, ◌-◌, ℕ, Bool, true, false, is_some, List, [], ◌++◌, length, Option, Some, None, Ok, refl, ap, sym, subst, ◌∙◌, arith, take, ⊎_elim, cases_eq, cases_lt, slice_set, get_or_past, get_or-set_same, get_or-set_other, length-set, length-append}
+use Rattle.exchange_rules.proofs.Definitions.{Message, Configuration, Queue, first_queue, emptied, unconfirmed, IsQueue, AreQueues, accept_answer, after_answer, accepted, sound-accepted, sound-emptied, sound-first, accepted_count, users_that, WholeQueues, queue_at, whole, Node, Carrying, carries, lost_any, Gone, gone_by_completion}
 use Rattle.exchange_rules.specs.Touching.{IsGrown}
 use Rattle.exchange_rules.proofs.Lists.{each-set}
 use Rattle.exchange_rules.proofs.Tallies.{append}

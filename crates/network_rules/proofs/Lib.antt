@@ -41,3 +41,4 @@ pub mod Unheld
 pub mod RowSettings
 pub mod Offering
 pub mod TwoFailures
+pub mod Crossed

@@ -1,8 +1,8 @@
 -- What an event loses, it flags: so where the flag stays down, nothing was lost.
-use Rattle.exchange_rules.proofs.Basics.{◌≡◌, ◌&&◌, ℕ, zero, suc, Bool, true, false, not, is_some, List, [], ◌∷◌, ◌++◌, filter, filter_agree, Option, Some, None, refl, ap, sym, subst, ◌∙◌, if◌then◌else◌}
-use Rattle.exchange_rules.proofs.Definitions.{Message, flow_of, Configuration, Queue, Node, Parts, WholeQueues, queue_at, whole, lost_any, link_of, waits, go_on, go_by, go, go_each, release, tell_owed, Gone, gone_by_completion, gone_by_release, is_stranded, accepted_count, in_doubt, users_of}
+use Rattle.exchange_rules.proofs.Basics.{◌≡◌, ◌&&◌, ℕ, Bool, true, false, not, is_some, List, [], ◌∷◌, filter, filter_agree, Option, Some, None, refl, ap, sym, ◌∙◌, if◌then◌else◌}
+use Rattle.exchange_rules.proofs.Definitions.{Message, flow_of, Configuration, Node, WholeQueues, queue_at, whole, lost_any, link_of, waits, go_on, go_by, go, go_each, release, tell_owed, Gone, gone_by_completion, gone_by_release, is_stranded, accepted_count, in_doubt, users_of}
 use Rattle.exchange_rules.proofs.Departing.{go_by-strands}
-use Rattle.exchange_rules.proofs.LastingFlags.{Flags, flags-steps}
+use Rattle.exchange_rules.proofs.LastingFlags.{flags-steps}
 use Rattle.exchange_rules.proofs.Rules.{rules-of}
 use Rattle.exchange_rules.proofs.SteppingEvents.{go_by-steps}
 use Rattle.exchange_rules.proofs.SteppingMessages.{tell_owed-steps}

@@ -1,5 +1,5 @@
 -- What waits at all other nodes falls by the message that newly came, at the one at the other end of its link.
-use Rattle.pair_rules.proofs.Basics.{◌≡◌, ◌≢◌, ◌⊎◌, inl, inr, ◌<◌, ◌≤◌, ◌&&◌, ℕ, ◌+◌, Bool, true, false, not, List, [], ◌∷◌, ◌++◌, length, nat_eq, is_some, Option, Some, None, refl, ap, sym, subst, ◌∙◌, arith, slice_get, option_to_list, drop, ⊎_elim, cases_eq, if◌then◌else◌}
+use Rattle.pair_rules.proofs.Basics.{◌≡◌, ◌≢◌, ◌⊎◌, inl, inr, ◌<◌, ◌≤◌, ◌&&◌, ℕ, ◌+◌, Bool, true, false, List, [], ◌∷◌, ◌++◌, length, nat_eq, is_some, Option, Some, None, refl, ap, sym, subst, ◌∙◌, arith, slice_get, option_to_list, drop, ⊎_elim, cases_eq, if◌then◌else◌}
 use Rattle.pair_rules.proofs.Definitions.{Message, Configuration, Queue, queue_at, WholeQueues, whole, in_flight, new_message, CameUp, FrameCame, Submitted}
 use Rattle.exchange_rules.specs.First.{Abstract}
 use Rattle.exchange_rules.specs.Conserving.{users_that}
@@ -10,13 +10,12 @@ use Rattle.exchange_rules.proofs.Tallies.{append}
 use Rattle.pair_moves.specs.Laws.{sum_to}
 use Rattle.pair_moves.proofs.Counts.{sum-alike}
 use Rattle.network_rules.specs.Networks.{NetworkState, Place, Step}
-use Rattle.network_rules.specs.Totals.{HaveLostNothing, IsJoined, is_listed, received_there}
+use Rattle.network_rules.specs.Totals.{HaveLostNothing, IsJoined, received_there}
 use Rattle.network_rules.proofs.Ahead.{sum-less}
-use Rattle.network_rules.proofs.AtState.{missing-at, no-status, there_of}
-use Rattle.network_rules.proofs.Here.{new-link}
+use Rattle.network_rules.proofs.AtState.{missing-at, there_of}
 use Rattle.network_rules.proofs.Joined.{HasOther, end_at, has-other, linked-listed, other-apart, other-back, other-inside}
 use Rattle.network_rules.proofs.Places.{not-equal}
-use Rattle.network_rules.proofs.Reached.{IsSteadyNode, reached, settings-kept, steady-node}
+use Rattle.network_rules.proofs.Reached.{IsSteadyNode, reached, steady-node}
 use Rattle.network_rules.proofs.Staying.{all_waits, waits_at}
 use Rattle.network_rules.proofs.Sums.{same-here}
 use Rattle.network_rules.proofs.Texts.{same-some}

@@ -1,9 +1,8 @@
 -- What becomes of the message of the run at one node, where nothing holds its flow: as it is submitted, as it comes for
 -- another point, and as a changeover that held it completes.
 use Rattle.pair_rules.proofs.Basics.{◌≡◌, ℕ, Bool, true, false, List, [], ◌∷◌, ◌++◌, Option, Some, None, map, refl, ap, ◌∙◌, slice_get, slice_index_or, option_to_list, is_some}
-use Rattle.pair_rules.proofs.Definitions.{Message, flow_of, Configuration, Done, Node, WholeQueues, whole, no_room, waits, link_of, go_by, go_each, deliver, receive, read_frame, FrameCame, Submitted, Outcome, new_message, handle_event, outcome_of, settled, in_flight, without_data, brought_in, brought_by, taken_in, accept_text}
+use Rattle.pair_rules.proofs.Definitions.{Message, flow_of, Configuration, Done, Node, WholeQueues, whole, no_room, waits, link_of, go_by, go_each, deliver, receive, read_frame, FrameCame, Submitted, new_message, handle_event, outcome_of, settled, in_flight, without_data, brought_in, brought_by, taken_in, accept_text}
 unfoldable use Rattle.exchange_rules.specs.Exchange.{apply}
-use Rattle.exchange_rules.specs.First.{Abstract}
 use Rattle.exchange_rules.specs.Messages.{offer}
 use Rattle.exchange_rules.specs.State.{note_refusal}
 use Rattle.exchange_rules.specs.Telling.{tell_owed}

@@ -1,14 +1,13 @@
 -- One step of a network that loses nothing: all that was accepted is what came and what waits, before it and after it.
-use Rattle.pair_rules.proofs.Basics.{◌≡◌, ◌≢◌, ◌⊎◌, inl, inr, ◌<◌, ◌&&◌, ℕ, ◌+◌, Bool, true, false, not, List, [], ◌∷◌, ◌++◌, length, nat_eq, Option, Some, None, refl, ap, sym, subst, ◌∙◌, arith, slice_get, option_to_list, drop, ⊎_elim, cases_eq, if◌then◌else◌}
+use Rattle.pair_rules.proofs.Basics.{◌≡◌, ◌≢◌, ◌⊎◌, inl, inr, ◌<◌, ℕ, ◌+◌, Bool, true, false, List, [], ◌∷◌, ◌++◌, length, nat_eq, Option, Some, None, refl, ap, sym, subst, ◌∙◌, arith, slice_get, option_to_list, drop, ⊎_elim, cases_eq, if◌then◌else◌}
 use Rattle.exchange_rules.proofs.Basics.{sum_by}
-use Rattle.pair_rules.proofs.Definitions.{Message, Configuration, Queue, queue_at, WholeQueues, whole, in_flight, new_message, FrameCame, Submitted}
+use Rattle.pair_rules.proofs.Definitions.{Message, Configuration, queue_at, in_flight, new_message, FrameCame, Submitted}
 use Rattle.exchange_rules.specs.First.{Abstract}
 use Rattle.exchange_rules.specs.Conserving.{brought_in, users_that}
-use Rattle.exchange_rules.specs.Exchange.{after}
 use Rattle.exchange_rules.proofs.Tallies.{append}
 use Rattle.pair_moves.proofs.Counts.{sum-alike}
-use Rattle.network_rules.specs.Networks.{Arrival, NetworkNode, NetworkState, Place, Step}
-use Rattle.network_rules.specs.Totals.{HaveLostNothing, IsJoined, is_listed, received_there}
+use Rattle.network_rules.specs.Networks.{Arrival, NetworkState, Step}
+use Rattle.network_rules.specs.Totals.{HaveLostNothing, IsJoined, is_listed}
 use Rattle.network_rules.proofs.AtState.{no-status, there_of}
 use Rattle.network_rules.proofs.Booked.{arrived-more, texts_of}
 use Rattle.network_rules.proofs.Here.{here-waits, kept-inside, more, new-link, there-same}

@@ -1,11 +1,11 @@
 -- What an event lets go of queues: what a frame confirms, and what a word of the peer says that it received; else a message may be lost.
-use Rattle.exchange_rules.proofs.Basics.{◌≡◌, ◌⊎◌, inl, inr, ◌&&◌, ℕ, zero, suc, Bool, true, false, not, is_some, List, [], ◌∷◌, ◌++◌, Option, Some, None, Result, Ok, Err, refl, ap, sym, subst, ◌∙◌, if◌then◌else◌, nat_eq, take}
-use Rattle.exchange_rules.proofs.Definitions.{Message, is_management, opc_of, service_indicator, Configuration, Management, TrafficRestartAllowed, ExtendedChangeoverOrder, ExtendedChangeoverAcknowledgement, EmergencyChangeoverOrder, EmergencyChangeoverAcknowledgement, ChangebackDeclaration, ChangebackAcknowledgement, TransferProhibited, TransferRestricted, TransferAllowed, RouteSetTestProhibited, RouteSetTestRestricted, MgmtFault, Discrimination, ChangeoverTimer, Allowed, Restricted, Prohibited, Node, Done, Parts, with_parts, answer, refuse, WholeQueues, queue_at, whole, unconfirmed, destination_place, set_place, is_link, link_with_code, route_about, is_adjacent, testing, lost_any, read_link_test, read_management}
-use Rattle.exchange_rules.proofs.Definitions.{Gone, nothing_gone, both_gone, gone_by_completion, gone_by_order, gone_by_answer, gone_by_word, gone_by_message, gone_by_new}
-use Rattle.exchange_rules.proofs.Definitions.{complete_if, concluded, fail_by_order, complete_by_order, on_changeover_order, on_changeover_acknowledgement, changeover_acknowledgement, changeover_of, with_changeover, completed, with_changeover_acknowledged, do_order, do_acknowledgement, do_management, do_test, manage, local, deliver_to, deliver, carry, whither_goes, changeback_acknowledgement, send_routed, note_refusal}
+use Rattle.exchange_rules.proofs.Basics.{◌≡◌, ◌&&◌, ℕ, Bool, true, false, not, List, [], Option, Some, None, Result, Ok, Err, refl, subst, if◌then◌else◌, nat_eq}
+use Rattle.exchange_rules.proofs.Definitions.{Message, is_management, opc_of, service_indicator, Configuration, Management, TrafficRestartAllowed, ExtendedChangeoverOrder, ExtendedChangeoverAcknowledgement, EmergencyChangeoverOrder, EmergencyChangeoverAcknowledgement, ChangebackDeclaration, ChangebackAcknowledgement, TransferProhibited, TransferRestricted, TransferAllowed, RouteSetTestProhibited, RouteSetTestRestricted, MgmtFault, Discrimination, Allowed, Restricted, Prohibited, Node, Done, with_parts, answer, refuse, WholeQueues, whole, destination_place, set_place, link_with_code, route_about, is_adjacent, testing, lost_any, read_link_test, read_management}
+use Rattle.exchange_rules.proofs.Definitions.{Gone, nothing_gone, gone_by_completion, gone_by_order, gone_by_answer, gone_by_word, gone_by_message, gone_by_new}
+use Rattle.exchange_rules.proofs.Definitions.{complete_if, concluded, fail_by_order, on_changeover_order, changeover_acknowledgement, changeover_of, with_changeover, completed, with_changeover_acknowledged, do_order, do_acknowledgement, do_management, do_test, manage, local, deliver_to, carry, whither_goes, changeback_acknowledgement, send_routed, note_refusal}
 use Rattle.exchange_rules.specs.Conserving.{is_word}
 use Rattle.exchange_rules.proofs.Changes.{fail_by_order-queues}
-use Rattle.exchange_rules.proofs.LastingFlags.{Flags, flags-steps}
+use Rattle.exchange_rules.proofs.LastingFlags.{flags-steps}
 use Rattle.exchange_rules.proofs.LastingNotices.{unreasonable-raises}
 use Rattle.exchange_rules.proofs.Steps.{sends-of}
 use Rattle.exchange_rules.proofs.SteppingMessages.{send_routed-steps}

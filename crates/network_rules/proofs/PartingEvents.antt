@@ -1,7 +1,7 @@
 -- So it is with whole events: with frames, with ticks, with a link that opens, and with all others.
-use Rattle.exchange_rules.proofs.Basics.{◌≡◌, ◌⊎◌, inl, inr, ◌&&◌, ℕ, zero, suc, Bool, true, false, not, List, [], ◌∷◌, ◌++◌, Option, Some, None, Result, Ok, Err, refl, ap, sym, subst, ◌∙◌, if◌then◌else◌, take}
-use Rattle.exchange_rules.proofs.Definitions.{Message, is_management, Configuration, Cause, FailureReason, FrameFault, FrameValue, EmptyFrame, MessageFrame, StatusFrame, read_frame, SeqFault, Action, UserData, Status, Alignment, Standing, Link, is_down, is_in_service, may_restart, action_at, Queue, first_queue, accept_answer, unconfirmed, count_confirmed, Node, Done, with_parts, answer, refuse, WholeQueues, queue_at, whole, Carrying, carries, empty_data, message_data, numbers, accept, carry, handle_by, act_by_data, receive_data, read, receive, leave_aside, advance, is_link, link_at, down, in_service, late_any, lost_any, may_open, open_link, association_up, changeover_of, title_refusal, with_timers, run_due, run_next, run_times, tick, on_changeover_timer, with_expiry, complete_if, ChangeoverTimer, release, tell_owed, handle_event, apply, Happening, CameUp, WentDown, FrameCame, Ticked, Submitted, Activated, Deactivated, TitleAdded, TitleRemoved, Abstract, whither_goes, AreLinksSteady, IsSteady, is_l7_running}
-use Rattle.exchange_rules.proofs.Definitions.{Gone, nothing_gone, both_gone, gone_by_completion, gone_by_new, confirmed_by, confirmed_at, confirmed_in, confirmed_of, gone_by_expiry, gone_by_timer, gone_by_timers, gone_by_tick, new_at, new_by, new_in, new_of, new_message, accept_data, accept_frame, accept_text}
+use Rattle.exchange_rules.proofs.Basics.{◌≡◌, ◌&&◌, ℕ, zero, suc, Bool, true, false, not, List, [], ◌++◌, Option, Some, None, Result, Ok, Err, refl, ap, ◌∙◌, if◌then◌else◌, take}
+use Rattle.exchange_rules.proofs.Definitions.{Message, Configuration, FrameFault, FrameValue, EmptyFrame, MessageFrame, StatusFrame, read_frame, SeqFault, Action, UserData, Status, Alignment, Standing, Link, is_down, is_in_service, may_restart, action_at, accept_answer, unconfirmed, count_confirmed, Node, with_parts, answer, refuse, WholeQueues, queue_at, whole, Carrying, carries, empty_data, message_data, numbers, accept, handle_by, act_by_data, receive_data, read, advance, is_link, link_at, down, late_any, lost_any, may_open, open_link, association_up, changeover_of, title_refusal, with_timers, run_due, run_next, run_times, tick, with_expiry, complete_if, ChangeoverTimer, release, tell_owed, handle_event, apply, Happening, CameUp, WentDown, FrameCame, Ticked, Submitted, Activated, Deactivated, TitleAdded, TitleRemoved, whither_goes, AreLinksSteady, IsSteady, is_l7_running}
+use Rattle.exchange_rules.proofs.Definitions.{Gone, nothing_gone, both_gone, gone_by_completion, gone_by_new, confirmed_by, confirmed_at, confirmed_in, confirmed_of, gone_by_timer, gone_by_timers, gone_by_tick, new_at, new_by, new_in, new_of, new_message, accept_data, accept_frame, accept_text}
 use Rattle.exchange_rules.specs.Conserving.{confirmed}
 use Rattle.exchange_rules.proofs.LastingFlags.{Flags, flags-steps}
 use Rattle.exchange_rules.proofs.LastingNotices.{unreasonable-raises}
@@ -20,7 +20,7 @@ use Rattle.timers.specs.Timers.{ticked, due_name, due_count, after_due}
 use Rattle.network_rules.proofs.Passing.{IsFine, IsPassing, fail-keeps, advance-keeps, by_status-keeps, run_out-keeps, ask-keeps}
 use Rattle.network_rules.proofs.PassingLinks.{submit_to-keeps, aside-keeps, down-keeps, activate-keeps, deactivate-keeps, added-keeps, removed-keeps, settles}
 use Rattle.network_rules.proofs.Growing.{AreGrown, Grows, MayMake, any_message, any-fine, grown-same, grown-then, growing, release-grows}
-use Rattle.network_rules.proofs.Parting.{Does, SaysWord, carry-does, does-then, ends, grows, loses}
+use Rattle.network_rules.proofs.Parting.{Does, SaysWord, carry-does, does-then}
 
 -- what a frame confirms goes from the queue of its link, and then what its message lets go; or it does neither
 pub data Comes (c : Configuration) (link : ℕ) (o : Option Message) (qs : WholeQueues) (m : Node WholeQueues) (ms : List Message) (g : Gone) : Type 0 where

@@ -1,12 +1,10 @@
 -- So it is with every event, and with every frame that goes out.
-use Rattle.exchange_rules.proofs.Basics.{◌<◌, ◌^◌, ◌%◌, arith, ◌≡◌, ◌&&◌, ℕ, zero, suc, Bool, true, false, List, [], ◌∷◌, Option, Some, None, Result, Ok, Err, refl, ap, sym, subst, ◌∙◌, if◌then◌else◌, nat_eq, list_all, and_from as pair}
-use Rattle.std.proofs.lemmas.List.Folds.{list_all-append}
-use Rattle.exchange_rules.proofs.Definitions.{Message, is_management, opc_of, flow_of, service_indicator, Configuration, TitleEntry, Cause, NoSuchName, Management, TrafficRestartAllowed, ExtendedChangeoverOrder, ExtendedChangeoverAcknowledgement, EmergencyChangeoverOrder, EmergencyChangeoverAcknowledgement, ChangebackDeclaration, ChangebackAcknowledgement, TransferProhibited, TransferRestricted, TransferAllowed, RouteSetTestProhibited, RouteSetTestRestricted, MgmtFault, LinkTestValue, TestKind, Test, Acknowledgement, TitleKey, Discrimination, FailureReason, UserData, Status, Allowed, Restricted, Prohibited, Node, Done, with_parts, answer, refuse, WholeQueues, queue_at, whole, Queue, first_queue, accept_answer, to_send, SeqFault, test_answer, carries, link_of, no_room, waits, destination_place, set_place, is_link, link_at, down, route_about}
-use Rattle.exchange_rules.proofs.Definitions.{send_on, transfer, tell_owed, add_title_unless, title_refusal, remove_title, place_of, has_row, without_row, with_titles}
-use Rattle.exchange_rules.proofs.Definitions.{is_adjacent, local, do_kind, do_test, do_order, do_acknowledgement, do_management, link_with_code, manage, deliver_to, deliver, submit_to, whither_goes, fail, changeback_acknowledgement, changeover_of, freed, is_outstanding, on_changeback_acknowledgement}
-use Rattle.exchange_rules.proofs.Definitions.{advance, action_at, Carrying, empty_data, message_data, numbers, accept, carry, handle_by, act_by_data, receive_frame, leave_aside, read, receive, FrameValue, EmptyFrame, MessageFrame, StatusFrame, read_frame, carried_message, may_open, open_link, may_restart, association_up, fail_if_up, end_association, association_down, set_active, activate, deactivate}
-use Rattle.exchange_rules.proofs.Definitions.{go_on, go_by, go, go_each, release, with_timers, run_timer, run_due, run_times, tick, handle_event, apply, Happening, CameUp, WentDown, FrameCame, Ticked, Submitted, Activated, Deactivated, TitleAdded, TitleRemoved, after_sending, after_take, Outgoing, SendsStatus, SendsMessage, Acknowledges, SendsNothing, goes_out}
-use Rattle.exchange_rules.proofs.Settling.{left-true, right-true}
+use Rattle.exchange_rules.proofs.Basics.{◌<◌, ◌^◌, ◌%◌, arith, ◌≡◌, ℕ, zero, suc, Bool, true, false, List, Option, Some, None, Result, Ok, Err, refl, ap, ◌∙◌, if◌then◌else◌, nat_eq, list_all}
+use Rattle.exchange_rules.proofs.Definitions.{Message, is_management, opc_of, service_indicator, Configuration, NoSuchName, Management, TrafficRestartAllowed, ExtendedChangeoverOrder, ExtendedChangeoverAcknowledgement, EmergencyChangeoverOrder, EmergencyChangeoverAcknowledgement, ChangebackDeclaration, ChangebackAcknowledgement, TransferProhibited, TransferRestricted, TransferAllowed, RouteSetTestProhibited, RouteSetTestRestricted, MgmtFault, Discrimination, UserData, Status, Allowed, Restricted, Prohibited, Node, Done, answer, refuse, WholeQueues, queue_at, whole, Queue, first_queue, accept_answer, to_send, SeqFault, carries, destination_place, set_place, is_link, link_at, down, route_about}
+use Rattle.exchange_rules.proofs.Definitions.{tell_owed, title_refusal}
+use Rattle.exchange_rules.proofs.Definitions.{is_adjacent, local, do_test, do_order, do_acknowledgement, do_management, link_with_code, manage, deliver_to, deliver, whither_goes, changeback_acknowledgement, changeover_of}
+use Rattle.exchange_rules.proofs.Definitions.{advance, action_at, Carrying, empty_data, message_data, numbers, accept, carry, handle_by, act_by_data, receive_frame, read, receive, FrameValue, EmptyFrame, MessageFrame, StatusFrame, read_frame, carried_message, may_open, open_link, may_restart, association_up}
+use Rattle.exchange_rules.proofs.Definitions.{release, with_timers, run_timer, run_due, run_times, tick, handle_event, apply, Happening, CameUp, WentDown, FrameCame, Ticked, Submitted, Activated, Deactivated, TitleAdded, TitleRemoved, after_sending, after_take, Outgoing, SendsStatus, SendsMessage, Acknowledges, SendsNothing, goes_out}
 use Rattle.exchange_rules.proofs.LastingMessages.{accepted-all, sent-all}
 use Rattle.link.specs.Queue as queue
 use Rattle.link.specs.declared.action.Action.{Action}
@@ -15,7 +13,6 @@ use Rattle.mtp3_codec.specs.declared.discrimination.Discrimination.TheVariants a
 use Rattle.signalling_types.specs.declared.cause.Cause.TheVariants as causes
 use Rattle.signalling_types.specs.declared.notice.FailureReason.TheVariants as reasons
 use Rattle.signalling_types.specs.declared.notice.FrameFault.{FrameFault}
-use Rattle.signalling_types.specs.declared.notice.FrameFault.TheVariants as faults
 use Rattle.signalling_types.specs.declared.outcome.Outcome.TheVariants.{Handled, Ignored}
 use Rattle.timers.specs.declared.name.TimerName.{TimerName}
 use Rattle.timers.specs.declared.name.TimerName.TheVariants as name
@@ -24,7 +21,7 @@ use Rattle.mtp3_codec.specs.Management.{read_link_test, read_management}
 use Rattle.route_management.specs.declared.heard.RouteTest.TheVariants as tests
 use Rattle.link.specs.declared.action.LinkTimer.TheVariants as its
 use Rattle.signalling_types.specs.declared.notice.ChangeoverTimer.TheVariants as changeover
-use Rattle.network_rules.proofs.Passing.{IsFine, IsPassing, AllFine, either, either_done, stays, send-keeps, routed, tell_owed-keeps, test-keeps, status-keeps, ask-keeps, transfer-keeps, local-keeps, fail-keeps, advance-keeps, by_status-keeps, run_out-keeps}
+use Rattle.network_rules.proofs.Passing.{IsFine, IsPassing, either_done, stays, routed, test-keeps, status-keeps, ask-keeps, transfer-keeps, local-keeps, fail-keeps, advance-keeps, by_status-keeps, run_out-keeps}
 use Rattle.network_rules.proofs.PassingLinks.{do_test-keeps, confirmed-keeps, submit_to-keeps, aside-keeps, down-keeps, activate-keeps, deactivate-keeps, added-keeps, removed-keeps, go_each-keeps, settles}
 use Rattle.network_rules.proofs.Fine.{Keeps, keeping, same, and-then, queue-keeps, order-keeps, acknowledged-keeps, expired-keeps}
 

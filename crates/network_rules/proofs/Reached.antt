@@ -1,18 +1,17 @@
 -- States that a network comes to: the settings of its nodes stay, each node has its places and its links are steady, and flags don't fall.
-use Rattle.pair_rules.proofs.Basics.{◌≡◌, ◌≢◌, ◌⊎◌, inl, inr, ◌≤◌, ℕ, Bool, true, false, List, [], ◌∷◌, ◌++◌, length, nat_eq, Option, Some, None, refl, ap, sym, subst, ◌∙◌, ⊎_elim, cases_eq}
-use Rattle.pair_rules.proofs.Definitions.{Message, Configuration, IsWell, whole, Happening, CameUp, FrameCame, Submitted, LostNothing, lost_any}
+use Rattle.pair_rules.proofs.Basics.{◌≡◌, ◌≢◌, ℕ, Bool, true, false, List, [], ◌∷◌, refl, ap, sym, subst, ◌∙◌, ⊎_elim, cases_eq}
+use Rattle.pair_rules.proofs.Definitions.{Configuration, IsWell, CameUp, FrameCame, Submitted, lost_any}
 use Rattle.exchange_rules.specs.State.{Asking, AsksWants, Happens, Takes}
-use Rattle.exchange_rules.specs.First.{Abstract, first_state}
+use Rattle.exchange_rules.specs.First.{Abstract}
 use Rattle.exchange_rules.specs.Lasting.{HasAllPlaces, after_each}
 use Rattle.exchange_rules.specs.LastingLinks.{AreLinksSteady}
 use Rattle.exchange_rules.proofs.LastingFlags.{losses-stay}
 use Rattle.exchange_rules.proofs.LastingLinks.{links-first, links-stay}
 use Rattle.exchange_rules.proofs.LastingPlaces.{places-first, places-stay}
-use Rattle.pair_rules.specs.Pairs.{Doing}
-use Rattle.network_rules.specs.Networks.{NetworkNode, NetworkState, Step, after_step, after_steps, did, first_network}
-use Rattle.network_rules.specs.Totals.{HaveLostNothing, IsJoined, is_listed}
-use Rattle.network_rules.proofs.AllRuns.{did-keeps, steps-keep}
-use Rattle.network_rules.proofs.Turns.{SameBooks, Turn, comes, enters, goes_out, idles, occurs, opens, others-of, turn-of}
+use Rattle.network_rules.specs.Networks.{NetworkState, Step, after_step, after_steps, first_network}
+use Rattle.network_rules.specs.Totals.{IsJoined, is_listed}
+use Rattle.network_rules.proofs.AllRuns.{steps-keep}
+use Rattle.network_rules.proofs.Turns.{Turn, comes, enters, goes_out, idles, occurs, opens, others-of, turn-of}
 
 -- an exchange was asked something, or nothing
 pub record WasAsked (a b : Abstract) : Type 0 where

@@ -1,11 +1,13 @@
 -- The settings of three nodes in a row keep every limit, and each two neighbours share a set.
-use Rattle.pair_rules.proofs.Basics.{◌≡◌, ◌≢◌, ◌≤◌, ◌<◌, ◌^◌, ◌⊎◌, inl, inr, ℕ, zero, suc, Bool, true, false, [], ◌∷◌, Some, refl, sym, subst, arith, nat_eq, IsTrue, slice_get, IsDistinct, list_any, if◌then◌else◌, nat_tests, All-from_recursion}
-use Rattle.pair_rules.proofs.Definitions.{Configuration, SetEntry, LinkEntry, DestinationEntry, LINKS, SETS, DESTINATIONS, POOL, WINDOW, TICKS, IsLink, IsSet, IsDestination, IsTitle, IsWell, IsWithin, all_ticks, is_led_first}
+use Rattle.pair_rules.proofs.Basics.{◌≡◌, ◌≢◌, ◌≤◌, ◌<◌, ◌^◌, ◌⊎◌, inl, inr, ◌||◌, ⊎_elim, length, count_by, ℕ, zero, suc, Bool, true, false, [], ◌∷◌, Some, refl, sym, subst, arith, nat_eq, IsTrue, slice_get, IsDistinct, list_any, if◌then◌else◌, All-from_recursion}
+use Rattle.pair_rules.proofs.Definitions.{Configuration, SetEntry, LinkEntry, LINKS, SETS, DESTINATIONS, POOL, WINDOW, TICKS, IsLink, IsSet, IsDestination, IsTitle, IsWell, IsWithin, all_ticks, is_led_first}
 use Rattle.std.proofs.lemmas.List.Sums.{count_by-le-length}
 use Rattle.exchange_rules.proofs.Basics.{eqb-true}
+use Rattle.exchange_rules.specs.Routing.{peer_of}
 use Rattle.pair_rules.specs.OneEndFirst.{ticks}
 use Rattle.pair_rules.specs.Sharing.{AreSharing}
 use Rattle.network_rules.specs.Pairs.{AreTheirPoints, AreWellOrAlone}
+use Rattle.network_rules.specs.Totals.{IsJoined, is_listed}
 use Rattle.network_rules.specs.TwoFailures.{end_settings, middle_settings, no_settings, row}
 
 within : (low high n : ℕ) → low ≤ n → n ≤ high → IsWithin low high n
@@ -204,3 +206,71 @@ points = λ point. own-by (nat_eq point 1) (nat_eq point 2) (nat_eq point 3) poi
 
 pub well : AreWellOrAlone row
 well = λ point. well-by (nat_eq point 1) (nat_eq point 2) (nat_eq point 3) point
+
+-- ---- of the whole
+
+listed-by : (one two three : Bool) (point : ℕ) → nat_eq point 1 ≡ one → nat_eq point 2 ≡ two → nat_eq point 3 ≡ three → (one || (two || (three || false))) ≡ true
+    → (point ≡ 1) ⊎ ((point ≡ 2) ⊎ (point ≡ 3))
+listed-by true two three point e f g its = inl (eqb-true point 1 e)
+listed-by false true three point e f g its = inr (inl (eqb-true point 2 f))
+listed-by false false true point e f g its = inr (inr (eqb-true point 3 g))
+listed-by false false false point e f g its = absurd cc
+
+-- what holds of the three
+pub of-three : (P : ℕ → Type 0) → P 1 → P 2 → P 3 → (point : ℕ) → is_listed (1 ∷ 2 ∷ 3 ∷ []) point ≡ true → P point
+of-three P a b c point its =
+    ⊎_elim (λ (e : point ≡ 1). subst P (sym e) a)
+    (λ (rest : (point ≡ 2) ⊎ (point ≡ 3)). ⊎_elim (λ (e : point ≡ 2). subst P (sym e) b) (λ (e : point ≡ 3). subst P (sym e) c) rest)
+    (listed-by (nat_eq point 1) (nat_eq point 2) (nat_eq point 3) point refl refl refl its)
+
+alone-by : (one two three : Bool) (point : ℕ) → (one || (two || (three || false))) ≡ false
+    → (if one then middle_settings else if two then end_settings 2 3 else if three then end_settings 3 2 else no_settings point).links ≡ []
+alone-by true two three point e = absurd cc
+alone-by false true three point e = absurd cc
+alone-by false false true point e = absurd cc
+alone-by false false false point e = refl
+
+back : (c z : Configuration) → AreSharing c z → AreSharing z c
+back c z s = record {
+  near_well = s.far_well;
+  far_well = s.near_well;
+  shares = record {
+    near_set = s.shares.far_set;
+    far_set = s.shares.near_set;
+    near_leads = s.shares.far_leads;
+    far_leads = s.shares.near_leads;
+    network = sym s.shares.network;
+    codes = λ slc. sym (s.shares.codes slc);
+  };
+}
+
+-- each link leads to a point that shares its set
+near-shares : (link : ℕ) → link < 4 → AreSharing middle_settings (row (peer_of middle_settings link))
+near-shares zero less = first-sharing
+near-shares (suc zero) less = first-sharing
+near-shares (suc (suc zero)) less = second-sharing
+near-shares (suc (suc (suc zero))) less = second-sharing
+near-shares (suc (suc (suc (suc link)))) less = absurd (omega (arith, less))
+
+end-shares : (own other : ℕ) → AreSharing middle_settings (end_settings own other) → (link : ℕ) → link < 2 → AreSharing (end_settings own other) (row (peer_of (end_settings own other) link))
+end-shares own other s zero less = back middle_settings (end_settings own other) s
+end-shares own other s (suc zero) less = back middle_settings (end_settings own other) s
+end-shares own other s (suc (suc link)) less = absurd (omega (arith, less))
+
+shares-by : (one two three : Bool) (point link : ℕ)
+    → link < length (if one then middle_settings else if two then end_settings 2 3 else if three then end_settings 3 2 else no_settings point).links
+    → AreSharing (if one then middle_settings else if two then end_settings 2 3 else if three then end_settings 3 2 else no_settings point)
+    (row (peer_of (if one then middle_settings else if two then end_settings 2 3 else if three then end_settings 3 2 else no_settings point) link))
+shares-by true two three point link less = near-shares link less
+shares-by false true three point link less = end-shares 2 3 second-sharing link less
+shares-by false false true point link less = end-shares 3 2 first-sharing link less
+shares-by false false false point link less = absurd (omega (arith, less))
+
+pub joined : IsJoined row (1 ∷ 2 ∷ 3 ∷ [])
+joined = record {
+  own = points;
+  once = of-three (λ point. count_by (nat_eq point) (1 ∷ 2 ∷ 3 ∷ []) ≡ 1) refl refl refl;
+  well = of-three (λ point. IsWell (row point)) middle-well second-well third-well;
+  others = λ point e. alone-by (nat_eq point 1) (nat_eq point 2) (nat_eq point 3) point e;
+  shared = λ point link less. shares-by (nat_eq point 1) (nat_eq point 2) (nat_eq point 3) point link less;
+}

@@ -1,7 +1,7 @@
 -- An event takes in what it brings, and of what waits at a node nothing goes: what goes for good was received at the far ends.
-use Rattle.exchange_rules.proofs.Basics.{◌≡◌, ◌<◌, ◌≤◌, ◌⊎◌, inl, inr, ◌+◌, ◌-◌, ℕ, zero, suc, Bool, true, false, List, [], ◌∷◌, ◌++◌, length, Option, Some, None, refl, ap, sym, subst, ◌∙◌, arith, take, sum_by, sum_by-cons, ⊎_elim, cases_lt, slice_index_or, get_or_past}
+use Rattle.exchange_rules.proofs.Basics.{◌≡◌, ◌<◌, ◌≤◌, ◌⊎◌, inl, inr, ◌+◌, ◌-◌, ℕ, zero, suc, Bool, true, false, List, [], ◌∷◌, length, refl, ap, sym, subst, ◌∙◌, arith, take, sum_by, sum_by-cons, ⊎_elim, cases_lt, slice_index_or, get_or_past}
 use Rattle.std.proofs.Common.{drop}
-use Rattle.exchange_rules.proofs.Definitions.{Message, Configuration, Queue, first_queue, unconfirmed, IsQueue, AreQueues, WholeQueues, queue_at, whole, Node, Abstract, lost_any, users_that, standing, gone_that, Gone, both_gone, gone, gone_by, gone_by_new, gone_by_release, gone_by_tick, nothing_gone, brought_in, new_message, accept_text, read_frame, HasAllPlaces, AreLinksSteady, Happening, CameUp, WentDown, FrameCame, Ticked, Submitted, Activated, Deactivated, TitleAdded, TitleRemoved, apply, handle_event, Happens, HasPlacesFor}
+use Rattle.exchange_rules.proofs.Definitions.{Message, Configuration, Queue, first_queue, unconfirmed, IsQueue, AreQueues, WholeQueues, queue_at, whole, Abstract, lost_any, users_that, standing, gone_that, Gone, both_gone, gone, gone_by, gone_by_new, gone_by_release, gone_by_tick, brought_in, new_message, accept_text, read_frame, HasAllPlaces, AreLinksSteady, Happening, CameUp, WentDown, FrameCame, Ticked, Submitted, Activated, Deactivated, TitleAdded, TitleRemoved, apply, handle_event, Happens}
 use Rattle.exchange_rules.specs.Conserving.{confirmed}
 use Rattle.exchange_rules.specs.Exchange.{after}
 use Rattle.exchange_rules.proofs.Conserved.{conserved}
@@ -10,10 +10,9 @@ use Rattle.exchange_rules.proofs.LastingPlaces.{places-stay}
 use Rattle.exchange_rules.proofs.LastingLinks.{links-stay}
 use Rattle.exchange_rules.proofs.Tallies.{append}
 use Rattle.pair_moves.specs.Laws.{sum_to}
-use Rattle.pair_moves.proofs.Counts.{sum-alike}
 use Rattle.network_rules.proofs.Growing.{MayMake}
 use Rattle.network_rules.proofs.Parting.{SaysWord}
-use Rattle.network_rules.proofs.PartingEvents.{Comes, IsOther, Opens, Ticks, frame-event, other-event, runs, runs_out, tick-event, up-event}
+use Rattle.network_rules.proofs.PartingEvents.{Comes, IsOther, Ticks, frame-event, other-event, runs, runs_out, tick-event, up-event}
 use Rattle.network_rules.proofs.Losing.{comes-lose, release-loses}
 use Rattle.network_rules.proofs.Ahead.{ahead, ahead-all, all_ahead, all-grown, drop-none, take-none}
 use Rattle.network_rules.proofs.Letting.{Named, frame-lets, opens-lets}

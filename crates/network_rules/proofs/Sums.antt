@@ -1,6 +1,5 @@
 -- Sums over the points of a network.
-use Rattle.exchange_rules.proofs.Basics.{◌≡◌, ◌≢◌, ◌||◌, ℕ, ◌+◌, zero, suc, Bool, true, false, List, [], ◌∷◌, nat_eq, refl, ap, sym, subst, ◌∙◌, arith, cond, sum_by, sum_by-cons, count_by, if◌then◌else◌, list_any, nat_tests}
-use Rattle.exchange_rules.proofs.Basics.{eqb-true}
+use Rattle.exchange_rules.proofs.Basics.{◌≡◌, ◌||◌, ℕ, ◌+◌, Bool, true, false, List, [], ◌∷◌, nat_eq, refl, ap, sym, ◌∙◌, arith, cond, sum_by, sum_by-cons, count_by, if◌then◌else◌, nat_tests}
 use Rattle.network_rules.specs.Totals.{is_listed}
 
 pub same-here : (n : ℕ) → nat_eq n n ≡ true

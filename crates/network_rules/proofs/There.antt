@@ -1,26 +1,20 @@
 -- A step at a node of a network that loses nothing: what waits at another node falls by what newly came from it.
-use Rattle.pair_rules.proofs.Basics.{◌≡◌, ◌≢◌, ◌⊎◌, inl, inr, ◌<◌, ◌≤◌, ◌&&◌, ℕ, ◌+◌, zero, suc, Bool, true, false, not, List, [], ◌∷◌, ◌++◌, length, nat_eq, is_some, Option, Some, None, refl, ap, sym, subst, ◌∙◌, arith, nat_tests, slice_get, option_to_list, drop, ⊎_elim, cases_eq, if◌then◌else◌}
-use Rattle.pair_rules.proofs.Definitions.{Message, Configuration, Queue, queue_at, WholeQueues, whole, in_flight, may_follow, may_open_at, new_message, Happening, CameUp, FrameCame, Submitted, Streams}
+use Rattle.pair_rules.proofs.Basics.{◌≡◌, ◌≢◌, ◌⊎◌, ◌<◌, ℕ, ◌+◌, zero, suc, Bool, true, false, List, [], ◌∷◌, ◌++◌, length, Some, refl, ap, sym, subst, ◌∙◌, arith, slice_get, drop, ⊎_elim, cases_eq}
+use Rattle.pair_rules.proofs.Definitions.{Message, Configuration, Queue, queue_at, whole, may_follow, may_open_at, Happening, CameUp, FrameCame, Submitted}
 use Rattle.exchange_rules.specs.State.{WentDown, Ticked, Activated, Deactivated, TitleAdded, TitleRemoved}
 use Rattle.exchange_rules.specs.First.{Abstract}
 use Rattle.exchange_rules.specs.Conserving.{users_that}
-use Rattle.exchange_rules.specs.Exchange.{after, taken}
+use Rattle.exchange_rules.specs.Exchange.{after}
 use Rattle.exchange_rules.specs.Receiving.{brought, is_beginning, received}
-use Rattle.exchange_rules.proofs.Received.{received-counted, takes-receive}
-use Rattle.exchange_rules.proofs.Tallies.{append}
-use Rattle.pair_moves.proofs.Counts.{sum-alike}
-use Rattle.network_rules.specs.Networks.{NetworkState, Place, Step, end_of, other_end}
-use Rattle.network_rules.specs.Totals.{HaveLostNothing, IsJoined, is_listed, received_there}
-use Rattle.network_rules.proofs.Ahead.{drop-none, sum-less}
-use Rattle.network_rules.proofs.AtState.{follows-empty, may-open-empty, missing-at, no-status, there_of}
-use Rattle.network_rules.proofs.Here.{new-link}
-use Rattle.network_rules.proofs.Joined.{HasOther, end_at, ends-are, has-other, other-apart, other-back, other-inside}
-use Rattle.network_rules.proofs.Places.{not-equal}
-use Rattle.network_rules.proofs.Reached.{IsSteadyNode, reached, settings-kept, steady-node}
-use Rattle.network_rules.proofs.Staying.{all_waits, waits_at}
+use Rattle.exchange_rules.proofs.Received.{received-counted}
+use Rattle.network_rules.specs.Networks.{NetworkState, Place, Step, end_of}
+use Rattle.network_rules.specs.Totals.{HaveLostNothing, IsJoined, received_there}
+use Rattle.network_rules.proofs.Ahead.{drop-none}
+use Rattle.network_rules.proofs.AtState.{follows-empty, may-open-empty, there_of}
+use Rattle.network_rules.proofs.Joined.{HasOther, end_at, ends-are, has-other, other-back, other-inside}
+use Rattle.network_rules.proofs.Reached.{IsSteadyNode, reached, settings-kept}
 use Rattle.network_rules.proofs.Texts.{same-some}
-use Rattle.network_rules.proofs.Turns as turns
-use Rattle.network_rules.proofs.Turns.{IsPlain, MayOpenThere, SameBooks, Turn, comes, enters, idles, occurs, opens}
+use Rattle.network_rules.proofs.Turns.{IsPlain, MayOpenThere, SameBooks}
 
 pub drop-first : (ms : List Message) (n : ℕ) (m : Message) → slice_get ms n ≡ Some m → drop n ms ≡ m ∷ drop (n + 1) ms
 drop-first [] zero m e = absurd cc

@@ -1,12 +1,11 @@
 -- What a step of a network makes of the exchange and the books of its node; those of all others stay.
-use Rattle.pair_rules.proofs.Basics.{◌≡◌, ◌≢◌, ◌⊎◌, inl, inr, ℕ, Bool, true, false, List, [], Option, Some, None, refl, ap, sym, subst, ◌∙◌, nat_eq, slice_get, if◌then◌else◌}
+use Rattle.pair_rules.proofs.Basics.{◌≡◌, ◌≢◌, ◌⊎◌, inl, inr, ℕ, Bool, true, false, List, Option, Some, None, refl, ap, ◌∙◌, nat_eq, slice_get, if◌then◌else◌}
 use Rattle.pair_rules.proofs.Definitions.{Message, FrameValue, Open, Nothing, Close, whole, wants_of, frame_to_take, Happening, CameUp}
 use Rattle.exchange_rules.specs.State.{WentDown, Ticked, Activated, Deactivated, TitleAdded, TitleRemoved}
-use Rattle.exchange_rules.specs.First.{Abstract}
 use Rattle.exchange_rules.specs.declared.wants.Wants.{Wants}
 use Rattle.pair_rules.specs.Pairs as pairs
 use Rattle.pair_rules.specs.Pairs.{Doing, Streams, in_flight, may_follow, may_open_at, with_status_twice, without_data, without_status}
-use Rattle.network_rules.specs.Networks.{Arrival, NetworkNode, NetworkState, Place, change_statuses, changed, comes_up, deliver_frame, did, did_here, end_of, happens, is_led, may_open_there, opens_first, opens_second, other_end, reaches, sends, submit, take_frame}
+use Rattle.network_rules.specs.Networks.{NetworkNode, NetworkState, Place, change_statuses, changed, comes_up, deliver_frame, did, did_here, end_of, happens, is_led, may_open_there, opens_first, opens_second, other_end, reaches, sends, submit, take_frame}
 use Rattle.network_rules.proofs.Places.{node-other, node-same}
 
 -- a node has the exchange and the books of another

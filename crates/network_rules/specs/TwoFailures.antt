@@ -1,7 +1,7 @@
 -- A run of three nodes in a row, of which each two neighbours share two links. A message that one end of the row has for
 -- the other is sent on a link that fails, on either side of the middle node. It comes by the other links, once.
 use Rattle.std.specs.Prelude.{◌≡◌, ℕ, false, true, nat_eq, not, List, [], ◌∷◌, ◌++◌, filter, if◌then◌else◌}
-use Rattle.signalling_types.specs.Message.{Message, is_management}
+use Rattle.signalling_types.specs.Message.{is_management}
 use Rattle.signalling_types.specs.declared.outcome.Outcome.TheVariants.{Queued}
 use Rattle.settings_rows.specs.Configuration.{Configuration}
 use Rattle.m2pa_codec.specs.Frames.{MessageFrame, spelled}
@@ -16,6 +16,7 @@ use Rattle.pair_rules.specs.Sharing.{AreSharing}
 use Rattle.neighbour_rules.specs.ThirdNode.{the_message}
 use Rattle.network_rules.specs.Networks.{Arrival, NetworkNode, NetworkState, Place, Step, after_steps, end_of, first_network}
 use Rattle.network_rules.specs.Pairs.{AreTheirPoints, AreWellOrAlone}
+use Rattle.network_rules.specs.Totals.{HaveLostNothing, IsJoined}
 
 -- a point at an end of the row, with two links to point 1, by which it reaches the other end too
 abbrev pub end_settings : (own other : ℕ) → Configuration
@@ -175,11 +176,13 @@ pub record IsDone (x : NetworkNode) : Type 0 where
   pub none_waits : standing (λ m. true) x.exchange.node.queues ≡ 0
 
 pub record CrossesTwoFailures : Type 0 where
-  -- the premises hold, of both pairs of neighbours
+  -- the premises hold, of both pairs of neighbours and of the whole
   pub points : AreTheirPoints row
   pub well : AreWellOrAlone row
   pub first_sharing : AreSharing (row 1) (row 3)
   pub second_sharing : AreSharing (row 1) (row 2)
+  pub joined : IsJoined row (1 ∷ 2 ∷ 3 ∷ [])
+  pub kept : HaveLostNothing (1 ∷ 2 ∷ 3 ∷ []) come
   -- point 3 queues the message on its first link
   pub outcome : outcome_of whole (Submitted the_message) (served.node 3).exchange ≡ Queued 0
   -- it is in flight there, the link fails at both ends, and it didn't come to point 1

@@ -1,6 +1,6 @@
-//! What holds of each two nodes of a network that share a link set, after every list of steps from newly booted
-//! exchanges on. The steps are those of `specs/Networks.antt`. Each function says its law by its contract, and does
-//! nothing.
+//! What holds of each two nodes of a network that share a link set, and of all its nodes together, after every list of
+//! steps from newly booted exchanges on. The steps are those of `specs/Networks.antt`. Each function says its law by its
+//! contract, and does nothing.
 
 ghost use Rattle.network_rules.specs.Pairs.{books_are_of_the_two, each_flow_in_order, each_message_once};
 ghost use Rattle.network_rules.specs.Pairs.{flows_stay_between, nothing_is_awaited_in_vain, nothing_is_held_in_vain};
@@ -69,19 +69,19 @@ pub fn messages_pass_through()
     ensures { messages_pass_through }
 {}
 
-/// From end to end, whatever the shape of the network and its routes: while no node may have lost a message, each user
-/// message that entered the network, at any node, was received at a node that it isn't to leave, or waits in a node, or
-/// was refused by a node on the way, for want of a route or of room; and each just once. Counted by any test, so many
-/// entered as were received, as wait, and as were refused. A message enters where a user part submits it, and where SCCP
-/// passes it on or returns it. It waits in Held, or on a link, until the other end of that received it.
+/// From end to end, over any number of nodes, whatever their routes: while none of them may have lost a message, as many
+/// user messages entered the network, by any test, as were received at a node that they aren't to leave, as wait in
+/// nodes, and as were refused by a node on the way, which had no route for them or no room. So none is lost or doubled
+/// between two nodes, by whatever way it goes. A message enters where a user part submits it, and where SCCP passes it
+/// on or returns it; it waits in Held, or on a link until the other end of that received it.
 pub fn each_message_is_accounted_for()
     ensures { each_message_is_accounted_for }
 {}
 
-/// These laws aren't empty: three nodes in a row keep the premises, each two neighbours share two links, and a user
-/// message that one end of the row has for the other is sent on a link that fails at both ends before it comes, on
-/// either side of the middle node. By the other links it comes to each node on its way, once; no flag is raised, and
-/// nothing waits in the end.
+/// These laws aren't empty: three nodes in a row keep the premises, those of the whole network too. Each two neighbours
+/// share two links, and a user message that one end of the row has for the other is sent on a link that fails at both
+/// ends before it comes, on either side of the middle node. By the other links it comes to each node on its way, once;
+/// no flag is raised, and nothing waits in the end.
 pub fn a_message_crosses_two_failures()
     ensures { CrossesTwoFailures }
 {}
