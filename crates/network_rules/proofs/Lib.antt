@@ -37,3 +37,4 @@ pub mod There
 pub mod News
 pub mod OneStep
 pub mod Accounted
+pub mod ToPoint
