@@ -108,7 +108,7 @@ module _ (of : Message → Bool) (settings : (point : ℕ) → Configuration) (p
       two-none : (s k : ℕ) → s ≡ 0 → k ≡ 0 → s + k ≡ 0
       two-none s k e f = omega (arith, e, f)
 
-  sum-zero : (f : ℕ → ℕ) (ps : List ℕ) → ((y : ℕ) → f y ≡ 0) → sum_by f ps ≡ 0
+  pub sum-zero : (f : ℕ → ℕ) (ps : List ℕ) → ((y : ℕ) → f y ≡ 0) → sum_by f ps ≡ 0
   sum-zero f [] e = refl
   sum-zero f (p ∷ ps) e = two-none (sum_by f (p ∷ ps)) (f p) (sum_by f ps) (sum_by-cons f p ps) (e p) (sum-zero f ps e)
     where

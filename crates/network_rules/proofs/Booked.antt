@@ -59,9 +59,6 @@ module _ (of : Message → Bool) where
     abbrev n : Node WholeQueues
     n = accept_text link (read_frame text) a
 
-    left-sum : (k : ℕ) → k + 0 ≡ k + 0
-    left-sum k = refl
-
     to-sum : (d : Discrimination) (m : Message) → whither_goes c m ≡ d → new_message link text a ≡ Some m
         → users_that of (brought_to d o c m n) + users_that of (if is_onward d && is_refused o then users_of (m ∷ []) else [])
         ≡ users_that of (if is_onward d then [] else brought_to d o c m n) + users_that of (if is_onward d then m ∷ [] else [])

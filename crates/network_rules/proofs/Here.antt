@@ -44,9 +44,6 @@ module _ (of : Message → Bool) where
   -- ---- a frame goes out
 
   module _ (there : ℕ → ℕ) (links : ℕ) where
-    sums : WholeQueues → ℕ
-    sums qs = sum_to (waits_at of there qs) links
-
     both : (a b s t : ℕ) → a ≡ b → s ≡ t → a + s ≡ b + t
     both a b s t e f = omega (arith, e, f)
 

@@ -36,6 +36,7 @@ pub mod There
 pub mod News
 pub mod OneStep
 pub mod Accounted
+pub mod ToPoint
 pub mod LaidOut
 pub mod Unheld
 pub mod RowSettings

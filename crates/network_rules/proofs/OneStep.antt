@@ -173,8 +173,8 @@ module _ (of : Message → Bool) (settings : (point : ℕ) → Configuration) (p
 
     -- ---- over all points
 
-    plus-so : (k l d n : ℕ) → k ≡ l → n ≡ 0 → k ≡ l + n
-    plus-so k l d n e f = omega (arith, e, f)
+    plus-so : (k l n : ℕ) → k ≡ l → n ≡ 0 → k ≡ l + n
+    plus-so k l n e f = omega (arith, e, f)
 
     -- something more at this point alone
     at-one : (f g : ℕ → ℕ) (d : ℕ) → g x ≡ f x + d → ((y : ℕ) → y ≢ x → g y ≡ f y) → sum_by g points ≡ sum_by f points + d
@@ -183,7 +183,7 @@ module _ (of : Message → Bool) (settings : (point : ℕ) → Configuration) (p
         (λ y its.
         ⊎_elim
         (λ (same : y ≡ x). subst (λ (n : ℕ). g n ≡ f n + (if nat_eq x n then d else 0)) (sym same) (here ∙ ap (λ (b : Bool). f x + (if b then d else 0)) (sym (same-here x))))
-        (λ (far : y ≢ x). plus-so (g y) (f y) d (if nat_eq x y then d else 0) (elsewhere y far) (ap (λ (b : Bool). if b then d else 0) (not-equal x y (λ e. far (sym e)))))
+        (λ (far : y ≢ x). plus-so (g y) (f y) (if nat_eq x y then d else 0) (elsewhere y far) (ap (λ (b : Bool). if b then d else 0) (not-equal x y (λ e. far (sym e)))))
         (cases_eq y x))
         ∙ sum-once f x d points (h.once x listed)
 
@@ -193,7 +193,7 @@ module _ (of : Message → Bool) (settings : (point : ℕ) → Configuration) (p
         ⊎_elim
         (λ (same : y ≡ x).
         subst (λ (n : ℕ). old n + (if nat_eq x n then users_that of (its_more turn) else 0) ≡ new n + (if nat_eq (its_sender turn) n then users_that of (its_news turn) else 0)) (sym same)
-        (ap (λ (b : Bool). old x + (if b then users_that of (its_more turn) else 0)) (same-here x) ∙ plus-so (old x + users_that of (its_more turn)) (new x) 0 _ (waits-here turn) none))
+        (ap (λ (b : Bool). old x + (if b then users_that of (its_more turn) else 0)) (same-here x) ∙ plus-so (old x + users_that of (its_more turn)) (new x) _ (waits-here turn) none))
         (λ (far : y ≢ x).
         ap (λ (b : Bool). old y + (if b then users_that of (its_more turn) else 0)) (not-equal x y (λ e. far (sym e))) ∙ no-plus (old y) ∙ waits-elsewhere turn y far)
         (cases_eq y x)
@@ -207,8 +207,8 @@ module _ (of : Message → Bool) (settings : (point : ℕ) → Configuration) (p
         ∙ sum-agree (λ y. old y + (if nat_eq x y then users_that of (its_more turn) else 0)) new points
         (λ y its.
         waits-at-one turn y (none-if (nat_eq (its_sender turn) x) (users_that of (its_news turn)) none)
-        ∙ sym (plus-so (new y) (new y) 0 (if nat_eq (its_sender turn) y then users_that of (its_news turn) else 0) refl (none-if (nat_eq (its_sender turn) y) (users_that of (its_news turn)) none)))
-        ∙ plus-so (sum_by new points) (sum_by new points) 0 (users_that of (its_news turn)) refl none
+        ∙ sym (plus-so (new y) (new y) (if nat_eq (its_sender turn) y then users_that of (its_news turn) else 0) refl (none-if (nat_eq (its_sender turn) y) (users_that of (its_news turn)) none)))
+        ∙ plus-so (sum_by new points) (sum_by new points) (users_that of (its_news turn)) refl none
     waits-sum turn (someone its far) =
         sym (sum-once old x (users_that of (its_more turn)) points (h.once x listed))
         ∙ sum-agree (λ y. old y + (if nat_eq x y then users_that of (its_more turn) else 0)) (λ y. new y + (if nat_eq (its_sender turn) y then users_that of (its_news turn) else 0)) points

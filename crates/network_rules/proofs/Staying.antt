@@ -122,18 +122,15 @@ module _ (of : Message → Bool) (there : ℕ → ℕ) where
     unfolding apply
     release-none kept = ap (λ (ms : List Message). users_that of [] + users_that of ms) (release-loses c (handle_event whole c what a.node).left kept)
 
-    by-rule : (k t s g u v : ℕ) → k ≡ s + g → u ≡ g + v → v ≡ 0 → k ≡ s + u
-    by-rule k t s g u v e f h = omega (arith, e, f, h)
+    by-rule : (k s g u v : ℕ) → k ≡ s + g → u ≡ g + v → v ≡ 0 → k ≡ s + u
+    by-rule k s g u v e f h = omega (arith, e, f, h)
 
     -- where the rule lets this go
     goes-by : lost_any b.node.parts ≡ false → all_ahead of there links a.node.queues ≡ all_ahead of there links b.node.queues + gone_that of (gone_by what a) → Goes
     unfolding Goes
     goes-by kept e =
-        by-rule (all_ahead of there links a.node.queues) 0 (all_ahead of there links b.node.queues) (gone_that of (gone_by what a)) (gone_that of (gone what a))
+        by-rule (all_ahead of there links a.node.queues) (all_ahead of there links b.node.queues) (gone_that of (gone_by what a)) (gone_that of (gone what a))
         (gone_that of (gone_by_release c (handle_event whole c what a.node).left)) e (both-that of (gone_by what a) (gone_by_release c (handle_event whole c what a.node).left)) (release-none kept)
-
-  plus-none : (n : ℕ) → n ≡ n + 0
-  plus-none n = omega arith
 
   -- ---- a frame comes
 

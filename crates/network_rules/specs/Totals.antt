@@ -1,10 +1,13 @@
 -- What becomes of all user messages of a network, from end to end.
-use Rattle.std.specs.Prelude.{◌≡◌, ◌<◌, ◌+◌, ℕ, Bool, true, false, not, nat_eq, List, [], ◌++◌, count_by, drop, filter, length, map, sum_by, Option, Some, None}
+use Rattle.std.specs.Prelude.{◌&&◌, ◌≡◌, ◌<◌, ◌+◌, ℕ, Bool, true, false, not, nat_eq, List, [], ◌++◌, count_by, drop, filter, length, map, sum_by, Option, Some, None}
 use Rattle.std.specs.List.{list_any}
 use Rattle.signalling_types.specs.Message.{Message}
 use Rattle.settings_rows.specs.Configuration.{Configuration}
 use Rattle.settings.specs.Well.{IsWell}
+use Rattle.mtp3_codec.specs.declared.discrimination.Discrimination.{Discrimination}
+use Rattle.mtp3_codec.specs.declared.discrimination.Discrimination.TheVariants as whither
 use Rattle.exchange_rules.specs.Conserving.{users_that}
+use Rattle.exchange_rules.specs.Messages.{whither_goes}
 use Rattle.exchange_rules.specs.Routing.{peer_of}
 use Rattle.exchange_rules.specs.State.{lost_any}
 use Rattle.pair_moves.specs.Order.{join_to}
@@ -82,3 +85,33 @@ each_message_is_accounted_for =
     (settings : (point : ℕ) → Configuration) (points : List ℕ) (steps : List Step) → IsJoined settings points →
     HaveLostNothing points (after_steps steps (first_network settings)) →
     IsAccounted points (after_steps steps (first_network settings))
+
+-- ---- to one point
+
+-- whether a message is for the node with these settings
+abbrev pub is_here : Discrimination → Bool
+is_here (whither.Here label) = true
+is_here (whither.Transfer label) = false
+is_here (whither.Refused fault) = false
+
+abbrev pub is_for : Configuration → Message → Bool
+is_for c m = is_here (whither_goes c m)
+
+-- of those for one point, by any test, as many user messages entered the network as that point received, as wait in
+-- nodes, and as were refused on the way
+abbrev pub ComeToPoint : (points : List ℕ) → NetworkState → Configuration → Type 0
+ComeToPoint points w c =
+    (of : Message → Bool) →
+    total (λ m. is_for c m && of m) points (λ point. (w.node point).entered)
+    ≡ users_that (λ m. is_for c m && of m) (received_at w c.own)
+    + total (λ m. is_for c m && of m) points (waiting_at w)
+    + total (λ m. is_for c m && of m) points (λ point. (w.node point).refused)
+
+-- so it is after every list of steps, where all nodes have one network indicator
+abbrev pub messages_come_from_end_to_end : Type 0
+messages_come_from_end_to_end =
+    (settings : (point : ℕ) → Configuration) (points : List ℕ) (steps : List Step) (point : ℕ) →
+    IsJoined settings points → is_listed points point ≡ true →
+    ((other : ℕ) → is_listed points other ≡ true → (settings other).network ≡ (settings point).network) →
+    HaveLostNothing points (after_steps steps (first_network settings)) →
+    ComeToPoint points (after_steps steps (first_network settings)) (settings point)

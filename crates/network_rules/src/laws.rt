@@ -5,7 +5,7 @@
 ghost use Rattle.network_rules.specs.Pairs.{books_are_of_the_two, each_flow_in_order, each_message_once};
 ghost use Rattle.network_rules.specs.Pairs.{flows_stay_between, nothing_is_awaited_in_vain, nothing_is_held_in_vain};
 ghost use Rattle.network_rules.specs.Pairs.{nobody_speaks_for_another, runs_are_runs_of_neighbours};
-ghost use Rattle.network_rules.specs.Totals.{each_message_is_accounted_for};
+ghost use Rattle.network_rules.specs.Totals.{each_message_is_accounted_for, messages_come_from_end_to_end};
 ghost use Rattle.network_rules.specs.Transit.{messages_pass_through};
 ghost use Rattle.network_rules.specs.TwoFailures.{CrossesTwoFailures};
 
@@ -76,6 +76,13 @@ pub fn messages_pass_through()
 /// on or returns it; it waits in Held, or on a link until the other end of that received it.
 pub fn each_message_is_accounted_for()
     ensures { each_message_is_accounted_for }
+{}
+
+/// So it is of the messages for one point, where all nodes have one network indicator: as many entered the network, by
+/// any test, as that point received, as wait in nodes, and as were refused on the way. So each that entered came there
+/// once, or waits, or was refused; and it ended at no other point.
+pub fn messages_come_from_end_to_end()
+    ensures { messages_come_from_end_to_end }
 {}
 
 /// These laws aren't empty: three nodes in a row keep the premises, those of the whole network too. Each two neighbours
