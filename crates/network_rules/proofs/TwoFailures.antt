@@ -1,5 +1,5 @@
 -- The states of the run in which a message crosses two failures, computed: but for whether it waits, which is looked at
--- four times. Each is a function of the first nodes: a state that needs none would be computed unopened too.
+-- four times. Each is a function of the first nodes: as a constant it would cost the kernel far more.
 use Rattle.pair_rules.proofs.Basics.{◌≡◌, ℕ, false, true, [], ◌∷◌, ◌++◌, Some, is_some, slice_get, refl, ap, sym, ◌∙◌}
 use Rattle.pair_rules.proofs.Definitions.{set_timer, start_unless_running, clear_timer, clear_set, due_name, after_due, due_count, first_sets, choice_among, link_by, any_flow, flows, no_holds, waits, whole, deliver, receive, apply, take_back_each, in_flight}
 use Rattle.timers.specs.Timers.{names_of}
