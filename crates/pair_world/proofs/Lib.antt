@@ -2,6 +2,7 @@ pub mod InOrder
 pub mod Newly
 pub mod Brought
 pub mod Reached
+pub mod Fetching
 pub mod Rules
 pub mod Here
 pub mod Turns

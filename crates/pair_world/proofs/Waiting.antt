@@ -25,14 +25,14 @@ use Rattle.neighbour_rules.specs.Neighbours.{far_end, users_to}
 use Rattle.neighbour_rules.specs.Promises.{accepted_there, waiting, waiting_by, waiting_on}
 use Rattle.pair_world.specs.declared.step.End.{End}
 use Rattle.pair_world.specs.declared.step.End.TheVariants.{One, Two}
-use Rattle.pair_world.specs.KeptEnds.{accepted_number, number_shown}
+use Rattle.pair_world.specs.KeptSites.{accepted_number, number_shown}
 use Rattle.pair_world.specs.KeptPairs.{KeptPair, kept_pair_of}
 use Rattle.pair_world.specs.Stands.{StandsFor}
 use Rattle.pair_world.specs.Told.{kept_at, other, seen_from}
 use Rattle.pair_world.specs.Waiting.{kept_waiting, kept_waiting_by, kept_waiting_on, picked_to}
 use Rattle.pair_world.proofs.Newly.{shown-number, stands-itself}
 use Rattle.pair_world.proofs.Reached.{IsReady, far-there, reached-ready, ready-turned}
-use Rattle.pair_world.proofs.Rules.{is-there}
+use Rattle.pair_world.proofs.Fetching.{is-there}
 
 -- of a list, those that are for a point and that a choice takes
 module _ (point : ℕ) (picks : Message → Bool) where

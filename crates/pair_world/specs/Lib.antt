@@ -1,5 +1,6 @@
 pub mod Faults
 pub mod Bringing
+pub mod KeptSites
 pub mod KeptEnds
 pub mod KeptPairs
 pub mod Told

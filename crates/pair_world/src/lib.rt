@@ -11,6 +11,7 @@ mod hearing;
 pub mod laws;
 pub mod pair;
 mod side;
+mod site;
 pub mod step;
 
 pub use fault::PairFault;
