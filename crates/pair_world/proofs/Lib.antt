@@ -10,3 +10,13 @@ pub mod Alone
 pub mod Promised
 pub mod Telling
 pub mod Waiting
+pub mod Firsts
+pub mod TwoPlaces
+pub mod NodeRules
+pub mod NodeReaches
+pub mod NodeFits
+pub mod NodePlaces
+pub mod NetworkTurns
+pub mod NetworkLaws
+pub mod NetworkFirst
+pub mod OneByOne

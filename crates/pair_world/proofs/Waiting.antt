@@ -88,7 +88,7 @@ module _ (picks : Message → Bool) (p : PairState) (near_sound : IsSound p.near
   abbrev held : List Message
   held = p.near.exchange.node.queues.held
 
-  waiting-same : kept_waiting picks near far ≡ count_by (user picks) (waiting p)
+  pub waiting-same : kept_waiting picks near far ≡ count_by (user picks) (waiting p)
   waiting-same =
       ap (λ (sum : ℕ). sum + count_by (chosen far_point picks) held)
       (sum-alike (kept_waiting_on picks near far) (λ link. count_by (user picks) (waiting_on p link)) links on-link ∙ sym (count-join (user picks) (waiting_on p) links))

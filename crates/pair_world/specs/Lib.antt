@@ -9,3 +9,9 @@ pub mod Stands
 pub mod Promised
 pub mod Tells
 pub mod Waiting
+pub mod Joined
+pub mod KeptNodes
+pub mod KeptNetworks
+pub mod NetworkStands
+pub mod NetworkTold
+pub mod NetworkPromised
