@@ -14,7 +14,6 @@ use Rattle.mtp3_codec.specs.declared.discrimination.Discrimination.{Discriminati
 use Rattle.mtp3_codec.specs.declared.discrimination.Discrimination.TheVariants as whither
 use Rattle.sccp_relay.specs.Relay.{RelayedValue, relay, returned}
 use Rattle.sccp_relay.specs.Relay as relays
-use Rattle.changeover.specs.Changeover.{users_of}
 use Rattle.exchange_rules.specs.Messages.{transfer, whither_goes, in_place_of, own_of}
 use Rattle.exchange_rules.specs.Conserving.{brought_by, brought_in, brought_to, relayed_in, returned_in, taken_in, unitdata_in}
 use Rattle.exchange_rules.specs.Exchange.{after, outcome_of}
@@ -33,12 +32,10 @@ use Rattle.pair_moves.specs.Laws.{sum_to}
 use Rattle.pair_moves.proofs.Counts.{count-one, sum-alike}
 use Rattle.pair_rules.specs.Promises.{user}
 use Rattle.pair_rules.proofs.Arrivals.{accepted-titles}
-use Rattle.pair_rules.proofs.Bringing.{is-no-sccp}
 use Rattle.pair_rules.proofs.Behind.{behind_at, standing_behind, users}
 use Rattle.pair_rules.proofs.Counted.{confirming_number, frame-counts, submission-counts}
 use Rattle.pair_world.specs.Bringing.{comes_back, goes_on, is_sccp, kept_behind, kept_in, kept_in_all, kept_standing, kept_standing_if, number_in, told_in, udts_as, written_as}
-use Rattle.neighbour_rules.specs.Neighbours.{users_to}
-use Rattle.pair_world.specs.KeptEnds.{handed_in, newly_brought}
+use Rattle.pair_world.specs.KeptSites.{handed_in, newly_brought}
 use Rattle.pair_world.proofs.Newly.{newly-same, stands-itself}
 
 -- ---- counts
@@ -188,24 +185,6 @@ module _ (c : Configuration) (m : Message) (n : Node WholeQueues) (is_more : Boo
 user-of : (m : Message) → is_sccp m ≡ true → is_management m ≡ false
 user-of m e = grind (arith, nat_tests, e)
 
--- no user message for any point comes of management
-module _ (point : ℕ) (c : Configuration) (m : Message) (n : Node WholeQueues) (management : is_management m ≡ true) where
-  itself-none : users_to point (m ∷ []) ≡ []
-  itself-none = ap (λ (b : Bool). if not b && nat_eq (dpc_of m) point then m ∷ [] else []) management
-
-  taken-none : (o : Outcome) → users_to point (taken_in o m) ≡ []
-  taken-none (Queued link) = itself-none
-  taken-none Held = itself-none
-  taken-none Local = refl
-  taken-none Handled = refl
-  taken-none Ignored = refl
-  taken-none (Refused cause) = refl
-
-  no-user : (o : Outcome) (d : Discrimination) → users_to point (brought_to d o c m n) ≡ []
-  no-user o (whither.Refused fault) = refl
-  no-user o (whither.Here label) = ap (λ (b : Bool). users_to point (if b then unitdata_in o c m n else [])) (is-no-sccp m management)
-  no-user o (whither.Transfer label) = taken-none o
-
 -- ---- events
 
 module _ (a : Abstract) (sound : IsSound a) (places : HasAllPlaces a.settings a.node) where
@@ -243,9 +222,9 @@ module _ (a : Abstract) (sound : IsSound a) (places : HasAllPlaces a.settings a.
         ap (λ (o : Outcome). kept_in 0 k (after kept submission k) o m) (stands-outcome submission k a (stands-itself a sound))
         ∙ told-so a.settings m a.node is_more (outcome_of whole submission a) told-back
 
-  -- a frame, of whose message what is for some point is booked
+  -- a frame
 
-  module _ (point link : ℕ) (text : List ℕ) where
+  module _ (link : ℕ) (text : List ℕ) where
     abbrev came : Happening
     came = FrameCame link text
 
@@ -277,27 +256,18 @@ module _ (a : Abstract) (sound : IsSound a) (places : HasAllPlaces a.settings a.
               ≡ standing_behind number (length a.settings.links) a.node.queues + users (returned_in (returned (own_of a.settings) mid.parts.titles m.sif cause) a.settings m mid))
               (sym (same-number (read_frame text))) (frame-counts a link text cause m label sound fits e new here is)
 
-      user-came : kept_in number k (after kept came k) (outcome_of kept came k) m ≡ brought_to (whither_goes a.settings m) (outcome_of whole came a) a.settings m mid
-      user-came =
+      message-came : kept_in number k (after kept came k) (outcome_of kept came k) m ≡ brought_to (whither_goes a.settings m) (outcome_of whole came a) a.settings m mid
+      message-came =
           ap (λ (o : Outcome). kept_in number k (after kept came k) o m) (stands-outcome came k a (stands-itself a sound))
           ∙ ap (λ (rows : List TitleEntry). told_in (outcome_of whole came a) more_stand a.settings rows m) (sym (accepted-titles a.settings link (read_frame text) a.node))
           ∙ told-so a.settings m mid more_stand (outcome_of whole came a) frame-back
 
-      abbrev came_of : List Message
-      came_of = brought_to (whither_goes a.settings m) (outcome_of whole came a) a.settings m mid
-
-      -- management isn't booked
-      by-kind : (b : Bool) → is_management m ≡ b
-          → users_to point (kept_in_all number k (after kept came k) (outcome_of kept came k) (if not b then m ∷ [] else [])) ≡ users_to point came_of
-      by-kind true e = sym (no-user point a.settings m mid e (outcome_of whole came a) (whither_goes a.settings m))
-      by-kind false e = ap (users_to point) user-came
-
     by-message : (o : Option Message) → new_message link text a ≡ o
-        → users_to point (kept_in_all number k (after kept came k) (outcome_of kept came k) (users_of (option_to_list o))) ≡ users_to point (brought_by o (outcome_of whole came a) a.settings mid)
+        → kept_in_all number k (after kept came k) (outcome_of kept came k) (option_to_list o) ≡ brought_by o (outcome_of whole came a) a.settings mid
     by-message None e = refl
-    by-message (Some m) e = by-kind m e (is_management m) refl
+    by-message (Some m) e = message-came m e
 
-    pub frame-same : users_to point (newly_brought link text k) ≡ users_to point (brought_in came a)
+    pub frame-same : newly_brought link text k ≡ brought_in came a
     frame-same =
-        ap (λ (ms : List Message). users_to point (kept_in_all number k (after kept came k) (outcome_of kept came k) ms)) (newly-same link text a sound places)
+        ap (λ (ms : List Message). kept_in_all number k (after kept came k) (outcome_of kept came k) ms) (newly-same link text a sound places)
         ∙ by-message (new_message link text a) refl

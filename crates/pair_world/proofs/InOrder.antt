@@ -1,4 +1,4 @@
--- Rows that are put in by their order, and a frame without a user message.
+-- Rows that are put in by their order, and a frame without a message.
 use Rattle.std.proofs.Common.{◌≡◌, ◌+◌, ℕ, zero, suc, Bool, true, false, List, [], ◌∷◌, ◌++◌, Some, nat_eq, take, refl, ap, sym, ◌∙◌, append-nil, subst, arith}
 use Rattle.std.specs.Prelude.{filter, if◌then◌else◌, slice_get}
 use Rattle.std.specs.Ordering.{is_gt, is_lt}
@@ -14,7 +14,7 @@ use Rattle.exchange_rules.specs.State.{FrameCame}
 use Rattle.exchange.specs.KeptQueues.{kept}
 use Rattle.exchange.specs.Calls.{Kept}
 use Rattle.pair_world.specs.Bringing.{kept_in_all, number_in}
-use Rattle.pair_world.specs.KeptEnds.{accepted_number, newly_brought, user_message_in}
+use Rattle.pair_world.specs.KeptSites.{accepted_number, newly_brought, message_in}
 
 -- ---- the next row stands behind those before it
 
@@ -42,7 +42,7 @@ one-later i = omega arith
 pub with-next : (rows : List TitleEntry) (i : ℕ) (row : TitleEntry) → IsOrdered rows → slice_get rows i ≡ Some row → with_row row (take i rows) ≡ take (i + 1) rows
 with-next rows i row h e = next-row rows i row h e ∙ ap (λ (k : ℕ). take k rows) (one-later i)
 
--- ---- without a user message nothing is brought in
+-- ---- without a message nothing is brought in
 
 neither : (b : Bool) (ms : List Message) → (if b then ms else ms) ≡ ms
 neither true ms = refl
@@ -51,7 +51,7 @@ neither false ms = refl
 none-by : (b : Bool) (ms : List Message) → ms ≡ [] → (if b then [] else ms) ≡ []
 none-by b ms e = ap (λ (xs : List Message). if b then [] else xs) e ∙ neither b []
 
-pub none-brought : (link : ℕ) (text : List ℕ) (k : Kept) → user_message_in text ≡ [] → [] ≡ newly_brought link text k
+pub none-brought : (link : ℕ) (text : List ℕ) (k : Kept) → message_in text ≡ [] → [] ≡ newly_brought link text k
 none-brought link text k e =
     ap (λ (ms : List Message). kept_in_all (number_in (read_frame text)) k (after kept (FrameCame link text) k) (outcome_of kept (FrameCame link text) k) ms)
-    (sym (none-by (nat_eq (accepted_number k link) (accepted_number (after kept (FrameCame link text) k) link)) (user_message_in text) e))
+    (sym (none-by (nat_eq (accepted_number k link) (accepted_number (after kept (FrameCame link text) k) link)) (message_in text) e))

@@ -2,6 +2,7 @@ pub mod InOrder
 pub mod Newly
 pub mod Brought
 pub mod Reached
+pub mod Fetching
 pub mod Rules
 pub mod Here
 pub mod Turns
@@ -9,3 +10,13 @@ pub mod Alone
 pub mod Promised
 pub mod Telling
 pub mod Waiting
+pub mod Firsts
+pub mod TwoPlaces
+pub mod NodeRules
+pub mod NodeReaches
+pub mod NodeFits
+pub mod NodePlaces
+pub mod NetworkTurns
+pub mod NetworkLaws
+pub mod NetworkFirst
+pub mod OneByOne

@@ -20,8 +20,7 @@ use Rattle.exchange.specs.Calls.{StandsFor, kept_of}
 use Rattle.exchange.specs.Views.{link_shown}
 use Rattle.exchange.proofs.Standing.{stands-after}
 use Rattle.exchange.proofs.Showing.{stands-link}
-use Rattle.changeover.specs.Changeover.{users_of}
-use Rattle.pair_world.specs.KeptEnds.{accepted_number, number_shown, new_if_other, newly_carried, user_message_in}
+use Rattle.pair_world.specs.KeptSites.{accepted_number, number_shown, new_if_other, newly_carried, message_in}
 
 -- what is kept of a state stands for it
 pub stands-itself : (a : Abstract) → IsSound a → StandsFor (kept_of a) a
@@ -76,19 +75,19 @@ module _ (link : ℕ) (text : List ℕ) (a : Abstract) (s : IsSound a) (places :
       ∙ ap (λ (b : Bool). received a.node link + (if b then 1 else 0)) (itself link (is_some (new_message link text a)) ∙ ap is_some e)
 
   by : (n : Option Message) → new_message link text a ≡ n
-      → new_if_other (number_if there (received a.node link)) (number_if there (received (after whole came a).node link)) text ≡ users_of (option_to_list n)
+      → new_if_other (number_if there (received a.node link)) (number_if there (received (after whole came a).node link)) text ≡ option_to_list n
   by None e =
       let same : received (after whole came a).node link ≡ received a.node link = counted None e ∙ grind arith in
       ap (λ (count : ℕ). new_if_other (number_if there (received a.node link)) (number_if there count) text) same
-      ∙ ap (λ (b : Bool). if b then [] else user_message_in text) (same-number (number_if there (received a.node link)))
+      ∙ ap (λ (b : Bool). if b then [] else message_in text) (same-number (number_if there (received a.node link)))
   by (Some m) e =
       let is_there : there ≡ true = guarded there (not (down a.node.parts link)) (new_of (read_frame text) link a.settings a.node) m e in
       ap (λ (count : ℕ). new_if_other (number_if there (received a.node link)) (number_if there count) text) (counted (Some m) e)
       ∙ ap (λ (b : Bool). new_if_other (number_if b (received a.node link)) (number_if b (received a.node link + 1)) text) is_there
-      ∙ ap (λ (b : Bool). if b then [] else user_message_in text) (other-number (received a.node link))
-      ∙ ap (λ (o : Option Message). users_of (option_to_list o)) (new-carried link text a m e)
+      ∙ ap (λ (b : Bool). if b then [] else message_in text) (other-number (received a.node link))
+      ∙ ap (λ (o : Option Message). option_to_list o) (new-carried link text a m e)
 
-  pub newly-same : newly_carried link text (kept_of a) ≡ users_of (option_to_list (new_message link text a))
+  pub newly-same : newly_carried link text (kept_of a) ≡ option_to_list (new_message link text a)
   newly-same =
       ap (λ (n : ℕ). new_if_other n (accepted_number (after kept came (kept_of a)) link) text) before
       ∙ ap (λ (n : ℕ). new_if_other (number_if there (received a.node link)) n text) later

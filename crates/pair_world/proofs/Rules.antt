@@ -7,7 +7,6 @@ use Rattle.std.proofs.lemmas.List.{set-get_or}
 use Rattle.signalling_types.specs.Message.{Message, dpc_of, is_management}
 use Rattle.signalling_types.specs.declared.outcome.Outcome.TheVariants.{Handled, Ignored}
 use Rattle.m2pa_codec.specs.Frames.{FrameValue, EmptyFrame, MessageFrame, StatusFrame, spelled}
-use Rattle.changeover.specs.Changeover.{users_of}
 use Rattle.exchange_rules.specs.declared.wants.Wants.{Wants}
 use Rattle.exchange_rules.specs.declared.wants.Wants.TheVariants as wants
 use Rattle.exchange_rules.specs.State.{is_link, Node, Happening, CameUp, WentDown, FrameCame, Ticked, Submitted, Activated, Deactivated, TitleAdded, TitleRemoved}
@@ -25,9 +24,11 @@ use Rattle.pair_rules.specs.Pairs as pairs
 use Rattle.pair_rules.specs.Pairs.{PairState, Streams, Turn, change_statuses, emptied, happens, in_flight, launched, may_follow, may_open_at, opens_second, with_status_twice, without_data, without_status}
 use Rattle.neighbour_rules.specs.Neighbours.{Doing, Does, OpensElsewhere, HearsElsewhere, deliver_frame, did, did_between, far_end, far_may_open, leads_elsewhere, opens_first, speaks_for_either, take_frame, takes_elsewhere, takes_in, users_to}
 use Rattle.pair_world.specs.Elsewhere.{gone_by, gone_from}
-use Rattle.pair_world.specs.KeptEnds.{KeptEnd, behind_its, end_changes, end_follows, end_happens, end_hears, end_hears_elsewhere, end_submits, kept_end_of, text_to_take}
+use Rattle.pair_world.specs.KeptSites.{behind_its, site_changes, site_follows, text_to_take}
+use Rattle.pair_world.specs.KeptEnds.{KeptEnd, end_happens, end_hears, end_hears_elsewhere, end_of_site, end_submits, kept_end_of, site_of_end}
 use Rattle.pair_world.specs.KeptPairs.{KeptTurn, alone, has_link, kept_did, kept_did_between, kept_elsewhere, kept_far_may, kept_fetched, kept_ignored, kept_opens_first, kept_pair_of, kept_takes_to, kept_turn_of}
 use Rattle.pair_world.proofs.Brought.{frame-same, submission-same}
+use Rattle.pair_world.proofs.Fetching.{behind-same, both-there, data-same, is-there, nothing-taken, statuses-same}
 use Rattle.pair_world.proofs.Newly.{newly-same, stands-itself}
 use Rattle.pair_world.proofs.Reached.{IsReady, far-there}
 
@@ -36,37 +37,6 @@ pub record IsSame (k : KeptTurn) (elsewhere : Option (List ℕ)) (t : Turn) : Ty
   pub turn : k ≡ kept_turn_of elsewhere t
   pub near : IsSound t.left.near.exchange
   pub far : IsSound t.left.far.exchange
-
--- ---- a take that gives nothing changes nothing
-
-nothing-sent : (c : Configuration) (link last_accepted last_sent : ℕ) (n : Node WholeQueues) (out : Outgoing) → frame_from last_accepted last_sent out ≡ None → after_sending whole c link n out ≡ n
-nothing-sent c link last_accepted last_sent n (SendsStatus status) e = absurd cc
-nothing-sent c link last_accepted last_sent n (SendsMessage next) e = absurd cc
-nothing-sent c link last_accepted last_sent n Acknowledges e = absurd cc
-nothing-sent c link last_accepted last_sent n SendsNothing e = refl
-
-nothing-taken : (a : Abstract) (link : ℕ) → frame_to_take whole a link ≡ None → taken whole a link ≡ a
-nothing-taken a link e =
-    ap (λ (n : Node WholeQueues). record { settings = a.settings; node = n })
-    (nothing-sent a.settings link (whole.last_accepted a.node.queues link) (whole.last_sent a.node.queues link) a.node (goes_out whole a.settings link a.node) e)
-
-pub is-there : (link count : ℕ) → link < count → nat_lt link count ≡ true
-is-there link count l = grind (arith, nat_tests, l)
-
-both-there : {b c : Bool} → b ≡ true → c ≡ true → (b && c) ≡ true
-both-there {b} {c} e f = ap (λ (x : Bool). x && c) e ∙ f
-
--- the user messages for a point are among the user messages
-to-users : (point : ℕ) (ms : List Message) → users_to point (users_of ms) ≡ users_to point ms
-to-users point [] = refl
-to-users point (m ∷ ms) = by (is_management m) refl (to-users point ms)
-  where
-    by : (b : Bool) → is_management m ≡ b → users_to point (users_of ms) ≡ users_to point ms
-        → users_to point (if not b then m ∷ users_of ms else users_of ms) ≡ (if not b && nat_eq (dpc_of m) point then m ∷ users_to point ms else users_to point ms)
-    by true e rest = rest
-    by false e rest =
-        ap (λ (x : Bool). if not x && nat_eq (dpc_of m) point then m ∷ users_to point (users_of ms) else users_to point (users_of ms)) e
-        ∙ ap (λ (xs : List Message). if nat_eq (dpc_of m) point then m ∷ xs else xs) rest
 
 module _ (p : PairState) (near : IsSound p.near.exchange) (far : IsSound p.far.exchange) where
   abbrev a : Abstract
@@ -131,22 +101,6 @@ module _ (p : PairState) (near : IsSound p.near.exchange) (far : IsSound p.far.e
   abbrev kept_far : Streams → KeptEnd
   kept_far s = record { exchange = kept_of p.far.exchange; incoming = s; following = p.far.following; accepted = p.far.accepted; received = p.far.received }
 
-  -- what is in flight to the far end is the same, where no frame goes out, or none on a stream
-  statuses-same : (link : ℕ) → slice_set p.far.incoming.statuses link (in_flight p.far.incoming.statuses link) ≡ p.far.incoming.statuses
-  statuses-same link = set-get_or p.far.incoming.statuses link []
-
-  data-same : (link : ℕ) → slice_set p.far.incoming.user_data link (in_flight p.far.incoming.user_data link) ≡ p.far.incoming.user_data
-  data-same link = set-get_or p.far.incoming.user_data link []
-
-  -- a frame goes out on its stream
-  behind-same : (link : ℕ) (frame : FrameValue) → behind_its (Some (spelled frame)) link p.far.incoming ≡ launched frame link p.far.incoming
-  behind-same link (EmptyFrame bsn fsn) =
-      ap (λ (xs : List (List (List ℕ))). record { statuses = xs; user_data = slice_set p.far.incoming.user_data link (in_flight p.far.incoming.user_data link ++ spelled (EmptyFrame bsn fsn) ∷ []) }) (statuses-same link)
-  behind-same link (MessageFrame bsn fsn sio sif) =
-      ap (λ (xs : List (List (List ℕ))). record { statuses = xs; user_data = slice_set p.far.incoming.user_data link (in_flight p.far.incoming.user_data link ++ spelled (MessageFrame bsn fsn sio sif) ∷ []) }) (statuses-same link)
-  behind-same link (StatusFrame bsn fsn status) =
-      ap (λ (xs : List (List (List ℕ))). record { statuses = slice_set p.far.incoming.statuses link (in_flight p.far.incoming.statuses link ++ spelled (StatusFrame bsn fsn status) ∷ []); user_data = xs }) (data-same link)
-
   -- the far end of the link is there
   there : (link other : ℕ) → IsReady p → far_end p link ≡ Some other → other < length p.far.exchange.settings.links
   there link other ready e = far-there a.settings p.far.exchange.settings (slice_get a.settings.links link) other e
@@ -161,8 +115,8 @@ module _ (p : PairState) (near : IsSound p.near.exchange) (far : IsSound p.far.e
       → IsSame (kept_fetched (option_map spelled frame) link other (kept_pair_of p)) None (take_frame frame link (Some other) p)
   fetch-by link other None e =
       let x = (stands-taken link (kept_of a) a k).kept ∙ ap kept_of (nothing-taken a link e) in
-      let y = statuses-same other in
-      let v = data-same other in
+      let y = statuses-same p.far.incoming other in
+      let v = data-same p.far.incoming other in
       record {
         turn = λ i. record {
           outcome = Ignored;
@@ -177,7 +131,7 @@ module _ (p : PairState) (near : IsSound p.near.exchange) (far : IsSound p.far.e
       }
   fetch-by link other (Some frame) e =
       let s = stands-taken link (kept_of a) a k in
-      let y = behind-same other frame in
+      let y = behind-same p.far.incoming other frame in
       record {
         turn = λ i. record {
           outcome = Handled;
@@ -248,8 +202,8 @@ module _ (p : PairState) (near : IsSound p.near.exchange) (far : IsSound p.far.e
   hear-by link ready (Some text) left =
       let o = stands-outcome (FrameCame link text) (kept_of a) a k in
       let s = stands-after (FrameCame link text) (kept_of a) a k in
-      let r = ap (users_to a.settings.own) (newly-same link text a near ready.near_places) ∙ to-users a.settings.own (option_to_list (new_message link text a)) in
-      let b = frame-same a near ready.near_places far_point link text in
+      let r = ap (users_to a.settings.own) (newly-same link text a near ready.near_places) in
+      let b = ap (users_to far_point) (frame-same a near ready.near_places link text) in
       record {
         turn = λ i. record {
           outcome = o i;
@@ -270,7 +224,7 @@ module _ (p : PairState) (near : IsSound p.near.exchange) (far : IsSound p.far.e
       }
 
   -- link statuses in flight change
-  change-by : (text : Option (List ℕ)) (left : Streams) → IsSame (alone (end_changes text left (kept_end_of p.near)) (kept_end_of p.far)) None (change_statuses text left p)
+  change-by : (text : Option (List ℕ)) (left : Streams) → IsSame (alone (end_of_site (site_changes text left (site_of_end (kept_end_of p.near))) (kept_end_of p.near)) (kept_end_of p.far)) None (change_statuses text left p)
   change-by None left = ignored-same
   change-by (Some text) left = record { turn = refl; near = near; far = far }
 
@@ -320,7 +274,7 @@ module _ (p : PairState) (near : IsSound p.near.exchange) (far : IsSound p.far.e
       subst (λ (b : Bool). IsSame (kept_opens_first v (Some other) (b && may_open_at p.far other) link (kept_pair_of p)) None (opens_first v (Some other) (may_open_at p.far other) link p))
       (sym is) (opens_first-same v (Some other) (may_open_at p.far other) link)
 
-  opens_second-same : (v : Wants) (b : Bool) (link : ℕ) → IsSame (alone (end_follows v b link (kept_end_of p.near)) (kept_end_of p.far)) None (opens_second v b link p)
+  opens_second-same : (v : Wants) (b : Bool) (link : ℕ) → IsSame (alone (end_of_site (site_follows v b link (site_of_end (kept_end_of p.near))) (kept_end_of p.near)) (kept_end_of p.far)) None (opens_second v b link p)
   opens_second-same wants.Open true link =
       let s = stands-after (CameUp link) (kept_of a) a k in
       record {
@@ -371,7 +325,7 @@ module _ (p : PairState) (near : IsSound p.near.exchange) (far : IsSound p.far.e
   comes-by link text ready =
       let o = stands-outcome (FrameCame link text) (kept_of a) a k in
       let s = stands-after (FrameCame link text) (kept_of a) a k in
-      let b = frame-same a near ready.near_places far_point link text in
+      let b = ap (users_to far_point) (frame-same a near ready.near_places link text) in
       record {
         turn = λ i. record {
           outcome = o i;

@@ -42,7 +42,7 @@ stands-turn step k p s =
     }
 
 -- at first
-first-sound : (c : Configuration) → IsWell c → IsSound (first_state c)
+pub first-sound : (c : Configuration) → IsWell c → IsSound (first_state c)
 first-sound c well = (stands-first c (kept_of (first_state c)) well.window.below refl).sound
 
 pub stands-first-pair : (near far : Configuration) (k : KeptPair) → AreSharing near far → k ≡ kept_pair_of (first_pair near far) → StandsFor k (first_pair near far)

@@ -25,14 +25,14 @@ use Rattle.neighbour_rules.specs.Neighbours.{far_end, users_to}
 use Rattle.neighbour_rules.specs.Promises.{accepted_there, waiting, waiting_by, waiting_on}
 use Rattle.pair_world.specs.declared.step.End.{End}
 use Rattle.pair_world.specs.declared.step.End.TheVariants.{One, Two}
-use Rattle.pair_world.specs.KeptEnds.{accepted_number, number_shown}
+use Rattle.pair_world.specs.KeptSites.{accepted_number, number_shown}
 use Rattle.pair_world.specs.KeptPairs.{KeptPair, kept_pair_of}
 use Rattle.pair_world.specs.Stands.{StandsFor}
 use Rattle.pair_world.specs.Told.{kept_at, other, seen_from}
 use Rattle.pair_world.specs.Waiting.{kept_waiting, kept_waiting_by, kept_waiting_on, picked_to}
 use Rattle.pair_world.proofs.Newly.{shown-number, stands-itself}
 use Rattle.pair_world.proofs.Reached.{IsReady, far-there, reached-ready, ready-turned}
-use Rattle.pair_world.proofs.Rules.{is-there}
+use Rattle.pair_world.proofs.Fetching.{is-there}
 
 -- of a list, those that are for a point and that a choice takes
 module _ (point : ℕ) (picks : Message → Bool) where
@@ -88,7 +88,7 @@ module _ (picks : Message → Bool) (p : PairState) (near_sound : IsSound p.near
   abbrev held : List Message
   held = p.near.exchange.node.queues.held
 
-  waiting-same : kept_waiting picks near far ≡ count_by (user picks) (waiting p)
+  pub waiting-same : kept_waiting picks near far ≡ count_by (user picks) (waiting p)
   waiting-same =
       ap (λ (sum : ℕ). sum + count_by (chosen far_point picks) held)
       (sum-alike (kept_waiting_on picks near far) (λ link. count_by (user picks) (waiting_on p link)) links on-link ∙ sym (count-join (user picks) (waiting_on p) links))

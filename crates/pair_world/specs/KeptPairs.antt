@@ -14,7 +14,8 @@ use Rattle.exchange.specs.Views.{may_restart_at}
 use Rattle.pair_rules.specs.Pairs as pairs
 use Rattle.pair_rules.specs.Pairs.{PairState, Streams, Turn}
 use Rattle.neighbour_rules.specs.Neighbours.{Doing, Does, OpensElsewhere, HearsElsewhere, Step, AtNear, AtFar, end_there, is_management_between, leads_elsewhere_by}
-use Rattle.pair_world.specs.KeptEnds.{KeptEnd, EndTurn, kept_end_of, end_happens, end_submits, end_delivers, end_delivers_status, end_loses_status, end_doubles_status, end_hears_elsewhere, end_opens_first, end_may_follow, end_opens_second, text_to_take, behind_its, take_outcome}
+use Rattle.pair_world.specs.KeptSites.{text_to_take, behind_its, take_outcome}
+use Rattle.pair_world.specs.KeptEnds.{KeptEnd, EndTurn, kept_end_of, end_happens, end_submits, end_delivers, end_delivers_status, end_loses_status, end_doubles_status, end_hears_elsewhere, end_opens_first, end_may_follow, end_opens_second}
 
 pub record KeptPair : Type 0 where
   pub near : KeptEnd

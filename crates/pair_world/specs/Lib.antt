@@ -1,5 +1,6 @@
 pub mod Faults
 pub mod Bringing
+pub mod KeptSites
 pub mod KeptEnds
 pub mod KeptPairs
 pub mod Told
@@ -8,3 +9,9 @@ pub mod Stands
 pub mod Promised
 pub mod Tells
 pub mod Waiting
+pub mod Joined
+pub mod KeptNodes
+pub mod KeptNetworks
+pub mod NetworkStands
+pub mod NetworkTold
+pub mod NetworkPromised

@@ -7,7 +7,7 @@ use Rattle.exchange.specs.KeptQueues.{kept, counts_at, link_lane}
 use Rattle.exchange.specs.Calls.{Kept}
 use Rattle.neighbour_rules.specs.Neighbours.{end_there}
 use Rattle.pair_moves.specs.Laws.{sum_to}
-use Rattle.pair_world.specs.KeptEnds.{accepted_number}
+use Rattle.pair_world.specs.KeptSites.{accepted_number}
 
 -- of the messages that a choice takes, those for a point
 abbrev pub picked_to : (point : ℕ) → (Message → Bool) → Message → Bool

@@ -52,7 +52,7 @@ pub(crate) fn leads_elsewhere(near: &Settings, far: &Settings, link: LinkId) -> 
 }
 
 /// The point that a link leads to. Requires that its set is there.
-fn adjacent_of(settings: &Settings, row: &LinkRow) -> PointCode
+pub(crate) fn adjacent_of(settings: &Settings, row: &LinkRow) -> PointCode
     requires { row.now.set < length settings.now.sets }
     ensures { result ≡ adjacent_of settings.now row.now.set }
 {

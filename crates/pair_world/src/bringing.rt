@@ -120,7 +120,7 @@ fn comes_back(cause: Cause, settings: &Settings, rows: &Translations, message: &
 }
 
 /// Where a message goes.
-fn whither_goes(settings: &Settings, message: &Msu) -> Discrimination
+pub(crate) fn whither_goes(settings: &Settings, message: &Msu) -> Discrimination
     ensures whither { result ≡ whither_goes settings.now message.now }
     ensures whole { (label : Label) → result ≡ Discrimination.Here label → 4 ≤ length message.now.sif }
 {

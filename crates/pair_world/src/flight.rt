@@ -5,8 +5,8 @@ ghost use Rattle.std.specs.Prelude.{replicate, IfOk, OnOk, OnErr};
 ghost use Rattle.exchange.specs.KeptQueues.{kept};
 ghost use Rattle.exchange_rules.specs.Exchange.{taken};
 ghost use Rattle.pair_rules.specs.Pairs.{in_flight};
-ghost use Rattle.pair_world.specs.KeptEnds.{text_to_take, behind, is_link_status, status_in, data_in};
-ghost use Rattle.pair_world.specs.KeptEnds.{take_outcome, without_first, with_first_twice};
+ghost use Rattle.pair_world.specs.KeptSites.{text_to_take, behind, is_link_status, status_in, data_in};
+ghost use Rattle.pair_world.specs.KeptSites.{take_outcome, without_first, with_first_twice};
 
 use exchange::{BUFFER_OCTETS, Exchange, FrameText, NoMemory};
 use settings::{LinkId, Outcome};

@@ -1,15 +1,14 @@
-//! What comes to an end of a pair: a message that a user part hands over, and a frame.
+//! What comes to an exchange: a message that a user part hands over, and a frame.
 
 ghost use Rattle.std.specs.Prelude.{◌≡◌, ◌≤◌, ◌<◌, ◌∷◌, [], Ok, ◌++◌, length, option_to_list, vec_len, vec_capacity};
 ghost use Rattle.m2pa_codec.specs.Frames.{read_frame};
 ghost use Rattle.m2pa_codec.specs.Values.{value_of};
-ghost use Rattle.changeover.specs.Changeover.{users_of};
 ghost use Rattle.exchange_rules.specs.State.{FrameCame, Submitted};
 ghost use Rattle.exchange_rules.specs.Exchange.{outcome_of, after};
 ghost use Rattle.exchange.specs.KeptQueues.{kept};
 ghost use Rattle.neighbour_rules.specs.Neighbours.{users_to};
 ghost use Rattle.pair_world.specs.Bringing.{number_in};
-ghost use Rattle.pair_world.specs.KeptEnds.{accepted_number, handed_in, newly_brought, newly_carried, new_if_other, user_message_in};
+ghost use Rattle.pair_world.specs.KeptSites.{accepted_number, handed_in, newly_brought, newly_carried, new_if_other, message_in};
 
 use crate::between::is_user_to;
 use crate::bringing::{count_standing, is_sccp, told_in};
@@ -23,7 +22,7 @@ use signalling_types::Number24;
 pub(crate) struct Heard {
     /// Its outcome.
     pub outcome: Outcome,
-    /// The user message that a frame newly carried.
+    /// The message that a frame newly carried.
     pub carried: Option<Msu>,
     /// What it brought into a queue or Held.
     pub brought: Option<Msu>,
@@ -67,7 +66,7 @@ pub(crate) fn hand_in(
     ensures carried { option_to_list result.carried ≡ newly_carried link text.now exchange.old }
     ensures brought { option_to_list result.brought ≡ newly_brought link text.now exchange.old }
 {
-    match user_message(text.octets()) {
+    match message_in(text.octets()) {
         Some(message) => hand_in_message(exchange, rows, link, text, message),
         None => Heard {
             outcome: exchange.step(&Event::Frame(link, text.octets())),
@@ -77,7 +76,7 @@ pub(crate) fn hand_in(
     }
 }
 
-/// The same, of a frame with a user message.
+/// The same, of a frame with a message.
 fn hand_in_message(
     exchange: &mut Exchange,
     rows: &Translations,
@@ -86,7 +85,7 @@ fn hand_in_message(
     message: Msu,
 ) -> Heard
     requires rows { rows.now ≡ exchange.old.node.parts.titles }
-    requires message { user_message_in text.now ≡ message ∷ [] }
+    requires message { message_in text.now ≡ message ∷ [] }
     ensures outcome { result.outcome ≡ outcome_of kept (FrameCame link text.now) exchange.old }
     ensures state { exchange.new ≡ after kept (FrameCame link text.now) exchange.old }
     ensures carried { option_to_list result.carried ≡ newly_carried link text.now exchange.old }
@@ -163,30 +162,26 @@ pub(crate) fn add(messages: &mut Vec<Msu>, point: PointCode, message: Option<Msu
     }
 }
 
-/// The message of a frame, where it is a user message.
-fn user_message(octets: &[u8]) -> Option<Msu>
+/// The message of a frame.
+fn message_in(octets: &[u8]) -> Option<Msu>
     requires { length octets.now ≤ LONGEST_FRAME }
-    ensures { option_to_list result ≡ user_message_in octets.now }
+    ensures { option_to_list result ≡ message_in octets.now }
 {
     match decode(octets) {
-        Ok(Frame::Message { sio, sif, .. }) => if_user(sio, sif),
+        Ok(Frame::Message { sio, sif, .. }) => Some(message_of(sio, sif)),
         Ok(Frame::Empty { .. }) => None,
         Ok(Frame::Status { .. }) => None,
         Err(_) => None,
     }
 }
 
-/// The message of a service information octet and a field, where it is a user message.
-fn if_user(sio: u8, sif: &[u8]) -> Option<Msu>
+/// The message of a service information octet and a field.
+fn message_of(sio: u8, sif: &[u8]) -> Msu
     requires { length sif.now ≤ Limits.SIF_OCTETS }
-    ensures { option_to_list result ≡ users_of (record { sio = sio; sif = sif.now } ∷ []) }
+    ensures { result ≡ record { sio = sio; sif = sif.now } }
 {
     let Ok(message) = Msu::new(sio, sif) else {
         unreachable!()
     };
-    if message.is_management() {
-        None
-    } else {
-        Some(message)
-    }
+    message
 }

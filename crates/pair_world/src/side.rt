@@ -2,39 +2,39 @@
 
 ghost use Rattle.std.specs.Prelude.{◌≡◌, ◌<◌, [], false, ◌&&◌, nat_lt, length, slice_index_or, IfOk, OnOk, OnErr};
 ghost use Rattle.exchange_rules.specs.Exchange.{taken, wants_of};
-ghost use Rattle.exchange_rules.specs.First.{first_state};
-ghost use Rattle.exchange.specs.Calls.{happened, kept_of};
+ghost use Rattle.exchange.specs.Calls.{happened};
 ghost use Rattle.exchange.specs.KeptQueues.{kept};
 ghost use Rattle.exchange.specs.Views.{may_restart_at};
-ghost use Rattle.pair_rules.specs.Pairs.{Streams, first_end};
-ghost use Rattle.pair_world.specs.KeptEnds.{kept_end_of, end_happens, end_submits, end_delivers, end_delivers_status, end_hears_elsewhere, end_loses_status, end_doubles_status, end_opens_first, end_may_follow, end_opens_second, text_to_take, behind_its, take_outcome};
+ghost use Rattle.pair_rules.specs.Pairs.{first_end};
+ghost use Rattle.pair_world.specs.KeptEnds.{kept_end_of, end_happens, end_submits, end_delivers, end_delivers_status, end_hears_elsewhere, end_loses_status, end_doubles_status, end_opens_first, end_may_follow, end_opens_second};
+ghost use Rattle.pair_world.specs.KeptSites.{text_to_take, behind_its, take_outcome};
 ghost use Rattle.pair_world.specs.KeptPairs.{has_link};
 ghost use Rattle.pair_world.specs.Waiting.{kept_waiting};
 
-use crate::bringing::rows_of;
-use crate::counting::count_waiting;
-use crate::flight::{
-    Flight, clear_flight, double_in_flight, is_noted, next_in_flight, next_text, none_follows,
-    note, nothing_in_flight, take_behind,
-};
-use crate::hearing::{add, hand_in, hand_over};
+use crate::hearing::add;
+use crate::site::Site;
 use crate::step::Turned;
 use exchange::{Event, Exchange, FrameText, NoMemory, Pick, Wants};
 use settings::{LinkId, Msu, Outcome, PointCode, Settings};
 use std::alloc::Global;
 use std::marker::Model;
 
-/// One end: its exchange, the link statuses and the User Data in flight to it on each link, whether it may follow the
-/// other end there, and what it accepted and received since it was booted.
-#[derive(Drop)]
+/// One end: its site, and what it accepted and received since it was booted.
 pub(crate) struct Side {
-    alloc: Global,
-    exchange: Exchange,
-    statuses: Vec<Flight>,
-    user_data: Vec<Flight>,
-    following: Vec<bool>,
+    site: Site,
     accepted: Vec<Msu>,
     received: Vec<Msu>,
+}
+
+// By hand, so that no proof above has what an end owns.
+impl Drop for Side {
+    fn drop(self) {
+        let Side {
+            site: _,
+            accepted: _,
+            received: _,
+        } = self;
+    }
 }
 
 impl Model for Side {
@@ -49,9 +49,9 @@ impl Model for Side {
     ghost coded = { Prim.hlevel (codes, hold_set_code, running_code) };
 
     ghost view = { λ side. record {
-      exchange = side.exchange;
-      incoming = record { statuses = side.statuses.items; user_data = side.user_data.items };
-      following = side.following.items;
+      exchange = side.site.exchange;
+      incoming = side.site.incoming;
+      following = side.site.following;
       accepted = side.accepted.items;
       received = side.received.items;
     } };
@@ -62,60 +62,33 @@ impl Side {
     pub(crate) fn boot(alloc: Global, settings: Settings) -> Result<Side, NoMemory>
         ensures { IfOk result (λ side. side ≡ kept_end_of (first_end settings)) }
     {
-        let links = settings.link_count();
-        let statuses = nothing_in_flight(alloc, links)?;
-        let user_data = nothing_in_flight(alloc, links)?;
-        let following = none_follows(alloc, links)?;
-        let exchange = Exchange::boot(alloc, settings)?;
-        Ok(Side::with(alloc, exchange, statuses, user_data, following))
-    }
-
-    /// An end with this exchange and these frames in flight, which accepted and received nothing yet.
-    fn with(
-        alloc: Global,
-        exchange: Exchange,
-        statuses: Vec<Flight>,
-        user_data: Vec<Flight>,
-        following: Vec<bool>,
-    ) -> Side
-        ensures { result ≡ record {
-          exchange = exchange;
-          incoming = record { statuses = statuses.items; user_data = user_data.items };
-          following = following.items;
-          accepted = [];
-          received = [];
-        } }
-    {
-        Side {
-            alloc,
-            exchange,
-            statuses,
-            user_data,
-            following,
+        let site = Site::boot(alloc, settings)?;
+        Ok(Side {
+            site,
             accepted: Vec::new(alloc),
             received: Vec::new(alloc),
-        }
+        })
     }
 
     /// Its exchange.
     pub(crate) fn exchange(&self) -> &Exchange
         ensures { result.now ≡ self.now.exchange }
     {
-        &self.exchange
+        self.site.exchange()
     }
 
     /// Its settings.
     pub(crate) fn settings(&self) -> &Settings
         ensures { result.now ≡ self.now.exchange.settings }
     {
-        self.exchange.settings()
+        self.site.settings()
     }
 
     /// Its point.
     pub(crate) fn point(&self) -> PointCode
         ensures { result ≡ self.now.exchange.settings.own }
     {
-        self.settings().own()
+        self.site.point()
     }
 
     /// The user messages that it accepted.
@@ -136,28 +109,35 @@ impl Side {
     pub(crate) fn may_follow(&self, link: LinkId) -> bool
         ensures { result ≡ slice_index_or self.now.following link false }
     {
-        is_noted(&self.following, link)
+        self.site.may_follow(link)
     }
 
     /// What a link wants.
     pub(crate) fn wants(&self, link: LinkId) -> Wants
         ensures { result ≡ wants_of self.now.exchange link }
     {
-        self.exchange.wants(link)
+        self.site.wants(link)
     }
 
     /// Whether a link may open as far as its changeover goes.
     pub(crate) fn may_restart(&self, link: LinkId) -> bool
         ensures { result ≡ may_restart_at self.now.exchange link }
     {
-        self.exchange.may_restart(link)
+        self.site.may_restart(link)
+    }
+
+    /// Whether a link is there.
+    pub(crate) fn has(&self, link: LinkId) -> bool
+        ensures { result ≡ has_link link self.now.incoming }
+    {
+        self.site.has(link)
     }
 
     /// How many user messages that a choice takes wait for the other end.
     pub(crate) fn count_waiting<P: Pick>(&self, other: &Side, pick: &P) -> u128
         ensures { result ≡ kept_waiting (P.picks pick.now) self.now.exchange other.now.exchange }
     {
-        count_waiting(&self.exchange, &other.exchange, pick)
+        self.site.count_waiting(&other.site, pick)
     }
 }
 
@@ -167,7 +147,7 @@ impl Side {
         ensures outcome { result ≡ (end_happens (happened event.now result) self.old).outcome }
         ensures state { self.new ≡ (end_happens (happened event.now result) self.old).left }
     {
-        self.exchange.step(event)
+        self.site.happen(event)
     }
 
     /// A user part hands over a message.
@@ -176,9 +156,9 @@ impl Side {
         ensures state { OnOk result (self.new ≡ (end_submits far message self.old).left) }
         ensures unchanged { OnErr result (self.new ≡ self.old) }
     {
-        let rows = rows_of(self.alloc, &self.exchange)?;
+        let rows = self.site.rows()?;
         self.accepted.reserve(1)?;
-        let heard = hand_over(&mut self.exchange, &rows, &message);
+        let heard = self.site.submit(&rows, &message);
         add(&mut self.accepted, far, heard.brought);
         Ok(heard.outcome)
     }
@@ -189,14 +169,14 @@ impl Side {
         ensures state { OnOk result (self.new ≡ (end_delivers far link self.old).left) }
         ensures unchanged { OnErr result (self.new ≡ self.old) }
     {
-        let rows = rows_of(self.alloc, &self.exchange)?;
+        let rows = self.site.rows()?;
         self.accepted.reserve(1)?;
         self.received.reserve(1)?;
-        let Some(text) = next_in_flight(&mut self.user_data, link) else {
+        let Some(text) = self.site.next_data(link) else {
             return Ok(Outcome::Ignored);
         };
-        let point = self.exchange.settings().own();
-        let heard = hand_in(&mut self.exchange, &rows, link, &text);
+        let point = self.site.point();
+        let heard = self.site.hear(&rows, link, &text);
         add(&mut self.accepted, far, heard.brought);
         add(&mut self.received, point, heard.carried);
         Ok(heard.outcome)
@@ -212,14 +192,14 @@ impl Side {
         ensures state { OnOk result (self.new ≡ (end_delivers_status far link self.old).left) }
         ensures unchanged { OnErr result (self.new ≡ self.old) }
     {
-        let rows = rows_of(self.alloc, &self.exchange)?;
+        let rows = self.site.rows()?;
         self.accepted.reserve(1)?;
         self.received.reserve(1)?;
-        let Some(text) = next_in_flight(&mut self.statuses, link) else {
+        let Some(text) = self.site.next_status(link) else {
             return Ok(Outcome::Ignored);
         };
-        let point = self.exchange.settings().own();
-        let heard = hand_in(&mut self.exchange, &rows, link, &text);
+        let point = self.site.point();
+        let heard = self.site.hear(&rows, link, &text);
         add(&mut self.accepted, far, heard.brought);
         add(&mut self.received, point, heard.carried);
         Ok(heard.outcome)
@@ -236,9 +216,9 @@ impl Side {
         ensures state { OnOk result (self.new ≡ (end_hears_elsewhere far link text.now self.old).left) }
         ensures unchanged { OnErr result (self.new ≡ self.old) }
     {
-        let rows = rows_of(self.alloc, &self.exchange)?;
+        let rows = self.site.rows()?;
         self.accepted.reserve(1)?;
-        let heard = hand_in(&mut self.exchange, &rows, link, text);
+        let heard = self.site.hear(&rows, link, text);
         add(&mut self.accepted, far, heard.brought);
         Ok(heard.outcome)
     }
@@ -248,10 +228,7 @@ impl Side {
         ensures outcome { result ≡ (end_loses_status link self.old).outcome }
         ensures state { self.new ≡ (end_loses_status link self.old).left }
     {
-        match next_in_flight(&mut self.statuses, link) {
-            Some(_) => Outcome::Handled,
-            None => Outcome::Ignored,
-        }
+        self.site.lose_status(link)
     }
 
     /// The next link status in flight on a link comes twice, where there is one.
@@ -260,9 +237,11 @@ impl Side {
         ensures state { OnOk result (self.new ≡ (end_doubles_status link self.old).left) }
         ensures unchanged { OnErr result (self.new ≡ self.old) }
     {
-        double_in_flight(&mut self.statuses, link)
+        self.site.double_status(link)
     }
+}
 
+impl Side {
     /// The next frame of a link of the other end's exchange is fetched for this end, by its own link. Requires that this
     /// is there.
     pub(crate) fn take_from(
@@ -281,9 +260,7 @@ impl Side {
         ensures unchanged { OnErr result (self.new ≡ self.old) }
         ensures same_other { OnErr result (other.new ≡ other.old) }
     {
-        let statuses = &mut self.statuses[own_link.index()];
-        let user_data = &mut self.user_data[own_link.index()];
-        take_behind(statuses, user_data, &mut other.exchange, link)
+        self.site.take_from(&mut other.site, link, own_link)
     }
 
     /// The next frame of a link is fetched, and goes elsewhere.
@@ -292,7 +269,7 @@ impl Side {
         ensures elsewhere { result.elsewhere ≡ text_to_take self.old.exchange link }
         ensures state { self.new ≡ record self.old { exchange = taken kept self.old.exchange link } }
     {
-        match next_text(&mut self.exchange, link) {
+        match self.site.take(link) {
             Some(text) => Turned {
                 outcome: Outcome::Handled,
                 elsewhere: Some(text),
@@ -304,30 +281,18 @@ impl Side {
         }
     }
 
-    /// Whether a link is there.
-    pub(crate) fn has(&self, link: LinkId) -> bool
-        ensures { result ≡ has_link link self.now.incoming }
-    {
-        link.index() < self.statuses.len() && link.index() < self.user_data.len()
-    }
-
     /// A link opens before it does at the other end, and nothing is in flight to it.
     pub(crate) fn open_first(&mut self, link: LinkId)
         ensures { self.new ≡ end_opens_first link self.old }
     {
-        self.exchange.step(&Event::AssociationUp(link));
-        clear_flight(&mut self.statuses, link);
-        clear_flight(&mut self.user_data, link);
-        note(&mut self.following, link, false);
+        self.site.open_first(link);
     }
 
     /// A link opened at the other end, and nothing is in flight to this one, which may follow.
     pub(crate) fn let_follow(&mut self, link: LinkId)
         ensures { self.new ≡ end_may_follow link self.old }
     {
-        clear_flight(&mut self.statuses, link);
-        clear_flight(&mut self.user_data, link);
-        note(&mut self.following, link, true);
+        self.site.let_follow(link);
     }
 
     /// A link opens as it did at the other end, where it may follow and wants to.
@@ -335,13 +300,6 @@ impl Side {
         ensures outcome { result ≡ (end_opens_second link self.old).outcome }
         ensures state { self.new ≡ (end_opens_second link self.old).left }
     {
-        match (self.wants(link), self.may_follow(link)) {
-            (Wants::Open, true) => {
-                self.exchange.step(&Event::AssociationUp(link));
-                note(&mut self.following, link, false);
-                Outcome::Handled
-            }
-            _ => Outcome::Ignored,
-        }
+        self.site.open_second(link)
     }
 }

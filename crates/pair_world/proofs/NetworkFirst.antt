@@ -1,0 +1,112 @@
+-- A network that was just booted stands for the first network of its settings.
+use Rattle.std.proofs.Common.{◌≡◌, ◌<◌, ℕ, suc, Bool, true, false, List, [], ◌∷◌, length, Option, Some, None, inl, inr, ◌⊎◌, nat_eq, refl, ap, sym, subst, ◌∙◌, arith}
+use Rattle.std.specs.Prelude.{if◌then◌else◌, find, map, slice_get}
+use Rattle.std.specs.Option.{option_map}
+use Rattle.settings_rows.specs.Configuration.{Configuration, LinkEntry}
+use Rattle.settings.specs.Readings.{set_place}
+use Rattle.settings.specs.Sharing.{SharesSet}
+use Rattle.settings.specs.Well.{IsWell}
+use Rattle.exchange_rules.specs.First.{IsSound, first_state}
+use Rattle.exchange_rules.specs.Routing.{adjacent_of}
+use Rattle.exchange.specs.Calls.{kept_of}
+use Rattle.exchange.proofs.Standing.{stands-first}
+use Rattle.pair_rules.specs.Sharing.{AreSharing}
+use Rattle.network_rules.specs.Networks.{NetworkState, first_network, first_node}
+use Rattle.network_rules.specs.Pairs.{AreTheirPoints, AreWellOrAlone}
+use Rattle.network_rules.specs.Row.{no_settings}
+use Rattle.pair_world.specs.Joined.{AreJoined, AreWell, IsJoined, settings_at, settings_for, settings_or}
+use Rattle.pair_world.specs.KeptNodes.{KeptNode, kept_node_of}
+use Rattle.pair_world.specs.KeptNetworks.{is_at, kept_at}
+use Rattle.pair_world.specs.NetworkStands.{IsNetwork, IsNetworkReached, IsNodeAt, NetworkStandsFor}
+use Rattle.pair_world.proofs.NodePlaces.{equal}
+use Rattle.pair_world.proofs.Turns.{first-sound}
+
+-- ---- the settings of a point
+
+abbrev IsFor : (point : ℕ) → Configuration → Bool
+IsFor point c = nat_eq c.own point
+
+-- they are among the others, and for that point
+record IsFound (settings : List Configuration) (point : ℕ) (c : Configuration) : Type 0 where
+  pub place : ℕ
+  pub at : slice_get settings place ≡ Some c
+  pub own : c.own ≡ point
+
+same-some : (x y : Configuration) → Some x ≡ Some y → x ≡ y
+same-some x y e = cc
+
+found : (settings : List Configuration) (point : ℕ) (c : Configuration) → settings_for settings point ≡ Some c → IsFound settings point c
+found [] point c e = absurd cc
+found (first ∷ settings) point c e = by (nat_eq first.own point) refl (found settings point c) e
+  where
+    by : (b : Bool) → nat_eq first.own point ≡ b → (settings_for settings point ≡ Some c → IsFound settings point c) → (if b then Some first else settings_for settings point) ≡ Some c
+        → IsFound (first ∷ settings) point c
+    by true f rest g =
+        let same : first ≡ c = same-some first c g in
+        record { place = 0; at = g; own = ap (λ (d : Configuration). d.own) (sym same) ∙ equal first.own point f }
+    by false f rest g = let its : IsFound settings point c = rest g in record { place = suc its.place; at = its.at; own = its.own }
+
+module _ (settings : List Configuration) (well : AreWell settings) (joined : AreJoined settings) where
+  abbrev its : (point : ℕ) → Configuration
+  its point = settings_at settings point
+
+  own-by : (point : ℕ) (o : Option Configuration) → settings_for settings point ≡ o → (settings_or point o).own ≡ point
+  own-by point None e = refl
+  own-by point (Some c) e = (found settings point c e).own
+
+  well-by : (point : ℕ) (o : Option Configuration) → settings_for settings point ≡ o → IsWell (settings_or point o) ⊎ ((settings_or point o).links ≡ [])
+  well-by point None e = inr refl
+  well-by point (Some c) e = let f : IsFound settings point c = found settings point c e in inl (well f.place c f.at)
+
+  -- a link's other end is well too: its own set leads back
+  shared-well : (far : ℕ) (c : Configuration) (o : Option Configuration) → settings_for settings far ≡ o → SharesSet c (settings_or far o) → IsWell (settings_or far o)
+  shared-well far c None e shares =
+      absurd (let no : set_place (no_settings far) c.own ≡ Some shares.far_set = shares.far_leads.adjacent in cc)
+  shared-well far c (Some d) e shares = let f : IsFound settings far d = found settings far d e in well f.place d f.at
+
+  joined-by : (point link : ℕ) (l : LinkEntry) (o : Option Configuration) → settings_for settings point ≡ o → slice_get (settings_or point o).links link ≡ Some l
+      → AreSharing (settings_or point o) (its (adjacent_of (settings_or point o) l.set))
+  joined-by point link l None e is = absurd cc
+  joined-by point link l (Some c) e is =
+      let f : IsFound settings point c = found settings point c e in
+      let shares : SharesSet c (its (adjacent_of c l.set)) = joined f.place c f.at link l is in
+      record {
+        near_well = well f.place c f.at;
+        far_well = shared-well (adjacent_of c l.set) c (settings_for settings (adjacent_of c l.set)) refl shares;
+        shares = shares;
+      }
+
+  is-network : IsNetwork its
+  is-network = record {
+    points = λ point. own-by point (settings_for settings point) refl;
+    well = λ point. well-by point (settings_for settings point) refl;
+    joined = λ point link l. joined-by point link l (settings_for settings point) refl;
+  }
+
+  -- ---- the nodes
+
+  abbrev booted : Configuration → KeptNode
+  booted c = kept_node_of (first_node c)
+
+  kept-same : (cs : List Configuration) (point : ℕ) → kept_at point (map booted cs) ≡ option_map booted (settings_for cs point)
+  kept-same [] point = refl
+  kept-same (c ∷ cs) point = by (nat_eq c.own point) (kept-same cs point)
+    where
+      by : (b : Bool) → kept_at point (map booted cs) ≡ option_map booted (settings_for cs point)
+          → (if b then Some (booted c) else kept_at point (map booted cs)) ≡ option_map booted (if b then Some c else settings_for cs point)
+      by true rest = refl
+      by false rest = rest
+
+  node-by : (point : ℕ) (o : Option Configuration) → settings_for settings point ≡ o → IsNodeAt point (option_map booted o) (first_node (settings_or point o))
+  node-by point None e = refl
+  node-by point (Some c) e =
+      let f : IsFound settings point c = found settings point c e in
+      record { sound = first-sound c (well f.place c f.at); kept = refl }
+
+  pub first-stands : NetworkStandsFor (map booted settings) (first_network its)
+  first-stands = record {
+    reached = record { settings = its; network = is-network; steps = []; by = refl };
+    nodes = λ point.
+        subst (λ (o : Option KeptNode). IsNodeAt point o (first_node (its point))) (sym (kept-same settings point))
+        (node-by point (settings_for settings point) refl);
+  }

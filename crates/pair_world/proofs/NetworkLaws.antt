@@ -1,0 +1,185 @@
+-- What a network shows is what the abstract one has, and what that promises it promises.
+use Rattle.std.proofs.Common.{◌≡◌, ◌+◌, ℕ, Bool, List, [], Option, Some, None, refl, ap, sym, subst, ◌∙◌}
+use Rattle.std.specs.Prelude.{count_by, slice_get}
+use Rattle.std.specs.Option.{option_and_then}
+use Rattle.signalling_types.specs.Message.{Message}
+use Rattle.settings_rows.specs.Configuration.{Configuration, LinkEntry}
+use Rattle.settings.specs.Readings.{set_place}
+use Rattle.exchange_rules.specs.First.{IsSound}
+use Rattle.exchange_rules.specs.Routing.{adjacent_of}
+use Rattle.exchange.specs.Calls as exchanges
+use Rattle.pair_rules.specs.Pairs.{PairState}
+use Rattle.pair_rules.specs.Promises.{BothWays, IsPunctual, LostNothing, user}
+use Rattle.pair_rules.specs.Sharing.{AreSharing}
+use Rattle.neighbour_rules.specs.Neighbours.{users_to}
+use Rattle.neighbour_rules.specs.Promises.{EachOnce, InOrder, waiting}
+use Rattle.network_rules.specs.Networks.{NetworkNode, NetworkState, first_node}
+use Rattle.network_rules.specs.Pairs as networks
+use Rattle.network_rules.specs.Pairs.{came_from, pair_of}
+use Rattle.network_rules.specs.Row.{no_settings}
+use Rattle.network_rules.proofs.Promised.{once, order}
+use Rattle.pair_world.specs.Promised.{ComeInOrder, ComeOnce}
+use Rattle.pair_world.specs.KeptNodes.{KeptNode, kept_node_of}
+use Rattle.pair_world.specs.KeptNetworks.{kept_at, node_at, place_at}
+use Rattle.pair_world.specs.NetworkPromised.{AcceptedInOrder, AcceptedOnce, AcceptedOrWait, AreAdjacent, ArrivedInOrder, ArrivedOnce, booked, waiting_between}
+use Rattle.pair_world.specs.NetworkStands.{IsNetworkReached, IsNodeAt, IsNodeOf, NetworkStandsFor}
+use Rattle.pair_world.proofs.NetworkTurns.{own-point}
+use Rattle.pair_world.proofs.NodeFits.{Fits, reached-fit}
+use Rattle.pair_world.proofs.NodePlaces.{gets, keeps, keeps-none}
+use Rattle.pair_world.proofs.Reached.{IsReady}
+use Rattle.pair_world.proofs.Waiting.{waiting-same}
+
+module _ (k : List KeptNode) (w : NetworkState) (s : NetworkStandsFor k w) where
+  r : IsNetworkReached w
+  r = s.reached
+
+  -- ---- the node at a point
+
+  module _ (point : ℕ) where
+    abbrev x : NetworkNode
+    x = w.node point
+
+    by-place : (o : Option ℕ) → place_at point k ≡ o → option_and_then (slice_get k) o ≡ kept_at point k
+    by-place None e = sym (keeps-none k point e)
+    by-place (Some place) e = gets k point place (kept_node_of x) e ∙ sym (keeps k point place (kept_node_of x) e)
+
+    pub node-there : IsNodeAt point (node_at point k) x
+    node-there = subst (λ (o : Option KeptNode). IsNodeAt point o x) (sym (by-place (place_at point k) refl)) (s.nodes point)
+
+    module _ {A : Type 0} (of : KeptNode → List A) (its : NetworkNode → List A) (same : (y : NetworkNode) → of (kept_node_of y) ≡ its y) (empty : (c : Configuration) → its (first_node c) ≡ []) where
+      booked-by : (o : Option KeptNode) → IsNodeAt point o x → booked of o ≡ its x
+      booked-by (Some n) is = ap of is.kept ∙ same x
+      booked-by None is = sym (ap its is ∙ empty (no_settings point))
+
+      booked-same : booked of (node_at point k) ≡ its x
+      booked-same = booked-by (node_at point k) node-there
+
+    pub accepted-same : booked (λ n. n.accepted) (node_at point k) ≡ x.accepted
+    accepted-same = booked-same (λ n. n.accepted) (λ y. y.accepted) (λ y. refl) (λ c. refl)
+
+    pub arrived-same : booked (λ n. n.arrived) (node_at point k) ≡ x.arrived
+    arrived-same = booked-same (λ n. n.arrived) (λ y. y.arrived) (λ y. refl) (λ c. refl)
+
+    pub entered-same : booked (λ n. n.entered) (node_at point k) ≡ x.entered
+    entered-same = booked-same (λ n. n.entered) (λ y. y.entered) (λ y. refl) (λ c. refl)
+
+    pub refused-same : booked (λ n. n.refused) (node_at point k) ≡ x.refused
+    refused-same = booked-same (λ n. n.refused) (λ y. y.refused) (λ y. refl) (λ c. refl)
+
+  -- ---- two that a link joins
+
+  module _ (near far : ℕ) (a : AreAdjacent w near far) where
+    abbrev c : Configuration
+    c = (w.node near).exchange.settings
+
+    near-same : c ≡ r.settings near
+    near-same = (reached-fit w r near).settings
+
+    far-same : (w.node far).exchange.settings ≡ r.settings far
+    far-same = (reached-fit w r far).settings
+
+    sharing : AreSharing (r.settings near) (r.settings far)
+    sharing =
+        subst (λ (point : ℕ). AreSharing (r.settings near) (r.settings point))
+        (ap (λ (d : Configuration). adjacent_of d a.entry.set) (sym near-same) ∙ a.leads)
+        (r.network.joined near a.link a.entry (ap (λ (d : Configuration). slice_get d.links a.link) (sym near-same) ∙ a.is))
+
+    law : (Statement : PairState → Type 0) → networks.Always Statement → Statement (pair_of w near far)
+    law Statement always =
+        subst (λ (v : NetworkState). Statement (pair_of v near far)) (sym r.by)
+        (always r.settings r.steps near far r.network.points r.network.well sharing)
+
+    its-once : LostNothing (pair_of w near far) → BothWays EachOnce (pair_of w near far)
+    its-once = law (λ p. LostNothing p → BothWays EachOnce p) once
+
+    its-order : LostNothing (pair_of w near far) → BothWays (λ q. IsPunctual q → InOrder q) (pair_of w near far)
+    its-order = law (λ p. LostNothing p → BothWays (λ q. IsPunctual q → InOrder q) p) order
+
+    -- both are there
+    near-by : (o : Option KeptNode) → IsNodeAt near o (w.node near) → IsSound (w.node near).exchange
+    near-by (Some n) is = is.sound
+    near-by None is =
+        absurd (let no : slice_get (no_settings near).links a.link ≡ Some a.entry = ap (λ (y : NetworkNode). slice_get y.exchange.settings.links a.link) (sym is) ∙ a.is in cc)
+
+    near-sound : IsSound (w.node near).exchange
+    near-sound = near-by (node_at near k) (node-there near)
+
+    far-by : (o : Option KeptNode) → IsNodeAt far o (w.node far) → IsSound (w.node far).exchange
+    far-by (Some n) is = is.sound
+    far-by None is =
+        absurd
+        (let no : set_place (no_settings far) (r.settings near).own ≡ Some sharing.shares.far_set =
+        ap (λ (d : Configuration). set_place d (r.settings near).own) (ap (λ (y : NetworkNode). y.exchange.settings) (sym is) ∙ far-same) ∙ sharing.shares.far_leads.adjacent in cc)
+
+    far-sound : IsSound (w.node far).exchange
+    far-sound = far-by (node_at far k) (node-there far)
+
+    near-fits : Fits (w.node near)
+    near-fits = (reached-fit w r near).fits
+
+    far-fits : Fits (w.node far)
+    far-fits = (reached-fit w r far).fits
+
+    ready : IsReady (pair_of w near far)
+    ready = record {
+      near_places = near-fits.places;
+      far_places = far-fits.places;
+      near_sized = record { statuses = near-fits.statuses; user_data = near-fits.user_data };
+      far_sized = record { statuses = far-fits.statuses; user_data = far-fits.user_data };
+    }
+
+    module _ (picks : Message → Bool) where
+      abbrev waits : ℕ
+      waits = count_by (user picks) (waiting (pair_of w near far))
+
+      waiting-by : (o v : Option KeptNode) → IsNodeAt near o (w.node near) → IsNodeAt far v (w.node far) → waiting_between picks o v ≡ waits
+      waiting-by (Some n) (Some m) is are =
+          ap (λ (z : KeptNode). waiting_between picks (Some z) (Some m)) is.kept
+          ∙ ap (λ (z : KeptNode). waiting_between picks (Some (kept_node_of (w.node near))) (Some z)) are.kept
+          ∙ waiting-same picks (pair_of w near far) near-sound far-sound ready
+      waiting-by (Some n) None is are =
+          absurd
+          (let no : set_place (no_settings far) (r.settings near).own ≡ Some sharing.shares.far_set =
+          ap (λ (d : Configuration). set_place d (r.settings near).own) (ap (λ (y : NetworkNode). y.exchange.settings) (sym are) ∙ far-same) ∙ sharing.shares.far_leads.adjacent in cc)
+      waiting-by None v is are =
+          absurd (let no : slice_get (no_settings near).links a.link ≡ Some a.entry = ap (λ (y : NetworkNode). slice_get y.exchange.settings.links a.link) (sym is) ∙ a.is in cc)
+
+      pub counted : waiting_between picks (node_at near k) (node_at far k) ≡ waits
+      counted = waiting-by (node_at near k) (node_at far k) (node-there near) (node-there far)
+
+  -- ---- what is promised
+
+  module _ (near far : ℕ) where
+    abbrev p : PairState
+    p = pair_of w near far
+
+    -- each is told its point
+    theirs : users_to (w.node far).exchange.settings.own (w.node near).accepted ≡ users_to far (w.node near).accepted
+    theirs = ap (λ (point : ℕ). users_to point (w.node near).accepted) (own-point w r far)
+
+    pub accepted-once : AcceptedOnce w near far (w.node near).accepted
+    accepted-once = λ a.
+        subst (λ (ms : List Message). ComeOnce p ms p.far.received) theirs (λ lost. (its-once near far a lost).there)
+
+    pub accepted-order : AcceptedInOrder w near far (w.node near).accepted
+    accepted-order = λ a.
+        subst (λ (ms : List Message). ComeInOrder p ms p.far.received) theirs (λ lost punctual. (its-order near far a lost).there punctual)
+
+    abbrev came : List Message
+    came = came_from (w.node far).exchange.settings (w.node near).exchange.settings (w.node far).arrived
+
+    ours : users_to (w.node far).exchange.settings.own came ≡ users_to far came
+    ours = ap (λ (point : ℕ). users_to point came) (own-point w r far)
+
+    pub arrived-once : ArrivedOnce w far near (w.node far).arrived
+    arrived-once = λ a.
+        subst (λ (ms : List Message). ComeOnce p p.near.accepted ms) ours (λ lost. (its-once near far a lost).there)
+
+    pub arrived-order : ArrivedInOrder w far near (w.node far).arrived
+    arrived-order = λ a.
+        subst (λ (ms : List Message). ComeInOrder p p.near.accepted ms) ours (λ lost punctual. (its-order near far a lost).there punctual)
+
+    pub wait-or-come : (picks : Message → Bool) → AcceptedOrWait w near far picks (waiting_between picks (node_at near k) (node_at far k))
+    wait-or-come picks = λ a lost.
+        (its-once near far a lost).there picks
+        ∙ ap (λ (n : ℕ). count_by (user picks) p.far.received + n) (sym (counted near far a picks))

@@ -1,0 +1,12 @@
+-- What is shown is what the abstract node books.
+use Rattle.std.proofs.Common.{rules, ◌≡◌, List, ap, sym, subst, ◌∙◌}
+use Rattle.pair_world.specs.KeptNodes.{KeptNode}
+use Rattle.pair_world.specs.KeptNetworks.{node_at}
+use Rattle.pair_world.specs.NetworkPromised.{booked}
+use Rattle.pair_world.proofs.NetworkLaws.{refused-same}
+use Rattle.pair_world.proofs.network.Network.refused.Goals as goal
+
+pub returns : goal.returns
+returns c =
+    let here : c.deref.result.now ≡ c.args.self.now = search rules in
+    λ w s. (c.refused_at.ensures ∙ ap (λ (k : List KeptNode). booked (λ n. n.refused) (node_at c.args.at k)) (here)) ∙ refused-same c.args.self.now w s c.args.at

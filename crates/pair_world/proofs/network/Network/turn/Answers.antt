@@ -1,0 +1,22 @@
+-- What becomes of a step on what is kept is what becomes of it.
+use Rattle.std.proofs.Common.{List, sym, subst, ◌∙◌}
+use Rattle.std.proofs.lemmas.Result.{IfOk-weaker}
+use Rattle.pair_world.specs.KeptNodes.{KeptNode}
+use Rattle.pair_world.specs.NetworkStands.{NetworkStandsFor, has_node, stepped}
+use Rattle.pair_world.specs.NetworkTold.{doing_told}
+use Rattle.pair_world.proofs.NetworkTurns.{turn-outcome, turn-stands}
+use Rattle.pair_world.proofs.network.Network.turn.Goals as goal
+
+pub returns-clause-outcome : goal.returns-clause-outcome
+returns-clause-outcome c = λ w s.
+    IfOk-weaker c.apply.result _ _
+    (λ outcome e. e ∙ turn-outcome c.args.self.now w s (doing_told c.args.doing outcome) c.args.at)
+    c.apply.ensures.outcome
+
+pub returns-clause-state : goal.returns-clause-state
+returns-clause-state c = λ w s.
+    IfOk-weaker c.apply.result _ _
+    (λ outcome e.
+    subst (λ (k : List KeptNode). NetworkStandsFor k (stepped (has_node c.args.at c.args.self.now) (record { point = c.args.at; what = doing_told c.args.doing outcome }) w))
+    (sym e) (turn-stands c.args.self.now w s (doing_told c.args.doing outcome) c.args.at))
+    c.apply.ensures.state

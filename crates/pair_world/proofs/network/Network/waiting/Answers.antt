@@ -1,0 +1,20 @@
+-- What is counted is what waits of the abstract pair.
+use Rattle.std.proofs.Common.{rules, ◌≡◌, List, ◌∙◌, ap, sym, subst}
+use Rattle.pair_world.specs.KeptNodes.{KeptNode}
+use Rattle.pair_world.specs.KeptNetworks.{node_at}
+use Rattle.pair_world.specs.NetworkPromised.{AcceptedOrWait, waiting_between}
+use Rattle.pair_world.proofs.NetworkLaws.{counted, wait-or-come}
+use Rattle.pair_world.proofs.network.Network.waiting.Goals as goal
+
+pub returns-clause-waiting : goal.returns-clause-waiting
+returns-clause-waiting g c =
+    let here : c.deref.result.now ≡ c.args.self.now = search rules in
+    λ w s a.
+    (c.waiting_between.ensures ∙ ap (λ (k : List KeptNode). waiting_between (g.P.Pick.picks c.args.pick.now) (node_at c.args.at k) (node_at c.args.far k)) here) ∙ counted c.args.self.now w s c.args.at c.args.far a (g.P.Pick.picks c.args.pick.now)
+
+pub returns-clause-once : goal.returns-clause-once
+returns-clause-once g c =
+    let here : c.deref.result.now ≡ c.args.self.now = search rules in
+    λ w s.
+    subst (AcceptedOrWait w c.args.at c.args.far (g.P.Pick.picks c.args.pick.now)) (sym (c.waiting_between.ensures ∙ ap (λ (k : List KeptNode). waiting_between (g.P.Pick.picks c.args.pick.now) (node_at c.args.at k) (node_at c.args.far k)) here))
+    (wait-or-come c.args.self.now w s c.args.at c.args.far (g.P.Pick.picks c.args.pick.now))

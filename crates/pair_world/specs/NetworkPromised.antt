@@ -1,0 +1,61 @@
+-- What a network promises of the messages that one node accepted for another, to which a link of it leads.
+use Rattle.std.specs.Prelude.{◌≡◌, ℕ, Bool, List, [], Option, Some, None, slice_get}
+use Rattle.settings_rows.specs.Configuration.{Configuration, LinkEntry}
+use Rattle.exchange_rules.specs.Routing.{adjacent_of}
+use Rattle.signalling_types.specs.Message.{Message}
+use Rattle.network_rules.specs.Networks.{Arrival, NetworkState}
+use Rattle.network_rules.specs.Pairs.{pair_of, came_from}
+use Rattle.neighbour_rules.specs.Neighbours.{users_to}
+use Rattle.pair_world.specs.KeptNodes.{KeptNode}
+use Rattle.pair_world.specs.Promised.{ComeInOrder, ComeOnce, ComeOrWait}
+use Rattle.pair_world.specs.Waiting.{kept_waiting}
+
+-- a link of the node at the near point leads to the far point
+pub record AreAdjacent (w : NetworkState) (near far : ℕ) : Type 0 where
+  pub link : ℕ
+  pub entry : LinkEntry
+  pub is : slice_get (w.node near).exchange.settings.links link ≡ Some entry
+  pub leads : adjacent_of (w.node near).exchange.settings entry.set ≡ far
+
+-- of all that a node accepted, what is for another
+abbrev pub AcceptedOnce : NetworkState → (near far : ℕ) → (accepted : List Message) → Type 0
+AcceptedOnce w near far accepted =
+    AreAdjacent w near far →
+    ComeOnce (pair_of w near far) (users_to far accepted) (pair_of w near far).far.received
+
+abbrev pub AcceptedInOrder : NetworkState → (near far : ℕ) → (accepted : List Message) → Type 0
+AcceptedInOrder w near far accepted =
+    AreAdjacent w near far →
+    ComeInOrder (pair_of w near far) (users_to far accepted) (pair_of w near far).far.received
+
+-- of all that came to a node, what is for it and came by links to the other
+abbrev pub received_from : NetworkState → (near far : ℕ) → (arrived : List Arrival) → List Message
+received_from w near far arrived =
+    users_to near (came_from (w.node near).exchange.settings (w.node far).exchange.settings arrived)
+
+abbrev pub ArrivedOnce : NetworkState → (near far : ℕ) → (arrived : List Arrival) → Type 0
+ArrivedOnce w near far arrived =
+    AreAdjacent w far near →
+    ComeOnce (pair_of w far near) (pair_of w far near).near.accepted (received_from w near far arrived)
+
+abbrev pub ArrivedInOrder : NetworkState → (near far : ℕ) → (arrived : List Arrival) → Type 0
+ArrivedInOrder w near far arrived =
+    AreAdjacent w far near →
+    ComeInOrder (pair_of w far near) (pair_of w far near).near.accepted (received_from w near far arrived)
+
+-- and how many that a choice takes were accepted, and how many wait
+abbrev pub AcceptedOrWait : NetworkState → (near far : ℕ) → (picks : Message → Bool) → (count : ℕ) → Type 0
+AcceptedOrWait w near far picks count = AreAdjacent w near far → ComeOrWait (pair_of w near far) picks count
+
+-- ---- what is kept
+
+-- what is booked at a node, if it is there
+abbrev pub booked : {A : Type 0} → (KeptNode → List A) → Option KeptNode → List A
+booked of (Some n) = of n
+booked of None = []
+
+-- how many user messages wait at one node for another, if both are there
+abbrev pub waiting_between : (picks : Message → Bool) → (near far : Option KeptNode) → ℕ
+waiting_between picks (Some near) (Some far) = kept_waiting picks near.exchange far.exchange
+waiting_between picks (Some near) None = 0
+waiting_between picks None far = 0

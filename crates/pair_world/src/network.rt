@@ -1,0 +1,194 @@
+//! Any number of exchanges, joined by links in any shape.
+
+ghost use Rattle.std.specs.Prelude.{◌≡◌, ◌↔◌, ℕ, true, false, IfOk, IfErr, OnOk, OnErr, count_by};
+ghost use Rattle.neighbour_rules.specs.Promises as promises;
+ghost use Rattle.pair_rules.specs.Promises.{user};
+ghost use Rattle.network_rules.specs.Pairs.{pair_of};
+ghost use Rattle.pair_world.specs.Joined.{AreJoined, are_apart, settings_at};
+ghost use Rattle.pair_world.specs.NetworkPromised.{AcceptedInOrder, AcceptedOnce, AcceptedOrWait, AreAdjacent, ArrivedInOrder, ArrivedOnce};
+ghost use Rattle.pair_world.specs.KeptNetworks.{network_turn};
+ghost use Rattle.pair_world.specs.NetworkTold.{doing_told};
+ghost use Rattle.pair_world.specs.NetworkStands.{NetworkStandsFor, has_node, step_outcome, stepped};
+ghost use Rattle.network_rules.specs.Networks.{NetworkState, first_network};
+
+use crate::arrival::Arrival;
+use crate::doing::{Doing, Reach};
+use crate::fault::NetworkFault;
+use crate::joining::{are_apart, are_joined, are_well, boot_all};
+use crate::node::Node;
+use crate::reaching::{act_at, place_of, reach_from};
+use crate::reading::{accepted_at, arrived_at, entered_at, refused_at, waiting_between};
+use exchange::{NoMemory, Pick};
+use settings::{Msu, Outcome, PointCode, Settings};
+use std::alloc::Global;
+use std::marker::Model;
+
+/// Any number of exchanges, joined by links in any shape, the frames in flight between them, and what each of them
+/// books: all that it accepted, whomever it is for, and all that came to it.
+///
+/// It stands for an abstract network that some steps led to from the first on (`NetworkStandsFor`): `new` makes it so, and
+/// each `turn` keeps it.
+pub struct Network {
+    nodes: Vec<Node>,
+}
+
+// By hand, so that no proof above has what a network owns.
+impl Drop for Network {
+    fn drop(self) {
+        let Network { nodes: _ } = self;
+    }
+}
+
+impl Model for Network {
+    ghost use Rattle.std.specs.Prelude.{List};
+    ghost use Rattle.pair_world.specs.KeptNodes.{KeptNode};
+
+    ghost Value = { List KeptNode };
+
+    ghost use Rattle.std.specs.Coded.{codes};
+    ghost use Rattle.flow_hold.specs.Stored.{hold_set_code};
+    ghost use Rattle.timers.specs.OneMap.{running_code};
+
+    ghost coded = { Prim.hlevel (codes, hold_set_code, running_code) };
+
+    ghost view = { λ network. network.nodes.items };
+}
+
+impl Network {
+    /// A network of nodes that were just booted with these settings, with nothing in flight.
+    ///
+    /// SamePoint where two of them are for the same point; else NotJoined where a link leads to no node with which its own
+    /// shares a link set (`Settings::shares_set_with`); NoMemory comes only where a growth was refused.
+    pub fn new(alloc: Global, settings: Vec<Settings>) -> Result<Network, NetworkFault>
+        // It stands for the first network of these settings.
+        ensures first { IfOk result (λ network.
+            NetworkStandsFor network (first_network (settings_at settings.items))) }
+        // There is one only if each has a point of its own, and all links are joined,
+        ensures apart { OnOk result (are_apart settings.items ≡ true) }
+        ensures joined { OnOk result (AreJoined settings.items) }
+        // and the fault says whether they do.
+        ensures same_point { IfErr result (λ fault.
+            (fault ≡ NetworkFault.SamePoint) ↔ (are_apart settings.items ≡ false)) }
+        ensures not_joined { IfErr result (λ fault.
+            (fault ≡ NetworkFault.NotJoined) ↔ (are_apart settings.items ≡ true) × (¬ (AreJoined settings.items))) }
+    {
+        are_well(&settings);
+        if !are_apart(&settings) {
+            return Err(NetworkFault::SamePoint);
+        }
+        if !are_joined(&settings) {
+            return Err(NetworkFault::NotJoined);
+        }
+        match boot_all(alloc, settings) {
+            Ok(nodes) => Ok(Network { nodes }),
+            Err(NoMemory) => Err(NetworkFault::NoMemory),
+        }
+    }
+}
+
+impl Network {
+    /// Does one thing at the node at a point, and says what became of it. Where no node is at the point, it is Ignored,
+    /// and nothing changes.
+    ///
+    /// It makes its room first: after NoMemory, which comes only where a growth was refused, nothing has changed.
+    pub fn turn(&mut self, at: PointCode, doing: Doing) -> Result<Outcome, NoMemory>
+        // For every abstract network that it stood for, the outcome is that of the abstract step,
+        ensures outcome { (w : NetworkState) → NetworkStandsFor self.old w → IfOk result (λ outcome.
+            outcome ≡ step_outcome (has_node at self.old) (record { point = at; what = doing_told doing outcome }) w) }
+        // and the network stands for the one after it.
+        ensures state { (w : NetworkState) → NetworkStandsFor self.old w → IfOk result (λ outcome. NetworkStandsFor
+            self.new (stepped (has_node at self.old) (record { point = at; what = doing_told doing outcome }) w)) }
+        ensures unchanged { OnErr result (self.new ≡ self.old) }
+    {
+        self.apply(at, doing)
+    }
+
+    /// All messages that the node at a point took in, in order, whomever they are for: all that it queued or held. Empty
+    /// where no node is at the point.
+    pub fn accepted(&self, at: PointCode) -> &[Msu]
+        ensures accepted { (w : NetworkState) → NetworkStandsFor self.now w → result.now ≡ (w.node at).accepted }
+        // "Exactly once", of what is for a node to which a link leads
+        ensures once { (w : NetworkState) → NetworkStandsFor self.now w → (far : ℕ) →
+            AcceptedOnce w at far result.now }
+        // "Order"
+        ensures order { (w : NetworkState) → NetworkStandsFor self.now w → (far : ℕ) →
+            AcceptedInOrder w at far result.now }
+    {
+        accepted_at(&self.nodes, at)
+    }
+
+    /// All messages that frames newly brought to the node at a point, in order, each with the link by which it came. Empty
+    /// where no node is at the point.
+    pub fn arrived(&self, at: PointCode) -> &[Arrival]
+        ensures arrived { (w : NetworkState) → NetworkStandsFor self.now w → result.now ≡ (w.node at).arrived }
+        // "Exactly once", of what is for this node, and came from one whose link leads here
+        ensures once { (w : NetworkState) → NetworkStandsFor self.now w → (far : ℕ) →
+            ArrivedOnce w at far result.now }
+        // "Order"
+        ensures order { (w : NetworkState) → NetworkStandsFor self.now w → (far : ℕ) →
+            ArrivedInOrder w at far result.now }
+    {
+        arrived_at(&self.nodes, at)
+    }
+
+    /// Of the messages that the node at a point took in, those that entered the network there, in order: all but those
+    /// for other points that came by a frame. Empty where no node is at the point.
+    pub fn entered(&self, at: PointCode) -> &[Msu]
+        ensures { (w : NetworkState) → NetworkStandsFor self.now w → result.now ≡ (w.node at).entered }
+    {
+        entered_at(&self.nodes, at)
+    }
+
+    /// The user messages for other points that frames newly brought to the node at a point, and that it refused, in order.
+    /// Empty where no node is at the point.
+    pub fn refused(&self, at: PointCode) -> &[Msu]
+        ensures { (w : NetworkState) → NetworkStandsFor self.now w → result.now ≡ (w.node at).refused }
+    {
+        refused_at(&self.nodes, at)
+    }
+
+    /// How many user messages for another node that a choice takes wait at the node at a point: on a link between the two,
+    /// behind the last message that the other accepted there, or in Held. 0 where one of the points has no node. So while
+    /// neither may have lost a message, as many were accepted as the other received and as wait, between any two steps.
+    pub fn waiting<P: Pick>(&self, at: PointCode, far: PointCode, pick: &P) -> u128
+        ensures waiting { (w : NetworkState) → NetworkStandsFor self.now w →
+            AreAdjacent w at far → result ≡ count_by (user (P.picks pick.now)) (promises.waiting (pair_of w at far)) }
+        ensures once { (w : NetworkState) → NetworkStandsFor self.now w →
+            AcceptedOrWait w at far (P.picks pick.now) result }
+    {
+        waiting_between(&self.nodes, at, far, pick)
+    }
+
+    /// Does one thing at the node at a point, by what is kept.
+    fn apply(&mut self, at: PointCode, doing: Doing) -> Result<Outcome, NoMemory>
+        ensures outcome { IfOk result (λ outcome.
+            outcome ≡ (network_turn (doing_told doing outcome) at self.old).outcome) }
+        ensures state { IfOk result (λ outcome.
+            self.new ≡ (network_turn (doing_told doing outcome) at self.old).left) }
+        ensures unchanged { OnErr result (self.new ≡ self.old) }
+    {
+        let Some(place) = place_of(&self.nodes, at) else {
+            return Ok(Outcome::Ignored);
+        };
+        match doing {
+            Doing::Take(link) => reach_from(&mut self.nodes, Reach::Fetch, place, link),
+            Doing::OpenFirst(link) => reach_from(&mut self.nodes, Reach::Open, place, link),
+            Doing::Submit(message) => act_at(&mut self.nodes, place, Doing::Submit(message)),
+            Doing::Deliver(link) => act_at(&mut self.nodes, place, Doing::Deliver(link)),
+            Doing::DeliverStatus(link) => {
+                act_at(&mut self.nodes, place, Doing::DeliverStatus(link))
+            }
+            Doing::LoseStatus(link) => act_at(&mut self.nodes, place, Doing::LoseStatus(link)),
+            Doing::DoubleStatus(link) => act_at(&mut self.nodes, place, Doing::DoubleStatus(link)),
+            Doing::Lose(link) => act_at(&mut self.nodes, place, Doing::Lose(link)),
+            Doing::Tick => act_at(&mut self.nodes, place, Doing::Tick),
+            Doing::Activate(link) => act_at(&mut self.nodes, place, Doing::Activate(link)),
+            Doing::Deactivate(link) => act_at(&mut self.nodes, place, Doing::Deactivate(link)),
+            Doing::AddTitle(row) => act_at(&mut self.nodes, place, Doing::AddTitle(row)),
+            Doing::RemoveTitle(key, digits) => {
+                act_at(&mut self.nodes, place, Doing::RemoveTitle(key, digits))
+            }
+            Doing::OpenSecond(link) => act_at(&mut self.nodes, place, Doing::OpenSecond(link)),
+        }
+    }
+}

@@ -1,0 +1,67 @@
+//! What the node at a point shows.
+
+ghost use Rattle.std.specs.Prelude.{◌≡◌, []};
+ghost use Rattle.pair_world.specs.KeptNetworks.{node_at};
+ghost use Rattle.pair_world.specs.NetworkPromised.{booked, waiting_between};
+
+use crate::arrival::Arrival;
+use crate::node::Node;
+use crate::reaching::place_of;
+use exchange::Pick;
+use settings::{Msu, PointCode};
+
+/// What the node at a point accepted; nothing where there is none.
+pub(crate) fn accepted_at(nodes: &[Node], point: PointCode) -> &[Msu]
+    ensures { result.now ≡ booked (λ n. n.accepted) (node_at point nodes.now) }
+{
+    match place_of(nodes, point) {
+        Some(place) => nodes[place].accepted(),
+        None => &[],
+    }
+}
+
+/// What came to the node at a point; nothing where there is none.
+pub(crate) fn arrived_at(nodes: &[Node], point: PointCode) -> &[Arrival]
+    ensures { result.now ≡ booked (λ n. n.arrived) (node_at point nodes.now) }
+{
+    match place_of(nodes, point) {
+        Some(place) => nodes[place].arrived(),
+        None => &[],
+    }
+}
+
+/// What entered the network at the node at a point; nothing where there is none.
+pub(crate) fn entered_at(nodes: &[Node], point: PointCode) -> &[Msu]
+    ensures { result.now ≡ booked (λ n. n.entered) (node_at point nodes.now) }
+{
+    match place_of(nodes, point) {
+        Some(place) => nodes[place].entered(),
+        None => &[],
+    }
+}
+
+/// What the node at a point refused of others; nothing where there is none.
+pub(crate) fn refused_at(nodes: &[Node], point: PointCode) -> &[Msu]
+    ensures { result.now ≡ booked (λ n. n.refused) (node_at point nodes.now) }
+{
+    match place_of(nodes, point) {
+        Some(place) => nodes[place].refused(),
+        None => &[],
+    }
+}
+
+/// How many user messages that a choice takes wait at the node at a point for that at another; 0 where one of the two has
+/// no node.
+pub(crate) fn waiting_between<P: Pick>(
+    nodes: &[Node],
+    near: PointCode,
+    far: PointCode,
+    pick: &P,
+) -> u128
+    ensures { result ≡ waiting_between (P.picks pick.now) (node_at near nodes.now) (node_at far nodes.now) }
+{
+    match (place_of(nodes, near), place_of(nodes, far)) {
+        (Some(one), Some(two)) => nodes[one].count_waiting(&nodes[two], pick),
+        (Some(_), None) | (None, _) => 0,
+    }
+}
