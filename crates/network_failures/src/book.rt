@@ -1,0 +1,94 @@
+//! The messages that were submitted, each with a mark of its own: its place in the book.
+
+use exchange::{Label, Msu, PointCode, Sls};
+use std::alloc::Global;
+
+/// The service information octet of the ISDN user part in the international network (Q.704 §14.2).
+const SIO: u8 = 0x85;
+
+/// Octets of a mark, behind the label.
+const MARK_OCTETS: usize = 4;
+
+/// Octets of a label.
+const LABEL_OCTETS: usize = 4;
+
+/// A message that was submitted.
+#[derive(Clone, Copy)]
+pub(crate) struct Entry {
+    /// Where it was submitted.
+    pub from: u16,
+    /// Where it is to come.
+    pub to: u16,
+    /// Its flow: the signalling link selection (Q.704 §2.2.4).
+    pub flow: u8,
+    /// Whether the node where it was submitted accepted it.
+    pub accepted: bool,
+}
+
+/// All messages that were submitted, in order.
+#[derive(Drop)]
+pub(crate) struct Book {
+    entries: Vec<Entry>,
+}
+
+impl Book {
+    /// Nothing was submitted.
+    pub(crate) fn new(alloc: Global) -> Book {
+        Book {
+            entries: Vec::new(alloc),
+        }
+    }
+
+    /// All of them.
+    pub(crate) fn entries(&self) -> &[Entry] {
+        self.entries.as_slice()
+    }
+
+    /// The mark of the next one.
+    pub(crate) fn next_mark(&self) -> u32 {
+        u32::try_from(self.entries.len()).unwrap_or(u32::MAX)
+    }
+
+    /// One more. Says whether there was memory for it.
+    pub(crate) fn add(&mut self, entry: Entry) -> bool {
+        self.entries.push(entry).is_ok()
+    }
+}
+
+/// The message of a mark.
+pub(crate) fn message_of(entry: Entry, mark: u32) -> Option<Msu> {
+    let label = Label {
+        dpc: PointCode::new(entry.to)?,
+        opc: PointCode::new(entry.from)?,
+        sls: Sls::new(entry.flow)?,
+    };
+    let [a, b, c, d] = label.write();
+    let [e, f, g, h] = mark.to_be_bytes();
+    Msu::new(SIO, &[a, b, c, d, e, f, g, h]).ok()
+}
+
+/// The mark of a message and what is in the book of it, where it is as it was submitted.
+pub(crate) fn mark_of(message: &Msu, entries: &[Entry]) -> Option<(usize, Entry)> {
+    let mark = number_of(message)?;
+    let entry = *entries.get(mark as usize)?;
+    let submitted = message_of(entry, mark)?;
+    if message.sif() == submitted.sif() {
+        Some((mark as usize, entry))
+    } else {
+        None
+    }
+}
+
+/// Whether a message is one of the ISDN user part: all others are of the nodes' own.
+pub(crate) fn is_marked(message: &Msu) -> bool {
+    message.sio() == SIO
+}
+
+/// The number behind the label of a message.
+fn number_of(message: &Msu) -> Option<u32> {
+    if !is_marked(message) {
+        return None;
+    }
+    let octets = message.sif().get(LABEL_OCTETS..)?;
+    Some(u32::from_be_bytes(*octets.first_chunk::<MARK_OCTETS>()?))
+}

@@ -1,0 +1,93 @@
+//! `network_failures N`: networks of four shapes, whose links fail and return at random; N runs of each.
+//!
+//! A network (`Network` of `pair_world`) is a line of four nodes, a triangle, a square, or a mated pair: two ends,
+//! points 1 and 4, and two transfer points, each joined to both ends and to the other. Each set has two links, in the
+//! line three. One set alone leads to an adjacent point. In the square two lead to the opposite one, and each end of
+//! the mated pair shares its messages for the other among two. To point 9, which isn't there, sets lead by which the
+//! last node refuses what comes. Timers are as built in, but L7, T1, T2 and T4 are longer than most schedules: so what
+//! one end waits for comes by frames, unless a set fails whole. All that is done is a `Network::turn`.
+//!
+//! # A run
+//!
+//! Two of three links come up, by chance. Then the dice of the run are thrown 800 times, each time at a random link of
+//! a random node. Of 256 throws 50 submit a message for another point on one of the 16 flows, 80 take a frame, 78
+//! deliver one of the two streams, 4 lose a link status, 4 double one, 6 lose the link, 5 let a tick pass, 1 keeps the
+//! link from opening by an operator's order or lets it open, 9 open it first, 8 let it follow the other end, and 11
+//! carry a frame on each link each way. A link that is alone in its set in service is lost or kept from opening in few
+//! of these throws alone: a set that fails whole is named as lost. Then all links are let open, those that aren't in
+//! service come back, three times, and frames are carried with ticks until nothing moves.
+//!
+//! # What a line says
+//!
+//! Each message has a mark of its own. What came is judged by the marks in the books of the nodes, and by nothing
+//! else.
+//!
+//! - `steps`: how many turns the schedules took. `failures`: how often a node lost a link in them. `reroutings`: how
+//!   often the first set to some destination changed at a node, till the end of the run.
+//! - `submitted`, `accepted` (queued or held where they were submitted), `received` at their destinations, `refused in
+//!   transit` by another node.
+//! - `judged`: how many of the accepted messages are of runs in which no node set `lost_any`. Each of them came once
+//!   or was refused once. Of no run did a message come twice, or one that wasn't accepted. Then the line says `all
+//!   once or refused`, else how many were `lost`, `doubled` and `made up`.
+//! - `in order (N)`: N messages came while their flow was promised to be in order, and none after one that was
+//!   submitted later. It is promised from a node to an adjacent one for what came while the first hadn't set
+//!   `late_any`; and in the line from each node to each in `steady` runs: those in which no node set a flag, and no
+//!   first set changed.
+//! - `lost_any`: in how many runs a node set the flag.
+//! - `unended`: in how many runs frames never came to rest, or a link didn't come into service.
+//!
+//! The first line is of a run that is made wrong, so that there is something to find: one message is booked as
+//! accepted that was never submitted, one is submitted twice, and two in the wrong order.
+#![tactic(auto)]
+
+mod book;
+mod deliberate;
+mod fates;
+mod judge;
+mod node_settings;
+mod nodes;
+mod promise;
+mod reporting;
+mod rings;
+mod rounds;
+mod rows;
+mod schedule;
+mod shape;
+mod tally;
+mod total;
+mod verdict;
+mod world;
+
+use deliberate::make_wrong;
+use reporting::report;
+use schedule::schedules;
+use shape::Shape;
+use std::{env, io};
+
+fn main(rt: HostRuntime) -> io::Result<()> {
+    let words: Vec<String> = env::args(&rt)?.skip(1).collect(rt.alloc())?;
+    let runs = count_of(words.as_slice());
+    report(&rt, "made wrong", &make_wrong(rt.alloc()))?;
+    for shape in [
+        Shape::Line,
+        Shape::Triangle,
+        Shape::Square,
+        Shape::MatedPair,
+    ] {
+        try_shape(&rt, shape, runs)?;
+    }
+    Ok(())
+}
+
+/// How many runs there are to be of each shape.
+fn count_of(words: &[String]) -> u64 {
+    match words.first() {
+        Some(word) => word.as_str().parse::<u64>().unwrap_or(0),
+        None => 0,
+    }
+}
+
+/// Tries a shape, and prints what became of its runs.
+fn try_shape(rt: &HostRuntime, shape: Shape, runs: u64) -> io::Result<()> {
+    report(rt, shape.name(), &schedules(rt.alloc(), shape, runs))
+}
