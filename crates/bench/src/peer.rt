@@ -34,7 +34,6 @@ const DECLARATION_OCTETS: u8 = 24;
 
 /// The exchange, and the peer at the other ends of its links. Its state is hidden from proofs: nothing is promised of
 /// it.
-#[derive(Drop)]
 pub(crate) struct Peer {
     exchange: Exchange,
     /// The last link of the first set, which carries the messages.
@@ -47,6 +46,21 @@ pub(crate) struct Peer {
     empty: Incoming,
     buffer: [u8; BUFFER_OCTETS],
     total: Total,
+}
+
+// By hand, so that no proof above has what a peer owns.
+impl Drop for Peer {
+    fn drop(self) {
+        let Peer {
+            exchange: _,
+            link: _,
+            links: _,
+            ends: _,
+            empty: _,
+            buffer: _,
+            total: _,
+        } = self;
+    }
 }
 
 impl Model for Peer {

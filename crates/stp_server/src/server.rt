@@ -43,7 +43,6 @@ pub struct Places<'a> {
 /// A node on sockets. An association of a link is a TCP connection, or one of SCTP in UDP.
 ///
 /// It has no clock: `tick` lets a tick pass, and `now` is the time since the start, as the client reads it.
-#[derive(Drop)]
 pub struct Server {
     alloc: Global,
     node: Node,
@@ -56,6 +55,25 @@ pub struct Server {
     events: Events,
     is_busy: bool,
     is_stopping: bool,
+}
+
+// By hand, so that no proof above has what a server owns.
+impl Drop for Server {
+    fn drop(self) {
+        let Server {
+            alloc: _,
+            node: _,
+            tcp: _,
+            sctp: _,
+            page: _,
+            notices: _,
+            points: _,
+            poll: _,
+            events: _,
+            is_busy: _,
+            is_stopping: _,
+        } = self;
+    }
 }
 
 // No contract can say what sockets give, so nothing is said of a server's state.
