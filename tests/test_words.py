@@ -61,7 +61,17 @@ OTHER_WORDS = (
 )
 
 # What `stp help` lists, in this order.
-COMMANDS = ("run", "run FILE", "check FILE", "lab NEAR FAR", "lab-udp NEAR FAR", "serve FILE", "help", "version")
+COMMANDS = (
+    "run",
+    "run FILE",
+    "check FILE",
+    "lab NEAR FAR",
+    "lab FILE FILE ..",
+    "lab-udp NEAR FAR",
+    "serve FILE",
+    "help",
+    "version",
+)
 
 
 class Words(NodeTest):
@@ -90,7 +100,13 @@ class Words(NodeTest):
                 self.assertIn("stp serve FILE", ended.stderr)
 
     def test_files_that_cannot_be_read(self) -> None:
-        for words in (["serve", "absent"], ["check", "absent"], ["lab", "absent", "absent"], ["run", "absent"]):
+        for words in (
+            ["serve", "absent"],
+            ["check", "absent"],
+            ["lab", "absent", "absent"],
+            ["lab", "absent", "absent", "absent"],
+            ["run", "absent"],
+        ):
             with self.subTest(words):
                 ended = run(*words, folder=self.folder)
                 self.assertEqual((ended.returncode, ended.stdout), (4, ""))

@@ -1,10 +1,11 @@
 -- What words ask for, by the first of them.
-use Rattle.std.proofs.Common.{◌≡◌, ◌∙◌, ◌&&◌, Bool, true, false, refl, sym, ap, true≢false, List, [], ◌∷◌, codes}
+use Rattle.std.proofs.Common.{◌≡◌, ◌∙◌, ◌&&◌, Bool, true, false, refl, sym, ap, true≢false, List, [], ◌∷◌, length, codes}
 use Rattle.std.specs.Prelude.{if◌then◌else◌, string_bytes, String}
 use Rattle.std.specs.Global.{Global}
 use Rattle.std.specs.List.{list_all}
 use Rattle.std.specs.Str.{bytes_eq}
 use Rattle.std.proofs.lemmas.Slice.Eq.{bytes_eq-Decides}
+use Rattle.std.proofs.lemmas.List.{length-map}
 use Rattle.std.proofs.lemmas.Bool.{false_from_ne_true}
 use Rattle.clap.specs.Words.{Text}
 use Rattle.command_line.specs.Words.{Task, asked_by, asked_with, asked_with_two, is_plain, are_plain, texts, OtherWords}
@@ -36,6 +37,15 @@ others-asked word (file ∷ second ∷ more) not-run not-check not-lab not-udp n
 pub plain-texts : (words : List (String Global)) → are_plain words ≡ list_all is_plain (texts words)
 plain-texts [] = refl
 plain-texts (word ∷ words) = ap (λ b. is_plain (string_bytes word) && b) (plain-texts words)
+
+pub length-texts : (words : List (String Global)) → length (texts words) ≡ length words
+length-texts words = length-map words (λ word. string_bytes word)
+
+pub all-plain : (words : List (String Global)) → list_all is_plain (texts words) ≡ are_plain words
+all-plain words = sym (plain-texts words)
+
+-- what is asked of texts is asked of the words
+pub ruleset word_steps = (length-texts, all-plain)
 
 -- a word that isn't plain names nothing
 unnamed : (word name : Text) → is_plain word ≡ false → is_plain name ≡ true → bytes_eq word name ≡ false

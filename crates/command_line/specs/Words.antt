@@ -1,5 +1,5 @@
 -- The program's arguments, and what they ask for.
-use Rattle.std.specs.Prelude.{◌≡◌, ◌⊎◌, ◌&&◌, ◌||◌, ℕ, Bool, true, false, not, nat_eq, List, [], ◌∷◌, Option, None, Some, map}
+use Rattle.std.specs.Prelude.{◌≡◌, ◌⊎◌, ◌&&◌, ◌||◌, ℕ, Bool, true, false, not, nat_eq, nat_lt, length, List, [], ◌∷◌, Option, None, Some, map}
 use Rattle.std.specs.Prelude.{if◌then◌else◌}
 use Rattle.std.specs.Prelude.{codes, bytes_eq, string_bytes, String}
 use Rattle.std.specs.Global.{Global}
@@ -9,14 +9,15 @@ use Rattle.command_line.specs.declared.Words.{Words}
 use Rattle.command_line.specs.declared.Words.TheVariants as words
 
 -- run a script, on the built-in settings or on those of a file; check a file; run a lab script on the settings of two
--- files, over streams or over datagrams; serve a node with the settings of a file; print the program's help, or its
--- version; anything else
+-- files, over streams or over datagrams, or over streams on those of three files or more; serve a node with the settings
+-- of a file; print the program's help, or its version; anything else
 pub data Task : Type 0 where
   BuiltInRun : Task
   FileRun : List ℕ → Task
   FileCheck : List ℕ → Task
   LabRun : (near far : List ℕ) → Task
   DatagramLabRun : (near far : List ℕ) → Task
+  NetworkRun : List (List ℕ) → Task
   FileServe : List ℕ → Task
   Help : Task
   Version : Task
@@ -40,7 +41,8 @@ asked_with_two command near far =
     if bytes_eq command (codes "lab") then LabRun near far
     else (if bytes_eq command (codes "lab-udp") then DatagramLabRun near far else OtherWords)
 
--- the commands: `run`, `run FILE`, `check FILE`, `serve FILE`, `lab NEAR FAR` and `lab-udp NEAR FAR`, and nothing else
+-- the commands of at most two files: `run`, `run FILE`, `check FILE`, `serve FILE`, `lab NEAR FAR` and
+-- `lab-udp NEAR FAR`, and nothing else
 abbrev pub asked_by : List (List ℕ) → Task
 asked_by (command ∷ []) = if bytes_eq command (codes "run") then BuiltInRun else OtherWords
 asked_by (command ∷ file ∷ []) = if is_plain file then asked_with command file else OtherWords
@@ -61,11 +63,26 @@ abbrev pub asks_version : List (List ℕ) → Bool
 asks_version (word ∷ []) = bytes_eq word (codes "version") || bytes_eq word (codes "--version")
 asks_version _ = false
 
+-- `lab FILE FILE FILE ..`, with three files or more
+abbrev pub are_network : (command : List ℕ) → (files : List (List ℕ)) → Bool
+are_network command files = bytes_eq command (codes "lab") && (nat_lt 2 (length files) && list_all is_plain files)
+
+-- the files of such words
+abbrev pub network_files : List (List ℕ) → Option (List (List ℕ))
+network_files (command ∷ files) = if are_network command files then Some files else None
+network_files [] = None
+
+-- a lab of these files, or else a command
+abbrev pub network_or : Option (List (List ℕ)) → Task → Task
+network_or (Some files) other = NetworkRun files
+network_or None other = other
+
 -- help, the version, or a command
 abbrev pub asked : List (String Global) → Task
 asked words =
     if asks_help (texts words) then Help
-    else (if asks_version (texts words) then Version else asked_by (texts words))
+    else (if asks_version (texts words) then Version
+    else network_or (network_files (texts words)) (asked_by (texts words)))
 
 -- what the command that was parsed asks for, by the file after it
 abbrev pub asked_by_command : List ℕ → Option (List ℕ) → Task
@@ -104,6 +121,7 @@ said (words.Run (Some file)) = Some (FileRun (string_bytes file))
 said (words.Check file) = Some (FileCheck (string_bytes file))
 said (words.Lab near far) = Some (LabRun (string_bytes near) (string_bytes far))
 said (words.DatagramLab near far) = Some (DatagramLabRun (string_bytes near) (string_bytes far))
+said (words.Network files) = Some (NetworkRun (texts files.now))
 said (words.Serve file) = Some (FileServe (string_bytes file))
 said words.Help = Some Help
 said words.Version = Some Version

@@ -7,7 +7,8 @@ ghost use Rattle.clap.specs.Words.{app_of, kind_of, subcommand_rows_of};
 ghost use Rattle.clap.specs.declared.builder.command.Command.TheViews.{out-Command as fields_of};
 ghost use Rattle.clap.specs.declared.error.kind.ErrorKind.TheVariants.{OutOfMemory};
 ghost use Rattle.command_line.specs.Words.{asked_by, asked_by_command, asked_by_two, are_plain, asks_help, asks_version};
-ghost use Rattle.command_line.specs.Words.{found, found_by, is_plain, said, texts, OtherWords, AreReadAs, IsReadAs};
+ghost use Rattle.command_line.specs.Words.{are_network, found, found_by, is_plain, network_files, said, texts};
+ghost use Rattle.command_line.specs.Words.{OtherWords, AreReadAs, IsReadAs};
 ghost use Rattle.command_line.specs.Grammar.{stp, bare, run, check, lab, lab_udp, serve};
 
 use clap::error::ErrorKind;
@@ -16,7 +17,7 @@ use std::alloc::{AllocError, Global};
 
 /// What the program's arguments ask for.
 #[derive(Drop)]
-pub enum Words {
+pub enum Words<'a> {
     /// `run` or `run FILE`: run the script on standard input, on the settings of this file, or on those built in.
     Run(Option<String>),
     /// `check FILE`: check whether the settings of this file have a fault.
@@ -25,6 +26,9 @@ pub enum Words {
     Lab(String, String),
     /// `lab-udp NEAR FAR`: the same, over UDP sockets of this machine.
     DatagramLab(String, String),
+    /// `lab FILE FILE FILE ..`: run the lab script on standard input, on three nodes or more with the settings of these
+    /// files.
+    Network(&'a [String]),
     /// `serve FILE`: serve a node on the network with the settings of this file.
     Serve(String),
     /// `help` or `--help`: print the program's commands, and what they mean.
@@ -40,18 +44,39 @@ pub enum Words {
 /// What the program's arguments ask for. If one of them is empty or begins with `-`, they are none of the commands,
 /// unless they are `--help` or `--version`. No memory is allocated for these, `help` and `version`; for all others it
 /// may run out.
-pub fn read_words(alloc: Global, words: &[String]) -> Words
+pub fn read_words<'a>(alloc: Global, words: &'a [String]) -> Words<'a>
     ensures { AreReadAs words.now result }
 {
     if asks_help(words) {
         Words::Help
     } else if asks_version(words) {
         Words::Version
+    } else if let Some(files) = network_files(words) {
+        Words::Network(files)
     } else {
         read_command(alloc, words)
     }
 }
 
+/// The files of a lab of three nodes or more, where the words ask for one.
+fn network_files(words: &[String]) -> Option<&[String]>
+    ensures { option_map (λ files. texts files.now) result ≡ network_files (texts words.now) }
+{
+    match words {
+        [command, files @ ..] if are_network(command.as_str(), files) => Some(files),
+        _ => None,
+    }
+}
+
+/// Whether this command and these files ask for a lab of three nodes or more.
+#[tactic(auto, using(crate::proofs::Asked::word_steps))]
+fn are_network(command: &str, files: &[String]) -> bool
+    ensures { result ≡ are_network command.now (texts files.now) }
+{
+    command == "lab" && files.len() > 2 && are_plain(files)
+}
+
+/// Whether the words ask for help.
 fn asks_help(words: &[String]) -> bool
     ensures { result ≡ asks_help (texts words.now) }
 {
@@ -72,7 +97,7 @@ fn asks_version(words: &[String]) -> bool
 
 /// Which command the arguments ask for. If one of them is empty or begins with `-` they ask for none, and no memory is
 /// allocated for them; for all others it may run out.
-fn read_command(alloc: Global, words: &[String]) -> Words
+fn read_command<'a>(alloc: Global, words: &'a [String]) -> Words<'a>
     ensures { IsReadAs (asked_by (texts words.now)) (are_plain words.now) result }
 {
     if !are_plain(words) {
@@ -115,7 +140,7 @@ fn parse<'a>(alloc: Global, words: &'a [String]) -> Result<ArgMatches<'a>, Error
 }
 
 /// What arguments that were parsed like this ask for.
-fn found(alloc: Global, matches: &ArgMatches<'_>) -> Result<Words, AllocError>
+fn found<'a>(alloc: Global, matches: &ArgMatches<'_>) -> Result<Words<'a>, AllocError>
     ensures { IfOk result (λ read. said read ≡ Some (found (subcommand_rows_of matches.now))) }
 {
     match matches.subcommand() {
@@ -130,13 +155,13 @@ fn found(alloc: Global, matches: &ArgMatches<'_>) -> Result<Words, AllocError>
 }
 
 /// What a command asks for, by the files after it.
-fn with_files(
+fn with_files<'a>(
     alloc: Global,
     command: &str,
     file: Option<&str>,
     near: Option<&str>,
     far: Option<&str>,
-) -> Result<Words, AllocError>
+) -> Result<Words<'a>, AllocError>
     ensures { IfOk result (λ read. said read ≡ Some (found_by command.now (option_map (λ name. name.now) file.entry)
         (option_map (λ name. name.now) near.entry) (option_map (λ name. name.now) far.entry))) }
 {
@@ -148,7 +173,7 @@ fn with_files(
 }
 
 /// What a command asks for, by the file after it.
-fn with_file(alloc: Global, command: &str, file: Option<&str>) -> Result<Words, AllocError>
+fn with_file<'a>(alloc: Global, command: &str, file: Option<&str>) -> Result<Words<'a>, AllocError>
     ensures { IfOk result (λ read.
         said read ≡ Some (asked_by_command command.now (option_map (λ name. name.now) file.entry))) }
 {
@@ -162,12 +187,12 @@ fn with_file(alloc: Global, command: &str, file: Option<&str>) -> Result<Words, 
 }
 
 /// What a command with two files after it asks for.
-fn with_two_files(
+fn with_two_files<'a>(
     alloc: Global,
     command: &str,
     near: Option<&str>,
     far: Option<&str>,
-) -> Result<Words, AllocError>
+) -> Result<Words<'a>, AllocError>
     ensures { IfOk result (λ read. said read ≡ Some (asked_by_two command.now
         (option_map (λ name. name.now) near.entry) (option_map (λ name. name.now) far.entry))) }
 {

@@ -29,10 +29,10 @@ pub(crate) struct DatagramBench<'a, N> {
 }
 
 impl<N: Net + RandomSource> Bench for DatagramBench<'_, N> {
-    fn perform(&mut self, line: &[u8]) -> Result<Option<(End, Reply)>, Malformed> {
+    fn perform(&mut self, line: &[u8]) -> Result<Option<(usize, Reply)>, Malformed> {
         if let Some(dropped) = parse_drop(line) {
             let reply = self.drop_from(dropped.end, dropped.link);
-            return Ok(Some((dropped.end, reply)));
+            return Ok(Some((dropped.end.place(), reply)));
         }
         match parse_lab_line(line)? {
             Some(asked) => Ok(Some(self.do_asked(asked))),
@@ -40,31 +40,41 @@ impl<N: Net + RandomSource> Bench for DatagramBench<'_, N> {
         }
     }
 
-    fn node(&self, end: End) -> &Exchange {
-        match end {
-            End::Near => self.near,
-            End::Far => self.far,
-        }
+    fn node(&self, place: usize) -> Option<&Exchange> {
+        Some(self.node_at(End::in_place(place)?))
     }
 }
 
 impl<N: Net + RandomSource> DatagramBench<'_, N> {
     /// Does what a line of each lab asks for.
-    fn do_asked(&mut self, asked: LabLine<'_>) -> (End, Reply) {
+    fn do_asked(&mut self, asked: LabLine<'_>) -> (usize, Reply) {
         match asked {
-            LabLine::Open { link } => (End::Near, self.open(link)),
-            LabLine::Move { end, link } => (end.other(), self.carry_from(end, link)),
-            LabLine::Lose { end, link } => (end, self.lose(end, link)),
-            LabLine::TakeCount { end, link } => (end, count(link, self.node(end))),
+            LabLine::Open { place, link } => (place, self.open(link)),
+            LabLine::Move { place, link } => {
+                let end = end_in(place);
+                (end.other().place(), self.carry_from(end, link))
+            }
+            LabLine::Lose { place, link } => (place, self.lose(end_in(place), link)),
+            LabLine::TakeCount { place, link } => (place, count(link, self.node_at(end_in(place)))),
             LabLine::AtNode {
-                end,
+                place,
                 line: Line::Tick { ticks },
-            } => (end, self.tick(end, ticks)),
-            LabLine::AtNode { end, line } => (end, perform(self.node_mut(end), line)),
+            } => (place, self.tick(end_in(place), ticks)),
+            LabLine::AtNode { place, line } => {
+                (place, perform(self.node_mut(end_in(place)), line))
+            }
         }
     }
 
-    /// The node of an end, to be changed.
+    /// The node of an end.
+    fn node_at(&self, end: End) -> &Exchange {
+        match end {
+            End::Near => self.near,
+            End::Far => self.far,
+        }
+    }
+
+    /// The same, to be changed.
     fn node_mut(&mut self, end: End) -> &mut Exchange {
         match end {
             End::Near => self.near,
@@ -153,6 +163,11 @@ impl<N: Net + RandomSource> DatagramBench<'_, N> {
         let circuits = &mut *self.circuits;
         tick_all(circuits, end, self.near, self.far, self.times);
     }
+}
+
+/// The end in a place that a line of two nodes names.
+fn end_in(place: usize) -> End {
+    End::in_place(place).unwrap_or(End::Near)
 }
 
 /// The line of a move.

@@ -2,6 +2,7 @@
 
 ghost use Rattle.std.specs.Prelude.{◌≡◌, OnOk};
 ghost use Rattle.std.specs.Io.KnownBytes.{IsAtEnd};
+ghost use Rattle.exchange.specs.Calls.{Kept};
 ghost use Rattle.settings.specs.Facing.{IsFacing};
 ghost use Rattle.settings.specs.Naming.{link_names};
 ghost use Rattle.script.specs.Faults.{MakesReads, reads_failed, writes_failed};
@@ -33,7 +34,7 @@ pub fn run_datagram_lab<N: Net + RandomSource, R: Source, W: Sink>(
     ensures bounded { MakesReads result (R.input reader.old).reads (R.input reader.new).reads }
     ensures reads { (R.input reader.new).failures ≡ reads_failed (R.input reader.old).failures result }
     ensures writes { (W.output writer.new).failures ≡ writes_failed (W.output writer.old).failures result }
-    ensures unchanged { LeavesAll result near.old near.new far.old far.new
+    ensures unchanged { LeavesAll {N = Kept × Kept} result (near.old, far.old) (near.new, far.new)
         (R.input reader.old) (R.input reader.new) (W.output writer.old) (W.output writer.new) }
 {
     let Ok(mut circuits) = no_circuits(alloc, near.settings().link_count()) else {

@@ -1,3 +1,4 @@
 pub mod Bringing
+pub mod Networks
 pub mod Reading
 pub mod Standing

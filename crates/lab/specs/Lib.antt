@@ -2,3 +2,4 @@ pub mod Faults
 pub mod Memory
 pub mod Carrying
 pub mod Script
+pub mod Network

@@ -1,7 +1,6 @@
 -- How much of a script is read, and how it ends.
 use Rattle.std.specs.Prelude.{◌≡◌, ◌≤◌, ℕ, List, length, Option, Result, Ok, Err}
 use Rattle.std.specs.Io.KnownBytes.{Consumes}
-use Rattle.exchange.specs.Calls.{Kept}
 use Rattle.script.specs.Streams.{Input, Output}
 use Rattle.script.specs.declared.fault.TheConstants.{READS}
 use Rattle.script.specs.declared.fault.ScriptFault.{ScriptFault}
@@ -23,10 +22,10 @@ abbrev pub EndsInScript : Result Unit ScriptFault → Type 0
 EndsInScript (Err NoMemory) = ⊥
 EndsInScript result = Unit {0}
 
--- where memory was refused, neither node has changed, and nothing was read or written
-abbrev pub LeavesAll : Result Unit ScriptFault → (near near_new far far_new : Kept) → (input input_new : Input)
+-- where memory was refused, no node has changed, and nothing was read or written
+abbrev pub LeavesAll : {N : Type 0} → Result Unit ScriptFault → (nodes nodes_new : N) → (input input_new : Input)
     → (output output_new : Output) → Type 0
-LeavesAll (Err NoMemory) near near_new far far_new input input_new output output_new =
-    (near_new ≡ near) × (far_new ≡ far) × (input_new ≡ input) × (output_new ≡ output)
-LeavesAll (Ok x) near near_new far far_new input input_new output output_new = Unit {0}
-LeavesAll (Err other) near near_new far far_new input input_new output output_new = Unit {0}
+LeavesAll (Err NoMemory) nodes nodes_new input input_new output output_new =
+    (nodes_new ≡ nodes) × (input_new ≡ input) × (output_new ≡ output)
+LeavesAll (Ok x) nodes nodes_new input input_new output output_new = Unit {0}
+LeavesAll (Err other) nodes nodes_new input input_new output output_new = Unit {0}

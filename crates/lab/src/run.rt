@@ -2,15 +2,17 @@
 
 ghost use Rattle.std.specs.Prelude.{◌≡◌, ◌+◌, ◌≤◌, ◌<◌, ◌^◌, length, OnOk, Err};
 ghost use Rattle.std.specs.Io.KnownBytes.{IsAtEnd};
+ghost use Rattle.exchange.specs.Calls.{Kept};
 ghost use Rattle.settings.specs.Facing.{IsFacing};
 ghost use Rattle.script.specs.Faults.{MakesReads, reads_failed, writes_failed, EndsAtLine};
 ghost use Rattle.settings.specs.Naming.{link_names};
 ghost use Rattle.lab.specs.Script.{EndsInScript, LeavesAll, ReadsOn};
 
 use crate::bench::Bench;
-use crate::circuit::closed_circuits;
+use crate::circuits::facing_circuits;
 use crate::doing::StreamBench;
 use crate::joining::Joiner;
+use crate::nodes::TwoNodes;
 use exchange::Exchange;
 use script::{Grown, Malformed, OpenLine, READS, ScriptFault, Sink, Source, print};
 use std::alloc::Global;
@@ -39,16 +41,15 @@ pub fn run_lab<J: Joiner, R: Source, W: Sink>(
     ensures bounded { MakesReads result (R.input reader.old).reads (R.input reader.new).reads }
     ensures reads { (R.input reader.new).failures ≡ reads_failed (R.input reader.old).failures result }
     ensures writes { (W.output writer.new).failures ≡ writes_failed (W.output writer.old).failures result }
-    ensures unchanged { LeavesAll result near.old near.new far.old far.new
+    ensures unchanged { LeavesAll {N = Kept × Kept} result (near.old, far.old) (near.new, far.new)
         (R.input reader.old) (R.input reader.new) (W.output writer.old) (W.output writer.new) }
     ensures joiner { result ≡ Err ScriptFault.NoMemory → joiner.new ≡ joiner.old }
 {
-    let Ok(mut circuits) = closed_circuits(alloc, near.settings().link_count()) else {
+    let Ok(mut circuits) = facing_circuits(alloc, near.settings().link_count()) else {
         return Err(ScriptFault::NoMemory);
     };
     let mut bench = StreamBench {
-        near,
-        far,
+        nodes: TwoNodes { near, far },
         joiner,
         circuits: circuits.as_mut_slice(),
     };
@@ -132,8 +133,10 @@ fn do_line<B: Bench, W: Sink>(
     ensures fault { EndsAtLine result }
 {
     match bench.perform(line.octets()) {
-        Ok(Some((end, reply))) => {
-            print(bench.node(end), &reply, writer)?;
+        Ok(Some((place, reply))) => {
+            if let Some(node) = bench.node(place) {
+                print(node, &reply, writer)?;
+            }
             Ok(())
         }
         Ok(None) => Ok(()),

@@ -5,7 +5,6 @@ use Rattle.std.specs.Global.{Global}
 use Rattle.std.specs.Io.KnownBytes.{IsAtEnd}
 use Rattle.settings_file.specs.Faults.{no_memory}
 use Rattle.settings_rows.specs.Configuration.{Configuration}
-use Rattle.exchange.specs.Calls.{Kept}
 use Rattle.lab.specs.Script.{LeavesAll}
 use Rattle.program.specs.Explaining.{IsLabEndExplained}
 use Rattle.script.specs.Faults.{Counts}
@@ -27,23 +26,23 @@ lacks_memory (Err (Line line)) = inr (λ e. cc e)
 lacks_memory (Err TooManyReads) = inr (λ e. cc e)
 
 -- what a lab leaves as it was for want of memory
-pub leaves-input : (script : Result Unit ScriptFault) (near near_new far far_new : Kept) (input input_new : Input) (output output_new : Output)
-    → LeavesAll script near near_new far far_new input input_new output output_new → script ≡ Err NoMemory → input_new ≡ input
-leaves-input (Err NoMemory) near near_new far far_new input input_new output output_new left e = left.2
-leaves-input (Ok x) near near_new far far_new input input_new output output_new left e = cc e
-leaves-input (Err Read) near near_new far far_new input input_new output output_new left e = cc e
-leaves-input (Err Write) near near_new far far_new input input_new output output_new left e = cc e
-leaves-input (Err (Line line)) near near_new far far_new input input_new output output_new left e = cc e
-leaves-input (Err TooManyReads) near near_new far far_new input input_new output output_new left e = cc e
+pub leaves-input : {N : Type 0} → (script : Result Unit ScriptFault) (nodes nodes_new : N) (input input_new : Input) (output output_new : Output)
+    → LeavesAll script nodes nodes_new input input_new output output_new → script ≡ Err NoMemory → input_new ≡ input
+leaves-input (Err NoMemory) nodes nodes_new input input_new output output_new left e = left.1
+leaves-input (Ok x) nodes nodes_new input input_new output output_new left e = cc e
+leaves-input (Err Read) nodes nodes_new input input_new output output_new left e = cc e
+leaves-input (Err Write) nodes nodes_new input input_new output output_new left e = cc e
+leaves-input (Err (Line line)) nodes nodes_new input input_new output output_new left e = cc e
+leaves-input (Err TooManyReads) nodes nodes_new input input_new output output_new left e = cc e
 
-pub leaves-output : (script : Result Unit ScriptFault) (near near_new far far_new : Kept) (input input_new : Input) (output output_new : Output)
-    → LeavesAll script near near_new far far_new input input_new output output_new → script ≡ Err NoMemory → output_new ≡ output
-leaves-output (Err NoMemory) near near_new far far_new input input_new output output_new left e = left.3
-leaves-output (Ok x) near near_new far far_new input input_new output output_new left e = cc e
-leaves-output (Err Read) near near_new far far_new input input_new output output_new left e = cc e
-leaves-output (Err Write) near near_new far far_new input input_new output output_new left e = cc e
-leaves-output (Err (Line line)) near near_new far far_new input input_new output output_new left e = cc e
-leaves-output (Err TooManyReads) near near_new far far_new input input_new output output_new left e = cc e
+pub leaves-output : {N : Type 0} → (script : Result Unit ScriptFault) (nodes nodes_new : N) (input input_new : Input) (output output_new : Output)
+    → LeavesAll script nodes nodes_new input input_new output output_new → script ≡ Err NoMemory → output_new ≡ output
+leaves-output (Err NoMemory) nodes nodes_new input input_new output output_new left e = left.2
+leaves-output (Ok x) nodes nodes_new input input_new output output_new left e = cc e
+leaves-output (Err Read) nodes nodes_new input input_new output output_new left e = cc e
+leaves-output (Err Write) nodes nodes_new input input_new output output_new left e = cc e
+leaves-output (Err (Line line)) nodes nodes_new input input_new output output_new left e = cc e
+leaves-output (Err TooManyReads) nodes nodes_new input input_new output output_new left e = cc e
 
 pub lab-ended : (script : Result Unit ScriptFault) (old : Streams) (input : Input) (output output_new errors : Output) (ended : Status)
     → OnOk script (IsAtEnd input.remaining)

@@ -3,3 +3,4 @@ pub mod BuiltIn
 pub mod Told
 pub mod Files
 pub mod Labs
+pub mod Networks

@@ -1,4 +1,5 @@
 pub mod Folders
 pub mod Sentences
 pub mod Explaining
+pub mod Network
 pub mod Program

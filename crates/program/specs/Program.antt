@@ -1,5 +1,5 @@
 -- What the program does for its arguments, and its exit statuses.
-use Rattle.std.specs.Prelude.{◌≡◌, ◌≢◌, ◌⊎◌, ℕ, List, ◌++◌, codes, Result, Ok, Err, OnOk, String, true}
+use Rattle.std.specs.Prelude.{◌≡◌, ◌≢◌, ◌⊎◌, ℕ, List, [], ◌∷◌, ◌++◌, codes, None, Some, Result, Ok, Err, OnOk, String, true}
 use Rattle.std.specs.Global.{Global}
 use Rattle.std.specs.Io.KnownBytes.{Appends, IsAtEnd}
 use Rattle.settings_rows.specs.Configuration.{Configuration}
@@ -13,6 +13,9 @@ use Rattle.script.specs.BuiltIn.{built_in_settings}
 use Rattle.settings_file.specs.Sentences.{Explains}
 use Rattle.program.specs.Explaining.{IsTold, IsToldOf, usage_text, unread_sentence, IsWarned, IsEndExplained, strangers_sentence, IsLabEndExplained}
 use Rattle.script.specs.Faults.{Counts}
+use Rattle.lab.specs.Network.{network_fault}
+use Rattle.lab.specs.declared.network.NetworkFault.{NetworkFault}
+use Rattle.program.specs.Network.{network_line, network_sentence}
 use Rattle.program.specs.Folders.{FileRead, AreSettings, IsFault, AreServed, IsServerFault}
 use Rattle.serve_settings.specs.Faults as server
 use Rattle.serve_settings.specs.Sentences as server_sentences
@@ -24,7 +27,7 @@ use Rattle.script.specs.declared.fault.ScriptFault.{ScriptFault}
 use Rattle.script.specs.declared.fault.ScriptFault.TheVariants as fault
 use Rattle.program.specs.declared.program.Status.{Status}
 use Rattle.program.specs.declared.program.Status.TheVariants as status
-use Rattle.command_line.specs.Words.{Task, BuiltInRun, FileRun, FileCheck, LabRun, DatagramLabRun, FileServe}
+use Rattle.command_line.specs.Words.{Task, BuiltInRun, FileRun, FileCheck, LabRun, DatagramLabRun, NetworkRun, FileServe}
 use Rattle.command_line.specs.Words.{Help, Version, OtherWords, asked, take_memory}
 
 -- the streams of a program: its input, its output, and its standard error
@@ -206,6 +209,62 @@ RunsLab near far reads old new ended =
     (λ far_settings begun. RunsNodes near far near_settings far_settings begun new ended) between new ended)
     old new ended
 
+-- a file has these settings, and standard error is warned of it
+abbrev pub HasNode : (file : List ℕ) → (List ℕ → FileRead → Type 0) → Configuration → (errors errors_new : Output)
+    → Type 0
+HasNode file reads settings errors errors_new =
+    (read : FileRead) × reads file read × HasSettings file read settings errors errors_new
+
+-- files have these settings, one after the other
+abbrev pub HaveSettings : (files : List (List ℕ)) → (List ℕ → FileRead → Type 0) → List Configuration
+    → (errors errors_new : Output) → Type 0
+HaveSettings [] reads [] errors errors_new = errors_new ≡ errors
+HaveSettings (file ∷ files) reads (settings ∷ more) errors errors_new =
+    (warned : Output) × HasNode file reads settings errors warned × HaveSettings files reads more warned errors_new
+HaveSettings [] reads (settings ∷ more) errors errors_new = ⊥
+HaveSettings (file ∷ files) reads [] errors errors_new = ⊥
+
+-- memory runs out, and standard error is told nothing more
+abbrev pub EndsForMemory : (output output_new errors errors_new : Output) → Status → Type 0
+EndsForMemory output output_new errors errors_new ended =
+    EndsWith status.Start (told no_memory) output output_new ended × (errors_new ≡ errors)
+
+-- how the program ends where it has no node of a file: the file has no settings, or memory runs out for its node
+abbrev pub EndsAtNode : (file : List ℕ) → (List ℕ → FileRead → Type 0) → (output output_new errors errors_new : Output)
+    → Status → Type 0
+EndsAtNode file reads output output_new errors errors_new ended =
+    ((read : FileRead) × reads file read × EndsAtFile file read output output_new errors errors_new ended)
+    ⊎ ((settings : Configuration) × (warned : Output) × HasNode file reads settings errors warned
+    × EndsForMemory output output_new warned errors_new ended)
+
+-- how the program ends while it reads files: the first of them have settings, and then it has no node of the next, or
+-- memory runs out
+abbrev pub EndsReading : (files : List (List ℕ)) → (List ℕ → FileRead → Type 0)
+    → (output output_new errors errors_new : Output) → Status → Type 0
+EndsReading files reads output output_new errors errors_new ended =
+    (some more : List (List ℕ)) × (files ≡ some ++ more) × (settings : List Configuration) × (warned : Output)
+    × HaveSettings some reads settings errors warned
+    × (((file : List ℕ) × (rest : List (List ℕ)) × (more ≡ file ∷ rest)
+    × EndsAtNode file reads output output_new warned errors_new ended)
+    ⊎ EndsForMemory output output_new warned errors_new ended)
+
+-- nodes that are a network run the lab script, or memory runs out before it; where they aren't one, their first fault is
+-- printed and explained, and nothing of the script is read
+abbrev pub RunsJoined : (files : List (List ℕ)) → List Configuration → Streams → Streams → Status → Type 0
+RunsJoined files settings old new ended =
+    ((network_fault settings ≡ None) × RunsLabScript old new ended)
+    ⊎ ((fault : NetworkFault) × (network_fault settings ≡ Some fault)
+    × EndsWith status.Start (network_line settings fault) old.output new.output ended × (new.input ≡ old.input)
+    × IsToldOf (λ text. text ≡ network_sentence files settings fault) old.errors new.errors)
+
+-- the files are read one after the other, and then their nodes run the lab script; or memory runs out
+abbrev pub RunsNetwork : (files : List (List ℕ)) → (List ℕ → FileRead → Type 0) → Streams → Streams → Status → Type 0
+RunsNetwork files reads old new ended =
+    ((settings : List Configuration) × (warned : Output) × HaveSettings files reads settings old.errors warned
+    × (RunsJoined files settings (record old { errors = warned }) new ended
+    ⊎ HasNoMemory (record old { errors = warned }) new ended))
+    ⊎ (EndsReading files reads old.output new.output old.errors new.errors ended × (new.input ≡ old.input))
+
 -- what the program does for a task, if a file is read as `reads` says
 abbrev pub DoesTask : Task → (List ℕ → FileRead → Type 0) → Streams → Streams → Status → Type 0
 DoesTask BuiltInRun reads old new ended =
@@ -217,6 +276,7 @@ DoesTask (FileCheck file) reads old new ended =
     × ChecksFile file read old.output new.output old.errors new.errors ended × (new.input ≡ old.input)
 DoesTask (LabRun near far) reads old new ended = RunsLab near far reads old new ended
 DoesTask (DatagramLabRun near far) reads old new ended = RunsLab near far reads old new ended
+DoesTask (NetworkRun files) reads old new ended = RunsNetwork files reads old new ended
 DoesTask (FileServe file) reads old new ended =
     (read : FileRead) × reads file read
     × ServesFile file read old.output new.output old.errors new.errors ended × (new.input ≡ old.input)

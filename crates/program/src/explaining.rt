@@ -21,6 +21,7 @@ stp run               runs the script on standard input, with the built-in setti
 stp run FILE          runs it with the settings in FILE
 stp check FILE        prints ok, or the first fault of the settings in FILE
 stp lab NEAR FAR      runs the lab script on standard input, on two nodes that it joins
+stp lab FILE FILE ..  runs it on three nodes or more, whose points the script then names
 stp lab-udp NEAR FAR  runs it on two nodes that it joins by SCTP in UDP
 stp serve FILE        serves a node on the network, with the settings in FILE
 stp help              prints these lines
@@ -168,6 +169,13 @@ pub(crate) fn explain_strangers<E: Sink>(alloc: Global, near: &str, far: &str, e
         ),
         errors,
     );
+}
+
+/// Tells why nodes aren't a network, unless memory ran out for the sentence.
+pub(crate) fn explain_network<E: Sink>(sentence: Result<String, AllocError>, errors: &mut E)
+    ensures { IsToldMade sentence (E.output errors.old) (E.output errors.new) }
+{
+    tell_made(sentence, errors);
 }
 
 /// Explains why a lab script ended before its end, if it did.

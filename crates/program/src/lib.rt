@@ -6,6 +6,7 @@ mod ending;
 mod explaining;
 pub mod folder;
 mod machine;
+mod network;
 pub mod program;
 mod sentences;
 mod serving;

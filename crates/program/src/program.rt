@@ -16,6 +16,7 @@ use crate::ending::{
 };
 use crate::explaining::explain_end;
 use crate::folder::Folder;
+use crate::network::run_network_files;
 use crate::serving::serve_file;
 use crate::settings_files::{document_of, settings_in, settings_of};
 use crate::two_nodes::{Medium, run_files};
@@ -36,7 +37,7 @@ pub enum Status {
     Done = 0,
     /// Words that aren't the program's.
     Usage = 1,
-    /// The settings, two nodes that don't face each other, or the memory to start with.
+    /// The settings, nodes that a lab doesn't join, or the memory to start with.
     Start = 2,
     /// A line of the script.
     Line = 3,
@@ -84,6 +85,9 @@ pub fn run_program<F: Folder, J: Joiner, R: Source, W: Sink, E: Sink>(
             let files = (near.as_str(), far.as_str());
             let medium: Medium<'_, J> = Medium::Datagrams(rt);
             run_files(alloc, folder, files, medium, reader, writer, errors)
+        }
+        Words::Network(files) => {
+            run_network_files(alloc, folder, files, joiner, reader, writer, errors)
         }
         Words::Serve(file) => serve_file(rt, folder, file.as_str(), writer, errors),
         Words::Help => tell_help(writer),

@@ -3,6 +3,7 @@
 ghost use Rattle.std.specs.Prelude.{◌≡◌, ◌≢◌, ◌⊎◌, IfOk, OnOk, Err, true, false};
 ghost use Rattle.std.specs.Io.KnownBytes.{IsAtEnd};
 ghost use Rattle.script.specs.Faults.{MakesReads, reads_failed, writes_failed};
+ghost use Rattle.exchange.specs.Calls.{Kept};
 ghost use Rattle.lab.specs.Script.{LeavesAll};
 ghost use Rattle.settings_file.specs.Faults.{no_memory};
 ghost use Rattle.settings.specs.Facing.{IsFacing};
@@ -188,7 +189,7 @@ fn run_by<J: Joiner, R: Source, W: Sink>(
     ensures bounded { MakesReads result (R.input reader.old).reads (R.input reader.new).reads }
     ensures reads { (R.input reader.new).failures ≡ reads_failed (R.input reader.old).failures result }
     ensures writes { (W.output writer.new).failures ≡ writes_failed (W.output writer.old).failures result }
-    ensures unchanged { LeavesAll result near.old near.new far.old far.new
+    ensures unchanged { LeavesAll {N = Kept × Kept} result (near.old, far.old) (near.new, far.new)
         (R.input reader.old) (R.input reader.new) (W.output writer.old) (W.output writer.new) }
 {
     match medium {
@@ -198,14 +199,14 @@ fn run_by<J: Joiner, R: Source, W: Sink>(
 }
 
 /// The node with these settings, before its first event.
-fn booted(alloc: Global, settings: Settings) -> Result<Exchange, NoMemory>
+pub(crate) fn booted(alloc: Global, settings: Settings) -> Result<Exchange, NoMemory>
     ensures { IfOk result (λ node. node.settings ≡ settings) }
 {
     Exchange::boot(alloc, settings)
 }
 
 /// Explains why a lab script ended before its end, if it did, and returns how the program ends.
-fn end_lab<W: Sink, E: Sink>(
+pub(crate) fn end_lab<W: Sink, E: Sink>(
     alloc: Global,
     script: Result<(), ScriptFault>,
     writer: &mut W,

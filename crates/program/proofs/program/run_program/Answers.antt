@@ -1,5 +1,6 @@
 use Rattle.std.proofs.Common.{inl, inr}
 use Rattle.program.proofs.Labs.{does-lab, does-datagram-lab}
+use Rattle.program.proofs.Networks.{does-network}
 use Rattle.program.proofs.program.run_program.Goals as goal
 
 pub returns-in-Lab : goal.returns-in-Lab
@@ -11,5 +12,11 @@ returns-in-Lab g c = elim c.in-Lab.ensures [
 pub returns-in-DatagramLab : goal.returns-in-DatagramLab
 returns-in-DatagramLab g c = elim c.in-DatagramLab.ensures [
   | inl asked ↦ does-datagram-lab c.args.words.now _ _ _ _ _ _ _ _ c.as_str-in-DatagramLab.ensures.value c.as_str-in-DatagramLab-2.ensures.value asked c.run_files-in-DatagramLab.ensures
+  | inr refused ↦ absurd (cc (refused.0))
+]
+
+pub returns-in-Network : goal.returns-in-Network
+returns-in-Network g c = elim c.in-Network.ensures [
+  | inl asked ↦ does-network c.args.words.now _ _ _ _ _ asked c.run_network_files.ensures
   | inr refused ↦ absurd (cc (refused.0))
 ]

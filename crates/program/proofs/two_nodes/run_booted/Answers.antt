@@ -11,5 +11,5 @@ returns g c =
       reads_failed = c.run_by-script.ensures.reads;
       writes_failed = c.run_by-script.ensures.writes;
     })
-    (leaves-input c.run_by-script.result _ _ _ _ _ _ _ _ left) (leaves-output c.run_by-script.result _ _ _ _ _ _ _ _ left)
+    (leaves-input c.run_by-script.result _ _ _ _ _ _ left) (leaves-output c.run_by-script.result _ _ _ _ _ _ left)
     c.end_lab.ensures.memory c.end_lab.ensures.status c.end_lab.ensures.unwritten c.end_lab.ensures.explained
