@@ -13,8 +13,7 @@ use Rattle.exchange.proofs.Standing.{stands-first}
 use Rattle.pair_rules.specs.Sharing.{AreSharing}
 use Rattle.network_rules.specs.Networks.{NetworkState, first_network, first_node}
 use Rattle.network_rules.specs.Pairs.{AreTheirPoints, AreWellOrAlone}
-use Rattle.network_rules.specs.Row.{no_settings}
-use Rattle.pair_world.specs.Joined.{AreJoined, AreWell, IsJoined, settings_at, settings_for, settings_or}
+use Rattle.pair_world.specs.Joined.{no_settings, AreJoined, AreWell, IsJoined, settings_at, settings_for, settings_or}
 use Rattle.pair_world.specs.KeptNodes.{KeptNode, kept_node_of}
 use Rattle.pair_world.specs.KeptNetworks.{is_at, kept_at}
 use Rattle.pair_world.specs.NetworkStands.{IsNetwork, IsNetworkReached, IsNodeAt, NetworkStandsFor}

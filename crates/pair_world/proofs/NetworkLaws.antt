@@ -16,8 +16,8 @@ use Rattle.neighbour_rules.specs.Promises.{EachOnce, InOrder, waiting}
 use Rattle.network_rules.specs.Networks.{NetworkNode, NetworkState, first_node}
 use Rattle.network_rules.specs.Pairs as networks
 use Rattle.network_rules.specs.Pairs.{came_from, pair_of}
-use Rattle.network_rules.specs.Row.{no_settings}
 use Rattle.network_rules.proofs.Promised.{once, order}
+use Rattle.pair_world.specs.Joined.{no_settings}
 use Rattle.pair_world.specs.Promised.{ComeInOrder, ComeOnce}
 use Rattle.pair_world.specs.KeptNodes.{KeptNode, kept_node_of}
 use Rattle.pair_world.specs.KeptNetworks.{kept_at, node_at, place_at}

@@ -18,9 +18,9 @@ use Rattle.pair_rules.specs.Pairs.{Doing, Submits, Takes, Delivers, DeliversStat
 use Rattle.pair_rules.specs.Sharing.{AreSharing}
 use Rattle.neighbour_rules.specs.Neighbours.{end_there}
 use Rattle.network_rules.specs.Networks.{NetworkNode, NetworkState, Place, Step, after_step, after_steps, changed, comes_up, did, did_here, end_of, first_network, first_node, is_led, may_open_there, opens_first, other_end, place_there, reaches, sends, take_frame}
-use Rattle.network_rules.specs.Row.{no_settings}
 use Rattle.network_rules.proofs.AllRuns.{are-apart}
 use Rattle.network_rules.proofs.Places.{node-other, node-same}
+use Rattle.pair_world.specs.Joined.{no_settings}
 use Rattle.pair_world.specs.declared.doing.Reach.{Reach}
 use Rattle.pair_world.specs.declared.doing.Reach.TheVariants as reach
 use Rattle.pair_world.specs.KeptNodes.{BothTurn, KeptNode, NodeTurn, both_did, kept_node_of, node_did, node_takes}

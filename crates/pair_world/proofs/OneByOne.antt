@@ -6,8 +6,7 @@ use Rattle.settings_rows.specs.Configuration.{Configuration}
 use Rattle.settings.specs.Readings.{set_place}
 use Rattle.settings.specs.Sharing.{SharesSet}
 use Rattle.exchange_rules.specs.Routing.{adjacent_of}
-use Rattle.network_rules.specs.Row.{no_settings}
-use Rattle.pair_world.specs.Joined.{settings_at, settings_for, settings_or}
+use Rattle.pair_world.specs.Joined.{no_settings, settings_at, settings_for, settings_or}
 use Rattle.pair_world.proofs.Firsts.{found-at, found-none}
 use Rattle.pair_world.proofs.NodePlaces.{equal}
 

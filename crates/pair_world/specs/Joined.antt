@@ -5,13 +5,16 @@ use Rattle.settings_rows.specs.Configuration.{Configuration, LinkEntry}
 use Rattle.settings.specs.Sharing.{SharesSet}
 use Rattle.settings.specs.Well.{IsWell}
 use Rattle.exchange_rules.specs.Routing.{adjacent_of}
-use Rattle.network_rules.specs.Row.{no_settings}
+use Rattle.pair_rules.specs.OneEndFirst.{settings_of}
 
 -- the first settings for a point
 abbrev pub settings_for : List Configuration → (point : ℕ) → Option Configuration
 settings_for settings point = find (λ c. nat_eq c.own point) settings
 
 -- a point without settings has a node without links
+abbrev pub no_settings : (point : ℕ) → Configuration
+no_settings point = record (settings_of point point) { sets = []; links = []; destinations = [] }
+
 abbrev pub settings_or : (point : ℕ) → Option Configuration → Configuration
 settings_or point (Some c) = c
 settings_or point None = no_settings point

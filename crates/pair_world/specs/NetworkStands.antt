@@ -15,7 +15,7 @@ use Rattle.pair_rules.specs.Pairs.{Doing, Submits, Takes, Delivers, DeliversStat
 use Rattle.pair_rules.specs.Sharing.{AreSharing}
 use Rattle.network_rules.specs.Networks.{NetworkNode, NetworkState, Place, Step, after_step, after_steps, end_of, first_network, first_node, may_open_there, other_end}
 use Rattle.network_rules.specs.Pairs.{AreTheirPoints, AreWellOrAlone}
-use Rattle.network_rules.specs.Row.{no_settings}
+use Rattle.pair_world.specs.Joined.{no_settings}
 use Rattle.pair_world.specs.KeptNodes.{KeptNode, kept_node_of}
 use Rattle.pair_world.specs.KeptNetworks.{kept_at, place_at}
 
