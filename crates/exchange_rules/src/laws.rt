@@ -176,8 +176,8 @@ pub fn links_have_the_timers_of_their_states()
 {}
 
 /// A link is proved before it enters service (Q.703 §7). By an event it enters service only at a tick, as its proving
-/// ends and its peer is ready; or, once its proving has ended, by a frame that comes by it. Its proving ends only at a
-/// tick.
+/// ends and its peer is ready; or, once its proving has succeeded, by a frame that comes by it. Its proving succeeds only
+/// at a tick.
 pub fn links_are_proved_before_they_enter_service()
     ensures { links_are_proved_first }
 {}

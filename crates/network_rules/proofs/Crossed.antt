@@ -140,6 +140,7 @@ crosses = record {
   goes_in = ap (λ (s : Shown). s.come) third-is;
   third_entered = ap (λ (s : Shown). s.entered) third-is;
   near_entered = ap (λ (s : Shown). s.entered) near-is;
+  far_entered = ap (λ (s : Shown). s.entered) far-is;
   third_accepted = ap (λ (s : Shown). s.accepted) third-is;
   near_accepted = ap (λ (s : Shown). s.accepted) near-is;
   far_accepted = ap (λ (s : Shown). s.accepted) far-is;

@@ -1,7 +1,8 @@
 -- A message for another point is queued, held or refused by the node to which it comes.
-use Rattle.exchange_rules.proofs.Basics.{◌≡◌, ◌&&◌, ℕ, Bool, true, false, not, List, ◌++◌, Option, Some, None, Result, Ok, Err, refl, ap, sym, subst, ◌∙◌, if◌then◌else◌, option_to_list, append-nil}
+use Rattle.exchange_rules.proofs.Basics.{◌≡◌, ◌&&◌, ℕ, Bool, true, false, not, List, [], ◌∷◌, ◌++◌, Option, Some, None, Result, Ok, Err, refl, ap, sym, subst, ◌∙◌, if◌then◌else◌, option_to_list, append-nil}
 use Rattle.std.proofs.Common.{map}
 use Rattle.exchange_rules.proofs.Definitions.{action_at, Action, UserData, SeqFault, EmptyFrame, FrameValue, MessageFrame, StatusFrame, read_frame, Discrimination, Configuration, Message, dpc_of, flow_of, Cause, FrameFault, is_destination, offer, transfer, apply, Carrying, accept, act_by_data, carry, empty_data, handle_by, message_data, numbers, read, waits, down, is_link, link_at, deliver_to, whither_goes, no_room, WholeQueues, whole, new_at, new_by, new_of, new_message, link_of, Done, Node, answer, refuse, advance, FrameCame, brought_in, brought_by, brought_to, taken_in, accept_text}
+use Rattle.changeover.specs.Changeover.{users_of}
 use Rattle.link.specs.declared.action.Action.TheVariants as act
 use Rattle.signalling_types.specs.declared.cause.Cause.TheVariants as causes
 use Rattle.signalling_types.specs.declared.outcome.Outcome.{Outcome}
@@ -10,7 +11,7 @@ use Rattle.mtp3_codec.specs.declared.discrimination.Discrimination.TheVariants a
 use Rattle.mtp3_codec.specs.declared.label.Label.{Label}
 use Rattle.exchange_rules.specs.Exchange.{outcome_of}
 use Rattle.pair_rules.specs.Pairs.{Delivers, without_data}
-use Rattle.network_rules.specs.Networks.{NetworkNode, deliver_frame, did_here}
+use Rattle.network_rules.specs.Networks.{NetworkNode, deliver_frame, did_here, entered_by, is_onward, is_refused, refused_by}
 use Rattle.network_rules.specs.Transit.{IsTakenOn, PassesThrough, messages_pass_through}
 use Rattle.network_rules.proofs.Places.{node-same}
 use Rattle.network_rules.proofs.Texts.{same-some}
@@ -103,6 +104,13 @@ module _ (x : NetworkNode) (link : ℕ) (text : List ℕ) (m : Message) (label :
     accepted =
         subst (λ (ms : List Message). IsTakenOn outcome m x.accepted (x.accepted ++ ms)) (sym brings)
         (taken-by outcome m x.accepted (frame-outcome x.exchange.settings link m label away x.exchange.node text new));
+    entered =
+        ap (λ (o : Option Message). x.entered ++ entered_by o x.exchange.settings (brought_in (FrameCame link text) x.exchange)) new
+        ∙ ap (λ (d : Discrimination). x.entered ++ (if is_onward d then [] else brought_in (FrameCame link text) x.exchange)) away
+        ∙ append-nil x.entered;
+    refused =
+        ap (λ (o : Option Message). x.refused ++ refused_by o x.exchange.settings outcome) new
+        ∙ ap (λ (d : Discrimination). x.refused ++ (if is_onward d && is_refused outcome then users_of (m ∷ []) else [])) away;
   }
 
 pub through : messages_pass_through

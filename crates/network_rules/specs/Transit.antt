@@ -1,5 +1,6 @@
 -- A message that comes to a node of a network for another point.
-use Rattle.std.specs.Prelude.{◌≡◌, ℕ, List, [], ◌∷◌, ◌++◌, Some, slice_get}
+use Rattle.std.specs.Prelude.{◌≡◌, ℕ, List, [], ◌∷◌, ◌++◌, Some, slice_get, if◌then◌else◌}
+use Rattle.changeover.specs.Changeover.{users_of}
 use Rattle.signalling_types.specs.Message.{Message}
 use Rattle.signalling_types.specs.declared.outcome.Outcome.{Outcome}
 use Rattle.signalling_types.specs.declared.outcome.Outcome.TheVariants.{Handled, Held, Ignored, Local, Queued, Refused}
@@ -11,7 +12,7 @@ use Rattle.exchange_rules.specs.Queues.{whole}
 use Rattle.exchange_rules.specs.Receiving.{new_message}
 use Rattle.exchange_rules.specs.State.{FrameCame}
 use Rattle.pair_rules.specs.Pairs.{Delivers, in_flight}
-use Rattle.network_rules.specs.Networks.{NetworkNode, NetworkState, did}
+use Rattle.network_rules.specs.Networks.{NetworkNode, NetworkState, did, is_refused}
 
 -- what a node accepted more: the message itself, once, where it was queued or held, and nothing where it was refused
 abbrev pub IsTakenOn : Outcome → Message → (before after : List Message) → Type 0
@@ -26,6 +27,9 @@ IsTakenOn Ignored m before after = ⊥
 pub record PassesThrough (outcome : Outcome) (link : ℕ) (m : Message) (before after : NetworkNode) : Type 0 where
   pub arrived : after.arrived ≡ before.arrived ++ record { link = link; message = m } ∷ []
   pub accepted : IsTakenOn outcome m before.accepted after.accepted
+  -- it entered the network elsewhere; and it is booked as refused exactly if it is a user message, and is refused
+  pub entered : after.entered ≡ before.entered
+  pub refused : after.refused ≡ before.refused ++ (if is_refused outcome then users_of (m ∷ []) else [])
 
 -- whatever happened before: the next User Data of a link that comes to a node, and newly carries a message for another
 -- point

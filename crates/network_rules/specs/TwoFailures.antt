@@ -203,6 +203,7 @@ pub record CrossesTwoFailures : Type 0 where
   pub goes_in : users_come (come.node 3) ≡ []
   pub third_entered : (come.node 3).entered ≡ the_message ∷ []
   pub near_entered : (come.node 1).entered ≡ []
+  pub far_entered : (come.node 2).entered ≡ []
   pub third_accepted : (come.node 3).accepted ≡ the_message ∷ []
   pub near_accepted : (come.node 1).accepted ≡ the_message ∷ []
   pub far_accepted : (come.node 2).accepted ≡ []

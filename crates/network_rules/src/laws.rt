@@ -69,11 +69,12 @@ pub fn messages_pass_through()
     ensures { messages_pass_through }
 {}
 
-/// From end to end, over any number of nodes, whatever their routes: while none of them may have lost a message, as many
-/// user messages entered the network, by any test, as were received at a node that they aren't to leave, as wait in
-/// nodes, and as were refused by a node on the way, which had no route for them or no room. So none is lost or doubled
-/// between two nodes, by whatever way it goes. A message enters where a user part submits it, and where SCCP passes it
-/// on or returns it; it waits in Held, or on a link until the other end of that received it.
+/// From end to end, over any number of nodes, each of which reaches its adjacent points by one set alone and all others
+/// by whatever routes: while none of them may have lost a message, as many user messages entered the network, by any
+/// test, as were received at a node that they aren't to leave, as wait in nodes, and as were refused by a node on the
+/// way, which had no route for them or no room. So none is lost or doubled between two nodes. A message enters where a
+/// user part submits it, and where SCCP passes it on or returns it; it waits in Held, or on a link until the other end
+/// of that received it.
 pub fn each_message_is_accounted_for()
     ensures { each_message_is_accounted_for }
 {}
