@@ -1,7 +1,7 @@
 -- What a network shows is what the abstract one has, and what that promises it promises.
 use Rattle.std.proofs.Common.{◌≡◌, ◌+◌, ℕ, Bool, List, [], Option, Some, None, refl, ap, sym, subst, ◌∙◌}
-use Rattle.std.specs.Prelude.{count_by, slice_get}
-use Rattle.std.specs.Option.{option_and_then}
+use Rattle.std.specs.Prelude.{IfSome, count_by, slice_get}
+use Rattle.std.specs.Option.{option_and_then, option_map}
 use Rattle.signalling_types.specs.Message.{Message}
 use Rattle.settings_rows.specs.Configuration.{Configuration, LinkEntry}
 use Rattle.settings.specs.Readings.{set_place}
@@ -62,6 +62,14 @@ module _ (k : List KeptNode) (w : NetworkState) (s : NetworkStandsFor k w) where
 
     pub entered-same : booked (λ n. n.entered) (node_at point k) ≡ x.entered
     entered-same = booked-same (λ n. n.entered) (λ y. y.entered) (λ y. refl) (λ c. refl)
+
+    -- its exchange stands for that of the abstract node
+    stands-by : (o : Option KeptNode) → IsNodeAt point o x → IfSome (option_map (λ (n : KeptNode). n.exchange) o) (λ e. exchanges.StandsFor e x.exchange)
+    stands-by (Some n) is = record { sound = is.sound; kept = ap (λ (m : KeptNode). m.exchange) is.kept }
+    stands-by None is = tt
+
+    pub exchange-stands : IfSome (option_map (λ (n : KeptNode). n.exchange) (node_at point k)) (λ e. exchanges.StandsFor e x.exchange)
+    exchange-stands = stands-by (node_at point k) node-there
 
     pub refused-same : booked (λ n. n.refused) (node_at point k) ≡ x.refused
     refused-same = booked-same (λ n. n.refused) (λ y. y.refused) (λ y. refl) (λ c. refl)

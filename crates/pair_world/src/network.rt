@@ -1,6 +1,7 @@
 //! Any number of exchanges, joined by links in any shape.
 
-ghost use Rattle.std.specs.Prelude.{◌≡◌, ◌↔◌, ℕ, true, false, IfOk, IfErr, OnOk, OnErr, count_by};
+ghost use Rattle.std.specs.Prelude.{◌≡◌, ◌↔◌, ℕ, true, false, is_some, IfOk, IfErr, IfSome, OnOk, OnErr, count_by};
+ghost use Rattle.exchange.specs.Calls as exchanges;
 ghost use Rattle.neighbour_rules.specs.Promises as promises;
 ghost use Rattle.pair_rules.specs.Promises.{user};
 ghost use Rattle.network_rules.specs.Pairs.{pair_of};
@@ -17,8 +18,10 @@ use crate::fault::NetworkFault;
 use crate::joining::{are_apart, are_joined, are_well, boot_all};
 use crate::node::Node;
 use crate::reaching::{act_at, place_of, reach_from};
-use crate::reading::{accepted_at, arrived_at, entered_at, refused_at, waiting_between};
-use exchange::{NoMemory, Pick};
+use crate::reading::{
+    accepted_at, arrived_at, entered_at, exchange_at, refused_at, waiting_between,
+};
+use exchange::{Exchange, NoMemory, Pick};
 use settings::{Msu, Outcome, PointCode, Settings};
 use std::alloc::Global;
 use std::marker::Model;
@@ -157,6 +160,15 @@ impl Network {
             AcceptedOrWait w at far (P.picks pick.now) result }
     {
         waiting_between(&self.nodes, at, far, pick)
+    }
+
+    /// The exchange of the node at a point. None where no node is there.
+    pub fn at(&self, at: PointCode) -> Option<&Exchange>
+        ensures there { is_some result ≡ has_node at self.now }
+        ensures stands { (w : NetworkState) → NetworkStandsFor self.now w →
+            IfSome result (λ exchange. exchanges.StandsFor exchange.now (w.node at).exchange) }
+    {
+        exchange_at(&self.nodes, at)
     }
 
     /// Does one thing at the node at a point, by what is kept.

@@ -1,14 +1,27 @@
 //! What the node at a point shows.
 
-ghost use Rattle.std.specs.Prelude.{◌≡◌, []};
+ghost use Rattle.std.specs.Prelude.{◌≡◌, [], is_some};
+ghost use Rattle.std.specs.Option.{option_map};
 ghost use Rattle.pair_world.specs.KeptNetworks.{node_at};
 ghost use Rattle.pair_world.specs.NetworkPromised.{booked, waiting_between};
+ghost use Rattle.pair_world.specs.NetworkStands.{has_node};
 
 use crate::arrival::Arrival;
 use crate::node::Node;
 use crate::reaching::place_of;
-use exchange::Pick;
+use exchange::{Exchange, Pick};
 use settings::{Msu, PointCode};
+
+/// The exchange of the node at a point. None where there is none.
+pub(crate) fn exchange_at(nodes: &[Node], point: PointCode) -> Option<&Exchange>
+    ensures there { is_some result ≡ has_node point nodes.now }
+    ensures exchange { option_map (λ x. x.now) result ≡ option_map (λ n. n.exchange) (node_at point nodes.now) }
+{
+    match place_of(nodes, point) {
+        Some(place) => Some(nodes[place].exchange()),
+        None => None,
+    }
+}
 
 /// What the node at a point accepted; nothing where there is none.
 pub(crate) fn accepted_at(nodes: &[Node], point: PointCode) -> &[Msu]
