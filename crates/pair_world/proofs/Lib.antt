@@ -14,6 +14,9 @@ pub mod Firsts
 pub mod TwoPlaces
 pub mod NodeRules
 pub mod NodeReaches
+pub mod Listed
+pub mod FirstPoints
+pub mod EndToEnd
 pub mod NodeFits
 pub mod NodePlaces
 pub mod NetworkTurns

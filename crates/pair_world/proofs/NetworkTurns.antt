@@ -1,8 +1,7 @@
 -- A network that stood for an abstract one stands for that after each step.
-use Rattle.std.proofs.Common.{◌≡◌, ◌≢◌, ◌<◌, ℕ, Bool, true, false, List, [], ◌∷◌, ◌++◌, length, Option, Some, None, is_some, nat_eq, refl, ap, sym, subst, ◌∙◌, arith}
-use Rattle.std.specs.Prelude.{if◌then◌else◌, position, slice_get, slice_index_or, slice_set}
+use Rattle.std.proofs.Common.{◌≡◌, ◌≢◌, ◌<◌, ℕ, Bool, true, false, List, [], ◌∷◌, ◌++◌, length, Option, Some, None, is_some, nat_eq, refl, ap, sym, subst, ◌∙◌}
+use Rattle.std.specs.Prelude.{if◌then◌else◌, slice_get, slice_index_or, slice_set}
 use Rattle.std.specs.Option.{option_and_then, option_map}
-use Rattle.std.proofs.lemmas.Bool.Decides.{nat_tests}
 use Rattle.signalling_types.specs.declared.outcome.Outcome.{Outcome}
 use Rattle.signalling_types.specs.declared.outcome.Outcome.TheVariants.{Ignored}
 use Rattle.settings_rows.specs.Configuration.{Configuration, LinkEntry}
@@ -24,10 +23,11 @@ use Rattle.pair_world.specs.Joined.{no_settings}
 use Rattle.pair_world.specs.declared.doing.Reach.{Reach}
 use Rattle.pair_world.specs.declared.doing.Reach.TheVariants as reach
 use Rattle.pair_world.specs.KeptNodes.{BothTurn, KeptNode, NodeTurn, both_did, kept_node_of, node_did, node_takes}
-use Rattle.pair_world.specs.KeptNetworks.{KeptPlace, NetworkTurn, both_turned, end_at, end_by, kept_at, kept_did, kept_did_at, kept_other_end, network_ignored, network_turn, one_turned, place_at, reached_at, reached_by, reached_none}
-use Rattle.pair_world.specs.NetworkStands.{IsNetwork, IsNetworkReached, IsNodeAt, IsNodeOf, NetworkStandsFor, did_outcome, first_outcome, has_node, here_outcome, if_any, step_outcome, stepped}
-use Rattle.pair_world.proofs.NodeFits.{Fits, FitsTo, here-fits, reached-fit}
-use Rattle.pair_world.proofs.NodePlaces.{equal, itself-eq, unlike, gets, has-point, is-within, keeps, keeps-none, places-same, put-nodes}
+use Rattle.pair_world.specs.KeptNetworks.{KeptPlace, NetworkTurn, both_turned, end_at, end_by, kept_at, kept_did, kept_did_at, kept_other_end, network_ignored, network_turn, one_turned, place_at, points_of, reached_at, reached_by}
+use Rattle.pair_world.specs.NetworkStands.{IsNetworkReached, IsNodeAt, IsNodeOf, NetworkStandsFor, did_outcome, first_outcome, has_node, here_outcome, if_any, step_outcome, stepped}
+use Rattle.pair_world.proofs.Listed.{leads}
+use Rattle.pair_world.proofs.NodeFits.{Fits, here-fits, reached-fit}
+use Rattle.pair_world.proofs.NodePlaces.{equal, itself-eq, unlike, gets, has-point, keeps, keeps-none, places-same, points-same, put-nodes}
 use Rattle.pair_world.proofs.NodeReaches.{AreBothSame, fetch-same, led_by, open-same, open_outcome, opened_by, reached_with, sent_by, take-alone}
 use Rattle.pair_world.proofs.NodeRules.{IsNodeSame, here-same}
 use Rattle.pair_world.proofs.Reached.{far-there}
@@ -38,28 +38,29 @@ steps-more : (steps : List Step) (step : Step) (w : NetworkState) → after_step
 steps-more [] step w = refl
 steps-more (first ∷ steps) step w = steps-more steps step (after_step first w)
 
-reached-more : (step : Step) (w : NetworkState) → IsNetworkReached w → IsNetworkReached (after_step step w)
+reached-more : {points : List ℕ} (step : Step) (w : NetworkState) → IsNetworkReached points w → IsNetworkReached points (after_step step w)
 reached-more step w r = record {
   settings = r.settings;
-  network = r.network;
+  joined = r.joined;
   steps = r.steps ++ step ∷ [];
   by = ap (after_step step) r.by ∙ sym (steps-more r.steps step (first_network r.settings));
 }
 
 -- each node is told its point
-pub own-point : (w : NetworkState) → IsNetworkReached w → (point : ℕ) → (w.node point).exchange.settings.own ≡ point
-own-point w r point = ap (λ (c : Configuration). c.own) (reached-fit w r point).settings ∙ r.network.points point
+pub own-point : {points : List ℕ} (w : NetworkState) → IsNetworkReached points w → (point : ℕ) → (w.node point).exchange.settings.own ≡ point
+own-point w r point = ap (λ (c : Configuration). c.own) (reached-fit w r point).settings ∙ r.joined.own point
 
 -- the nodes that are kept are those of a state
 abbrev AreNodes : List KeptNode → NetworkState → Type 0
 AreNodes k w = (point : ℕ) → IsNodeAt point (kept_at point k) (w.node point)
 
-record IsTurn (t : NetworkTurn) (outcome : Outcome) (w : NetworkState) : Type 0 where
+record IsTurn (points : List ℕ) (t : NetworkTurn) (outcome : Outcome) (w : NetworkState) : Type 0 where
   pub outcome_same : t.outcome ≡ outcome
+  pub points_same : points_of t.left ≡ points
   pub nodes : AreNodes t.left w
 
 module _ (k : List KeptNode) (w : NetworkState) (s : NetworkStandsFor k w) where
-  r : IsNetworkReached w
+  r : IsNetworkReached (points_of k) w
   r = s.reached
 
   fits-at : (point : ℕ) → Fits (w.node point)
@@ -85,9 +86,10 @@ module _ (k : List KeptNode) (w : NetworkState) (s : NetworkStandsFor k w) where
 
     -- what was done there alone
     put-one : (t : NodeTurn) (outcome : Outcome) (change : NetworkNode → NetworkNode) → IsNodeSame t outcome (change x) → (change x).exchange.settings.own ≡ point
-        → IsTurn (record { outcome = t.outcome; left = slice_set k place t.left }) outcome (changed point change w)
+        → IsTurn (points_of k) (record { outcome = t.outcome; left = slice_set k place t.left }) outcome (changed point change w)
     put-one t outcome change same own = record {
       outcome_same = same.outcome_same;
+      points_same = points-same k point place t.left e (ap (λ (m : KeptNode). m.exchange.settings.own) same.node.kept ∙ own);
       nodes =
           put-nodes k point place t.left e (ap (λ (m : KeptNode). m.exchange.settings.own) same.node.kept ∙ own) w (changed point change w) s.nodes
           (subst (λ (y : NetworkNode). IsNodeOf t.left y) (sym (node-same point change w)) same.node)
@@ -95,9 +97,9 @@ module _ (k : List KeptNode) (w : NetworkState) (s : NetworkStandsFor k w) where
     }
 
     one-by : (done : KeptNode → NodeTurn) (outcome : Outcome) (change : NetworkNode → NetworkNode) → IsNodeSame (done n) outcome (change x) → (change x).exchange.settings.own ≡ point
-        → IsTurn (one_turned place done (slice_get k place) k) outcome (changed point change w)
+        → IsTurn (points_of k) (one_turned place done (slice_get k place) k) outcome (changed point change w)
     one-by done outcome change same own =
-        subst (λ (o : Option KeptNode). IsTurn (one_turned place done o k) outcome (changed point change w)) (sym got)
+        subst (λ (o : Option KeptNode). IsTurn (points_of k) (one_turned place done o k) outcome (changed point change w)) (sym got)
         (put-one (done n) outcome change same own)
 
     own-x : x.exchange.settings.own ≡ point
@@ -106,10 +108,10 @@ module _ (k : List KeptNode) (w : NetworkState) (s : NetworkStandsFor k w) where
     -- its point stays the same
     own-here : (what : Doing) → (did_here what x).exchange.settings.own ≡ point
     own-here what =
-        ap (λ (d : Configuration). d.own) (here-fits (r.settings point) x (reached-fit w r point) what).settings ∙ r.network.points point
+        ap (λ (d : Configuration). d.own) (here-fits (r.settings point) x (reached-fit w r point) what).settings ∙ r.joined.own point
 
     -- what is done here alone
-    here-turn : (what : Doing) → IsTurn (one_turned place (node_did what) (slice_get k place) k) (here_outcome what x) (changed point (did_here what) w)
+    here-turn : (what : Doing) → IsTurn (points_of k) (one_turned place (node_did what) (slice_get k place) k) (here_outcome what x) (changed point (did_here what) w)
     here-turn what = one-by (node_did what) (here_outcome what x) (did_here what) (here-same x x-sound (fits-at point).places what) (own-here what)
 
     -- ---- with another node, whose place is known too
@@ -157,9 +159,12 @@ module _ (k : List KeptNode) (w : NetworkState) (s : NetworkStandsFor k w) where
                 subst (λ (p : ℕ). v.node p ≡ mid.node p) (sym (equal third point g)) (at_near ∙ sym (node-same point becomes w))
             by false g = thirds third (unlike third point g) d ∙ sym (node-other point third becomes w (unlike third point g))
 
-        put-both : IsTurn (both_turned place other t k) outcome v
+        put-both : IsTurn (points_of k) (both_turned place other t k) outcome v
         put-both = record {
           outcome_same = same.outcome_same;
+          points_same =
+              points-same (slice_set k place t.near) far other t.far (places-same k point place t.near e near-point far ∙ f) far-point
+              ∙ points-same k point place t.near e near-point;
           nodes =
               put-nodes (slice_set k place t.near) far other t.far (places-same k point place t.near e near-point far ∙ f) far-point mid v mid-nodes
               (subst (λ (z : NetworkNode). IsNodeOf t.far z) (sym at_far) same.far_node)
@@ -172,7 +177,7 @@ module _ (k : List KeptNode) (w : NetworkState) (s : NetworkStandsFor k w) where
       -- two changes
       both-changed : (t : BothTurn) (outcome : Outcome) (change lead : NetworkNode → NetworkNode) → AreBothSame t outcome (change x) (lead y)
           → (change x).exchange.settings.own ≡ point → (lead y).exchange.settings.own ≡ far
-          → IsTurn (both_turned place other t k) outcome (changed far lead (changed point change w))
+          → IsTurn (points_of k) (both_turned place other t k) outcome (changed far lead (changed point change w))
       both-changed t outcome change lead same near_own far_own =
           put-both t outcome (change x) (lead y) (changed far lead (changed point change w)) same near_own far_own
           (node-other far point lead (changed point change w) (λ i. apart (sym i)) ∙ node-same point change w)
@@ -181,12 +186,12 @@ module _ (k : List KeptNode) (w : NetworkState) (s : NetworkStandsFor k w) where
 
       module _ (link away : ℕ) where
         taken-by : (t : BothTurn) (frame : Option FrameValue) → AreBothSame t (if_any frame) (sent_by frame link x) (reached_with frame away y)
-            → IsTurn (both_turned place other t k) (if_any frame) (take_frame frame point link (Some (record { point = far; link = away })) w)
+            → IsTurn (points_of k) (both_turned place other t k) (if_any frame) (take_frame frame point link (Some (record { point = far; link = away })) w)
         taken-by t None same = put-both t Ignored x y w same own-x own-y refl refl (λ third d g. refl)
         taken-by t (Some frame) same = both-changed t _ (sends link) (reaches frame away) same own-x own-y
 
         opened-by : (t : BothTurn) (wish : Wants) (may : Bool) → AreBothSame t (open_outcome wish may) (opened_by wish may link x) (led_by wish may away y)
-            → IsTurn (both_turned place other t k) (first_outcome wish may (Some (record { point = far; link = away }))) (opens_first wish may point link (Some (record { point = far; link = away })) w)
+            → IsTurn (points_of k) (both_turned place other t k) (first_outcome wish may (Some (record { point = far; link = away }))) (opens_first wish may point link (Some (record { point = far; link = away })) w)
         opened-by t wants.Open true same = both-changed t _ (comes_up link) (is_led away) same own-x own-y
         opened-by t wants.Open false same = put-both t Ignored x y w same own-x own-y refl refl (λ third d g. refl)
         opened-by t wants.Nothing may same = put-both t Ignored x y w same own-x own-y refl refl (λ third d g. refl)
@@ -201,22 +206,22 @@ module _ (k : List KeptNode) (w : NetworkState) (s : NetworkStandsFor k w) where
             by true g =
                 absurd (apart (sym (has-point k far other n f) ∙ ap (λ (p : ℕ). (slice_index_or k p n).exchange.settings.own) (sym (equal place other g)) ∙ has-point k point place n e))
 
-        reached-so : (what : Reach) (outcome : Outcome) (v : NetworkState) → IsTurn (both_turned place other (both_did what link away n m) k) outcome v
-            → IsTurn (reached_at what place link other away (slice_get k place) (slice_get k other) k) outcome v
+        reached-so : (what : Reach) (outcome : Outcome) (v : NetworkState) → IsTurn (points_of k) (both_turned place other (both_did what link away n m) k) outcome v
+            → IsTurn (points_of k) (reached_at what place link other away (slice_get k place) (slice_get k other) k) outcome v
         reached-so what outcome v turn =
-            subst (λ (o : Option KeptNode). IsTurn (reached_at what place link other away o (slice_get k other) k) outcome v) (sym got)
-            (subst (λ (o : Option KeptNode). IsTurn (reached_at what place link other away (Some n) o k) outcome v) (sym far-got)
-            (subst (λ (b : Bool). IsTurn (if b then network_ignored k else both_turned place other (both_did what link away n m) k) outcome v) (sym places-apart) turn))
+            subst (λ (o : Option KeptNode). IsTurn (points_of k) (reached_at what place link other away o (slice_get k other) k) outcome v) (sym got)
+            (subst (λ (o : Option KeptNode). IsTurn (points_of k) (reached_at what place link other away (Some n) o k) outcome v) (sym far-got)
+            (subst (λ (b : Bool). IsTurn (points_of k) (if b then network_ignored k else both_turned place other (both_did what link away n m) k) outcome v) (sym places-apart) turn))
 
         module _ (there : away < length y.exchange.settings.links) where
-          fetch-turn : IsTurn (reached_at reach.Fetch place link other away (slice_get k place) (slice_get k other) k) (if_any (frame_to_take whole x.exchange link))
+          fetch-turn : IsTurn (points_of k) (reached_at reach.Fetch place link other away (slice_get k place) (slice_get k other) k) (if_any (frame_to_take whole x.exchange link))
               (take_frame (frame_to_take whole x.exchange link) point link (Some (record { point = far; link = away })) w)
           fetch-turn =
               reached-so reach.Fetch _ _
               (taken-by (both_did reach.Fetch link away n m) (frame_to_take whole x.exchange link)
               (fetch-same x x-sound link y far-node.sound (fits-at far) away there))
 
-          open-turn : IsTurn (reached_at reach.Open place link other away (slice_get k place) (slice_get k other) k)
+          open-turn : IsTurn (points_of k) (reached_at reach.Open place link other away (slice_get k place) (slice_get k other) k)
               (first_outcome (wants_of x.exchange link) (may_open_at (end_of y) away) (Some (record { point = far; link = away })))
               (opens_first (wants_of x.exchange link) (may_open_at (end_of y) away) point link (Some (record { point = far; link = away })) w)
           open-turn =
@@ -247,8 +252,8 @@ module _ (k : List KeptNode) (w : NetworkState) (s : NetworkStandsFor k w) where
       far-apart : far_point ≢ point
       far-apart i =
           let sharing : AreSharing (r.settings point) (r.settings (adjacent_of (r.settings point) l.set)) =
-          r.network.joined point link l (ap (λ (d : Configuration). slice_get d.links link) (sym c-same) ∙ is) in
-          are-apart r.settings point (adjacent_of (r.settings point) l.set) r.network.points sharing (sym i ∙ ap (λ (d : Configuration). adjacent_of d l.set) c-same)
+          leads r.settings (points_of k) r.joined point link l (ap (λ (d : Configuration). slice_get d.links link) (sym c-same) ∙ is) in
+          are-apart r.settings point (adjacent_of (r.settings point) l.set) r.joined.own sharing (sym i ∙ ap (λ (d : Configuration). adjacent_of d l.set) c-same)
 
       -- no link is at a point without a node
       none-there : place_at far_point k ≡ None → link_with_code z c.own l.slc ≡ None
@@ -285,25 +290,26 @@ module _ (k : List KeptNode) (w : NetworkState) (s : NetworkStandsFor k w) where
 
     -- where there is none
     sent-alone : (link : ℕ) (frame : Option FrameValue) → IsNodeSame (node_takes link n) (if_any frame) (sent_by frame link x)
-        → IsTurn (one_turned place (node_takes link) (slice_get k place) k) (if_any frame) (take_frame frame point link None w)
+        → IsTurn (points_of k) (one_turned place (node_takes link) (slice_get k place) k) (if_any frame) (take_frame frame point link None w)
     sent-alone link None same =
-        subst (λ (o : Option KeptNode). IsTurn (one_turned place (node_takes link) o k) Ignored w) (sym got)
+        subst (λ (o : Option KeptNode). IsTurn (points_of k) (one_turned place (node_takes link) o k) Ignored w) (sym got)
         (record {
           outcome_same = same.outcome_same;
+          points_same = points-same k point place (node_takes link n).left e own-x;
           nodes =
               put-nodes k point place (node_takes link n).left e own-x w w s.nodes same.node (λ other d. refl);
         })
     sent-alone link (Some frame) same = one-by (node_takes link) _ (sends link) same own-x
 
-    none-opens : (wish : Wants) (may : Bool) (link : ℕ) → IsTurn (network_ignored k) (first_outcome wish may None) (opens_first wish may point link None w)
-    none-opens wants.Open true link = record { outcome_same = refl; nodes = s.nodes }
-    none-opens wants.Open false link = record { outcome_same = refl; nodes = s.nodes }
-    none-opens wants.Nothing may link = record { outcome_same = refl; nodes = s.nodes }
-    none-opens wants.Close may link = record { outcome_same = refl; nodes = s.nodes }
+    none-opens : (wish : Wants) (may : Bool) (link : ℕ) → IsTurn (points_of k) (network_ignored k) (first_outcome wish may None) (opens_first wish may point link None w)
+    none-opens wants.Open true link = record { outcome_same = refl; points_same = refl; nodes = s.nodes }
+    none-opens wants.Open false link = record { outcome_same = refl; points_same = refl; nodes = s.nodes }
+    none-opens wants.Nothing may link = record { outcome_same = refl; points_same = refl; nodes = s.nodes }
+    none-opens wants.Close may link = record { outcome_same = refl; points_same = refl; nodes = s.nodes }
 
     abbrev Fetched : (link : ℕ) → Option KeptPlace → Option Place → Type 0
     Fetched link o there =
-        IsTurn (reached_by reach.Fetch place link o k) (if_any (frame_to_take whole x.exchange link)) (take_frame (frame_to_take whole x.exchange link) point link there w)
+        IsTurn (points_of k) (reached_by reach.Fetch place link o k) (if_any (frame_to_take whole x.exchange link)) (take_frame (frame_to_take whole x.exchange link) point link there w)
 
     take-by : (link : ℕ) (o : Option KeptPlace) (there : Option Place) → AreEndsOf o there → Fetched link o there
     take-by link o there (neither e f) =
@@ -315,7 +321,7 @@ module _ (k : List KeptNode) (w : NetworkState) (s : NetworkStandsFor k w) where
 
     abbrev Opened : (link : ℕ) → Option KeptPlace → Option Place → Type 0
     Opened link o there =
-        IsTurn (reached_by reach.Open place link o k) (first_outcome (wants_of x.exchange link) (may_open_there w there) there)
+        IsTurn (points_of k) (reached_by reach.Open place link o k) (first_outcome (wants_of x.exchange link) (may_open_there w there) there)
         (opens_first (wants_of x.exchange link) (may_open_there w there) point link there w)
 
     open-by : (link : ℕ) (o : Option KeptPlace) (there : Option Place) → AreEndsOf o there → Opened link o there
@@ -333,7 +339,7 @@ module _ (k : List KeptNode) (w : NetworkState) (s : NetworkStandsFor k w) where
 
     -- ---- whatever is done there
 
-    did-turn : (what : Doing) → IsTurn (kept_did what place k) (did_outcome what point w) (did what point w)
+    did-turn : (what : Doing) → IsTurn (points_of k) (kept_did what place k) (did_outcome what point w) (did what point w)
     did-turn (Takes link) = take-by link (kept_other_end k (slice_get k place) link) (other_end w point link) (other-ends link)
     did-turn (OpensFirst link) = open-by link (kept_other_end k (slice_get k place) link) (other_end w point link) (other-ends link)
     did-turn (Submits m) = here-turn (Submits m)
@@ -355,19 +361,24 @@ module _ (k : List KeptNode) (w : NetworkState) (s : NetworkStandsFor k w) (what
   abbrev step : Step
   step = record { point = point; what = what }
 
-  turn-by : (o : Option ℕ) → place_at point k ≡ o → IsTurn (kept_did_at what o k) (step_outcome (is_some o) step w) (stepped (is_some o) step w)
-  turn-by None e = record { outcome_same = refl; nodes = s.nodes }
+  turn-by : (o : Option ℕ) → place_at point k ≡ o → IsTurn (points_of k) (kept_did_at what o k) (step_outcome (is_some o) step w) (stepped (is_some o) step w)
+  turn-by None e = record { outcome_same = refl; points_same = refl; nodes = s.nodes }
   turn-by (Some place) e = did-turn k w s point place e what
 
-  turns : IsTurn (network_turn what point k) (step_outcome (has_node point k) step w) (stepped (has_node point k) step w)
+  turns : IsTurn (points_of k) (network_turn what point k) (step_outcome (has_node point k) step w) (stepped (has_node point k) step w)
   turns = turn-by (place_at point k) refl
 
   pub turn-outcome : (network_turn what point k).outcome ≡ step_outcome (has_node point k) step w
   turn-outcome = turns.outcome_same
 
-  reached-by : (b : Bool) → IsNetworkReached (stepped b step w)
+  reached-by : (b : Bool) → IsNetworkReached (points_of k) (stepped b step w)
   reached-by true = reached-more step w s.reached
   reached-by false = s.reached
 
   pub turn-stands : NetworkStandsFor (network_turn what point k).left (stepped (has_node point k) step w)
-  turn-stands = record { reached = reached-by (has_node point k); nodes = turns.nodes }
+  turn-stands = record {
+    reached =
+        subst (λ (points : List ℕ). IsNetworkReached points (stepped (has_node point k) step w)) (sym turns.points_same)
+        (reached-by (has_node point k));
+    nodes = turns.nodes;
+  }
