@@ -19,6 +19,7 @@ pub mod FirstPoints
 pub mod EndToEnd
 pub mod NodeFits
 pub mod NodePlaces
+pub mod NetworkSteps
 pub mod NetworkTurns
 pub mod NetworkLaws
 pub mod NetworkFirst

@@ -23,7 +23,7 @@ use Rattle.pair_world.specs.KeptNodes.{KeptNode, kept_node_of}
 use Rattle.pair_world.specs.KeptNetworks.{kept_at, node_at, place_at, points_of}
 use Rattle.pair_world.specs.NetworkPromised.{AcceptedInOrder, AcceptedOnce, AcceptedOrWait, AreAdjacent, ArrivedInOrder, ArrivedOnce, booked, waiting_between}
 use Rattle.pair_world.specs.NetworkStands.{IsNetworkReached, IsNodeAt, NetworkStandsFor}
-use Rattle.pair_world.proofs.NetworkTurns.{own-point}
+use Rattle.pair_world.proofs.NetworkSteps.{own-point}
 use Rattle.pair_world.proofs.Listed.{are-well, leads}
 use Rattle.pair_world.proofs.NodeFits.{Fits, reached-fit}
 use Rattle.pair_world.proofs.NodePlaces.{gets, keeps, keeps-none}

@@ -1,4 +1,4 @@
--- What a network promises of the messages that one node accepted for another, to which a link of it leads.
+-- What a network promises: of the messages that one node accepted for an adjacent one, and of all from end to end.
 use Rattle.std.specs.Prelude.{◌≡◌, ℕ, Bool, true, List, [], Option, Some, None, slice_get}
 use Rattle.settings_rows.specs.Configuration.{LinkEntry}
 use Rattle.exchange_rules.specs.Routing.{adjacent_of}
