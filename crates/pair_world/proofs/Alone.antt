@@ -1,6 +1,6 @@
 -- Two that have only each other, after whatever steps: some steps of `pair_rules` lead to the same.
-use Rattle.std.proofs.Common.{◌≡◌, ◌<◌, ℕ, Bool, true, false, not, ◌&&◌, List, [], ◌∷◌, ◌++◌, drop, length, Option, Some, None, nat_eq, refl, ap, sym, subst, ◌∙◌}
-use Rattle.std.specs.Prelude.{if◌then◌else◌, slice_get}
+use Rattle.std.proofs.Common.{◌≡◌, ℕ, Bool, false, not, List, [], ◌∷◌, ◌++◌, Option, Some, None, refl, ap, sym, subst, ◌∙◌}
+use Rattle.std.specs.Prelude.{slice_get}
 use Rattle.std.proofs.lemmas.Bool.{eq-eqb}
 use Rattle.std.proofs.lemmas.Option.{get_or_from_slice_get}
 use Rattle.settings_rows.specs.Configuration.{Configuration, LinkEntry}
@@ -11,7 +11,7 @@ use Rattle.exchange_rules.proofs.FacingNodes.{peer-sole}
 use Rattle.pair_rules.specs.Pairs as pairs
 use Rattle.pair_rules.specs.Pairs.{PairState, Turn, first_pair, turned}
 use Rattle.pair_rules.specs.Promises.{AreJoined}
-use Rattle.neighbour_rules.specs.Neighbours.{Doing, Does, OpensElsewhere, HearsElsewhere, Step, AtNear, AtFar, after_steps, leads_elsewhere, leads_elsewhere_by, speaks_for_either, takes_elsewhere, turn}
+use Rattle.neighbour_rules.specs.Neighbours.{Does, OpensElsewhere, HearsElsewhere, Step, AtNear, AtFar, after_steps, leads_elsewhere, leads_elsewhere_by, speaks_for_either, takes_elsewhere, turn}
 use Rattle.neighbour_rules.proofs.Asked.{AreEnds, all-ends}
 use Rattle.neighbour_rules.proofs.Special.{facing, is-special, joined-back, stands-alone}
 use Rattle.neighbour_rules.proofs.Sharing.{AreFacing}

@@ -5,8 +5,8 @@ use Rattle.exchange_rules.specs.declared.wants.Wants.{Wants}
 use Rattle.exchange_rules.specs.declared.wants.Wants.TheVariants as wants
 use Rattle.pair_world.specs.declared.step.End.{End}
 use Rattle.pair_world.specs.declared.step.End.TheVariants as end
-use Rattle.pair_world.specs.declared.step.Doing.{Doing}
-use Rattle.pair_world.specs.declared.step.Doing.TheVariants as doing
+use Rattle.pair_world.specs.declared.step.EndStep.{EndStep}
+use Rattle.pair_world.specs.declared.step.EndStep.TheVariants as steps
 use Rattle.exchange_rules.specs.Exchange.{wants_of}
 use Rattle.exchange_rules.specs.State.{CameUp}
 use Rattle.pair_world.specs.KeptEnds.{EndTurn, end_happens, end_hears_elsewhere}
@@ -25,25 +25,25 @@ elsewhere-none true false d k = refl
 elsewhere-none true true d k = refl
 elsewhere-none false speaks d k = refl
 
-did-none : (what : Doing) (outcome : Outcome) (k : KeptPair) → (kept_did (told what outcome) k).elsewhere ≡ None
-did-none (doing.Submit message) outcome k = refl
-did-none (doing.Deliver link) outcome k = refl
-did-none (doing.DeliverStatus link) outcome k = refl
-did-none (doing.LoseStatus link) outcome k = refl
-did-none (doing.DoubleStatus link) outcome k = refl
-did-none (doing.Lose link) outcome k = refl
-did-none doing.Tick outcome k = refl
-did-none (doing.Activate link) outcome k = refl
-did-none (doing.Deactivate link) outcome k = refl
-did-none (doing.AddTitle row) outcome k = refl
-did-none (doing.RemoveTitle key digits) outcome k = refl
-did-none (doing.OpenFirst link) outcome k = first-none (wants_of k.near.exchange link) (kept_far_end k link) (kept_far_may (kept_far_end k link) k.far) link k
-did-none (doing.OpenSecond link) outcome k = refl
-did-none (doing.OpenElsewhere link) outcome k = elsewhere-none (kept_leads_elsewhere k link) false (end_happens (CameUp link) k.near) k
-did-none (doing.HearElsewhere link text) outcome k =
+did-none : (what : EndStep) (outcome : Outcome) (k : KeptPair) → (kept_did (told what outcome) k).elsewhere ≡ None
+did-none (steps.Submit message) outcome k = refl
+did-none (steps.Deliver link) outcome k = refl
+did-none (steps.DeliverStatus link) outcome k = refl
+did-none (steps.LoseStatus link) outcome k = refl
+did-none (steps.DoubleStatus link) outcome k = refl
+did-none (steps.Lose link) outcome k = refl
+did-none steps.Tick outcome k = refl
+did-none (steps.Activate link) outcome k = refl
+did-none (steps.Deactivate link) outcome k = refl
+did-none (steps.AddTitle row) outcome k = refl
+did-none (steps.RemoveTitle key digits) outcome k = refl
+did-none (steps.OpenFirst link) outcome k = first-none (wants_of k.near.exchange link) (kept_far_end k link) (kept_far_may (kept_far_end k link) k.far) link k
+did-none (steps.OpenSecond link) outcome k = refl
+did-none (steps.OpenElsewhere link) outcome k = elsewhere-none (kept_leads_elsewhere k link) false (end_happens (CameUp link) k.near) k
+did-none (steps.HearElsewhere link text) outcome k =
     elsewhere-none (kept_leads_elsewhere k link) (speaks_between k.near.exchange.settings.own k.far.exchange.settings.own text)
     (end_hears_elsewhere k.far.exchange.settings.own link text k.near) k
 
-pub turn-none : (its : End) (what : Doing) (outcome : Outcome) (k : KeptPair) → (kept_turn (done_at its (told what outcome)) k).elsewhere ≡ None
+pub turn-none : (its : End) (what : EndStep) (outcome : Outcome) (k : KeptPair) → (kept_turn (done_at its (told what outcome)) k).elsewhere ≡ None
 turn-none end.One what outcome k = did-none what outcome k
 turn-none end.Two what outcome k = did-none what outcome (turned_kept k)

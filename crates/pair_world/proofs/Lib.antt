@@ -14,8 +14,12 @@ pub mod Firsts
 pub mod TwoPlaces
 pub mod NodeRules
 pub mod NodeReaches
+pub mod Listed
+pub mod FirstPoints
+pub mod EndToEnd
 pub mod NodeFits
 pub mod NodePlaces
+pub mod NetworkSteps
 pub mod NetworkTurns
 pub mod NetworkLaws
 pub mod NetworkFirst

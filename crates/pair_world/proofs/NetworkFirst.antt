@@ -1,22 +1,21 @@
 -- A network that was just booted stands for the first network of its settings.
-use Rattle.std.proofs.Common.{◌≡◌, ◌<◌, ℕ, suc, Bool, true, false, List, [], ◌∷◌, length, Option, Some, None, inl, inr, ◌⊎◌, nat_eq, refl, ap, sym, subst, ◌∙◌, arith}
-use Rattle.std.specs.Prelude.{if◌then◌else◌, find, map, slice_get}
+use Rattle.std.proofs.Common.{◌≡◌, ℕ, suc, Bool, true, false, List, [], ◌∷◌, Option, Some, None, is_some, nat_eq, refl, ap, sym, subst, ◌∙◌}
+use Rattle.std.specs.Prelude.{if◌then◌else◌, map, slice_get}
 use Rattle.std.specs.Option.{option_map}
+use Rattle.std.proofs.lemmas.Option.{slice_get-get_or}
 use Rattle.settings_rows.specs.Configuration.{Configuration, LinkEntry}
 use Rattle.settings.specs.Readings.{set_place}
 use Rattle.settings.specs.Sharing.{SharesSet}
 use Rattle.settings.specs.Well.{IsWell}
-use Rattle.exchange_rules.specs.First.{IsSound, first_state}
-use Rattle.exchange_rules.specs.Routing.{adjacent_of}
-use Rattle.exchange.specs.Calls.{kept_of}
-use Rattle.exchange.proofs.Standing.{stands-first}
+use Rattle.exchange_rules.specs.Routing.{adjacent_of, entry_of}
 use Rattle.pair_rules.specs.Sharing.{AreSharing}
-use Rattle.network_rules.specs.Networks.{NetworkState, first_network, first_node}
-use Rattle.network_rules.specs.Pairs.{AreTheirPoints, AreWellOrAlone}
-use Rattle.pair_world.specs.Joined.{no_settings, AreJoined, AreWell, IsJoined, settings_at, settings_for, settings_or}
+use Rattle.network_rules.specs.Networks.{first_network, first_node}
+use Rattle.network_rules.specs.Totals as totals
+use Rattle.pair_world.specs.Joined.{no_settings, AreJoined, AreWell, are_apart, settings_at, settings_for, settings_or}
 use Rattle.pair_world.specs.KeptNodes.{KeptNode, kept_node_of}
-use Rattle.pair_world.specs.KeptNetworks.{is_at, kept_at}
-use Rattle.pair_world.specs.NetworkStands.{IsNetwork, IsNetworkReached, IsNodeAt, NetworkStandsFor}
+use Rattle.pair_world.specs.KeptNetworks.{kept_at, points_of}
+use Rattle.pair_world.specs.NetworkStands.{IsNodeAt, NetworkStandsFor}
+use Rattle.pair_world.proofs.FirstPoints.{for-listed, once-there, own}
 use Rattle.pair_world.proofs.NodePlaces.{equal}
 use Rattle.pair_world.proofs.Turns.{first-sound}
 
@@ -45,17 +44,13 @@ found (first ∷ settings) point c e = by (nat_eq first.own point) refl (found s
         record { place = 0; at = g; own = ap (λ (d : Configuration). d.own) (sym same) ∙ equal first.own point f }
     by false f rest g = let its : IsFound settings point c = rest g in record { place = suc its.place; at = its.at; own = its.own }
 
-module _ (settings : List Configuration) (well : AreWell settings) (joined : AreJoined settings) where
+module _ (settings : List Configuration) (apart : are_apart settings ≡ true) (well : AreWell settings) (joined : AreJoined settings) where
   abbrev its : (point : ℕ) → Configuration
   its point = settings_at settings point
 
   own-by : (point : ℕ) (o : Option Configuration) → settings_for settings point ≡ o → (settings_or point o).own ≡ point
   own-by point None e = refl
   own-by point (Some c) e = (found settings point c e).own
-
-  well-by : (point : ℕ) (o : Option Configuration) → settings_for settings point ≡ o → IsWell (settings_or point o) ⊎ ((settings_or point o).links ≡ [])
-  well-by point None e = inr refl
-  well-by point (Some c) e = let f : IsFound settings point c = found settings point c e in inl (well f.place c f.at)
 
   -- a link's other end is well too: its own set leads back
   shared-well : (far : ℕ) (c : Configuration) (o : Option Configuration) → settings_for settings far ≡ o → SharesSet c (settings_or far o) → IsWell (settings_or far o)
@@ -75,11 +70,31 @@ module _ (settings : List Configuration) (well : AreWell settings) (joined : Are
         shares = shares;
       }
 
-  is-network : IsNetwork its
-  is-network = record {
-    points = λ point. own-by point (settings_for settings point) refl;
-    well = λ point. well-by point (settings_for settings point) refl;
-    joined = λ point link l. joined-by point link l (settings_for settings point) refl;
+  -- ---- the points
+
+  abbrev points : List ℕ
+  points = map own settings
+
+  -- only those with settings are there
+  well-listed : (point : ℕ) (o : Option Configuration) → settings_for settings point ≡ o → is_some o ≡ true → IsWell (settings_or point o)
+  well-listed point (Some c) e is = let f : IsFound settings point c = found settings point c e in well f.place c f.at
+  well-listed point None e is = absurd cc
+
+  other-links : (point : ℕ) (o : Option Configuration) → is_some o ≡ false → (settings_or point o).links ≡ []
+  other-links point None is = refl
+  other-links point (Some c) is = absurd cc
+
+  is-joined : totals.IsJoined its points
+  is-joined = record {
+    own = λ point. own-by point (settings_for settings point) refl;
+    once = once-there settings apart;
+    well = λ point e.
+        well-listed point (settings_for settings point) refl (sym (for-listed settings point (settings_for settings point) refl) ∙ e);
+    others = λ point e.
+        other-links point (settings_for settings point) (sym (for-listed settings point (settings_for settings point) refl) ∙ e);
+    shared = λ point link inside.
+        joined-by point link (entry_of (its point) link) (settings_for settings point) refl
+        (slice_get-get_or (its point).links link (record { name = []; set = 0; slc = 0 }) inside);
   }
 
   -- ---- the nodes
@@ -102,9 +117,18 @@ module _ (settings : List Configuration) (well : AreWell settings) (joined : Are
       let f : IsFound settings point c = found settings point c e in
       record { sound = first-sound c (well f.place c f.at); kept = refl }
 
+  points-same : (cs : List Configuration) → points_of (map booted cs) ≡ map own cs
+  points-same [] = refl
+  points-same (c ∷ cs) = ap (λ (rest : List ℕ). c.own ∷ rest) (points-same cs)
+
   pub first-stands : NetworkStandsFor (map booted settings) (first_network its)
   first-stands = record {
-    reached = record { settings = its; network = is-network; steps = []; by = refl };
+    reached = record {
+      settings = its;
+      joined = subst (totals.IsJoined its) (sym (points-same settings)) is-joined;
+      steps = [];
+      by = refl;
+    };
     nodes = λ point.
         subst (λ (o : Option KeptNode). IsNodeAt point o (first_node (its point))) (sym (kept-same settings point))
         (node-by point (settings_for settings point) refl);

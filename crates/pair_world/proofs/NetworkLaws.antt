@@ -3,7 +3,7 @@ use Rattle.std.proofs.Common.{◌≡◌, ◌+◌, ℕ, Bool, List, [], Option, S
 use Rattle.std.specs.Prelude.{IfSome, count_by, slice_get}
 use Rattle.std.specs.Option.{option_and_then, option_map}
 use Rattle.signalling_types.specs.Message.{Message}
-use Rattle.settings_rows.specs.Configuration.{Configuration, LinkEntry}
+use Rattle.settings_rows.specs.Configuration.{Configuration}
 use Rattle.settings.specs.Readings.{set_place}
 use Rattle.exchange_rules.specs.First.{IsSound}
 use Rattle.exchange_rules.specs.Routing.{adjacent_of}
@@ -20,17 +20,18 @@ use Rattle.network_rules.proofs.Promised.{once, order}
 use Rattle.pair_world.specs.Joined.{no_settings}
 use Rattle.pair_world.specs.Promised.{ComeInOrder, ComeOnce}
 use Rattle.pair_world.specs.KeptNodes.{KeptNode, kept_node_of}
-use Rattle.pair_world.specs.KeptNetworks.{kept_at, node_at, place_at}
+use Rattle.pair_world.specs.KeptNetworks.{kept_at, node_at, place_at, points_of}
 use Rattle.pair_world.specs.NetworkPromised.{AcceptedInOrder, AcceptedOnce, AcceptedOrWait, AreAdjacent, ArrivedInOrder, ArrivedOnce, booked, waiting_between}
-use Rattle.pair_world.specs.NetworkStands.{IsNetworkReached, IsNodeAt, IsNodeOf, NetworkStandsFor}
-use Rattle.pair_world.proofs.NetworkTurns.{own-point}
+use Rattle.pair_world.specs.NetworkStands.{IsNetworkReached, IsNodeAt, NetworkStandsFor}
+use Rattle.pair_world.proofs.NetworkSteps.{own-point}
+use Rattle.pair_world.proofs.Listed.{are-well, leads}
 use Rattle.pair_world.proofs.NodeFits.{Fits, reached-fit}
 use Rattle.pair_world.proofs.NodePlaces.{gets, keeps, keeps-none}
 use Rattle.pair_world.proofs.Reached.{IsReady}
 use Rattle.pair_world.proofs.Waiting.{waiting-same}
 
 module _ (k : List KeptNode) (w : NetworkState) (s : NetworkStandsFor k w) where
-  r : IsNetworkReached w
+  r : IsNetworkReached (points_of k) w
   r = s.reached
 
   -- ---- the node at a point
@@ -90,12 +91,12 @@ module _ (k : List KeptNode) (w : NetworkState) (s : NetworkStandsFor k w) where
     sharing =
         subst (λ (point : ℕ). AreSharing (r.settings near) (r.settings point))
         (ap (λ (d : Configuration). adjacent_of d a.entry.set) (sym near-same) ∙ a.leads)
-        (r.network.joined near a.link a.entry (ap (λ (d : Configuration). slice_get d.links a.link) (sym near-same) ∙ a.is))
+        (leads r.settings (points_of k) r.joined near a.link a.entry (ap (λ (d : Configuration). slice_get d.links a.link) (sym near-same) ∙ a.is))
 
     law : (Statement : PairState → Type 0) → networks.Always Statement → Statement (pair_of w near far)
     law Statement always =
         subst (λ (v : NetworkState). Statement (pair_of v near far)) (sym r.by)
-        (always r.settings r.steps near far r.network.points r.network.well sharing)
+        (always r.settings r.steps near far r.joined.own (are-well r.settings (points_of k) r.joined) sharing)
 
     its-once : LostNothing (pair_of w near far) → BothWays EachOnce (pair_of w near far)
     its-once = law (λ p. LostNothing p → BothWays EachOnce p) once

@@ -1,5 +1,5 @@
 -- Each node of a network that some steps led to has all its places, its settings, and two lists of frames for each link.
-use Rattle.std.proofs.Common.{◌≡◌, ◌≤◌, ℕ, Bool, true, false, List, [], ◌∷◌, ◌++◌, length, Option, Some, None, inl, inr, ◌⊎◌, nat_eq, refl, ap, sym, subst, ◌∙◌, arith}
+use Rattle.std.proofs.Common.{◌≡◌, ◌≤◌, ℕ, Bool, true, false, List, [], ◌∷◌, length, Option, Some, None, inl, inr, ◌⊎◌, nat_eq, refl, sym, subst, ◌∙◌, arith}
 use Rattle.std.specs.Prelude.{if◌then◌else◌, slice_get}
 use Rattle.std.proofs.lemmas.List.{length-replicate, length-set}
 use Rattle.settings_rows.specs.Configuration.{Configuration}
@@ -9,16 +9,15 @@ use Rattle.m2pa_codec.specs.Frames.{FrameValue, EmptyFrame, MessageFrame, Status
 use Rattle.exchange_rules.specs.declared.wants.Wants.{Wants}
 use Rattle.exchange_rules.specs.declared.wants.Wants.TheVariants as wants
 use Rattle.exchange_rules.specs.Exchange.{frame_to_take, wants_of}
-use Rattle.exchange_rules.specs.First.{first_state}
 use Rattle.exchange_rules.specs.Lasting.{HasAllPlaces, after_each}
 use Rattle.exchange_rules.specs.Queues.{whole}
 use Rattle.exchange_rules.specs.State as happening
 use Rattle.exchange_rules.specs.State.{Asking, Happens, Happening}
 use Rattle.exchange_rules.proofs.LastingPlaces.{places-first, places-stay}
-use Rattle.pair_rules.specs.Pairs.{Doing, Submits, Takes, Delivers, DeliversStatus, LosesStatus, DoublesStatus, Loses, Ticks, Activates, Deactivates, AddsTitle, RemovesTitle, OpensFirst, OpensSecond, Streams, in_flight, may_follow, with_status_twice, without_data, without_status}
+use Rattle.pair_rules.specs.Pairs.{Doing, Submits, Takes, Delivers, DeliversStatus, LosesStatus, DoublesStatus, Loses, Ticks, Activates, Deactivates, AddsTitle, RemovesTitle, OpensFirst, OpensSecond, in_flight, may_follow, with_status_twice, without_data, without_status}
 use Rattle.network_rules.specs.Networks.{NetworkNode, NetworkState, Place, Step, after_step, after_steps, change_statuses, changed, comes_up, deliver_frame, did, did_here, end_of, first_network, first_node, happens, is_led, may_open_there, opens_first, opens_second, other_end, reaches, sends, submit, take_frame}
-use Rattle.network_rules.specs.Pairs.{AreWellOrAlone}
-use Rattle.pair_world.specs.NetworkStands.{IsNetwork, IsNetworkReached}
+use Rattle.pair_world.specs.NetworkStands.{IsNetworkReached}
+use Rattle.pair_world.proofs.Listed.{are-well}
 
 pub record Fits (x : NetworkNode) : Type 0 where
   pub places : HasAllPlaces x.exchange.settings x.exchange.node
@@ -210,7 +209,7 @@ first-fits c few = record {
   };
 }
 
-pub reached-fit : (w : NetworkState) (r : IsNetworkReached w) (point : ℕ) → FitsTo (r.settings point) (w.node point)
-reached-fit w r point =
+pub reached-fit : {points : List ℕ} (w : NetworkState) (r : IsNetworkReached points w) (point : ℕ) → FitsTo (r.settings point) (w.node point)
+reached-fit {points} w r point =
     subst (λ (v : NetworkState). FitsTo (r.settings point) (v.node point)) (sym r.by)
-    (steps-fit r.settings r.steps (first_network r.settings) (λ other. first-fits (r.settings other) (few-links (r.settings other) (r.network.well other))) point)
+    (steps-fit r.settings r.steps (first_network r.settings) (λ other. first-fits (r.settings other) (few-links (r.settings other) (are-well r.settings points r.joined other))) point)

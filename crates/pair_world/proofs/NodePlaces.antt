@@ -1,7 +1,8 @@
 -- The nodes that are kept, by their points, where one of them is put in the place of another for the same point.
-use Rattle.std.proofs.Common.{◌≡◌, ◌≢◌, ◌≤◌, ◌<◌, ℕ, Bool, true, false, List, length, Option, Some, None, nat_eq, nat_lt, refl, ap, sym, subst, ◌∙◌, arith}
+use Rattle.std.proofs.Common.{◌≡◌, ◌≢◌, ◌<◌, ℕ, Bool, true, false, List, length, Option, Some, None, nat_eq, nat_lt, refl, ap, sym, subst, ◌∙◌, arith}
 use Rattle.std.specs.List.{position_or_len}
-use Rattle.std.specs.Prelude.{if◌then◌else◌, find, position, slice_get, slice_index_or, slice_set}
+use Rattle.std.specs.Prelude.{if◌then◌else◌, slice_get, slice_index_or, slice_set}
+use Rattle.std.proofs.Math.Seq.{map-set_same}
 use Rattle.std.proofs.lemmas.Bool.Decides.{nat_tests}
 use Rattle.std.proofs.lemmas.List.{length-set}
 use Rattle.std.proofs.lemmas.List.Folds.{find-set, find_past, position_or_len-set}
@@ -9,7 +10,7 @@ use Rattle.std.proofs.lemmas.List.Quantifiers.{position-Some}
 use Rattle.std.proofs.lemmas.Option.{slice_get-get_or}
 use Rattle.network_rules.specs.Networks.{NetworkNode, NetworkState}
 use Rattle.pair_world.specs.KeptNodes.{KeptNode}
-use Rattle.pair_world.specs.KeptNetworks.{is_at, kept_at, place_at}
+use Rattle.pair_world.specs.KeptNetworks.{is_at, kept_at, place_at, points_of}
 use Rattle.pair_world.specs.NetworkStands.{IsNodeAt, IsNodeOf}
 use Rattle.pair_world.proofs.Firsts.{found-at, found-none, is-first}
 
@@ -79,6 +80,10 @@ module _ (k : List KeptNode) (point place : ℕ) (n : KeptNode) (e : place_at po
       ap (λ (p : ℕ). if nat_lt p (length set) then Some p else None)
       (position_or_len-set (is_at other) k place n n (ap (λ (o : ℕ). nat_eq o other) (own ∙ sym (has-point k point place n e))))
       ∙ ap (λ (count : ℕ). if nat_lt (position_or_len (is_at other) k) count then Some (position_or_len (is_at other) k) else None) (length-set k place n)
+
+  -- and the points are as they were
+  pub points-same : points_of set ≡ points_of k
+  points-same = map-set_same (λ m. m.exchange.settings.own) k place n n (own ∙ sym (has-point k point place n e))
 
   -- so the nodes are those of a state that differs there alone
   pub put-nodes : (w v : NetworkState) → ((other : ℕ) → IsNodeAt other (kept_at other k) (w.node other)) → IsNodeOf n (v.node point)

@@ -19,7 +19,7 @@ use Rattle.network_rules.specs.Networks.{NetworkNode, comes_up, end_of, is_led, 
 use Rattle.pair_world.specs.declared.doing.Reach.TheVariants as reach
 use Rattle.pair_world.specs.KeptPairs.{has_link}
 use Rattle.pair_world.specs.KeptSites.{behind_its, take_outcome, text_to_take}
-use Rattle.pair_world.specs.KeptNodes.{BothTurn, KeptNode, NodeTurn, both_did, both_open, both_take, kept_node_of, node_takes}
+use Rattle.pair_world.specs.KeptNodes.{BothTurn, both_did, both_open, both_take, kept_node_of, node_takes}
 use Rattle.pair_world.specs.NetworkStands.{IsNodeOf, if_any}
 use Rattle.pair_world.proofs.Fetching.{behind-same, both-there, data-same, is-there, nothing-taken, statuses-same}
 use Rattle.pair_world.proofs.Newly.{stands-itself}

@@ -1,29 +1,25 @@
 -- What becomes of what is done at a node of a network, on what is kept, is what is kept of what becomes of it.
-use Rattle.std.proofs.Common.{◌≡◌, ◌<◌, ℕ, Bool, true, false, List, [], ◌∷◌, ◌++◌, length, Option, Some, None, nat_lt, refl, ap, sym, subst, ◌∙◌}
-use Rattle.std.specs.Prelude.{◌&&◌, if◌then◌else◌, option_to_list, slice_get, slice_set}
-use Rattle.std.specs.Option.{option_map}
-use Rattle.std.proofs.lemmas.List.{set-get_or}
+use Rattle.std.proofs.Common.{◌≡◌, ℕ, Bool, true, false, List, ◌++◌, Option, Some, None, refl, ap, ◌∙◌}
+use Rattle.std.specs.Prelude.{option_to_list, slice_get, slice_set}
 use Rattle.signalling_types.specs.Message.{Message}
 use Rattle.signalling_types.specs.declared.outcome.Outcome.{Outcome}
-use Rattle.signalling_types.specs.declared.outcome.Outcome.TheVariants.{Handled, Ignored}
 use Rattle.settings_rows.specs.Configuration.{Configuration}
-use Rattle.m2pa_codec.specs.Frames.{FrameValue, spelled}
 use Rattle.exchange_rules.specs.declared.wants.Wants.{Wants}
 use Rattle.exchange_rules.specs.declared.wants.Wants.TheVariants as wants
-use Rattle.exchange_rules.specs.State.{Happening, CameUp, WentDown, FrameCame, Ticked, Submitted, Activated, Deactivated, TitleAdded, TitleRemoved, is_link}
+use Rattle.exchange_rules.specs.State.{Happening, CameUp, WentDown, FrameCame, Ticked, Submitted, Activated, Deactivated, TitleAdded, TitleRemoved}
 use Rattle.exchange_rules.specs.Conserving.{brought_in}
 use Rattle.exchange_rules.specs.Queues.{whole}
-use Rattle.exchange_rules.specs.Exchange.{frame_to_take, outcome_of, taken, wants_of}
+use Rattle.exchange_rules.specs.Exchange.{outcome_of, wants_of}
 use Rattle.exchange_rules.specs.Lasting.{HasAllPlaces}
 use Rattle.exchange_rules.specs.Receiving.{new_message}
 use Rattle.exchange_rules.specs.First.{Abstract, IsSound}
 use Rattle.exchange.specs.Calls.{Kept, StandsFor, kept_of}
 use Rattle.exchange.specs.KeptQueues.{kept}
-use Rattle.exchange.proofs.Standing.{stands-after, stands-outcome, stands-frame, stands-taken}
-use Rattle.pair_rules.specs.Pairs.{Doing, Submits, Takes, Delivers, DeliversStatus, LosesStatus, DoublesStatus, Loses, Ticks, Activates, Deactivates, AddsTitle, RemovesTitle, OpensFirst, OpensSecond, Streams, emptied, in_flight, launched, may_follow, may_open_at, with_status_twice, without_data, without_status}
-use Rattle.network_rules.specs.Networks.{Arrival, NetworkNode, change_statuses, comes_up, deliver_frame, did_here, end_of, entered_by, happens, is_led, opens_second, reaches, refused_by, sends, submit}
-use Rattle.pair_world.specs.KeptSites.{behind_its, newly_brought, newly_carried, site_changes, site_follows, take_outcome, text_to_take}
-use Rattle.pair_world.specs.KeptNodes.{KeptNode, NodeTurn, arrivals, entered_of, kept_node_of, node_did, node_happens, node_hears, node_of_site, node_submits, refused_of, site_of_node}
+use Rattle.exchange.proofs.Standing.{stands-after, stands-outcome}
+use Rattle.pair_rules.specs.Pairs.{Doing, Submits, Takes, Delivers, DeliversStatus, LosesStatus, DoublesStatus, Loses, Ticks, Activates, Deactivates, AddsTitle, RemovesTitle, OpensFirst, OpensSecond, Streams, in_flight, may_follow, with_status_twice, without_data, without_status}
+use Rattle.network_rules.specs.Networks.{NetworkNode, change_statuses, deliver_frame, did_here, end_of, entered_by, happens, opens_second, refused_by, submit}
+use Rattle.pair_world.specs.KeptSites.{newly_brought, newly_carried, site_changes, site_follows}
+use Rattle.pair_world.specs.KeptNodes.{NodeTurn, arrivals, entered_of, kept_node_of, node_did, node_happens, node_hears, node_of_site, node_submits, refused_of, site_of_node}
 use Rattle.pair_world.specs.NetworkStands.{IsNodeOf, hear_outcome, here_outcome, if_any, second_outcome}
 use Rattle.pair_world.proofs.Brought.{frame-same, submission-same}
 use Rattle.pair_world.proofs.Newly.{newly-same, stands-itself}

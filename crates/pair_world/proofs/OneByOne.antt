@@ -1,11 +1,10 @@
 -- Lists of settings, looked at one by one.
-use Rattle.std.proofs.Common.{◌≡◌, ◌≤◌, ◌<◌, ◌+◌, ℕ, suc, Bool, true, false, List, [], ◌∷◌, length, Option, Some, None, drop, nat_eq, nat_lt, refl, ap, sym, subst, ◌∙◌, arith}
-use Rattle.std.specs.Prelude.{◌&&◌, if◌then◌else◌, find, not, position, slice_get, slice_index_or}
+use Rattle.std.proofs.Common.{◌≡◌, ◌<◌, ◌+◌, ℕ, Bool, true, false, List, Some, None, nat_eq, refl, ap, sym, subst, ◌∙◌, arith}
+use Rattle.std.specs.Prelude.{position, slice_index_or}
 use Rattle.std.proofs.lemmas.Bool.Decides.{nat_tests}
 use Rattle.settings_rows.specs.Configuration.{Configuration}
 use Rattle.settings.specs.Readings.{set_place}
 use Rattle.settings.specs.Sharing.{SharesSet}
-use Rattle.exchange_rules.specs.Routing.{adjacent_of}
 use Rattle.pair_world.specs.Joined.{no_settings, settings_at, settings_for, settings_or}
 use Rattle.pair_world.proofs.Firsts.{found-at, found-none}
 use Rattle.pair_world.proofs.NodePlaces.{equal}

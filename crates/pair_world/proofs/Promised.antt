@@ -1,5 +1,5 @@
 -- What the abstract pair promises, that which stands for it promises.
-use Rattle.std.proofs.Common.{◌≡◌, Bool, List, refl, ap, sym, subst, ◌∙◌}
+use Rattle.std.proofs.Common.{◌≡◌, List, refl, ap, sym, subst, ◌∙◌}
 use Rattle.std.specs.Prelude.{All}
 use Rattle.signalling_types.specs.Message.{Message}
 use Rattle.exchange_rules.specs.First.{IsSound}

@@ -1,30 +1,23 @@
 -- What becomes of what is done at one end, on what is kept, is what is kept of what becomes of it.
-use Rattle.std.proofs.Common.{◌≡◌, ◌<◌, ℕ, Bool, true, false, List, [], ◌∷◌, ◌++◌, length, Option, Some, None, nat_lt, refl, ap, sym, subst, ◌∙◌, arith, append-nil}
-use Rattle.std.specs.Prelude.{◌&&◌, if◌then◌else◌, not, nat_eq, option_to_list, slice_get, slice_set}
+use Rattle.std.proofs.Common.{◌≡◌, ◌<◌, ℕ, Bool, true, false, List, ◌++◌, length, Option, Some, None, nat_lt, refl, ap, sym, subst, ◌∙◌, append-nil}
+use Rattle.std.specs.Prelude.{◌&&◌, if◌then◌else◌, slice_get, slice_set}
 use Rattle.std.specs.Option.{option_map}
-use Rattle.std.proofs.lemmas.Bool.Decides.{nat_tests}
-use Rattle.std.proofs.lemmas.List.{set-get_or}
-use Rattle.signalling_types.specs.Message.{Message, dpc_of, is_management}
+use Rattle.signalling_types.specs.Message.{Message}
 use Rattle.signalling_types.specs.declared.outcome.Outcome.TheVariants.{Handled, Ignored}
-use Rattle.m2pa_codec.specs.Frames.{FrameValue, EmptyFrame, MessageFrame, StatusFrame, spelled}
+use Rattle.m2pa_codec.specs.Frames.{FrameValue, spelled}
 use Rattle.exchange_rules.specs.declared.wants.Wants.{Wants}
 use Rattle.exchange_rules.specs.declared.wants.Wants.TheVariants as wants
-use Rattle.exchange_rules.specs.State.{is_link, Node, Happening, CameUp, WentDown, FrameCame, Ticked, Submitted, Activated, Deactivated, TitleAdded, TitleRemoved}
-use Rattle.exchange_rules.specs.Conserving.{brought_in}
-use Rattle.exchange_rules.specs.Queues.{WholeQueues, whole}
-use Rattle.exchange_rules.specs.Sending.{Outgoing, SendsStatus, SendsMessage, Acknowledges, SendsNothing, frame_from, after_sending, goes_out}
-use Rattle.exchange_rules.specs.Exchange.{frame_to_take, taken, wants_of}
-use Rattle.exchange_rules.specs.Receiving.{new_message}
+use Rattle.exchange_rules.specs.State.{is_link, Happening, CameUp, WentDown, FrameCame, Ticked, Submitted, Activated, Deactivated, TitleAdded, TitleRemoved}
+use Rattle.exchange_rules.specs.Queues.{whole}
+use Rattle.exchange_rules.specs.Exchange.{frame_to_take, wants_of}
 use Rattle.exchange_rules.specs.First.{Abstract, IsSound}
-use Rattle.settings_rows.specs.Configuration.{Configuration}
 use Rattle.exchange.specs.Calls.{StandsFor, kept_of}
-use Rattle.exchange.specs.Views.{may_restart_at}
 use Rattle.exchange.proofs.Standing.{stands-after, stands-outcome, stands-frame, stands-taken}
 use Rattle.pair_rules.specs.Pairs as pairs
 use Rattle.pair_rules.specs.Pairs.{PairState, Streams, Turn, change_statuses, emptied, happens, in_flight, launched, may_follow, may_open_at, opens_second, with_status_twice, without_data, without_status}
 use Rattle.neighbour_rules.specs.Neighbours.{Doing, Does, OpensElsewhere, HearsElsewhere, deliver_frame, did, did_between, far_end, far_may_open, leads_elsewhere, opens_first, speaks_for_either, take_frame, takes_elsewhere, takes_in, users_to}
 use Rattle.pair_world.specs.Elsewhere.{gone_by, gone_from}
-use Rattle.pair_world.specs.KeptSites.{behind_its, site_changes, site_follows, text_to_take}
+use Rattle.pair_world.specs.KeptSites.{site_changes, site_follows, text_to_take}
 use Rattle.pair_world.specs.KeptEnds.{KeptEnd, end_happens, end_hears, end_hears_elsewhere, end_of_site, end_submits, kept_end_of, site_of_end}
 use Rattle.pair_world.specs.KeptPairs.{KeptTurn, alone, has_link, kept_did, kept_did_between, kept_elsewhere, kept_far_may, kept_fetched, kept_ignored, kept_opens_first, kept_pair_of, kept_takes_to, kept_turn_of}
 use Rattle.pair_world.proofs.Brought.{frame-same, submission-same}

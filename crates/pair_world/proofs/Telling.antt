@@ -1,10 +1,7 @@
 -- What a step comes to tells what it brought, between two that have only each other.
 use Rattle.std.proofs.Common.{◌≡◌, ap, sym, subst}
-use Rattle.signalling_types.specs.declared.outcome.Outcome.{Outcome}
-use Rattle.exchange_rules.proofs.FacingNodes.{facing-turned}
 use Rattle.pair_rules.specs.Pairs as pairs
 use Rattle.pair_rules.specs.Pairs.{PairState, Turn, first_pair, turned}
-use Rattle.pair_rules.specs.Promises.{BothWays}
 use Rattle.pair_rules.specs.Deliveries.{TellsOf, TellsWhatCame}
 use Rattle.neighbour_rules.proofs.Outcomes as rules
 use Rattle.neighbour_rules.specs.Neighbours.{Doing, Does, OpensElsewhere, HearsElsewhere, Step, AtNear, AtFar, did, did_between, turn}

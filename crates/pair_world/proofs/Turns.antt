@@ -1,5 +1,5 @@
 -- A pair that stood for two abstract exchanges stands for those after each step.
-use Rattle.std.proofs.Common.{◌≡◌, ℕ, List, Option, refl, ap, sym, subst}
+use Rattle.std.proofs.Common.{◌≡◌, refl, ap, sym, subst}
 use Rattle.settings_rows.specs.Configuration.{Configuration}
 use Rattle.exchange_rules.specs.First.{first_state, IsSound}
 use Rattle.exchange.specs.Calls.{kept_of}

@@ -1,11 +1,11 @@
 -- Two elements of a list, each written in its part of the list; and two nodes that are at two places.
-use Rattle.std.proofs.Common.{◌≡◌, ◌<◌, ◌+◌, ℕ, zero, suc, Bool, true, false, List, [], ◌∷◌, ◌++◌, length, Option, Some, None, drop, nat_eq, take, refl, ap, sym, subst, ◌∙◌, arith}
+use Rattle.std.proofs.Common.{◌≡◌, ◌<◌, ◌+◌, ℕ, zero, suc, Bool, false, List, [], ◌∷◌, ◌++◌, length, Option, Some, drop, nat_eq, take, refl, ap, sym, ◌∙◌, arith}
 use Rattle.std.specs.Prelude.{OnOk, Result, Ok, Err, if◌then◌else◌, slice_get, slice_index_or, slice_set}
 use Rattle.std.proofs.lemmas.List.{get_or-drop, get_or-take}
 use Rattle.std.proofs.lemmas.Option.{slice_get-get_or}
 use Rattle.pair_world.specs.declared.doing.Reach.{Reach}
 use Rattle.pair_world.specs.KeptNodes.{KeptNode, both_did}
-use Rattle.pair_world.specs.KeptNetworks.{NetworkTurn, both_turned, network_ignored, reached_at}
+use Rattle.pair_world.specs.KeptNetworks.{both_turned, network_ignored, reached_at}
 
 none-more : (n : ℕ) → n + 0 ≡ n
 none-more n = omega arith

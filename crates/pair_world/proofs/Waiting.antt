@@ -8,14 +8,12 @@ use Rattle.cell_pool.specs.Lanes.{is_user_picked}
 use Rattle.exchange_rules.specs.State.{is_link}
 use Rattle.exchange_rules.specs.Queues.{whole}
 use Rattle.exchange.specs.Counting.{kept_behind_number}
-use Rattle.exchange.specs.KeptQueues.{kept, counts_at, link_lane}
+use Rattle.exchange.specs.KeptQueues.{counts_at, link_lane}
 use Rattle.exchange.specs.Calls.{Kept, kept_of}
-use Rattle.exchange.specs.Calls as exchanges
 use Rattle.exchange.specs.Views.{link_shown}
 use Rattle.exchange.proofs.Showing.{stands-link}
 use Rattle.exchange.proofs.Waiting.{stands-behind}
 use Rattle.exchange_rules.specs.First.{IsSound}
-use Rattle.pair_moves.specs.Laws.{sum_to}
 use Rattle.pair_moves.specs.Order.{join_to}
 use Rattle.pair_moves.proofs.Counts.{count-append}
 use Rattle.pair_rules.specs.Pairs.{PairState, turned}
@@ -26,7 +24,7 @@ use Rattle.neighbour_rules.specs.Promises.{accepted_there, waiting, waiting_by, 
 use Rattle.pair_world.specs.declared.step.End.{End}
 use Rattle.pair_world.specs.declared.step.End.TheVariants.{One, Two}
 use Rattle.pair_world.specs.KeptSites.{accepted_number, number_shown}
-use Rattle.pair_world.specs.KeptPairs.{KeptPair, kept_pair_of}
+use Rattle.pair_world.specs.KeptPairs.{KeptPair}
 use Rattle.pair_world.specs.Stands.{StandsFor}
 use Rattle.pair_world.specs.Told.{kept_at, other, seen_from}
 use Rattle.pair_world.specs.Waiting.{kept_waiting, kept_waiting_by, kept_waiting_on, picked_to}

@@ -1,5 +1,5 @@
 -- The nodes of a network as the code keeps them, and what becomes of what is done at one of them.
-use Rattle.std.specs.Prelude.{ℕ, Bool, nat_eq, List, find, position, slice_get, slice_set, Option, Some, None, if◌then◌else◌}
+use Rattle.std.specs.Prelude.{ℕ, Bool, nat_eq, List, find, map, position, slice_get, slice_set, Option, Some, None, if◌then◌else◌}
 use Rattle.std.specs.Option.{option_and_then, option_map}
 use Rattle.signalling_types.specs.declared.outcome.Outcome.{Outcome}
 use Rattle.signalling_types.specs.declared.outcome.Outcome.TheVariants.{Ignored}
@@ -33,6 +33,10 @@ place_at point k = position (is_at point) k
 
 abbrev pub node_at : (point : ℕ) → List KeptNode → Option KeptNode
 node_at point k = option_and_then (slice_get k) (place_at point k)
+
+-- the points of all nodes
+abbrev pub points_of : List KeptNode → List ℕ
+points_of k = map (λ n. n.exchange.settings.own) k
 
 -- ---- the other end of a link
 

@@ -1,10 +1,11 @@
--- What a network promises of the messages that one node accepted for another, to which a link of it leads.
-use Rattle.std.specs.Prelude.{◌≡◌, ℕ, Bool, List, [], Option, Some, None, slice_get}
-use Rattle.settings_rows.specs.Configuration.{Configuration, LinkEntry}
+-- What a network promises: of the messages that one node accepted for an adjacent one, and of all from end to end.
+use Rattle.std.specs.Prelude.{◌≡◌, ℕ, Bool, true, List, [], Option, Some, None, slice_get}
+use Rattle.settings_rows.specs.Configuration.{LinkEntry}
 use Rattle.exchange_rules.specs.Routing.{adjacent_of}
 use Rattle.signalling_types.specs.Message.{Message}
 use Rattle.network_rules.specs.Networks.{Arrival, NetworkState}
 use Rattle.network_rules.specs.Pairs.{pair_of, came_from}
+use Rattle.network_rules.specs.Totals.{ComeToPoint, HaveLostNothing, is_listed}
 use Rattle.neighbour_rules.specs.Neighbours.{users_to}
 use Rattle.pair_world.specs.KeptNodes.{KeptNode}
 use Rattle.pair_world.specs.Promised.{ComeInOrder, ComeOnce, ComeOrWait}
@@ -46,6 +47,20 @@ ArrivedInOrder w near far arrived =
 -- and how many that a choice takes were accepted, and how many wait
 abbrev pub AcceptedOrWait : NetworkState → (near far : ℕ) → (picks : Message → Bool) → (count : ℕ) → Type 0
 AcceptedOrWait w near far picks count = AreAdjacent w near far → ComeOrWait (pair_of w near far) picks count
+
+-- ---- from end to end
+
+-- all nodes at these points have the network indicator of one
+abbrev pub HaveIndicatorOf : (points : List ℕ) → NetworkState → (point : ℕ) → Type 0
+HaveIndicatorOf points w point =
+    (other : ℕ) → is_listed points other ≡ true →
+    (w.node other).exchange.settings.network ≡ (w.node point).exchange.settings.network
+
+-- while none of them may have lost a message, the messages for one of them are accounted for
+abbrev pub ComeToEach : (points : List ℕ) → NetworkState → Type 0
+ComeToEach points w =
+    (point : ℕ) → is_listed points point ≡ true → HaveIndicatorOf points w point → HaveLostNothing points w →
+    ComeToPoint points w (w.node point).exchange.settings
 
 -- ---- what is kept
 

@@ -2,38 +2,26 @@
 use Rattle.std.specs.Prelude.{◌≡◌, ℕ, Bool, true, List, is_some, slice_get, Option, Some, None, if◌then◌else◌}
 use Rattle.signalling_types.specs.declared.outcome.Outcome.{Outcome}
 use Rattle.signalling_types.specs.declared.outcome.Outcome.TheVariants.{Handled, Ignored}
-use Rattle.settings_rows.specs.Configuration.{Configuration, LinkEntry}
-use Rattle.m2pa_codec.specs.Frames.{FrameValue}
+use Rattle.settings_rows.specs.Configuration.{Configuration}
 use Rattle.exchange_rules.specs.First.{IsSound}
 use Rattle.exchange_rules.specs.Exchange.{frame_to_take, outcome_of, wants_of}
 use Rattle.exchange_rules.specs.Queues.{whole}
-use Rattle.exchange_rules.specs.Routing.{adjacent_of}
 use Rattle.exchange_rules.specs.State.{FrameCame, Submitted, WentDown, Ticked, Activated, Deactivated, TitleAdded, TitleRemoved}
 use Rattle.exchange_rules.specs.declared.wants.Wants.{Wants}
 use Rattle.exchange_rules.specs.declared.wants.Wants.TheVariants.{Open}
 use Rattle.pair_rules.specs.Pairs.{Doing, Submits, Takes, Delivers, DeliversStatus, LosesStatus, DoublesStatus, Loses, Ticks, Activates, Deactivates, AddsTitle, RemovesTitle, OpensFirst, OpensSecond, in_flight, may_follow}
-use Rattle.pair_rules.specs.Sharing.{AreSharing}
 use Rattle.network_rules.specs.Networks.{NetworkNode, NetworkState, Place, Step, after_step, after_steps, end_of, first_network, first_node, may_open_there, other_end}
-use Rattle.network_rules.specs.Pairs.{AreTheirPoints, AreWellOrAlone}
+use Rattle.network_rules.specs.Totals.{IsJoined}
 use Rattle.pair_world.specs.Joined.{no_settings}
 use Rattle.pair_world.specs.KeptNodes.{KeptNode, kept_node_of}
-use Rattle.pair_world.specs.KeptNetworks.{kept_at, place_at}
-
--- ---- the settings of a network
-
--- what the rules ask of the settings at all points: that, and that each node is told the point at which it is
-pub record IsNetwork (settings : (point : ℕ) → Configuration) : Type 0 where
-  pub points : AreTheirPoints settings
-  pub well : AreWellOrAlone settings
-  pub joined : (point link : ℕ) (l : LinkEntry) → slice_get (settings point).links link ≡ Some l →
-      AreSharing (settings point) (settings (adjacent_of (settings point) l.set))
+use Rattle.pair_world.specs.KeptNetworks.{kept_at, place_at, points_of}
 
 -- ---- it stands for an abstract network
 
--- by these steps it comes of a network of nodes that were just booted
-pub record IsNetworkReached (w : NetworkState) : Type 0 where
+-- by these steps it comes of a network of nodes at these points, joined by their links, that were just booted
+pub record IsNetworkReached (points : List ℕ) (w : NetworkState) : Type 0 where
   pub settings : (point : ℕ) → Configuration
-  pub network : IsNetwork settings
+  pub joined : IsJoined settings points
   pub steps : List Step
   pub by : w ≡ after_steps steps (first_network settings)
 
@@ -48,7 +36,7 @@ IsNodeAt point (Some n) x = IsNodeOf n x
 IsNodeAt point None x = x ≡ first_node (no_settings point)
 
 pub record NetworkStandsFor (k : List KeptNode) (w : NetworkState) : Type 0 where
-  pub reached : IsNetworkReached w
+  pub reached : IsNetworkReached (points_of k) w
   pub nodes : (point : ℕ) → IsNodeAt point (kept_at point k) (w.node point)
 
 -- ---- what becomes of something that is done

@@ -3,8 +3,8 @@ use Rattle.pair_world.specs.declared.step.End.{End}
 use Rattle.pair_world.specs.declared.step.End.TheVariants as end
 use Rattle.pair_world.specs.declared.step.Step.{Step}
 use Rattle.pair_world.specs.declared.step.Step.TheVariants as step
-use Rattle.pair_world.specs.declared.step.Doing.{Doing}
-use Rattle.pair_world.specs.declared.step.Doing.TheVariants as doing
+use Rattle.pair_world.specs.declared.step.EndStep.{EndStep}
+use Rattle.pair_world.specs.declared.step.EndStep.TheVariants as steps
 use Rattle.signalling_types.specs.declared.outcome.Outcome.{Outcome}
 use Rattle.exchange.specs.Calls.{is_memory_refused}
 use Rattle.pair_rules.specs.Pairs as pairs
@@ -30,22 +30,22 @@ other end.One = end.Two
 other end.Two = end.One
 
 -- what is done at one end, but for a fetch
-abbrev pub told : Doing → Outcome → neighbours.Doing
-told (doing.Submit message) outcome = Does (pairs.Submits message)
-told (doing.Deliver link) outcome = Does (pairs.Delivers link)
-told (doing.DeliverStatus link) outcome = Does (pairs.DeliversStatus link)
-told (doing.LoseStatus link) outcome = Does (pairs.LosesStatus link)
-told (doing.DoubleStatus link) outcome = Does (pairs.DoublesStatus link)
-told (doing.Lose link) outcome = Does (pairs.Loses link)
-told doing.Tick outcome = Does pairs.Ticks
-told (doing.Activate link) outcome = Does (pairs.Activates link)
-told (doing.Deactivate link) outcome = Does (pairs.Deactivates link)
-told (doing.AddTitle row) outcome = Does (pairs.AddsTitle row (is_memory_refused outcome))
-told (doing.RemoveTitle key digits) outcome = Does (pairs.RemovesTitle key digits.items)
-told (doing.OpenFirst link) outcome = Does (pairs.OpensFirst link)
-told (doing.OpenSecond link) outcome = Does (pairs.OpensSecond link)
-told (doing.OpenElsewhere link) outcome = neighbours.OpensElsewhere link
-told (doing.HearElsewhere link text) outcome = neighbours.HearsElsewhere link text
+abbrev pub told : EndStep → Outcome → neighbours.Doing
+told (steps.Submit message) outcome = Does (pairs.Submits message)
+told (steps.Deliver link) outcome = Does (pairs.Delivers link)
+told (steps.DeliverStatus link) outcome = Does (pairs.DeliversStatus link)
+told (steps.LoseStatus link) outcome = Does (pairs.LosesStatus link)
+told (steps.DoubleStatus link) outcome = Does (pairs.DoublesStatus link)
+told (steps.Lose link) outcome = Does (pairs.Loses link)
+told steps.Tick outcome = Does pairs.Ticks
+told (steps.Activate link) outcome = Does (pairs.Activates link)
+told (steps.Deactivate link) outcome = Does (pairs.Deactivates link)
+told (steps.AddTitle row) outcome = Does (pairs.AddsTitle row (is_memory_refused outcome))
+told (steps.RemoveTitle key digits) outcome = Does (pairs.RemovesTitle key digits.items)
+told (steps.OpenFirst link) outcome = Does (pairs.OpensFirst link)
+told (steps.OpenSecond link) outcome = Does (pairs.OpensSecond link)
+told (steps.OpenElsewhere link) outcome = neighbours.OpensElsewhere link
+told (steps.HearElsewhere link text) outcome = neighbours.HearsElsewhere link text
 
 -- where it is done
 abbrev pub done_at : End → neighbours.Doing → neighbours.Step

@@ -8,12 +8,12 @@ ghost use Rattle.pair_world.specs.KeptPairs.{both, kept_did, kept_takes};
 
 use crate::between::{far_end, leads_elsewhere, speaks_between};
 use crate::side::Side;
-use crate::step::{Doing, Turned};
+use crate::step::{EndStep, Turned};
 use exchange::{Event, FrameText, NoMemory, Order, Wants};
 use settings::{LinkId, Outcome};
 
 /// Does what is done at the near end. After NoMemory nothing has changed.
-pub(crate) fn act(near: &mut Side, far: &mut Side, what: Doing) -> Result<Outcome, NoMemory>
+pub(crate) fn act(near: &mut Side, far: &mut Side, what: EndStep) -> Result<Outcome, NoMemory>
     ensures outcome { IfOk result (λ outcome.
         outcome ≡ (kept_did (told what outcome) (both near.old far.old)).outcome) }
     ensures near { IfOk result (λ outcome.
@@ -23,23 +23,23 @@ pub(crate) fn act(near: &mut Side, far: &mut Side, what: Doing) -> Result<Outcom
     ensures same_far { OnErr result (far.new ≡ far.old) }
 {
     match what {
-        Doing::Submit(message) => near.submit(far.point(), message),
-        Doing::Deliver(link) => near.deliver(far.point(), link),
-        Doing::DeliverStatus(link) => near.deliver_status(far.point(), link),
-        Doing::LoseStatus(link) => Ok(near.lose_status(link)),
-        Doing::DoubleStatus(link) => near.double_status(link),
-        Doing::Lose(link) => Ok(near.happen(&Event::AssociationDown(link))),
-        Doing::Tick => Ok(near.happen(&Event::Tick)),
-        Doing::Activate(link) => Ok(near.happen(&Event::Order(Order::Activate(link)))),
-        Doing::Deactivate(link) => Ok(near.happen(&Event::Order(Order::Deactivate(link)))),
-        Doing::AddTitle(row) => Ok(near.happen(&Event::Order(Order::AddTitle(row)))),
-        Doing::RemoveTitle(key, digits) => {
+        EndStep::Submit(message) => near.submit(far.point(), message),
+        EndStep::Deliver(link) => near.deliver(far.point(), link),
+        EndStep::DeliverStatus(link) => near.deliver_status(far.point(), link),
+        EndStep::LoseStatus(link) => Ok(near.lose_status(link)),
+        EndStep::DoubleStatus(link) => near.double_status(link),
+        EndStep::Lose(link) => Ok(near.happen(&Event::AssociationDown(link))),
+        EndStep::Tick => Ok(near.happen(&Event::Tick)),
+        EndStep::Activate(link) => Ok(near.happen(&Event::Order(Order::Activate(link)))),
+        EndStep::Deactivate(link) => Ok(near.happen(&Event::Order(Order::Deactivate(link)))),
+        EndStep::AddTitle(row) => Ok(near.happen(&Event::Order(Order::AddTitle(row)))),
+        EndStep::RemoveTitle(key, digits) => {
             Ok(near.happen(&Event::Order(Order::RemoveTitle(key, digits))))
         }
-        Doing::OpenFirst(link) => Ok(open_first(near, far, link)),
-        Doing::OpenSecond(link) => Ok(near.open_second(link)),
-        Doing::OpenElsewhere(link) => Ok(open_elsewhere(near, far, link)),
-        Doing::HearElsewhere(link, text) => hear_elsewhere(near, far, link, &text),
+        EndStep::OpenFirst(link) => Ok(open_first(near, far, link)),
+        EndStep::OpenSecond(link) => Ok(near.open_second(link)),
+        EndStep::OpenElsewhere(link) => Ok(open_elsewhere(near, far, link)),
+        EndStep::HearElsewhere(link, text) => hear_elsewhere(near, far, link, &text),
     }
 }
 

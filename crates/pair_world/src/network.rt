@@ -6,11 +6,12 @@ ghost use Rattle.neighbour_rules.specs.Promises as promises;
 ghost use Rattle.pair_rules.specs.Promises.{user};
 ghost use Rattle.network_rules.specs.Pairs.{pair_of};
 ghost use Rattle.pair_world.specs.Joined.{AreJoined, are_apart, settings_at};
-ghost use Rattle.pair_world.specs.NetworkPromised.{AcceptedInOrder, AcceptedOnce, AcceptedOrWait, AreAdjacent, ArrivedInOrder, ArrivedOnce};
-ghost use Rattle.pair_world.specs.KeptNetworks.{network_turn};
+ghost use Rattle.pair_world.specs.NetworkPromised.{AcceptedInOrder, AcceptedOnce, AcceptedOrWait, AreAdjacent, ArrivedInOrder, ArrivedOnce, ComeToEach};
+ghost use Rattle.pair_world.specs.KeptNetworks.{network_turn, points_of};
 ghost use Rattle.pair_world.specs.NetworkTold.{doing_told};
 ghost use Rattle.pair_world.specs.NetworkStands.{NetworkStandsFor, has_node, step_outcome, stepped};
 ghost use Rattle.network_rules.specs.Networks.{NetworkState, first_network};
+ghost use Rattle.network_rules.specs.Totals.{HaveLostNothing, IsAccounted};
 
 use crate::arrival::Arrival;
 use crate::doing::{Doing, Reach};
@@ -170,6 +171,17 @@ impl Network {
     {
         exchange_at(&self.nodes, at)
     }
+
+    /// What holds from end to end, over all nodes, between any two steps, while none of them may have lost a message: as
+    /// many user messages entered the network, by any test, as were received at a node that they aren't to leave, as wait
+    /// in nodes, and as were refused by a node on the way (`specs/Totals.antt` of `network_rules`). So it is of the
+    /// messages for each node, if all have its network indicator: of those as many entered as it received, as wait, and as
+    /// were refused. This says so by its contract, and does nothing.
+    pub fn laws(&self)
+        ensures accounted { (w : NetworkState) → NetworkStandsFor self.now w →
+            HaveLostNothing (points_of self.now) w → IsAccounted (points_of self.now) w }
+        ensures to_each { (w : NetworkState) → NetworkStandsFor self.now w → ComeToEach (points_of self.now) w }
+    {}
 
     /// Does one thing at the node at a point, by what is kept.
     fn apply(&mut self, at: PointCode, doing: Doing) -> Result<Outcome, NoMemory>

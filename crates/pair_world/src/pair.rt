@@ -21,7 +21,7 @@ ghost use Rattle.pair_world.specs.Waiting.{kept_waiting};
 use crate::act::{act, take};
 use crate::fault::PairFault;
 use crate::side::Side;
-use crate::step::{Doing, End, Step, Turned};
+use crate::step::{End, EndStep, Step, Turned};
 use exchange::{Exchange, NoMemory, Pick};
 use settings::{LinkId, Msu, Outcome, Settings};
 use std::alloc::Global;
@@ -208,31 +208,31 @@ impl Pair {
         ensures unchanged { OnErr result (self.new ≡ self.old) }
     {
         match step {
-            Step::Submit(end, message) => self.act_at(end, Doing::Submit(message)),
+            Step::Submit(end, message) => self.act_at(end, EndStep::Submit(message)),
             Step::Take(end, link) => self.take_at(end, link),
-            Step::Deliver(end, link) => self.act_at(end, Doing::Deliver(link)),
-            Step::DeliverStatus(end, link) => self.act_at(end, Doing::DeliverStatus(link)),
-            Step::LoseStatus(end, link) => self.act_at(end, Doing::LoseStatus(link)),
-            Step::DoubleStatus(end, link) => self.act_at(end, Doing::DoubleStatus(link)),
-            Step::Lose(end, link) => self.act_at(end, Doing::Lose(link)),
-            Step::Tick(end) => self.act_at(end, Doing::Tick),
-            Step::Activate(end, link) => self.act_at(end, Doing::Activate(link)),
-            Step::Deactivate(end, link) => self.act_at(end, Doing::Deactivate(link)),
-            Step::AddTitle(end, row) => self.act_at(end, Doing::AddTitle(row)),
+            Step::Deliver(end, link) => self.act_at(end, EndStep::Deliver(link)),
+            Step::DeliverStatus(end, link) => self.act_at(end, EndStep::DeliverStatus(link)),
+            Step::LoseStatus(end, link) => self.act_at(end, EndStep::LoseStatus(link)),
+            Step::DoubleStatus(end, link) => self.act_at(end, EndStep::DoubleStatus(link)),
+            Step::Lose(end, link) => self.act_at(end, EndStep::Lose(link)),
+            Step::Tick(end) => self.act_at(end, EndStep::Tick),
+            Step::Activate(end, link) => self.act_at(end, EndStep::Activate(link)),
+            Step::Deactivate(end, link) => self.act_at(end, EndStep::Deactivate(link)),
+            Step::AddTitle(end, row) => self.act_at(end, EndStep::AddTitle(row)),
             Step::RemoveTitle(end, key, digits) => {
-                self.act_at(end, Doing::RemoveTitle(key, digits))
+                self.act_at(end, EndStep::RemoveTitle(key, digits))
             }
-            Step::OpenFirst(end, link) => self.act_at(end, Doing::OpenFirst(link)),
-            Step::OpenSecond(end, link) => self.act_at(end, Doing::OpenSecond(link)),
-            Step::OpenElsewhere(end, link) => self.act_at(end, Doing::OpenElsewhere(link)),
+            Step::OpenFirst(end, link) => self.act_at(end, EndStep::OpenFirst(link)),
+            Step::OpenSecond(end, link) => self.act_at(end, EndStep::OpenSecond(link)),
+            Step::OpenElsewhere(end, link) => self.act_at(end, EndStep::OpenElsewhere(link)),
             Step::HearElsewhere(end, link, text) => {
-                self.act_at(end, Doing::HearElsewhere(link, text))
+                self.act_at(end, EndStep::HearElsewhere(link, text))
             }
         }
     }
 
     /// Does what is done at an end, but for a take.
-    fn act_at(&mut self, end: End, what: Doing) -> Result<Turned, NoMemory>
+    fn act_at(&mut self, end: End, what: EndStep) -> Result<Turned, NoMemory>
         ensures outcome { IfOk result (λ turned.
             turned.outcome ≡ (kept_turn (done_at end (told what turned.outcome)) self.old).outcome) }
         ensures elsewhere { IfOk result (λ turned.

@@ -68,7 +68,7 @@ pub struct Turned {
 
 /// What is done at one end, but for a take.
 #[derive(Drop)]
-pub(crate) enum Doing {
+pub(crate) enum EndStep {
     /// A user part hands a message over.
     Submit(Msu),
     /// The next User Data in flight on a link is handed in.

@@ -1,5 +1,5 @@
 -- Each is, and so all are.
-use Rattle.std.proofs.Common.{rules, ◌≡◌, ◌<◌, ℕ, Some, length, ap, sym, subst, ◌∙◌, arith}
+use Rattle.std.proofs.Common.{rules, ◌≡◌, ◌<◌, ℕ, Some, length, ap, sym, subst, ◌∙◌}
 use Rattle.std.specs.Prelude.{slice_get}
 use Rattle.std.proofs.lemmas.Option.{slice_get-get_or, slice_get_within}
 use Rattle.settings_rows.specs.Configuration.{Configuration}

@@ -1,6 +1,5 @@
 -- What is shown is what the abstract node accepted.
 use Rattle.std.proofs.Common.{rules, ◌≡◌, List, ap, sym, subst, ◌∙◌}
-use Rattle.signalling_types.specs.Message.{Message}
 use Rattle.pair_world.specs.NetworkPromised.{AcceptedInOrder, AcceptedOnce}
 use Rattle.pair_world.specs.KeptNodes.{KeptNode}
 use Rattle.pair_world.specs.KeptNetworks.{node_at}

@@ -1,5 +1,5 @@
 -- What is shown is what the abstract node books.
-use Rattle.std.proofs.Common.{rules, ◌≡◌, List, ap, sym, subst, ◌∙◌}
+use Rattle.std.proofs.Common.{rules, ◌≡◌, List, ap, ◌∙◌}
 use Rattle.pair_world.specs.KeptNodes.{KeptNode}
 use Rattle.pair_world.specs.KeptNetworks.{node_at}
 use Rattle.pair_world.specs.NetworkPromised.{booked}
