@@ -2,7 +2,7 @@
 use Rattle.exchange_rules.proofs.Basics.{◌≡◌, ◌<◌, ◌≤◌, ◌⊎◌, inl, inr, ◌+◌, ◌-◌, ℕ, zero, suc, Bool, true, false, List, [], ◌∷◌, length, refl, ap, sym, subst, ◌∙◌, arith, take, sum_by, sum_by-cons, ⊎_elim, cases_lt, slice_index_or, get_or_past}
 use Rattle.std.proofs.Common.{drop}
 use Rattle.exchange_rules.proofs.Definitions.{Message, Configuration, Queue, first_queue, unconfirmed, IsQueue, AreQueues, WholeQueues, queue_at, whole, Abstract, lost_any, users_that, standing, gone_that, Gone, both_gone, gone, gone_by, gone_by_new, gone_by_release, gone_by_tick, brought_in, new_message, accept_text, read_frame, HasAllPlaces, AreLinksSteady, Happening, CameUp, WentDown, FrameCame, Ticked, Submitted, Activated, Deactivated, TitleAdded, TitleRemoved, apply, handle_event, Happens}
-use Rattle.exchange_rules.specs.Conserving.{confirmed}
+use Rattle.exchange_rules.specs.Conserving.{confirmed, only_accepted}
 use Rattle.exchange_rules.specs.Exchange.{after}
 use Rattle.exchange_rules.proofs.Conserved.{conserved}
 use Rattle.exchange_rules.proofs.Departing.{both-that}
@@ -162,9 +162,9 @@ module _ (of : Message → Bool) (there : ℕ → ℕ) where
         nothing-less q.confirmed (there link) (ap (λ (x : Queue). x.confirmed) (get_or_past heard.node.queues.links link first_queue (subst (λ (n : ℕ). n ≤ link) (sym kept_left.queues) past))))
         (cases_lt link its)
 
-    frame-gone : (ms : List Message) (g : Gone) → g.lost ≡ [] → users_that of ms + users_that of g.accepted ≡ gone_that of (both_gone (record { accepted = ms; lost = [] }) g)
+    frame-gone : (ms : List Message) (g : Gone) → g.lost ≡ [] → users_that of ms + users_that of g.accepted ≡ gone_that of (both_gone (only_accepted ms) g)
     frame-gone ms g e =
-        sum (users_that of ms) (users_that of g.accepted) (users_that of g.lost) (users_that of []) (gone_that of (both_gone (record { accepted = ms; lost = [] }) g)) (both-that of (record { accepted = ms; lost = [] }) g)
+        sum (users_that of ms) (users_that of g.accepted) (users_that of g.lost) (users_that of []) (gone_that of (both_gone (only_accepted ms) g)) (both-that of (only_accepted ms) g)
         (ap (users_that of) e) refl
       where
         sum : (m k l z s : ℕ) → s ≡ m + z + (k + l) → l ≡ 0 → z ≡ 0 → m + k ≡ s
