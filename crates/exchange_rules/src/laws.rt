@@ -70,8 +70,8 @@ pub fn links_open_where_they_want_to()
     ensures { wanted_links_open }
 {}
 
-/// An answer Queued names the link that the flow of the message had before it came, and the message goes behind all that
-/// stands there; only what the end of the event releases and tells may follow.
+/// An answer Queued names the link that the flow of the message had before it came, and the message goes behind all
+/// that stands there; only what the end of the event releases and tells may follow.
 pub fn queued_messages_stand_last()
     ensures { queued_stands_last }
 {}
@@ -89,8 +89,8 @@ pub fn completion_leaves_other_links()
 {}
 
 /// Whatever happens and whatever is taken, some notices were made: their count grew by as many, modulo 2^64, and the
-/// last 64 of all notices are kept. So a reader that kept an earlier count knows how many are new, unless these are 2^64
-/// or more, and that they are the last ones, as far as they are kept.
+/// last 64 of all notices are kept. So a reader that kept an earlier count knows how many are new, unless these are
+/// 2^64 or more, and that they are the last ones, as far as they are kept.
 pub fn notices_are_counted()
     ensures counted { notices_made_are_counted }
     ensures newest { new_notices_are_the_last }
@@ -147,8 +147,8 @@ pub fn nodes_have_their_places()
 {}
 
 /// No flag is raised at first. None ever falls, whatever happens and whatever is taken: once a message may have been
-/// lost, or messages may have gone out of order, that stays shown. They are raised while a notice says so, and by a completion without a
-/// reasonable number.
+/// lost, or messages may have gone out of order, that stays shown. They are raised while a notice says so, and by a
+/// completion without a reasonable number.
 pub fn flags_never_fall()
     ensures first { no_flag_at_first }
     ensures lost { losses_stay }
@@ -176,8 +176,8 @@ pub fn links_have_the_timers_of_their_states()
 {}
 
 /// A link is proved before it enters service (Q.703 §7). By an event it enters service only at a tick, as its proving
-/// ends and its peer is ready; or, once its proving has succeeded, by a frame that comes by it. Its proving succeeds only
-/// at a tick.
+/// ends and its peer is ready; or, once its proving has succeeded, by a frame that comes by it. Its proving succeeds
+/// only at a tick.
 pub fn links_are_proved_before_they_enter_service()
     ensures { links_are_proved_first }
 {}
@@ -200,10 +200,11 @@ pub fn timers_are_set_to_their_settings()
     ensures always { timers_keep_their_settings }
 {}
 
-/// So where nothing but ticks happens, all holds end, from each state that comes of the first: after as many ticks as the
-/// longest of T1, T2, T3, T4 and T6 takes no flow is held and no message waits in Held, if no L4, L6 or L7 runs. These may
-/// take a link into service or out of it, and so begin another wait. They run while a link is being proved, while a peer
-/// is busy, and while something that was sent isn't confirmed; then it takes as many ticks more as the longest of them.
+/// So where nothing but ticks happens, all holds end, from each state that comes of the first: after as many ticks as
+/// the longest of T1, T2, T3, T4 and T6 takes no flow is held and no message waits in Held, if no L4, L6 or L7 runs.
+/// These may take a link into service or out of it, and so begin another wait. They run while a link is being proved,
+/// while a peer is busy, and while something that was sent isn't confirmed; then it takes as many ticks more as the
+/// longest of them.
 pub fn ticks_end_all_holds()
     ensures quiet { ticks_end_holds_where_it_is_quiet }
     ensures always { ticks_end_all_holds }
@@ -242,10 +243,10 @@ pub fn unsure_routes_are_tested_again_and_again()
     ensures again { tests_are_repeated }
 {}
 
-/// Where the links of one set lead to a point, and no other set leads there, that stays so whatever happens and whatever
-/// is taken, and whatever other neighbours the node has: the route to the point is allowed, its flows take links of the
-/// set, and the user messages for it that stand on links stand on those of the set (Q.704 §4.2). Which of its links a
-/// flow takes depends only on which of them are in service.
+/// Where the links of one set lead to a point, and no other set leads there, that stays so whatever happens and
+/// whatever is taken, and whatever other neighbours the node has: the route to the point is allowed, its flows take
+/// links of the set, and the user messages for it that stand on links stand on those of the set (Q.704 §4.2). Which of
+/// its links a flow takes depends only on which of them are in service.
 pub fn flows_to_a_point_stay_on_its_only_set()
     ensures stay { flows_stay_on_their_set }
     ensures decided { the_set_decides_its_flows }
@@ -283,10 +284,10 @@ pub fn user_messages_are_conserved()
 {}
 
 /// What is lost is named, and flags rise only for a reason. Of every event the notices that name a user message as lost
-/// are those of what it loses, in order, and no others: what its completions leave in doubt, then what its release finds
-/// without a route. It counts a possible loss for each of its notices that tells of one (Lost, Unsent, Expired of T2) and
-/// for each completion without a reasonable number, and no other; and a possible lateness for each notice of one (Late).
-/// How many notices of other kinds it makes has a bound. A take counts neither.
+/// are those of what it loses, in order, and no others: what its completions leave in doubt, then what its release
+/// finds without a route. It counts a possible loss for each of its notices that tells of one (Lost, Unsent, Expired of
+/// T2) and for each completion without a reasonable number, and no other; and a possible lateness for each notice of
+/// one (Late). How many notices of other kinds it makes has a bound. A take counts neither.
 pub fn what_is_lost_is_named()
     ensures event { events_account_for_losses }
     ensures take { takes_flag_nothing }

@@ -178,7 +178,8 @@ impl Moved {
     }
 }
 
-/// Carries the frames of all links, one frame of each end after another, until no link has one. Answers what is printed.
+/// Carries the frames of all links, one frame of each end after another, until no link has one. Answers what is
+/// printed.
 fn carry_all<N: Nodes, S: io::Read + io::Write + Drop>(
     nodes: &mut N,
     circuits: &mut [Circuit<S>],

@@ -16,8 +16,8 @@ use exchange::Exchange;
 use script::{ScriptFault, Sink, Source};
 use std::alloc::Global;
 
-/// Does the lines of a script of a lab whose nodes are named by their points, in order, and prints what becomes of each,
-/// as `run_lab`. The nodes are a network: their points differ, and each link has its other end among them.
+/// Does the lines of a script of a lab whose nodes are named by their points, in order, and prints what becomes of
+/// each, as `run_lab`. The nodes are a network: their points differ, and each link has its other end among them.
 pub fn run_network<J: Joiner, R: Source, W: Sink>(
     alloc: Global,
     nodes: &mut [Exchange],

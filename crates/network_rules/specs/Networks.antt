@@ -28,8 +28,8 @@ pub record Arrival : Type 0 where
   pub message : Message
 
 -- a node: its exchange; what is in flight to it on each of its links; of each link whether it may follow the other end,
--- which opened first; all messages that it took in, whomever they are for, and all that came to it; of those that it took
--- in, the ones that entered the network here; and the user messages that came for another point and were refused
+-- which opened first; all messages that it took in, whomever they are for, and all that came to it; of those that it
+-- took in, the ones that entered the network here; and the user messages that came for another point and were refused
 pub record NetworkNode : Type 0 where
   pub exchange : Abstract
   pub incoming : Streams

@@ -1,5 +1,5 @@
--- A run of three nodes in a row, of which each two neighbours share two links. A message that one end of the row has for
--- the other is sent on a link that fails, on either side of the middle node. It comes by the other links, once.
+-- A run of three nodes in a row, of which each two neighbours share two links. A message that one end of the row has
+-- for the other is sent on a link that fails, on either side of the middle node. It comes by the other links, once.
 use Rattle.std.specs.Prelude.{◌≡◌, ℕ, false, true, nat_eq, not, List, [], ◌∷◌, ◌++◌, filter, if◌then◌else◌}
 use Rattle.signalling_types.specs.Message.{is_management}
 use Rattle.signalling_types.specs.declared.outcome.Outcome.TheVariants.{Queued}
@@ -167,8 +167,8 @@ users_come x = filter (λ a. not (is_management a.message)) x.arrived
 abbrev pub its_text : (bsn fsn : ℕ) → List ℕ
 its_text bsn fsn = spelled (MessageFrame bsn fsn the_message.sio the_message.sif)
 
--- no flag was raised at a node, it refused nothing that came for another point, and no user message waits there, in Held
--- or on a link
+-- no flag was raised at a node, it refused nothing that came for another point, and no user message waits there, in
+-- Held or on a link
 pub record IsDone (x : NetworkNode) : Type 0 where
   pub lost_nothing : lost_any x.exchange.node.parts ≡ false
   pub punctual : late_any x.exchange.node.parts ≡ false

@@ -1,6 +1,6 @@
 //! What holds of each two nodes of a network that share a link set, and of all its nodes together, after every list of
-//! steps from newly booted exchanges on. The steps are those of `specs/Networks.antt`. Each function says its law by its
-//! contract, and does nothing.
+//! steps from newly booted exchanges on. The steps are those of `specs/Networks.antt`. Each function says its law by
+//! its contract, and does nothing.
 
 ghost use Rattle.network_rules.specs.Pairs.{books_are_of_the_two, each_flow_in_order, each_message_once};
 ghost use Rattle.network_rules.specs.Pairs.{flows_stay_between, nothing_is_awaited_in_vain, nothing_is_held_in_vain};

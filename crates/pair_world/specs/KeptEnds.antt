@@ -1,5 +1,5 @@
--- One end of a pair as the code keeps it, and what becomes of it: the rules of an end of two nodes that share a link set,
--- on what is kept.
+-- One end of a pair as the code keeps it, and what becomes of it: the rules of an end of two nodes that share a link
+-- set, on what is kept.
 use Rattle.std.specs.Prelude.{ℕ, Bool, List, ◌++◌, slice_get, Option, Some, None}
 use Rattle.signalling_types.specs.Message.{Message}
 use Rattle.signalling_types.specs.declared.outcome.Outcome.{Outcome}

@@ -1,5 +1,5 @@
--- A site as the code keeps it, and what becomes of it: an exchange with what is in flight to it, and of each link whether
--- it may follow the other end. And what comes there, and what goes out.
+-- A site as the code keeps it, and what becomes of it: an exchange with what is in flight to it, and of each link
+-- whether it may follow the other end. And what comes there, and what goes out.
 use Rattle.std.specs.Prelude.{ℕ, Bool, true, false, nat_eq, List, [], ◌∷◌, ◌++◌, slice_get, slice_set, drop, take, length, replicate, Option, Some, None, option_to_list, slice_index_or, if◌then◌else◌}
 use Rattle.std.specs.Option.{option_map}
 use Rattle.signalling_types.specs.Message.{Message}
@@ -66,8 +66,8 @@ accepted_number k link = number_shown (link_view kept k link)
 abbrev pub message_in : List ℕ → List Message
 message_in text = option_to_list (carried_message (read_frame text))
 
--- the message that a frame newly carries: that in the frame, where the number of the last message that was accepted on its
--- link isn't what it was before
+-- the message that a frame newly carries: that in the frame, where the number of the last message that was accepted on
+-- its link isn't what it was before
 abbrev pub new_if_other : (number_before number_after : ℕ) → (text : List ℕ) → List Message
 new_if_other number_before number_after text =
     if nat_eq number_before number_after then [] else message_in text

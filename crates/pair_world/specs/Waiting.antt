@@ -13,8 +13,8 @@ use Rattle.pair_world.specs.KeptSites.{accepted_number}
 abbrev pub picked_to : (point : ℕ) → (Message → Bool) → Message → Bool
 picked_to point picks m = nat_eq (dpc_of m) point && picks m
 
--- how many of these wait on a link at the near exchange: behind the count that the number of the last message accepted at
--- the far end of the link names. Where it has none, no message waits
+-- how many of these wait on a link at the near exchange: behind the count that the number of the last message accepted
+-- at the far end of the link names. Where it has none, no message waits
 abbrev pub kept_waiting_by : (Message → Bool) → (near far : Kept) → (link : ℕ) → (other : Option ℕ) → ℕ
 kept_waiting_by picks near far link (Some other) =
     count_by (is_user_picked (picked_to far.settings.own picks))

@@ -24,8 +24,8 @@ impl<'a, P: Pick> Pick for PickedTo<'a, P> {
     }
 }
 
-/// How many user messages for the far point that a choice takes wait at the near exchange: on its links, behind the last
-/// message that the far one accepted there, and in Held.
+/// How many user messages for the far point that a choice takes wait at the near exchange: on its links, behind the
+/// last message that the far one accepted there, and in Held.
 pub(crate) fn count_waiting<P: Pick>(near: &Exchange, far: &Exchange, pick: &P) -> u128
     ensures { result ≡ kept_waiting (P.picks pick.now) near.now far.now }
 {

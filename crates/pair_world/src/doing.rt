@@ -32,9 +32,10 @@ pub enum Doing {
     AddTitle(TitleRow),
     /// The operator removes the translation row of this key and these digits.
     RemoveTitle(TitleKey, TitleDigits),
-    /// A link opens, before it opens at its other end: nothing is in flight on it then, and from now on the other end may
-    /// follow. Ignored unless the node wants the link to open, and it may open at the other end: it is down there, its
-    /// changeover is complete, and no answer is awaited. It may be deactivated there, or still have its association.
+    /// A link opens, before it opens at its other end: nothing is in flight on it then, and from now on the other end
+    /// may follow. Ignored unless the node wants the link to open, and it may open at the other end: it is down there,
+    /// its changeover is complete, and no answer is awaited. It may be deactivated there, or still have its
+    /// association.
     OpenFirst(LinkId),
     /// A link opens that may follow its other end. The other may have failed since it opened; but if it opened first
     /// again, this is about that. Ignored unless the link may follow, and the node wants it to open.

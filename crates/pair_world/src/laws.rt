@@ -1,6 +1,7 @@
 //! The four laws of a link, and that nothing waits in vain, of a pair at any time: all but the last hold in both
 //! directions while neither exchange may have lost a message (`specs/Laws.antt` and `specs/Awaiting.antt` of
-//! `neighbour_rules`). A link between the two has its own number at either end. Each function says its law by its contract, and does nothing.
+//! `neighbour_rules`). A link between the two has its own number at either end. Each function says its law by its
+//! contract, and does nothing.
 
 ghost use Rattle.pair_rules.specs.Awaiting.{HoldInNoVain};
 ghost use Rattle.neighbour_rules.specs.Awaiting.{AwaitsNothingInVain};

@@ -30,8 +30,8 @@ use std::marker::Model;
 /// Any number of exchanges, joined by links in any shape, the frames in flight between them, and what each of them
 /// books: all that it accepted, whomever it is for, and all that came to it.
 ///
-/// It stands for an abstract network that some steps led to from the first on (`NetworkStandsFor`): `new` makes it so, and
-/// each `turn` keeps it.
+/// It stands for an abstract network that some steps led to from the first on (`NetworkStandsFor`): `new` makes it so,
+/// and each `turn` keeps it.
 pub struct Network {
     nodes: Vec<Node>,
 }
@@ -61,8 +61,8 @@ impl Model for Network {
 impl Network {
     /// A network of nodes that were just booted with these settings, with nothing in flight.
     ///
-    /// SamePoint where two of them are for the same point; else NotJoined where a link leads to no node with which its own
-    /// shares a link set (`Settings::shares_set_with`); NoMemory comes only where a growth was refused.
+    /// SamePoint where two of them are for the same point; else NotJoined where a link leads to no node with which its
+    /// own shares a link set (`Settings::shares_set_with`); NoMemory comes only where a growth was refused.
     pub fn new(alloc: Global, settings: Vec<Settings>) -> Result<Network, NetworkFault>
         // It stands for the first network of these settings.
         ensures first { IfOk result (λ network.
@@ -107,8 +107,8 @@ impl Network {
         self.apply(at, doing)
     }
 
-    /// All messages that the node at a point took in, in order, whomever they are for: all that it queued or held. Empty
-    /// where no node is at the point.
+    /// All messages that the node at a point took in, in order, whomever they are for: all that it queued or held.
+    /// Empty where no node is at the point.
     pub fn accepted(&self, at: PointCode) -> &[Msu]
         ensures accepted { (w : NetworkState) → NetworkStandsFor self.now w → result.now ≡ (w.node at).accepted }
         // "Exactly once", of what is for a node to which a link leads
@@ -121,8 +121,8 @@ impl Network {
         accepted_at(&self.nodes, at)
     }
 
-    /// All messages that frames newly brought to the node at a point, in order, each with the link by which it came. Empty
-    /// where no node is at the point.
+    /// All messages that frames newly brought to the node at a point, in order, each with the link by which it came.
+    /// Empty where no node is at the point.
     pub fn arrived(&self, at: PointCode) -> &[Arrival]
         ensures arrived { (w : NetworkState) → NetworkStandsFor self.now w → result.now ≡ (w.node at).arrived }
         // "Exactly once", of what is for this node, and came from one whose link leads here
@@ -143,17 +143,18 @@ impl Network {
         entered_at(&self.nodes, at)
     }
 
-    /// The user messages for other points that frames newly brought to the node at a point, and that it refused, in order.
-    /// Empty where no node is at the point.
+    /// The user messages for other points that frames newly brought to the node at a point, and that it refused, in
+    /// order. Empty where no node is at the point.
     pub fn refused(&self, at: PointCode) -> &[Msu]
         ensures { (w : NetworkState) → NetworkStandsFor self.now w → result.now ≡ (w.node at).refused }
     {
         refused_at(&self.nodes, at)
     }
 
-    /// How many user messages for another node that a choice takes wait at the node at a point: on a link between the two,
-    /// behind the last message that the other accepted there, or in Held. 0 where one of the points has no node. So while
-    /// neither may have lost a message, as many were accepted as the other received and as wait, between any two steps.
+    /// How many user messages for another node that a choice takes wait at the node at a point: on a link between the
+    /// two, behind the last message that the other accepted there, or in Held. 0 where one of the points has no node.
+    /// So while neither may have lost a message, as many were accepted as the other received and as wait, between any
+    /// two steps.
     pub fn waiting<P: Pick>(&self, at: PointCode, far: PointCode, pick: &P) -> u128
         ensures waiting { (w : NetworkState) → NetworkStandsFor self.now w →
             AreAdjacent w at far → result ≡ count_by (user (P.picks pick.now)) (promises.waiting (pair_of w at far)) }
@@ -172,11 +173,11 @@ impl Network {
         exchange_at(&self.nodes, at)
     }
 
-    /// What holds from end to end, over all nodes, between any two steps, while none of them may have lost a message: as
-    /// many user messages entered the network, by any test, as were received at a node that they aren't to leave, as wait
-    /// in nodes, and as were refused by a node on the way (`specs/Totals.antt` of `network_rules`). So it is of the
-    /// messages for each node, if all have its network indicator: of those as many entered as it received, as wait, and as
-    /// were refused. This says so by its contract, and does nothing.
+    /// What holds from end to end, over all nodes, between any two steps, while none of them may have lost a message:
+    /// as many user messages entered the network, by any test, as were received at a node that they aren't to leave, as
+    /// wait in nodes, and as were refused by a node on the way (`specs/Totals.antt` of `network_rules`). So it is of
+    /// the messages for each node, if all have its network indicator: of those as many entered as it received, as wait,
+    /// and as were refused. This says so by its contract, and does nothing.
     pub fn laws(&self)
         ensures accounted { (w : NetworkState) → NetworkStandsFor self.now w →
             HaveLostNothing (points_of self.now) w → IsAccounted (points_of self.now) w }

@@ -63,8 +63,8 @@ pub(crate) fn refused_at(nodes: &[Node], point: PointCode) -> &[Msu]
     }
 }
 
-/// How many user messages that a choice takes wait at the node at a point for that at another; 0 where one of the two has
-/// no node.
+/// How many user messages that a choice takes wait at the node at a point for that at another; 0 where one of the two
+/// has no node.
 pub(crate) fn waiting_between<P: Pick>(
     nodes: &[Node],
     near: PointCode,

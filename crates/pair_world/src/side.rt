@@ -242,8 +242,8 @@ impl Side {
 }
 
 impl Side {
-    /// The next frame of a link of the other end's exchange is fetched for this end, by its own link. Requires that this
-    /// is there.
+    /// The next frame of a link of the other end's exchange is fetched for this end, by its own link. Requires that
+    /// this is there.
     pub(crate) fn take_from(
         &mut self,
         other: &mut Side,

@@ -24,8 +24,8 @@ use settings::{LinkId, Msu, Outcome, PointCode, Settings};
 use std::alloc::Global;
 use std::marker::Model;
 
-/// An exchange, the link statuses and the User Data in flight to it on each link, and whether it may follow the other end
-/// there. It has no books: who hands something in is told what came, and what that brought in.
+/// An exchange, the link statuses and the User Data in flight to it on each link, and whether it may follow the other
+/// end there. It has no books: who hands something in is told what came, and what that brought in.
 pub(crate) struct Site {
     alloc: Global,
     exchange: Exchange,
@@ -222,8 +222,8 @@ impl Site {
 }
 
 impl Site {
-    /// The next frame of a link of another site's exchange is fetched for this one, by its own link. Requires that this is
-    /// there.
+    /// The next frame of a link of another site's exchange is fetched for this one, by its own link. Requires that this
+    /// is there.
     pub(crate) fn take_from(
         &mut self,
         other: &mut Site,

@@ -248,8 +248,8 @@ EndsReading files reads output output_new errors errors_new ended =
     × EndsAtNode file reads output output_new warned errors_new ended)
     ⊎ EndsForMemory output output_new warned errors_new ended)
 
--- nodes that are a network run the lab script, or memory runs out before it; where they aren't one, their first fault is
--- printed and explained, and nothing of the script is read
+-- nodes that are a network run the lab script, or memory runs out before it; where they aren't one, their first fault
+-- is printed and explained, and nothing of the script is read
 abbrev pub RunsJoined : (files : List (List ℕ)) → List Configuration → Streams → Streams → Status → Type 0
 RunsJoined files settings old new ended =
     ((network_fault settings ≡ None) × RunsLabScript old new ended)

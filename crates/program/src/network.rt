@@ -134,7 +134,8 @@ fn node_of<F: Folder, W: Sink, E: Sink>(
     }
 }
 
-/// Runs the lab script on nodes that were just booted, with the settings of files of these names, if they are a network.
+/// Runs the lab script on nodes that were just booted, with the settings of files of these names, if they are a
+/// network.
 fn run_if_network<J: Joiner, R: Source, W: Sink, E: Sink>(
     alloc: Global,
     files: &[String],

@@ -93,7 +93,8 @@ pub(crate) struct Layout {
 }
 
 impl Layout {
-    /// How such parts are laid out after pointers of which the first is this. None if a length or a pointer is over 255.
+    /// How such parts are laid out after pointers of which the first is this. None if a length or a pointer is over
+    /// 255.
     pub(crate) fn of(parts: &Parts<'_>, first: u8) -> Option<Layout>
         ensures fits { IsSome result ↔ HasOctets first (parts_value parts.now) }
         ensures value { IfSome result (LaysOut first (parts_value parts.now)) }
