@@ -7,6 +7,7 @@ use Rattle.signalling_types.specs.declared.cause.Cause.TheVariants.{BadSccp, NoN
 use Rattle.signalling_types.specs.declared.cause.Cause.TheVariants.{LostUnconfirmed, ManagementFull, NotFromAdjacent}
 use Rattle.signalling_types.specs.declared.cause.Cause.TheVariants.{LinkNotReady, ChangeoverPending, NoMemory}
 use Rattle.signalling_types.specs.declared.cause.Cause.TheVariants.{TableFull, DuplicateRow, NoSuchName}
+use Rattle.signalling_types.specs.declared.cause.Cause.TheVariants.{HopCounter, ShareFull}
 
 abbrev pub cause_number : Cause → ℕ
 cause_number WrongNetwork = 1
@@ -31,6 +32,8 @@ cause_number NoMemory = 19
 cause_number TableFull = 20
 cause_number DuplicateRow = 21
 cause_number NoSuchName = 22
+cause_number HopCounter = 23
+cause_number ShareFull = 24
 
 -- a cause's name, as texts print it
 abbrev pub cause_name : Cause → List ℕ
@@ -56,3 +59,5 @@ cause_name NoMemory = codes "NoMemory"
 cause_name TableFull = codes "TableFull"
 cause_name DuplicateRow = codes "DuplicateRow"
 cause_name NoSuchName = codes "NoSuchName"
+cause_name HopCounter = codes "HopCounter"
+cause_name ShareFull = codes "ShareFull"

@@ -50,10 +50,14 @@ pub enum Cause {
     DuplicateRow = 21,
     /// No link, set or row of this name or number.
     NoSuchName = 22,
+    /// The hop counter of an SCCP message is out of its range, or has run out (Q.714 §2.3.1).
+    HopCounter = 23,
+    /// The link of the message keeps as many messages as its share allows.
+    ShareFull = 24,
 }
 
 impl Cause {
-    /// The cause's number, 1 to 22.
+    /// The cause's number, 1 to 24.
     pub fn number(self) -> u8
         ensures { result ≡ cause_number self }
     {
@@ -87,6 +91,8 @@ impl Cause {
             Cause::TableFull => "TableFull",
             Cause::DuplicateRow => "DuplicateRow",
             Cause::NoSuchName => "NoSuchName",
+            Cause::HopCounter => "HopCounter",
+            Cause::ShareFull => "ShareFull",
         }
     }
 }
