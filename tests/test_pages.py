@@ -1,4 +1,4 @@
-"""The pages: DEFINITIONS is what its tool makes of the definitions, and each link leads somewhere."""
+"""The pages: DEFINITIONS and SECTIONS are what their tools make of the crates, and each link leads somewhere."""
 
 import re
 import subprocess
@@ -22,10 +22,17 @@ def anchors(page: Path) -> set[str]:
 
 
 class Pages(unittest.TestCase):
+    def check_made(self, name: str) -> None:
+        """Checks that a page is what its tool prints."""
+        made = subprocess.run([TOP / "tools" / name], capture_output=True, text=True, check=True).stdout
+        page = (TOP / "docs" / f"{name.upper()}.md").read_text(encoding="utf-8")
+        self.assertTrue(page == made, f"docs/{name.upper()}.md isn't what tools/{name} prints")
+
     def test_definitions_are_those_of_specs(self) -> None:
-        made = subprocess.run([TOP / "tools" / "definitions"], capture_output=True, text=True, check=True).stdout
-        page = (TOP / "docs" / "DEFINITIONS.md").read_text(encoding="utf-8")
-        self.assertTrue(page == made, "docs/DEFINITIONS.md isn't what tools/definitions prints")
+        self.check_made("definitions")
+
+    def test_sections_are_those_of_comments(self) -> None:
+        self.check_made("sections")
 
     def test_links_lead_somewhere(self) -> None:
         for page in PAGES:
