@@ -29,7 +29,7 @@ const SETTINGS: Settings = Settings {
     cookie_life: 60_000,
 };
 
-/// The stream of User Data, and the protocol of M2PA (RFC 4165 §1.3.1, §2).
+/// The stream of User Data, and the protocol of M2PA (RFC 4165 §4.1.2, §7.1).
 const USER_DATA: u16 = 1;
 
 const M2PA: u32 = 5;
