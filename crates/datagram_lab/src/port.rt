@@ -13,7 +13,7 @@ use settings::LinkId;
 use std::alloc::{AllocError, Global};
 use std::random::RandomSource;
 
-/// The SCTP port of M2PA (RFC 4165 §7.2).
+/// The SCTP port of M2PA (RFC 4165 §7.1).
 const M2PA_PORT: u16 = 3565;
 
 /// How long a cookie is good, in milliseconds: Valid.Cookie.Life (RFC 9260 §16).

@@ -1,4 +1,4 @@
--- Streams of octets: the texts of frames one after another, cut by their own length fields.
+-- Streams of octets: the texts of frames one after another, cut by their own length fields (RFC 4165 §2.1.5).
 use Rattle.std.specs.Prelude.{◌≡◌, ℕ, ◌-◌, ◌≤◌, Bool, ◌||◌, ◌&&◌, List, [], ◌∷◌, ◌++◌, length, take, drop, nat_lt, nat_le, if◌then◌else◌, ◌⊎◌, All}
 use Rattle.std.specs.List.{concat}
 use Rattle.signalling_types.specs.declared.limits.TheConstants.Limits.{FRAME_OCTETS}

@@ -1,4 +1,4 @@
-//! MTP level 3 messages as octets: the routing label (Q.704 §14.2), management messages (Q.704 §15) and link
+//! MTP level 3 messages as octets: the routing label (Q.704 §2.2), management messages (Q.704 §15) and link
 //! tests (Q.707 §5).
 #![tactic(auto)]
 

@@ -53,9 +53,9 @@ pub enum Management {
     ChangebackDeclaration(Sls, u8),
     /// CBA: answers CBD, with its link code and its changeback code (Q.704 §6.3, §15.5).
     ChangebackAcknowledgement(Sls, u8),
-    /// ECO: the link of this code has failed, and the sender can't tell what it accepted (Q.704 §5.6).
+    /// ECO: the link of this code has failed, and the sender can't tell what it accepted (Q.704 §5.6, §15.6).
     EmergencyChangeoverOrder(Sls),
-    /// ECA: answers XCO or ECO; the sender can't tell what it accepted (Q.704 §5.6).
+    /// ECA: answers XCO or ECO; the sender can't tell what it accepted (Q.704 §5.6, §15.6).
     EmergencyChangeoverAcknowledgement(Sls),
     /// TFP: the receiver must send nothing more for this point by way of the sender (Q.704 §13.2, §15.7).
     TransferProhibited(PointCode),
@@ -67,7 +67,7 @@ pub enum Management {
     RouteSetTestProhibited(PointCode),
     /// RSR: asks whether this point is still restricted by way of the receiver (Q.704 §13.5, §15.10).
     RouteSetTestRestricted(PointCode),
-    /// TRA: the adjacent point has restarted (Q.704 §9).
+    /// TRA: the adjacent point has restarted (Q.704 §9, §15.12).
     TrafficRestartAllowed,
 }
 

@@ -23,7 +23,7 @@ use Rattle.sctp_ends.specs.Worlds as ends
 
 -- ---- what a link's association tells its exchange
 
--- the payload protocol identifier of M2PA (RFC 4165 §4.1.3)
+-- the payload protocol identifier of M2PA (RFC 4165 §7.1)
 abbrev pub m2pa : ℕ
 m2pa = 5
 
@@ -73,7 +73,7 @@ abbrev pub handed_all : (link : ℕ) → List Told → Books → Books
 handed_all link [] b = b
 handed_all link (told ∷ more) b = handed_all link more (handed link told b)
 
--- Link Status goes on stream 0, and User Data on stream 1 (RFC 4165 §4.1.3); the fourth octet of a frame is its type
+-- Link Status goes on stream 0, and User Data on stream 1 (RFC 4165 §4.1.2); the fourth octet of a frame is its type
 abbrev pub stream_of : List ℕ → ℕ
 stream_of frame = if nat_eq (slice_index frame 3) link_status then 0 else 1
 

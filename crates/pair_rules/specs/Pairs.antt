@@ -18,7 +18,7 @@ use Rattle.exchange_rules.specs.Exchange.{outcome_of, after, frame_to_take, take
 use Rattle.exchange_rules.specs.Receiving.{new_message}
 
 -- what is in flight to an end on each link, on two streams: its link statuses, and its User Data. On each stream the
--- first that went out comes first, but neither stream is ordered with the other (RFC 4165 §2)
+-- first that went out comes first, but neither stream is ordered with the other (RFC 4165 §4.1.2)
 pub record Streams : Type 0 where
   pub statuses : List (List (List ℕ))
   pub user_data : List (List (List ℕ))

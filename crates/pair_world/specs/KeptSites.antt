@@ -150,7 +150,7 @@ abbrev pub behind : List (List ℕ) → Option (List ℕ) → List (List ℕ)
 behind frames (Some text) = frames ++ text ∷ []
 behind frames None = frames
 
--- the message type of a frame says which stream it goes out on (RFC 4165 §2.1.4)
+-- the message type of a frame says which stream it goes out on (RFC 4165 §4.1.2)
 abbrev pub is_of_type : (kind : ℕ) → Option ℕ → Bool
 is_of_type kind (Some octet) = nat_eq octet kind
 is_of_type kind None = false

@@ -9,7 +9,7 @@ pub enum Doing {
     /// A user part hands a message over.
     Submit(Msu),
     /// The next frame of a link is fetched. It is then in flight to the other end of the link, on the stream of link
-    /// statuses or on that of User Data (RFC 4165 §2). Ignored where there is none.
+    /// statuses or on that of User Data (RFC 4165 §4.1.2). Ignored where there is none.
     Take(LinkId),
     /// The next User Data in flight on a link to the node is handed in. Ignored where there is none.
     Deliver(LinkId),

@@ -18,8 +18,8 @@ pub enum Step {
     /// A user part of an end hands a message over.
     Submit(End, Msu),
     /// The next frame of a link is fetched from an end. It is then in flight to the far end of the link, on the stream
-    /// of link statuses or on that of User Data (RFC 4165 §2); or it goes elsewhere, if the link leads there. Ignored
-    /// where there is none.
+    /// of link statuses or on that of User Data (RFC 4165 §4.1.2); or it goes elsewhere, if the link leads there.
+    /// Ignored where there is none.
     Take(End, LinkId),
     /// The next User Data in flight on a link to an end is handed in there. Ignored where there is none.
     Deliver(End, LinkId),

@@ -1,4 +1,4 @@
--- The lengths and pointers of the parts of a message, of which the first pointer is this.
+-- The lengths and pointers of the parts of a message, of which the first pointer is this (Q.713 §2.3).
 use Rattle.std.specs.Prelude.{◌≡◌, ℕ, ◌+◌, length}
 use Rattle.sccp_codec.specs.declared.writing.Layout.{Layout}
 use Rattle.sccp_codec.specs.Messages.{address_octets, PartsValue}

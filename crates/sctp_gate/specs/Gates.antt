@@ -142,7 +142,7 @@ module _ {Q : Type 0} (q : QueueKind Q) (now : ℕ) where
   abbrev pub flushed : Gate → State Q → Did Q
   flushed g s = does (λ e. flush e.settings now e.state) g s
 
--- Link Status goes on stream 0, and User Data on stream 1 (RFC 4165 §4.1.3); the fourth octet of a frame is its type
+-- Link Status goes on stream 0, and User Data on stream 1 (RFC 4165 §4.1.2); the fourth octet of a frame is its type
 abbrev pub stream_of : List ℕ → ℕ
 stream_of frame = if nat_eq (slice_index frame 3) link_status then 0 else 1
 

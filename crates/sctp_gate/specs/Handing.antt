@@ -8,7 +8,7 @@ use Rattle.exchange_rules.specs.Exchange.{outcome_of, after}
 use Rattle.sctp_gate.specs.declared.handing.TheConstants.{PROTOCOL}
 use Rattle.sctp_gate.specs.Watching.{Sight, Rose, CameIn, Dropped, Fell, Failed}
 
--- a message is a frame by its payload protocol identifier, on either stream (RFC 4165 §4.1.3)
+-- a message is a frame by its payload protocol identifier, on either stream (RFC 4165 §7.1)
 abbrev pub is_frame : Message → Bool
 is_frame m = nat_eq m.protocol PROTOCOL
 

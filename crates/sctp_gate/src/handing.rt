@@ -13,7 +13,7 @@ use sctp_endpoint::Event as Told;
 use sctp_sending::Message;
 use settings::LinkId;
 
-/// The payload protocol identifier of M2PA (RFC 4165 §4.1.3).
+/// The payload protocol identifier of M2PA (RFC 4165 §7.1).
 pub const PROTOCOL: u32 = 5;
 
 /// Hands in one of the events that an endpoint tells.

@@ -40,7 +40,7 @@ pub fn frames_that_are_taken_go_out()
     ensures given { taken_frames_are_given }
 {}
 
-/// Link Status goes out on stream 0, and User Data on stream 1 (RFC 4165 §4.1.3).
+/// Link Status goes out on stream 0, and User Data on stream 1 (RFC 4165 §4.1.2).
 pub fn frames_go_out_on_their_streams()
     ensures { frames_have_their_streams }
 {}

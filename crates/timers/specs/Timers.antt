@@ -1,4 +1,4 @@
--- The names of timers: their order, and which of them a node has.
+-- The names of timers (Q.703 §12.3, Q.704 §16.8): their order, and which of them a node has.
 use Rattle.std.specs.Prelude.{◌≡◌, ℕ, ◌+◌, ◌*◌, ◌==◌, nat_lt, Bool, true, false, ◌&&◌, ◌||◌, List, [], ◌∷◌, map, ◌-◌, max, if◌then◌else◌, Option, None, Some, length, filter, find, is_some}
 use Rattle.std.specs.List.{AllByRecursion, flat_map, range_with_len}
 use Rattle.signalling_types.specs.declared.limits.TheConstants.Limits.{CHANGEBACK_CODES}

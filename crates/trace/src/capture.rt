@@ -32,7 +32,7 @@ pub const PACKET_OCTETS: usize = RECORD_HEADER_OCTETS
 /// Octets of a packet of SCTP that passed, at most: those that a datagram of UDP may have.
 pub const WIRE_OCTETS: usize = 65_535;
 
-/// The port of this node: that of M2PA (RFC 4165 §7).
+/// The port of this node: that of M2PA (RFC 4165 §7.1).
 const NODE_PORT: u16 = 3565;
 
 /// The port of the far end of link 0; each next link's is one more.
@@ -44,7 +44,7 @@ const DATA: u8 = 0;
 /// The flags of a DATA chunk that has the beginning and the end of its message (RFC 9260 §3.3.1).
 const WHOLE: u8 = 3;
 
-/// The payload protocol identifier of M2PA (RFC 4165 §7).
+/// The payload protocol identifier of M2PA (RFC 4165 §7.1).
 const M2PA: u32 = 5;
 
 /// A chunk is padded to a multiple of this many octets (RFC 9260 §3.2).

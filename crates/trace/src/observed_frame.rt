@@ -10,10 +10,10 @@ use m2pa_codec::{Frame, decode};
 use signalling_types::{FrameFault, MsuRef};
 use std::marker::Model;
 
-/// The stream of Link Status (RFC 4165).
+/// The stream of Link Status (RFC 4165 §4.1.2).
 const STATUS_STREAM: u16 = 0;
 
-/// The stream of User Data (RFC 4165).
+/// The stream of User Data (RFC 4165 §4.1.2).
 const DATA_STREAM: u16 = 1;
 
 /// The octets of a frame that passed on a link, and what they say: read once, for all who are told of it.

@@ -23,10 +23,10 @@ const TYPE_PLACE: usize = 3;
 /// The type of a Link Status (RFC 4165 §2.1.4).
 const LINK_STATUS: u8 = 2;
 
-/// The stream of Link Status (RFC 4165 §4.1.3).
+/// The stream of Link Status (RFC 4165 §4.1.2).
 const STATUS_STREAM: u16 = 0;
 
-/// The stream of User Data (RFC 4165 §4.1.3).
+/// The stream of User Data (RFC 4165 §4.1.2).
 const DATA_STREAM: u16 = 1;
 
 /// How many frames a call of `fill` takes, at most: as many as may wait for their confirmation.
@@ -35,7 +35,7 @@ const MOST_FRAMES: usize = 256;
 impl Gate {
     /// Takes frames of the link, one after another, each only while it can go out at once, after those before it. They
     /// go out together, as many in a datagram as fit: Link Status on stream 0, and User Data on stream 1 (RFC 4165
-    /// §4.1.3). So does what else is due, such as SACK. The other frames stay in the node, for a changeover. The watch
+    /// §4.1.2). So does what else is due, such as SACK. The other frames stay in the node, for a changeover. The watch
     /// sees each frame that is taken.
     pub fn fill<W: Watch>(&mut self, exchange: &mut Exchange, now: u64, watch: &mut W)
         ensures kept { Makes W.has watch.old watch.new self.new exchange.new (filled kept now self.old exchange.old) }
