@@ -132,7 +132,7 @@ impl Translations {
     /// it looks for a row of the key by binary search.
     ///
     /// Refused NoNature if there is no row of the key; otherwise NoDigits if none of these begins the digits (Q.714
-    /// §2.6).
+    /// §2.8).
     pub fn translate(&self, key: TitleKey, digits: &[u8]) -> Result<TitleRow, Cause>
         // What the rows say.
         ensures exact { result ≡ translation self.now key digits.now }

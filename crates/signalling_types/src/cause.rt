@@ -24,9 +24,9 @@ pub enum Cause {
     BadManagement = 8,
     /// An SCCP message that can't be read.
     BadSccp = 9,
-    /// No translation for an address of this nature (Q.714 §2.6).
+    /// No translation for an address of this nature (Q.714 §2.8).
     NoNature = 10,
-    /// No translation for this address (Q.714 §2.6).
+    /// No translation for this address (Q.714 §2.8).
     NoDigits = 11,
     /// No such subsystem here.
     Unequipped = 12,
