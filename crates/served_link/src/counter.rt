@@ -31,7 +31,7 @@ pub enum Counter {
 
 impl Counter {
     /// All counters, in the order in which they are shown.
-    pub const ALL: [Counter; 36] = [
+    pub const ALL: [Counter; 38] = [
         Counter::FramesIn,
         Counter::OctetsIn,
         Counter::FramesOut,
@@ -60,6 +60,8 @@ impl Counter {
         Counter::Refused(Cause::TableFull),
         Counter::Refused(Cause::DuplicateRow),
         Counter::Refused(Cause::NoSuchName),
+        Counter::Refused(Cause::HopCounter),
+        Counter::Refused(Cause::ShareFull),
         Counter::Failed(FailureReason::Association),
         Counter::Failed(FailureReason::Timer),
         Counter::Failed(FailureReason::Sequence),
@@ -72,7 +74,7 @@ impl Counter {
 }
 
 /// Causes of refusals.
-pub(crate) const CAUSES: usize = 22;
+pub(crate) const CAUSES: usize = 24;
 
 /// Reasons of failures.
 pub(crate) const REASONS: usize = 7;

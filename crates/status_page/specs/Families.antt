@@ -8,7 +8,7 @@ use Rattle.signalling_types.specs.declared.cause.Cause.TheVariants.{NoNature, No
 use Rattle.signalling_types.specs.declared.cause.Cause.TheVariants.{LostUnconfirmed, ManagementFull}
 use Rattle.signalling_types.specs.declared.cause.Cause.TheVariants.{NotFromAdjacent, LinkNotReady}
 use Rattle.signalling_types.specs.declared.cause.Cause.TheVariants.{ChangeoverPending, NoMemory, TableFull}
-use Rattle.signalling_types.specs.declared.cause.Cause.TheVariants.{DuplicateRow, NoSuchName}
+use Rattle.signalling_types.specs.declared.cause.Cause.TheVariants.{DuplicateRow, NoSuchName, HopCounter, ShareFull}
 use Rattle.signalling_types.specs.declared.notice.FailureReason.{FailureReason}
 use Rattle.signalling_types.specs.declared.notice.FailureReason.TheVariants.{Association, Timer, Sequence}
 use Rattle.signalling_types.specs.declared.notice.FailureReason.TheVariants.{Status, Length, Changeover}
@@ -115,7 +115,8 @@ abbrev pub causes : List Cause
 causes =
     WrongNetwork ∷ NoLabel ∷ UnknownDestination ∷ NoRoute ∷ PoolFull ∷ NoUserPart ∷ NotInProfile ∷
     BadManagement ∷ BadSccp ∷ NoNature ∷ NoDigits ∷ Unequipped ∷ TooLong ∷ LostUnconfirmed ∷ ManagementFull ∷
-    NotFromAdjacent ∷ LinkNotReady ∷ ChangeoverPending ∷ NoMemory ∷ TableFull ∷ DuplicateRow ∷ NoSuchName ∷ []
+    NotFromAdjacent ∷ LinkNotReady ∷ ChangeoverPending ∷ NoMemory ∷ TableFull ∷ DuplicateRow ∷ NoSuchName
+    ∷ HopCounter ∷ ShareFull ∷ []
 
 abbrev pub reasons : List FailureReason
 reasons = Association ∷ Timer ∷ Sequence ∷ Status ∷ Length ∷ Changeover ∷ Operator ∷ []

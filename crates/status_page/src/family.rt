@@ -242,7 +242,7 @@ const NOTICES: [Metric; NOTICE_KINDS] = [
 ];
 
 /// Frames that were refused, by each cause.
-const REFUSED: [Metric; 22] = [
+const REFUSED: [Metric; 24] = [
     Metric::Link(LinkMetric::Counted(Counter::Refused(Cause::WrongNetwork))),
     Metric::Link(LinkMetric::Counted(Counter::Refused(Cause::NoLabel))),
     Metric::Link(LinkMetric::Counted(Counter::Refused(Cause::UnknownDestination))),
@@ -265,6 +265,8 @@ const REFUSED: [Metric; 22] = [
     Metric::Link(LinkMetric::Counted(Counter::Refused(Cause::TableFull))),
     Metric::Link(LinkMetric::Counted(Counter::Refused(Cause::DuplicateRow))),
     Metric::Link(LinkMetric::Counted(Counter::Refused(Cause::NoSuchName))),
+    Metric::Link(LinkMetric::Counted(Counter::Refused(Cause::HopCounter))),
+    Metric::Link(LinkMetric::Counted(Counter::Refused(Cause::ShareFull))),
 ];
 
 /// Failures, by each reason.

@@ -29,7 +29,7 @@ const TOTALS: [Counter; 7] = [
 ];
 
 /// Refusals, by each cause.
-const REFUSALS: [Counter; 22] = [
+const REFUSALS: [Counter; 24] = [
     Counter::Refused(Cause::WrongNetwork),
     Counter::Refused(Cause::NoLabel),
     Counter::Refused(Cause::UnknownDestination),
@@ -52,6 +52,8 @@ const REFUSALS: [Counter; 22] = [
     Counter::Refused(Cause::TableFull),
     Counter::Refused(Cause::DuplicateRow),
     Counter::Refused(Cause::NoSuchName),
+    Counter::Refused(Cause::HopCounter),
+    Counter::Refused(Cause::ShareFull),
 ];
 
 /// Failures, by each reason.
