@@ -143,6 +143,8 @@ pub(crate) fn draft_with(alloc: Global, shape: &Shape) -> Result<Draft, AllocErr
         pool: Limits::POOL as i64,
         users: vec![in alloc; ISUP as i64]?,
         subsystems: Vec::new(alloc),
+        extended_unitdata: false,
+        subsystem_tests: false,
         timers: timers(),
         sets: set_drafts(alloc, set_count)?,
         links: link_drafts(alloc, shape.links, shape.sets)?,
@@ -200,6 +202,7 @@ fn link_drafts(alloc: Global, count: usize, sets: Sets) -> Result<Vec<LinkDraft>
             name: format!(in alloc; "l{link}")?,
             set: set_name(alloc, sets.set_of(link))?,
             slc: (link % Limits::LINKS_PER_SET) as i64,
+            share: None,
         })?;
     }
     Ok(links)

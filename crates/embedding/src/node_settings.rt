@@ -20,6 +20,7 @@ pub(crate) fn draft(alloc: Global) -> Result<Draft, AllocError> {
             name: String::from_str(alloc, link)?,
             set: String::from_str(alloc, set)?,
             slc: 0,
+            share: None,
         })?;
         destinations.push(destination(alloc, point, set)?)?;
     }
@@ -31,6 +32,8 @@ pub(crate) fn draft(alloc: Global) -> Result<Draft, AllocError> {
         pool: 1000,
         users: Vec::from_slice(alloc, &[5])?,
         subsystems: Vec::new(alloc),
+        extended_unitdata: false,
+        subsystem_tests: false,
         timers: timers(),
         sets,
         links,

@@ -8,7 +8,7 @@ use Rattle.routes.proofs.Leaving.{IsOfSet, chosen_of_set, none_past}
 -- ---- the links of a set
 
 abbrev pub no_entry : LinkEntry
-no_entry = record { name = []; set = 0; slc = 0 }
+no_entry = record { name = []; set = 0; slc = 0; share = None }
 
 -- a link that is there, of a set
 pub record IsLinkOf (links : List LinkEntry) (set link : ℕ) : Type 0 where

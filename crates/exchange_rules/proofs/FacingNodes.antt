@@ -1,5 +1,5 @@
 -- Two nodes that face each other: the near end's links and codes mean the same at the far end.
-use Rattle.exchange_rules.proofs.Basics.{◌≡◌, ◌<◌, ℕ, zero, suc, List, [], ◌∷◌, Some, length, map, get_or, false, sym, ap, ◌∙◌, arith, length-map}
+use Rattle.exchange_rules.proofs.Basics.{◌≡◌, ◌<◌, ℕ, zero, suc, List, [], ◌∷◌, None, Some, length, map, get_or, false, sym, ap, ◌∙◌, arith, length-map}
 use Rattle.exchange_rules.proofs.Definitions.{Configuration, LinkEntry, set_place, destination_place, IsWell, entry_of, set_of, adjacent_of, peer_of, point_of, link_with_code}
 use Rattle.std.proofs.lemmas.List.{get_or-map}
 use Rattle.settings.specs.Facing.{IsFacing, LeadsOnlyTo}
@@ -55,7 +55,7 @@ module _ (near far : Configuration) (f : IsFacing near far) where
 
   pub codes-alike : (link : ℕ) → link < length near.links → (entry_of near link).slc ≡ (entry_of far link).slc
   codes-alike link there =
-      let none : LinkEntry = record { name = []; set = 0; slc = 0 } in
+      let none : LinkEntry = record { name = []; set = 0; slc = 0; share = None } in
       sym (get_or-map (λ l. l.slc) near.links link none 0 there)
       ∙ ap (λ codes. get_or codes link 0) f.codes
       ∙ get_or-map (λ l. l.slc) far.links link none 0 (omega (arith, there, links-alike))

@@ -1,5 +1,5 @@
 -- What a management message says that a node makes, and what its addressee does with it.
-use Rattle.exchange_rules.proofs.Basics.{◌≡◌, ◌<◌, ◌≤◌, ◌^◌, ℕ, true, false, Ok, length, nat_eq, nat_lt, [], refl, ap, arith, slice_index_or, ⊎_elim, cases_lt, nat_tests, get_or_past}
+use Rattle.exchange_rules.proofs.Basics.{◌≡◌, ◌<◌, ◌≤◌, ◌^◌, ℕ, true, false, None, Ok, length, nat_eq, nat_lt, [], refl, ap, arith, slice_index_or, ⊎_elim, cases_lt, nat_tests, get_or_past}
 use Rattle.exchange_rules.proofs.Definitions.{Message, dpc_of, opc_of, service_indicator, network_indicator, is_management, SIF_OCTETS, Configuration, LinkEntry, IsWell, IsLink, label_at, Management, IsManagement, read_management, management_to, entry_of, whither_goes}
 use Rattle.mtp3_codec.specs.declared.label.Label.{Label}
 use Rattle.mtp3_codec.specs.declared.discrimination.Discrimination.TheVariants.{Here}
@@ -39,7 +39,7 @@ module _ (c : Configuration) (well : IsWell c) (point : ℕ) (m : Management) wh
 -- the code of a link is one that a message can name
 pub code-fits : (c : Configuration) → IsWell c → (link : ℕ) → (entry_of c link).slc < 2 ^ 4
 code-fits c well link =
-    let none : LinkEntry = record { name = []; set = 0; slc = 0 } in
+    let none : LinkEntry = record { name = []; set = 0; slc = 0; share = None } in
     ⊎_elim
     (λ (there : link < length c.links). (let known : IsLink (length c.sets) (slice_index_or c.links link none) = well.links link none there in known.slc))
     (λ (past : length c.links ≤ link). (let first : (entry_of c link).slc ≡ 0 = ap (λ (l : LinkEntry). l.slc) (get_or_past c.links link none past) in omega (arith, first)))

@@ -56,7 +56,7 @@ module _ (c : Configuration) (well : IsWell c) where
   -- the code of a link names it in its set
   pub code-named : (link : ℕ) → link < length c.links → link_in_set c (entry_of c link).slc (set_of c link) ≡ Some link
   code-named link there =
-      found-at is_same_code (λ l. nat_eq l.set (set_of c link) && nat_eq l.slc (entry_of c link).slc) c.links link (record { name = []; set = 0; slc = 0 }) well.link_codes_differ there
+      found-at is_same_code (λ l. nat_eq l.set (set_of c link) && nat_eq l.slc (entry_of c link).slc) c.links link (record { name = []; set = 0; slc = 0; share = None }) well.link_codes_differ there
       (λ l. refl) (both-self (set_of c link) (entry_of c link).slc)
 
   -- and the point that the link leads to, with its code, names it

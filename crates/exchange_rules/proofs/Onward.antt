@@ -42,7 +42,7 @@ module _ (c : Configuration) (well : IsWell c) where
   -- a link leads to a set that is there; one that isn't there, to the first
   pub link-set : (link : ℕ) → set_of c link < length c.sets
   link-set link =
-      let none : LinkEntry = record { name = []; set = 0; slc = 0 } in
+      let none : LinkEntry = record { name = []; set = 0; slc = 0; share = None } in
       ⊎_elim
       (λ (there : link < length c.links). (let known : IsLink (length c.sets) (slice_index_or c.links link none) = well.links link none there in known.set))
       (λ (past : length c.links ≤ link).

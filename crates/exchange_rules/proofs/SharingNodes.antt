@@ -78,7 +78,7 @@ module _ (near far : Configuration) (f : SharesSet near far) (near_well : IsWell
   )
     where
       none : LinkEntry
-      none = record { name = []; set = 0; slc = 0 }
+      none = record { name = []; set = 0; slc = 0; share = None }
 
       slc : ℕ
       slc = (entry_of near link).slc

@@ -19,7 +19,7 @@ use Rattle.flow_hold.specs.Holds.{HoldSet, is_held}
 
 -- the row of a link
 abbrev pub entry_of : Configuration → (link : ℕ) → LinkEntry
-entry_of c link = slice_index_or c.links link (record { name = []; set = 0; slc = 0 })
+entry_of c link = slice_index_or c.links link (record { name = []; set = 0; slc = 0; share = None })
 
 -- its set
 abbrev pub set_of : Configuration → (link : ℕ) → ℕ

@@ -56,9 +56,11 @@ settings = record {
   pool = 10;
   users = [];
   subsystems = [];
+  extended_unitdata = false;
+  subsystem_tests = false;
   timers = ticks;
   sets = record { name = []; adjacent = 2 } ∷ [];
-  links = record { name = []; set = 0; slc = 0 } ∷ [];
+  links = record { name = []; set = 0; slc = 0; share = None } ∷ [];
   destinations = record { point = 2; sets = 0 ∷ []; joined = false } ∷ [];
   titles = [];
 }

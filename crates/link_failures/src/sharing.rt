@@ -56,5 +56,6 @@ fn link_draft(alloc: Global, code: u8) -> Result<LinkDraft, AllocError> {
         name: format!(in alloc; "e{code}")?,
         set: String::from_str(alloc, "east")?,
         slc: code as i64,
+        share: None,
     })
 }

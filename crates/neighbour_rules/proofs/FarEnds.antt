@@ -45,7 +45,7 @@ same-place m n e = cc
 
 module _ (c z : Configuration) (j : Joint c z) where
   abbrev none : LinkEntry
-  none = record { name = []; set = 0; slc = 0 }
+  none = record { name = []; set = 0; slc = 0; share = None }
 
   -- as the steps say it
   abbrev pub far_of : (link : ℕ) → Option ℕ

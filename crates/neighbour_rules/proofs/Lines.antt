@@ -19,7 +19,7 @@ of-some false n i e = absurd cc
 
 module _ (c : Configuration) (well : IsWell c) (its_set : ℕ) where
   abbrev none : LinkEntry
-  none = record { name = []; set = 0; slc = 0 }
+  none = record { name = []; set = 0; slc = 0; share = None }
 
   -- each link of the set is the one with its code
   pub own-line : (link : ℕ) → link < length c.links → set_of c link ≡ its_set → link_at_code c its_set (code_of c link) ≡ link

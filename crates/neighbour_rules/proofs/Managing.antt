@@ -131,7 +131,7 @@ module _ (c z : Configuration) (j : Joint c z) where
       by : (o : Option ℕ) → set_place c point ≡ o → option_and_then (link_in_set c slc) o ≡ Some link → IsNamed point slc link
       by None f h = absurd cc
       by (Some its) f h =
-          let none : LinkEntry = record { name = []; set = 0; slc = 0 } in
+          let none : LinkEntry = record { name = []; set = 0; slc = 0; share = None } in
           let found : (link < length c.links) × ((nat_eq (set_of c link) its && nat_eq (slice_index_or c.links link none).slc slc) ≡ true)
           × ((k : ℕ) → k < link → (nat_eq (slice_index_or c.links k none).set its && nat_eq (slice_index_or c.links k none).slc slc) ≡ false) =
           position-Some (λ (l : LinkEntry). nat_eq l.set its && nat_eq l.slc slc) c.links link none h in

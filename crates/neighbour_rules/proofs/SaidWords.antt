@@ -115,7 +115,7 @@ word-says c z m word e = by (is_management_between c.own z.own m) refl e
 module _ (c z : Configuration) (j : Joint c z) where
   found-there : (slc other : ℕ) → link_with_code z c.own slc ≡ Some other → other < length z.links
   found-there slc other e =
-      (position-Some (is_link_of j.shares.far_set slc) z.links other (record { name = []; set = 0; slc = 0 })
+      (position-Some (is_link_of j.shares.far_set slc) z.links other (record { name = []; set = 0; slc = 0; share = None })
       (sym (ap (option_and_then (link_in_set z slc)) j.shares.far_leads.adjacent) ∙ e)).0
 
   pub record IsCode (slc other : ℕ) : Type 0 where

@@ -53,7 +53,7 @@ new-to point (Some m) h = one-to point m (is_management m) (h m refl)
 
 module _ (c z : Configuration) (g : AreJoined c z) where
   abbrev none : LinkEntry
-  none = record { name = []; set = 0; slc = 0 }
+  none = record { name = []; set = 0; slc = 0; share = None }
 
   pub same-end : (link : ℕ) → link < length c.links → end_there c z (slice_get c.links link) ≡ Some link
   same-end link l =
@@ -94,7 +94,7 @@ module _ (c : Configuration) (point : ℕ) (leads : LeadsOnlyTo c point) (well :
   leads-alone = record { adjacent = set-found c point leads well; only = ap (sets_to c) (destination-found c point leads well) ∙ its-sets }
 
 -- whether a link has a code is told by the list of codes, where all links are of set 0
-any-code : (slc : ℕ) (links : List LinkEntry) → ((k : ℕ) → (slice_index_or links k (record { name = []; set = 0; slc = 0 })).set ≡ 0)
+any-code : (slc : ℕ) (links : List LinkEntry) → ((k : ℕ) → (slice_index_or links k (record { name = []; set = 0; slc = 0; share = None })).set ≡ 0)
     → has_link_of 0 slc links ≡ list_any (λ (code : ℕ). nat_eq code slc) (map (λ (l : LinkEntry). l.slc) links)
 any-code slc [] h = refl
 any-code slc (l ∷ links) h =

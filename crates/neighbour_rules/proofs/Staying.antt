@@ -73,7 +73,7 @@ other-set near far f well link e its = by (slice_get near.links link) refl e
     by : (o : Option LinkEntry) → slice_get near.links link ≡ o → leads_elsewhere_by near far o ≡ true → ⊥
     by None h i = absurd cc
     by (Some l) h i =
-        let same : entry_of near link ≡ l = get_or_from_slice_get near.links link l (record { name = []; set = 0; slc = 0 }) h in
+        let same : entry_of near link ≡ l = get_or_from_slice_get near.links link l (record { name = []; set = 0; slc = 0; share = None }) h in
         let leads : adjacent_of near l.set ≡ far.own = ap (λ (x : LinkEntry). adjacent_of near x.set) (sym same) ∙ shared-peer near far f well link its in
         let no : true ≡ false = sym i ∙ ap not (eq-eqb (adjacent_of near l.set) far.own leads) in
         absurd cc

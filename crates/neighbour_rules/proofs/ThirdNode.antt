@@ -57,8 +57,8 @@ near-well =
       adjacent_points_differ = ((refl, tt), (tt, tt));
       link_count = within 1 LINKS 3 (omega arith) (omega arith);
       links = All-from_recursion (IsLink 2) near_settings.links (
-        record { name = refl; set = omega arith; slc = omega arith },
-        (record { name = refl; set = omega arith; slc = omega arith }, (record { name = refl; set = omega arith; slc = omega arith }, tt)),
+        record { name = refl; set = omega arith; slc = omega arith; share = tt },
+        (record { name = refl; set = omega arith; slc = omega arith; share = tt }, (record { name = refl; set = omega arith; slc = omega arith; share = tt }, tt)),
       );
       link_names_differ = ((refl, (refl, tt)), ((refl, tt), (tt, tt)));
       link_codes_differ = ((refl, (refl, tt)), ((refl, tt), (tt, tt)));

@@ -1,6 +1,6 @@
 -- A run of two nodes that share a link set; the near one also has a link to a third node. A message comes from there
 -- for the far point, and goes on to it, once.
-use Rattle.std.specs.Prelude.{◌≡◌, ℕ, true, false, Some, List, [], ◌∷◌, ◌++◌}
+use Rattle.std.specs.Prelude.{◌≡◌, ℕ, true, false, None, Some, List, [], ◌∷◌, ◌++◌}
 use Rattle.signalling_types.specs.Message.{Message}
 use Rattle.settings_rows.specs.Configuration.{Configuration}
 use Rattle.m2pa_codec.specs.Frames.{MessageFrame, StatusFrame, spelled}
@@ -24,12 +24,14 @@ near_settings = record {
   pool = 10;
   users = 5 ∷ [];
   subsystems = [];
+  extended_unitdata = false;
+  subsystem_tests = false;
   timers = ticks;
   sets = record { name = 97 ∷ []; adjacent = 3 } ∷ record { name = 98 ∷ []; adjacent = 2 } ∷ [];
   links =
-      record { name = 97 ∷ []; set = 0; slc = 0 }
-      ∷ record { name = 98 ∷ []; set = 1; slc = 0 }
-      ∷ record { name = 99 ∷ []; set = 1; slc = 1 }
+      record { name = 97 ∷ []; set = 0; slc = 0; share = None }
+      ∷ record { name = 98 ∷ []; set = 1; slc = 0; share = None }
+      ∷ record { name = 99 ∷ []; set = 1; slc = 1; share = None }
       ∷ [];
   destinations =
       record { point = 3; sets = 0 ∷ []; joined = false } ∷ record { point = 2; sets = 1 ∷ []; joined = false } ∷ [];

@@ -28,7 +28,7 @@ same-some x y e = cc
 
 module _ (c z : Configuration) (point slc link : ℕ) where
   abbrev no_link : LinkEntry
-  no_link = record { name = []; set = 0; slc = 0 }
+  no_link = record { name = []; set = 0; slc = 0; share = None }
 
   abbrev no_set : SetEntry
   no_set = record { name = []; adjacent = 0 }

@@ -44,7 +44,7 @@ module _ (own other : ℕ) where
         set_names_differ = (tt, tt);
         adjacent_points_differ = (tt, tt);
         link_count = within 1 LINKS 2 (omega arith) (omega arith);
-        links = All-from_recursion (IsLink 1) c.links (record { name = refl; set = omega arith; slc = omega arith }, (record { name = refl; set = omega arith; slc = omega arith }, tt));
+        links = All-from_recursion (IsLink 1) c.links (record { name = refl; set = omega arith; slc = omega arith; share = tt }, (record { name = refl; set = omega arith; slc = omega arith; share = tt }, tt));
         link_names_differ = ((refl, tt), (tt, tt));
         link_codes_differ = ((refl, tt), (tt, tt));
         links_of_a_set = λ set. let few = count_by-le-length (λ (l : LinkEntry). nat_eq l.set set) c.links in omega (arith, few);
@@ -116,10 +116,10 @@ middle-well =
       adjacent_points_differ = ((refl, tt), (tt, tt));
       link_count = within 1 LINKS 4 (omega arith) (omega arith);
       links = All-from_recursion (IsLink 2) middle_settings.links (
-        record { name = refl; set = omega arith; slc = omega arith },
+        record { name = refl; set = omega arith; slc = omega arith; share = tt },
         (
-          record { name = refl; set = omega arith; slc = omega arith },
-          (record { name = refl; set = omega arith; slc = omega arith }, (record { name = refl; set = omega arith; slc = omega arith }, tt)),
+          record { name = refl; set = omega arith; slc = omega arith; share = tt },
+          (record { name = refl; set = omega arith; slc = omega arith; share = tt }, (record { name = refl; set = omega arith; slc = omega arith; share = tt }, tt)),
         ),
       );
       link_names_differ = ((refl, (refl, (refl, tt))), ((refl, (refl, tt)), ((refl, tt), (tt, tt))));

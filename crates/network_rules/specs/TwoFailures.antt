@@ -1,6 +1,6 @@
 -- A run of three nodes in a row, of which each two neighbours share two links. A message that one end of the row has
 -- for the other is sent on a link that fails, on either side of the middle node. It comes by the other links, once.
-use Rattle.std.specs.Prelude.{◌≡◌, ℕ, false, true, nat_eq, not, List, [], ◌∷◌, ◌++◌, filter, if◌then◌else◌}
+use Rattle.std.specs.Prelude.{◌≡◌, ℕ, false, true, nat_eq, not, List, [], ◌∷◌, ◌++◌, filter, None, if◌then◌else◌}
 use Rattle.signalling_types.specs.Message.{is_management}
 use Rattle.signalling_types.specs.declared.outcome.Outcome.TheVariants.{Queued}
 use Rattle.settings_rows.specs.Configuration.{Configuration}
@@ -30,10 +30,10 @@ abbrev pub middle_settings : Configuration
 middle_settings = record (settings_of 1 3) {
   sets = record { name = 97 ∷ []; adjacent = 3 } ∷ record { name = 98 ∷ []; adjacent = 2 } ∷ [];
   links =
-      record { name = 97 ∷ []; set = 0; slc = 0 }
-      ∷ record { name = 98 ∷ []; set = 0; slc = 1 }
-      ∷ record { name = 99 ∷ []; set = 1; slc = 0 }
-      ∷ record { name = 100 ∷ []; set = 1; slc = 1 }
+      record { name = 97 ∷ []; set = 0; slc = 0; share = None }
+      ∷ record { name = 98 ∷ []; set = 0; slc = 1; share = None }
+      ∷ record { name = 99 ∷ []; set = 1; slc = 0; share = None }
+      ∷ record { name = 100 ∷ []; set = 1; slc = 1; share = None }
       ∷ [];
   destinations =
       record { point = 3; sets = 0 ∷ []; joined = false } ∷ record { point = 2; sets = 1 ∷ []; joined = false } ∷ [];

@@ -32,7 +32,7 @@ not-alone c z k e g = by (slice_get c.links k) refl where
   by (Some l) f =
       let there : k < length c.links = slice_get_within c.links k l f in
       let no : true ≡ false =
-      sym e ∙ ap (leads_elsewhere_by c z) (slice_get-get_or c.links k (record { name = []; set = 0; slc = 0 }) there)
+      sym e ∙ ap (leads_elsewhere_by c z) (slice_get-get_or c.links k (record { name = []; set = 0; slc = 0; share = None }) there)
       ∙ ap not (eq-eqb (peer_of c k) z.own (peer-sole c z.own g.facing.near_leads g.near_well k)) in
       absurd cc
 

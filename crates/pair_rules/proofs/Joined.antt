@@ -1,5 +1,5 @@
 -- Two nodes that face each other are joined: what the pass over the rules asks of their settings.
-use Rattle.pair_rules.proofs.Basics.{◌≡◌, ◌<◌, ◌^◌, ℕ, Bool, true, false, ◌&&◌, suc, List, [], ◌∷◌, Option, Some, length, map, get_or, nat_eq, position, refl, ap, sym, ◌∙◌, arith, nat_tests}
+use Rattle.pair_rules.proofs.Basics.{◌≡◌, ◌<◌, ◌^◌, ℕ, Bool, true, false, ◌&&◌, suc, List, [], ◌∷◌, Option, None, Some, length, map, get_or, nat_eq, position, refl, ap, sym, ◌∙◌, arith, nat_tests}
 use Rattle.pair_rules.proofs.Definitions.{Configuration, LinkEntry, IsFacing, destination_place, IsWell, IsManagement, read_management, Management, entry_of, set_of, management_to, made-indicator, made-dpc, made-opc, made-says, code-fits, UserMessage}
 use Rattle.std.proofs.Common.{if◌then◌else◌}
 use Rattle.pair_rules.proofs.Places.{position-map}
@@ -81,7 +81,7 @@ module _ (near far : Configuration) (near_well : IsWell near) (far_well : IsWell
   own-code : (link : ℕ) → link < length near.links → link_of_code near.links (entry_of near link).slc ≡ Some link
   own-code link there =
       let slc : ℕ = (entry_of near link).slc in
-      position-alike (λ (l : LinkEntry). nat_eq l.slc slc) (λ (l : LinkEntry). nat_eq l.set (set_of near link) && nat_eq l.slc slc) near.links (record { name = []; set = 0; slc = 0 })
+      position-alike (λ (l : LinkEntry). nat_eq l.slc slc) (λ (l : LinkEntry). nat_eq l.set (set_of near link) && nat_eq l.slc slc) near.links (record { name = []; set = 0; slc = 0; share = None })
       (λ k l. sym (ap (λ (b : Bool). b && nat_eq (entry_of near k).slc slc) (same k)))
       ∙ code-named near near_well link there
     where

@@ -1,6 +1,6 @@
 -- A run of two exchanges: their only message is on a link that fails with it. The link opens again at one end, and
 -- falls there before the other follows. The message comes by the other link, once.
-use Rattle.std.specs.Prelude.{◌≡◌, ℕ, true, false, List, [], ◌∷◌, ◌++◌}
+use Rattle.std.specs.Prelude.{◌≡◌, ℕ, true, false, None, List, [], ◌∷◌, ◌++◌}
 use Rattle.signalling_types.specs.Message.{Message}
 use Rattle.settings_rows.specs.Configuration.{Configuration}
 use Rattle.settings_rows.specs.declared.timer_ticks.TimerTicks.{TimerTicks}
@@ -36,9 +36,14 @@ settings_of own adjacent = record {
   pool = 10;
   users = 5 ∷ [];
   subsystems = [];
+  extended_unitdata = false;
+  subsystem_tests = false;
   timers = ticks;
   sets = record { name = 97 ∷ []; adjacent = adjacent } ∷ [];
-  links = record { name = 97 ∷ []; set = 0; slc = 0 } ∷ record { name = 98 ∷ []; set = 0; slc = 1 } ∷ [];
+  links =
+      record { name = 97 ∷ []; set = 0; slc = 0; share = None }
+      ∷ record { name = 98 ∷ []; set = 0; slc = 1; share = None }
+      ∷ [];
   destinations = record { point = adjacent; sets = 0 ∷ []; joined = false } ∷ [];
   titles = [];
 }

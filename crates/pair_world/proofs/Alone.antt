@@ -23,7 +23,7 @@ use Rattle.pair_world.specs.Stands.{IsReached}
 
 module _ (c z : Configuration) (g : AreJoined c z) where
   abbrev none : LinkEntry
-  none = record { name = []; set = 0; slc = 0 }
+  none = record { name = []; set = 0; slc = 0; share = None }
 
   none-elsewhere : (link : ℕ) → leads_elsewhere_by c z (slice_get c.links link) ≡ false
   none-elsewhere link = by (slice_get c.links link) refl

@@ -1,5 +1,5 @@
 -- The settings of a network whose nodes are at the points of a list, and are joined by their links.
-use Rattle.std.proofs.Common.{◌≡◌, ℕ, Bool, true, false, List, [], Some, inl, inr, ◌⊎◌, refl, subst}
+use Rattle.std.proofs.Common.{◌≡◌, ℕ, Bool, true, false, List, [], None, Some, inl, inr, ◌⊎◌, refl, subst}
 use Rattle.std.specs.Prelude.{slice_get}
 use Rattle.std.proofs.lemmas.Option.{get_or_from_slice_get, slice_get_within}
 use Rattle.settings_rows.specs.Configuration.{Configuration, LinkEntry}
@@ -21,5 +21,5 @@ module _ (settings : (point : ℕ) → Configuration) (points : List ℕ) (j : I
       → AreSharing (settings point) (settings (adjacent_of (settings point) l.set))
   leads point link l is =
       subst (λ (row : LinkEntry). AreSharing (settings point) (settings (adjacent_of (settings point) row.set)))
-      (get_or_from_slice_get (settings point).links link l (record { name = []; set = 0; slc = 0 }) is)
+      (get_or_from_slice_get (settings point).links link l (record { name = []; set = 0; slc = 0; share = None }) is)
       (j.shared point link (slice_get_within (settings point).links link l is))

@@ -94,7 +94,7 @@ module _ (settings : List Configuration) (apart : are_apart settings ≡ true) (
         other-links point (settings_for settings point) (sym (for-listed settings point (settings_for settings point) refl) ∙ e);
     shared = λ point link inside.
         joined-by point link (entry_of (its point) link) (settings_for settings point) refl
-        (slice_get-get_or (its point).links link (record { name = []; set = 0; slc = 0 }) inside);
+        (slice_get-get_or (its point).links link (record { name = []; set = 0; slc = 0; share = None }) inside);
   }
 
   -- ---- the nodes

@@ -178,7 +178,7 @@ reached-ready p r =
 there-by : (far : Configuration) (slc : ℕ) (set : Option ℕ) (other : ℕ) → option_and_then (link_in_set far slc) set ≡ Some other → other < length far.links
 there-by far slc None other e = absurd cc
 there-by far slc (Some set) other e =
-    (position-Some (λ (l : LinkEntry). nat_eq l.set set && nat_eq l.slc slc) far.links other (record { name = []; set = 0; slc = 0 }) e).0
+    (position-Some (λ (l : LinkEntry). nat_eq l.set set && nat_eq l.slc slc) far.links other (record { name = []; set = 0; slc = 0; share = None }) e).0
 
 pub far-there : (near far : Configuration) (l : Option LinkEntry) (other : ℕ) → end_there near far l ≡ Some other → other < length far.links
 far-there near far None other e = absurd cc

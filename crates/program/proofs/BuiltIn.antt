@@ -32,7 +32,7 @@ sets-meant (s ∷ t ∷ more) h = absurd h
 
 links-meant : (sets : List SetDraft) (links : List LinkDraft) → IsSets sets → IsLinks links → map (link_of sets) links ≡ built_in_settings.links
 links-meant sets [] k h = absurd h
-links-meant sets (l ∷ []) k h = rw (set_number-one sets (string_bytes l.set) k, h.0, h.2) refl
+links-meant sets (l ∷ []) k h = rw (set_number-one sets (string_bytes l.set) k, h.0, h.2, h.3) refl
 links-meant sets (l ∷ m ∷ more) k h = absurd h
 
 one-mapped : {A : Type 0} → (f : A → List ℕ) (g : List ℕ → ℕ) (xs : List A) (w : List ℕ) → map f xs ≡ w ∷ [] → map (λ x. g (f x)) xs ≡ g w ∷ []
@@ -63,6 +63,8 @@ settings-meant d h =
       h.pool,
       h.users,
       h.subsystems,
+      h.extended_unitdata,
+      h.subsystem_tests,
       h.timers,
       sets-meant d.sets.items h.sets,
       links-meant d.sets.items d.links.items h.sets h.links,

@@ -39,7 +39,7 @@ links : (ss : List SetDraft) (ls : List LinkDraft) → IsSets ss → IsLinks ls 
 unfolding links_fault
 links [] ls k h = absurd k
 links (s ∷ []) [] k h = absurd h
-links (s ∷ []) (l ∷ []) k h = rw (k.0, h.0, h.1, h.2) refl
+links (s ∷ []) (l ∷ []) k h = rw (k.0, h.0, h.1, h.2, h.3) refl
 links (s ∷ []) (l ∷ m ∷ more) k h = absurd h
 links (s ∷ t ∷ more) ls k h = absurd k
 

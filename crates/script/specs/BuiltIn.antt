@@ -1,5 +1,5 @@
 -- The settings that a node runs with if it is given none.
-use Rattle.std.specs.Prelude.{◌≡◌, ℤ, pos, false, List, [], ◌∷◌, map, codes, string_bytes}
+use Rattle.std.specs.Prelude.{◌≡◌, ℤ, pos, false, None, List, [], ◌∷◌, map, codes, string_bytes}
 use Rattle.settings_rows.specs.Configuration.{Configuration}
 use Rattle.settings_rows.specs.declared.draft.Draft.{Draft}
 use Rattle.settings_rows.specs.declared.draft.TimersDraft.{TimersDraft}
@@ -30,9 +30,10 @@ abbrev pub IsSets : List SetDraft → Type 0
 IsSets (s ∷ []) = (string_bytes s.name ≡ codes "east") × (s.adjacent ≡ pos 2)
 IsSets _ = ⊥
 
--- one link, `e0`, of that set
+-- one link, `e0`, of that set, with no share of its own
 abbrev pub IsLinks : List LinkDraft → Type 0
-IsLinks (l ∷ []) = (string_bytes l.name ≡ codes "e0") × (string_bytes l.set ≡ codes "east") × (l.slc ≡ pos 0)
+IsLinks (l ∷ []) =
+    (string_bytes l.name ≡ codes "e0") × (string_bytes l.set ≡ codes "east") × (l.slc ≡ pos 0) × (l.share ≡ None)
 IsLinks _ = ⊥
 
 -- a destination only by this set
@@ -53,6 +54,8 @@ pub record IsBuiltIn (d : Draft) : Type 0 where
   pub pool : d.pool ≡ pos 1000
   pub users : d.users.items ≡ pos 5 ∷ []
   pub subsystems : d.subsystems.items ≡ pos 8 ∷ []
+  pub extended_unitdata : d.extended_unitdata ≡ false
+  pub subsystem_tests : d.subsystem_tests ≡ false
   pub timers : d.timers ≡ built_in_ticks
   pub sets : IsSets d.sets.items
   pub links : IsLinks d.links.items
@@ -68,6 +71,8 @@ built_in_settings = record {
   pool = 1000;
   users = 5 ∷ [];
   subsystems = 8 ∷ [];
+  extended_unitdata = false;
+  subsystem_tests = false;
   timers = record {
     l1 = 10;
     l2 = 10;
@@ -84,7 +89,7 @@ built_in_settings = record {
     t10 = 8;
   };
   sets = record { name = codes "east"; adjacent = 2 } ∷ [];
-  links = record { name = codes "e0"; set = 0; slc = 0 } ∷ [];
+  links = record { name = codes "e0"; set = 0; slc = 0; share = None } ∷ [];
   destinations = record { point = 2; sets = 0 ∷ []; joined = false }
       ∷ record { point = 300; sets = 0 ∷ []; joined = false } ∷ [];
   titles = [];

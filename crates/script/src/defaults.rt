@@ -25,6 +25,8 @@ pub fn built_in(alloc: Global) -> Result<Draft, AllocError>
         pool: 1000,
         users: one(alloc, 5)?,
         subsystems: one(alloc, 8)?,
+        extended_unitdata: false,
+        subsystem_tests: false,
         timers: timers(),
         sets: sets(alloc)?,
         links: links(alloc)?,
@@ -78,7 +80,12 @@ fn links(alloc: Global) -> Result<Vec<LinkDraft>, AllocError>
     let name = String::from_str(alloc, LINK)?;
     let set = String::from_str(alloc, SET)?;
     let mut links = Vec::new(alloc);
-    links.push(LinkDraft { name, set, slc: 0 })?;
+    links.push(LinkDraft {
+        name,
+        set,
+        slc: 0,
+        share: None,
+    })?;
     Ok(links)
 }
 

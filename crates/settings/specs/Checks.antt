@@ -9,7 +9,7 @@ use Rattle.settings_rows.specs.declared.fault.FaultKind.{FaultKind}
 use Rattle.settings_rows.specs.declared.fault.FaultKind.TheVariants.{Range, Duplicate, TooMany}
 use Rattle.settings_rows.specs.declared.key.Key.{Key}
 use Rattle.settings_rows.specs.Names.{is_name}
-use Rattle.signalling_types.specs.declared.limits.TheConstants.Limits.{TITLE_DIGITS}
+use Rattle.signalling_types.specs.declared.limits.TheConstants.Limits.{POOL, TITLE_DIGITS}
 
 -- the first fault of several, in their order
 abbrev pub first_of : List (Option DraftFault) → Option DraftFault
@@ -70,6 +70,11 @@ name_fault key name is_repeat = first_of (
     fault_unless (is_name name) Range key
     ∷ fault_unless (not is_repeat) Duplicate key
     ∷ [])
+
+-- a link's share of the pool, if one was written, is of one message at least, and of no more than a pool has
+abbrev pub share_fault : Key → Option ℤ → Option DraftFault
+share_fault key None = None
+share_fault key (Some n) = range_fault 1 POOL key n
 
 -- a digit of an address: 0 to 9, a to f
 abbrev pub is_digit : ℕ → Bool

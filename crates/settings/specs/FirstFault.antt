@@ -6,7 +6,7 @@ use Rattle.std.specs.List.{list_any, list_all}
 use Rattle.std.specs.Str.{bytes_eq}
 use Rattle.std.specs.Ordering.{int_eq}
 use Rattle.settings.specs.Checks.{natural, first_of, fault_unless, range_fault, has_repeat, far_point_fault}
-use Rattle.settings.specs.Checks.{entries_fault, numbers_fault, count_fault, name_fault, digits_fault}
+use Rattle.settings.specs.Checks.{entries_fault, numbers_fault, count_fault, name_fault, share_fault, digits_fault}
 use Rattle.settings.specs.Checks.{route_fault, ssn_fault}
 use Rattle.settings.specs.Meaning.{is_by_title, set_place, points_of}
 use Rattle.settings_rows.specs.Names.{is_name}
@@ -17,6 +17,7 @@ use Rattle.settings_rows.specs.declared.key.TimerKey.TheVariants.{L1, L2, L3, L4
 use Rattle.settings_rows.specs.declared.key.Key.{Key}
 use Rattle.settings_rows.specs.declared.key.Key.TheVariants.{Own, Network, Window, Pool, Users, Subsystems, Timer, Set}
 use Rattle.settings_rows.specs.declared.key.Key.TheVariants.{SetName, SetAdjacent, Link, LinkName, LinkSet, LinkSlc}
+use Rattle.settings_rows.specs.declared.key.Key.TheVariants.{LinkShare}
 use Rattle.settings_rows.specs.declared.key.Key.TheVariants.{Destination, DestinationPoint, DestinationSets}
 use Rattle.settings_rows.specs.declared.key.Key.TheVariants.{DestinationJoined, Title, TitleTranslation, TitlePlan}
 use Rattle.settings_rows.specs.declared.key.Key.TheVariants.{TitleNature, TitleDigits, TitlePoint, TitleRoute, TitleSsn}
@@ -122,6 +123,7 @@ link_fault sets earlier l = first_of (
     link_name_fault earlier l
     ∷ link_set_fault sets earlier l
     ∷ link_slc_fault earlier l
+    ∷ share_fault (LinkShare (length earlier)) l.share
     ∷ [])
 
 -- whether a destination of this point is among these

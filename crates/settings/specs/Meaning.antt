@@ -48,6 +48,7 @@ link_of sets l = record {
   name = string_bytes l.name;
   set = set_number sets (string_bytes l.set);
   slc = natural l.slc;
+  share = option_map natural l.share;
 }
 
 abbrev pub destination_of : List SetDraft → DestinationDraft → DestinationEntry
@@ -91,6 +92,8 @@ settings_of d = record {
   pool = natural d.pool;
   users = map natural d.users.items;
   subsystems = map natural d.subsystems.items;
+  extended_unitdata = d.extended_unitdata;
+  subsystem_tests = d.subsystem_tests;
   timers = ticks_of d.timers;
   sets = map set_of d.sets.items;
   links = map (link_of d.sets.items) d.links.items;

@@ -38,11 +38,12 @@ is_set_of_same_name s t = bytes_eq s.name t.name
 abbrev pub is_set_to_same_point : SetEntry → SetEntry → Bool
 is_set_to_same_point s t = nat_eq s.adjacent t.adjacent
 
--- a link has a name, one of n link sets, and a signalling link code of four bits
+-- a link has a name, one of n link sets, a signalling link code of four bits, and, if any, a share of the pool
 pub record IsLink (n : ℕ) (l : LinkEntry) : Type 0 where
   pub name : IsTrue (is_name l.name)
   pub set : l.set < n
   pub slc : l.slc < 2 ^ 4
+  pub share : IfSome l.share (IsWithin 1 POOL)
 
 -- whether two links have the same name
 abbrev pub is_link_of_same_name : LinkEntry → LinkEntry → Bool

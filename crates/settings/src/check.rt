@@ -42,6 +42,10 @@ pub struct Checked {
     pub users: Vec<u8>,
     /// Numbers of the subsystems.
     pub subsystems: Vec<u8>,
+    /// Whether extended unitdata (XUDT, XUDTS) are relayed.
+    pub extended_unitdata: bool,
+    /// Whether a test of a subsystem on this node (SST) is answered.
+    pub subsystem_tests: bool,
     /// How long each timer runs.
     pub timers: TimerTicks,
     /// The link sets.
@@ -90,6 +94,8 @@ pub fn check_draft(alloc: Global, draft: &Draft) -> Result<Checked, DraftFault>
         pool: scalars.pool,
         users,
         subsystems,
+        extended_unitdata: draft.extended_unitdata,
+        subsystem_tests: draft.subsystem_tests,
         timers,
         sets,
         links,

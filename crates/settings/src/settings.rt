@@ -112,6 +112,20 @@ impl Settings {
         &self.checked.subsystems
     }
 
+    /// Whether this node relays extended unitdata (XUDT, XUDTS).
+    pub fn extended_unitdata(&self) -> bool
+        ensures { result ≡ self.now.extended_unitdata }
+    {
+        self.checked.extended_unitdata
+    }
+
+    /// Whether this node answers a test of a subsystem that it has (SST).
+    pub fn subsystem_tests(&self) -> bool
+        ensures { result ≡ self.now.subsystem_tests }
+    {
+        self.checked.subsystem_tests
+    }
+
     /// How many ticks each timer runs: 1 to 65,535.
     pub fn timers(&self) -> TimerTicks
         ensures value { result ≡ self.now.timers }

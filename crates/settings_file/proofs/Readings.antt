@@ -1,5 +1,5 @@
 -- What is read of a text, by the document that it is.
-use Rattle.settings_file.proofs.Basics.{◌≡◌, ◌∙◌, ℕ, List, None, Some, Err, refl, sym, ap, reading, reading_in, SettingsFault, Text}
+use Rattle.settings_file.proofs.Basics.{◌≡◌, ℕ, List, None, Some, Err, refl, reading, reading_in, SettingsFault, Text}
 use Rattle.toml.specs.Data.{Members}
 use Rattle.toml.specs.Parse.{parse_document}
 

@@ -1,7 +1,6 @@
 -- What a document says of settings. Its keys are read in their order, and the first fault among them is the
 -- document's; keys of other names are ignored.
-use Rattle.std.specs.Prelude.{ℤ, pos, Bool, Result, Ok, codes}
-use Rattle.std.specs.Ordering.{int_eq}
+use Rattle.std.specs.Prelude.{ℤ, Bool, Result, Ok, codes}
 use Rattle.toml.specs.Data.{Members}
 use Rattle.settings_file.specs.TimerNames.{timer_name}
 use Rattle.settings_rows.specs.declared.draft.TimersDraft.{TimersDraft}
@@ -10,7 +9,9 @@ use Rattle.settings_rows.specs.declared.key.TimerKey.{TimerKey}
 use Rattle.settings_rows.specs.declared.key.TimerKey.TheVariants.{L1, L2, L3, L4, L6, L7, T1, T2, T3, T4, T6, T8, T10}
 use Rattle.settings_file.specs.declared.fault.SettingsFault.{SettingsFault}
 use Rattle.settings_file.specs.declared.document.Numbers.{Numbers}
-use Rattle.settings_file.specs.Shapes.{and_then, value_at, table_in, integer_at, integers_at}
+use Rattle.settings_file.specs.declared.document.Services.{Services}
+use Rattle.settings_file.specs.Versions.{has_joined, has_extensions}
+use Rattle.settings_file.specs.Shapes.{and_then, value_at, table_in, integer_at, integers_at, truth_at}
 use Rattle.settings_file.specs.Written.{Written}
 use Rattle.settings_file.specs.Entries.{sets_at, links_at, destinations_at, titles_at}
 
@@ -64,16 +65,13 @@ numbers_at t =
     and_then (integer_at (codes "pool") key.Pool t) (λ pool.
     Ok (record { version = version; own = own; network = network; window = window; pool = pool }))))))
 
--- the versions of the format
-abbrev pub FIRST_VERSION : ℤ
-FIRST_VERSION = pos 1
-
-abbrev pub LAST_VERSION : ℤ
-LAST_VERSION = pos 2
-
--- whether the destinations of a file of this version may be joined
-abbrev pub has_joined : ℤ → Bool
-has_joined version = int_eq version LAST_VERSION
+-- what a file asks for about subsystems, if its version has these keys: that extended unitdata are relayed, and that a
+-- test of a subsystem is answered
+unfoldable pub services_at : (has_keys : Bool) → Members → Result Services SettingsFault
+services_at has_keys t =
+    and_then (truth_at has_keys (codes "extended_unitdata") key.ExtendedUnitdata t) (λ extended_unitdata.
+    and_then (truth_at has_keys (codes "subsystem_tests") key.SubsystemTests t) (λ subsystem_tests.
+    Ok (record { extended_unitdata = extended_unitdata; subsystem_tests = subsystem_tests })))
 
 -- what a document says: the version of its format, and settings
 pub record Document : Type 0 where
@@ -85,9 +83,10 @@ document t =
     and_then (numbers_at t) (λ numbers.
     and_then (integers_at (codes "users") key.Users t) (λ users.
     and_then (integers_at (codes "subsystems") key.Subsystems t) (λ subsystems.
+    and_then (services_at (has_extensions numbers.version) t) (λ services.
     and_then (timers_at t) (λ timers.
     and_then (sets_at t) (λ sets.
-    and_then (links_at t) (λ links.
+    and_then (links_at (has_extensions numbers.version) t) (λ links.
     and_then (destinations_at (has_joined numbers.version) t) (λ destinations.
     and_then (titles_at t) (λ titles.
     Ok (record {
@@ -99,10 +98,12 @@ document t =
         pool = numbers.pool;
         users = users;
         subsystems = subsystems;
+        extended_unitdata = services.extended_unitdata;
+        subsystem_tests = services.subsystem_tests;
         timers = timers;
         sets = sets;
         links = links;
         destinations = destinations;
         titles = titles;
       };
-    })))))))))
+    }))))))))))

@@ -1,12 +1,12 @@
 -- The arrays of a settings file, entry by entry. The keys of an entry are read in their order, and the
 -- first fault among them is the entry's.
-use Rattle.std.specs.Prelude.{ℕ, ℤ, Bool, false, List, [], Option, Some, None, Result, Ok, Err, codes}
+use Rattle.std.specs.Prelude.{ℕ, ℤ, Bool, List, [], Option, Some, None, Result, Ok, Err, codes}
 use Rattle.std.specs.Prelude.{if◌then◌else◌, bytes_eq}
 use Rattle.toml.specs.Data.{Data, Members, get_member}
 use Rattle.settings_rows.specs.declared.key.Key.TheVariants as key
 use Rattle.settings_file.specs.declared.fault.SettingsFault.{SettingsFault}
 use Rattle.settings_file.specs.declared.fault.SettingsFault.TheVariants.{Missing}
-use Rattle.settings_file.specs.Shapes.{and_then, each, table_in, array_in, integer_in, truth_in}
+use Rattle.settings_file.specs.Shapes.{and_then, each, table_in, array_in, integer_in, truth_at}
 use Rattle.settings_file.specs.Shapes.{integer_at, text_at, texts_at, entries_at}
 use Rattle.settings_file.specs.Written.{WrittenSet, WrittenLink, WrittenDestination, WrittenTitle}
 
@@ -18,23 +18,24 @@ set_in i d =
     and_then (integer_at (codes "adjacent") (key.SetAdjacent i) t) (λ adjacent.
     Ok (record { name = name; adjacent = adjacent }))))
 
--- a link: its name, the name of its set and its signalling link code
-unfoldable pub link_entry_in : ℕ → Data → Result WrittenLink SettingsFault
-link_entry_in i d =
+-- the share of the pool that a link has, which may be left out
+abbrev pub share_in : ℕ → Option Data → Result (Option ℤ) SettingsFault
+share_in i None = Ok None
+share_in i (Some d) = and_then (integer_in (key.LinkShare i) d) (λ n. Ok (Some n))
+
+-- the same in a file whose version has the key, or doesn't have it: there it is ignored
+unfoldable pub share_at : (has_key : Bool) → ℕ → Members → Result (Option ℤ) SettingsFault
+share_at has_key i t = if has_key then share_in i (get_member (codes "share") t) else Ok None
+
+-- a link: its name, the name of its set, its signalling link code and its share of the pool
+unfoldable pub link_entry_in : (has_share : Bool) → ℕ → Data → Result WrittenLink SettingsFault
+link_entry_in has_share i d =
     and_then (table_in (key.LinkEntry i) d) (λ t.
     and_then (text_at (codes "name") (key.LinkName i) t) (λ name.
     and_then (text_at (codes "set") (key.LinkSet i) t) (λ set.
     and_then (integer_at (codes "slc") (key.LinkSlc i) t) (λ slc.
-    Ok (record { name = name; set = set; slc = slc })))))
-
--- whether the first two sets of a destination are joined, which may be left out
-abbrev pub joined_in : ℕ → Option Data → Result Bool SettingsFault
-joined_in i None = Ok false
-joined_in i (Some d) = truth_in (key.DestinationJoined i) d
-
--- the same in a file whose version has the key, or doesn't have it: there it is ignored
-unfoldable pub joined_at : (has_key : Bool) → ℕ → Members → Result Bool SettingsFault
-joined_at has_key i t = if has_key then joined_in i (get_member (codes "joined") t) else Ok false
+    and_then (share_at has_share i t) (λ share.
+    Ok (record { name = name; set = set; slc = slc; share = share }))))))
 
 -- a destination: its point, the names of the sets that lead to it, and whether the first two are joined
 unfoldable pub destination_in : (has_joined : Bool) → ℕ → Data → Result WrittenDestination SettingsFault
@@ -42,7 +43,7 @@ destination_in has_joined i d =
     and_then (table_in (key.DestinationEntry i) d) (λ t.
     and_then (integer_at (codes "point") (key.DestinationPoint i) t) (λ point.
     and_then (texts_at (codes "sets") (key.DestinationSets i) t) (λ sets.
-    and_then (joined_at has_joined i t) (λ joined.
+    and_then (truth_at has_joined (codes "joined") (key.DestinationJoined i) t) (λ joined.
     Ok (record { point = point; sets = sets; joined = joined })))))
 
 -- a subsystem number, which a route by subsystem number needs
@@ -78,8 +79,8 @@ title_in i d =
 unfoldable pub sets_at : Members → Result (List WrittenSet) SettingsFault
 sets_at t = and_then (entries_at (codes "set") key.Set t) (each set_in 0)
 
-unfoldable pub links_at : Members → Result (List WrittenLink) SettingsFault
-links_at t = and_then (entries_at (codes "link") key.Link t) (each link_entry_in 0)
+unfoldable pub links_at : (has_share : Bool) → Members → Result (List WrittenLink) SettingsFault
+links_at has_share t = and_then (entries_at (codes "link") key.Link t) (each (link_entry_in has_share) 0)
 
 unfoldable pub destinations_at : (has_joined : Bool) → Members → Result (List WrittenDestination) SettingsFault
 destinations_at has_joined t =

@@ -1,9 +1,9 @@
--- The keys of the tables that are in arrays of a settings file, by the version of the file.
+-- The keys of a settings file, by its version: those that are in no array, and those of the tables in arrays.
 use Rattle.std.specs.Prelude.{ℕ, ℤ, Bool, true, false, List, [], ◌∷◌, map, codes, Option, Some, None}
 use Rattle.std.specs.Option.{option_map, option_flatten}
 use Rattle.toml.specs.Data.{Members, get_member, as_integer}
-use Rattle.settings_file.specs.Document.{has_joined}
-use Rattle.settings_file.specs.declared.unknown.TableArray.{TableArray}
+use Rattle.settings_file.specs.Versions.{has_joined, has_extensions}
+use Rattle.settings_file.specs.declared.known_keys.TableArray.{TableArray}
 
 -- an array of tables: its key, and the keys of its entries
 pub record KnownKeys : Type 0 where
@@ -23,9 +23,28 @@ abbrev pub may_be_joined : Option ℤ → Bool
 may_be_joined (Some version) = has_joined version
 may_be_joined None = false
 
+-- whether a file of this version may ask for services about subsystems, and give links shares of the pool
+abbrev pub may_have_extensions : Option ℤ → Bool
+may_have_extensions (Some version) = has_extensions version
+may_have_extensions None = false
+
+-- the keys that are in no array
+abbrev pub top_keys : (may_have_extensions : Bool) → List (List ℕ)
+top_keys true =
+    codes "version" ∷ codes "own" ∷ codes "network" ∷ codes "window" ∷ codes "pool" ∷ codes "users"
+    ∷ codes "subsystems" ∷ codes "extended_unitdata" ∷ codes "subsystem_tests" ∷ codes "timers" ∷ codes "set"
+    ∷ codes "link" ∷ codes "destination" ∷ codes "title" ∷ codes "serve" ∷ []
+top_keys false =
+    codes "version" ∷ codes "own" ∷ codes "network" ∷ codes "window" ∷ codes "pool" ∷ codes "users"
+    ∷ codes "subsystems" ∷ codes "timers" ∷ codes "set" ∷ codes "link" ∷ codes "destination" ∷ codes "title"
+    ∷ codes "serve" ∷ []
+
 -- the keys of a link, with those of a server
-abbrev pub link_keys : List (List ℕ)
-link_keys =
+abbrev pub link_keys : (may_have_share : Bool) → List (List ℕ)
+link_keys true =
+    codes "name" ∷ codes "set" ∷ codes "slc" ∷ codes "share" ∷ codes "listen" ∷ codes "connect" ∷ codes "remote"
+    ∷ codes "sctp_port" ∷ codes "remote_sctp_port" ∷ codes "tries" ∷ []
+link_keys false =
     codes "name" ∷ codes "set" ∷ codes "slc" ∷ codes "listen" ∷ codes "connect" ∷ codes "remote" ∷ codes "sctp_port"
     ∷ codes "remote_sctp_port" ∷ codes "tries" ∷ []
 
@@ -43,7 +62,7 @@ title_keys =
 abbrev pub arrays_of : Option ℤ → List KnownKeys
 arrays_of version =
     record { array = codes "set"; keys = codes "name" ∷ codes "adjacent" ∷ [] }
-    ∷ record { array = codes "link"; keys = link_keys }
+    ∷ record { array = codes "link"; keys = link_keys (may_have_extensions version) }
     ∷ record { array = codes "destination"; keys = destination_keys (may_be_joined version) }
     ∷ record { array = codes "title"; keys = title_keys }
     ∷ []

@@ -1,3 +1,4 @@
+pub mod Versions
 pub mod TimerNames
 pub mod Faults
 pub mod Shapes

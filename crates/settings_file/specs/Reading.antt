@@ -1,5 +1,5 @@
 -- What is read from the text of a settings file.
-use Rattle.std.specs.Prelude.{◌≡◌, ◌⊎◌, ◌||◌, ℕ, ℤ, nat_le, List, [], ◌∷◌, length, Option, None, Some, Result, Ok, Err}
+use Rattle.std.specs.Prelude.{◌≡◌, ◌⊎◌, ℕ, ℤ, nat_le, List, [], ◌∷◌, length, Option, None, Some, Result, Ok, Err}
 use Rattle.std.specs.Prelude.{if◌then◌else◌}
 use Rattle.std.specs.Option.{ok_or}
 use Rattle.toml.specs.Data.{Members}
@@ -18,15 +18,15 @@ use Rattle.settings_file.specs.declared.fault.SettingsFault.TheVariants as kind
 use Rattle.settings_file.specs.Shapes.{and_then}
 use Rattle.settings_file.specs.declared.limits.TheConstants.FirstLimits.{WINDOW, DESTINATIONS}
 use Rattle.settings_file.specs.Written.{written}
-use Rattle.settings_file.specs.Document.{FIRST_VERSION, LAST_VERSION, Document, document}
+use Rattle.settings_file.specs.Versions.{FIRST_VERSION, is_known_version}
+use Rattle.settings_file.specs.Document.{Document, document}
 
--- a document, which must be of version 1 or 2
+-- a document, which must be of version 1, 2 or 3
 abbrev pub of_known_version : Document → Result Document SettingsFault
-of_known_version d =
-    if int_eq d.version FIRST_VERSION || int_eq d.version LAST_VERSION then Ok d else Err kind.Version
+of_known_version d = if is_known_version d.version then Ok d else Err kind.Version
 
 -- the version and the settings that a document has, or its first fault: one of its keys is missing or has a value of
--- another type, or its version is neither 1 nor 2
+-- another type, or its version isn't known
 unfoldable pub reading_in : Members → Result Document SettingsFault
 reading_in t = and_then (document t) of_known_version
 

@@ -1,5 +1,6 @@
 -- The shapes of values in a settings file, and the fault if a value has another.
-use Rattle.std.specs.Prelude.{ℕ, ◌+◌, ℤ, Bool, List, [], ◌∷◌, Result, Ok, Err}
+use Rattle.std.specs.Prelude.{ℕ, ◌+◌, ℤ, Bool, false, List, [], ◌∷◌, Option, Some, None, Result, Ok, Err}
+use Rattle.std.specs.Prelude.{if◌then◌else◌}
 use Rattle.std.specs.Option.{ok_or, option_map}
 use Rattle.toml.specs.Data.{Data, Items, no_items, item, Members, get_member, as_integer, as_bool, as_str, as_array}
 use Rattle.toml.specs.Data.{as_table}
@@ -49,6 +50,15 @@ some_in key (d ∷ ds) = Ok (d ∷ ds)
 
 unfoldable pub integer_at : List ℕ → Key → Members → Result ℤ SettingsFault
 integer_at name key t = and_then (value_at name key t) (integer_in key)
+
+-- a truth value that may be left out, and is false then
+abbrev pub truth_or_false : Key → Option Data → Result Bool SettingsFault
+truth_or_false key None = Ok false
+truth_or_false key (Some d) = truth_in key d
+
+-- the same at a key that the version of the file has, or doesn't have: there it is ignored
+unfoldable pub truth_at : (has_key : Bool) → List ℕ → Key → Members → Result Bool SettingsFault
+truth_at has_key name key t = if has_key then truth_or_false key (get_member name t) else Ok false
 
 unfoldable pub text_at : List ℕ → Key → Members → Result (List ℕ) SettingsFault
 text_at name key t = and_then (value_at name key t) (text_in key)

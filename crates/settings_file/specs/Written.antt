@@ -15,6 +15,7 @@ pub record WrittenLink : Type 0 where
   pub name : List ℕ
   pub set : List ℕ
   pub slc : ℤ
+  pub share : Option ℤ
 
 pub record WrittenDestination : Type 0 where
   pub point : ℤ
@@ -38,6 +39,8 @@ pub record Written : Type 0 where
   pub pool : ℤ
   pub users : List ℤ
   pub subsystems : List ℤ
+  pub extended_unitdata : Bool
+  pub subsystem_tests : Bool
   pub timers : TimersDraft
   pub sets : List WrittenSet
   pub links : List WrittenLink
@@ -48,7 +51,7 @@ abbrev pub set_written : SetDraft → WrittenSet
 set_written s = record { name = string_bytes s.name; adjacent = s.adjacent }
 
 abbrev pub link_written : LinkDraft → WrittenLink
-link_written l = record { name = string_bytes l.name; set = string_bytes l.set; slc = l.slc }
+link_written l = record { name = string_bytes l.name; set = string_bytes l.set; slc = l.slc; share = l.share }
 
 abbrev pub destination_written : DestinationDraft → WrittenDestination
 destination_written d = record {
@@ -76,6 +79,8 @@ written d = record {
   pool = d.pool;
   users = d.users.items;
   subsystems = d.subsystems.items;
+  extended_unitdata = d.extended_unitdata;
+  subsystem_tests = d.subsystem_tests;
   timers = d.timers;
   sets = map set_written d.sets.items;
   links = map link_written d.links.items;

@@ -5,13 +5,11 @@ ghost use Rattle.toml.specs.View.{view, table_view};
 ghost use Rattle.settings_file.specs.Faults.{AnswersOrNoMemory};
 ghost use Rattle.settings_file.specs.Shapes.{each};
 ghost use Rattle.settings_file.specs.Written.{set_written, link_written, destination_written, title_written};
-ghost use Rattle.settings_file.specs.Entries.{set_in, link_entry_in, joined_at, destination_in, ssn_at, title_in};
+ghost use Rattle.settings_file.specs.Entries.{set_in, share_at, link_entry_in, destination_in, ssn_at, title_in};
 ghost use Rattle.settings_file.specs.Entries.{sets_at, links_at, destinations_at, titles_at};
 
 use crate::fault::SettingsFault;
-use crate::shapes::{
-    array_in, entries, found, integer, integer_in, table_in, text, texts, truth_in,
-};
+use crate::shapes::{array_in, entries, found, integer, integer_in, table_in, text, texts, truth};
 use settings::{DestinationDraft, Key, LinkDraft, SetDraft, TitleDraft};
 use std::alloc::Global;
 use toml::{Table, Value};
@@ -27,29 +25,36 @@ fn set(alloc: Global, i: usize, value: &Value) -> Result<SetDraft, SettingsFault
     Ok(SetDraft { name, adjacent })
 }
 
+/// The share of the pool that a link has. If the file's version doesn't have the key it is ignored.
+#[tactic(auto, unfolding(crate::specs::Entries::share_at))]
+fn share(has_key: bool, table: &Table, i: usize) -> Result<Option<i64>, SettingsFault>
+    ensures { result ≡ share_at has_key i (table_view table.now) }
+{
+    if !has_key {
+        return Ok(None);
+    }
+    match found(table, "share") {
+        Some(value) => Ok(Some(integer_in(value, Key::LinkShare(i))?)),
+        None => Ok(None),
+    }
+}
+
+/// A link, in a file whose version has the key `share` or doesn't have it.
 #[tactic(auto, unfolding(crate::specs::Entries::link_entry_in))]
-fn link(alloc: Global, i: usize, value: &Value) -> Result<LinkDraft, SettingsFault>
-    ensures { AnswersOrNoMemory link_written (link_entry_in i (view value.now)) result }
+fn link(alloc: Global, has_share: bool, i: usize, value: &Value) -> Result<LinkDraft, SettingsFault>
+    ensures { AnswersOrNoMemory link_written (link_entry_in has_share i (view value.now)) result }
 {
     let table = table_in(value, Key::LinkEntry(i))?;
     let name = text(alloc, table, "name", Key::LinkName(i))?;
     let set = text(alloc, table, "set", Key::LinkSet(i))?;
     let slc = integer(table, "slc", Key::LinkSlc(i))?;
-    Ok(LinkDraft { name, set, slc })
-}
-
-/// Whether the first two sets of a destination are joined. If the file's version doesn't have the key it is ignored.
-#[tactic(auto, unfolding(crate::specs::Entries::joined_at))]
-fn joined(has_key: bool, table: &Table, i: usize) -> Result<bool, SettingsFault>
-    ensures { result ≡ joined_at has_key i (table_view table.now) }
-{
-    if !has_key {
-        return Ok(false);
-    }
-    match found(table, "joined") {
-        Some(value) => truth_in(value, Key::DestinationJoined(i)),
-        None => Ok(false),
-    }
+    let share = share(has_share, table, i)?;
+    Ok(LinkDraft {
+        name,
+        set,
+        slc,
+        share,
+    })
 }
 
 /// A destination, in a file whose version has the key `joined` or doesn't have it.
@@ -65,7 +70,7 @@ fn destination(
     let table = table_in(value, Key::DestinationEntry(i))?;
     let point = integer(table, "point", Key::DestinationPoint(i))?;
     let sets = texts(alloc, table, "sets", Key::DestinationSets(i))?;
-    let joined = joined(has_joined, table, i)?;
+    let joined = truth(has_joined, table, "joined", Key::DestinationJoined(i))?;
     Ok(DestinationDraft {
         point,
         sets,
@@ -123,13 +128,18 @@ fn each_set(alloc: Global, values: &[Value]) -> Result<Vec<SetDraft>, SettingsFa
     Ok(sets)
 }
 
-fn each_link(alloc: Global, values: &[Value]) -> Result<Vec<LinkDraft>, SettingsFault>
+/// The links that values are.
+fn each_link(
+    alloc: Global,
+    has_share: bool,
+    values: &[Value],
+) -> Result<Vec<LinkDraft>, SettingsFault>
     ensures { AnswersOrNoMemory (λ links. map link_written links.items)
-        (each link_entry_in 0 (map view values.now)) result }
+        (each (link_entry_in has_share) 0 (map view values.now)) result }
 {
     let mut links = Vec::with_capacity(alloc, values.len())?;
     for i in 0..values.len() {
-        let link = link(alloc, i, &values[i])?;
+        let link = link(alloc, has_share, i, &values[i])?;
         links.push(link)?;
     }
     Ok(links)
@@ -175,14 +185,18 @@ pub(crate) fn sets(alloc: Global, table: &Table) -> Result<Vec<SetDraft>, Settin
     each_set(alloc, values)
 }
 
-/// The links of a file.
+/// The links of a file, whose version has the key `share` or doesn't have it.
 #[tactic(auto, unfolding(crate::specs::Entries::links_at))]
-pub(crate) fn links(alloc: Global, table: &Table) -> Result<Vec<LinkDraft>, SettingsFault>
+pub(crate) fn links(
+    alloc: Global,
+    has_share: bool,
+    table: &Table,
+) -> Result<Vec<LinkDraft>, SettingsFault>
     ensures { AnswersOrNoMemory (λ links. map link_written links.items)
-        (links_at (table_view table.now)) result }
+        (links_at has_share (table_view table.now)) result }
 {
     let values = entries(table, "link", Key::Link)?;
-    each_link(alloc, values)
+    each_link(alloc, has_share, values)
 }
 
 /// The destinations of a file, whose version has the key `joined` or doesn't have it.

@@ -6,24 +6,20 @@ ghost use Rattle.toml.specs.View.{table_view};
 ghost use Rattle.settings.specs.Meaning.{settings_of};
 ghost use Rattle.settings_file.specs.Faults.{AnswersOrNoMemory, no_memory};
 ghost use Rattle.settings_file.specs.Written.{written};
-ghost use Rattle.settings_file.specs.Document.{numbers_at, document};
+ghost use Rattle.settings_file.specs.Versions.{has_joined, has_extensions, is_known_version};
+ghost use Rattle.settings_file.specs.Document.{numbers_at, services_at, document};
 ghost use Rattle.settings_file.specs.Reading.{reading_in, limits_fault, settings_fault, IsReadAs, IsFirstFault};
 
 use crate::arrays::{destinations, links, sets, titles};
 use crate::documents::parse;
 use crate::fault::SettingsFault;
 use crate::limits::FirstLimits;
-use crate::shapes::{integer, integers};
+use crate::shapes::{integer, integers, truth};
 use crate::timers::timers;
+use crate::versions::{has_extensions, has_joined, is_first_version, is_known_version};
 use settings::{Draft, DraftFault, FaultKind, Key, Settings};
 use std::alloc::Global;
 use toml::Table;
-
-/// The versions of the format: the first, which keeps the limits that it had, and the last, in which destinations may
-/// be joined.
-const FIRST_VERSION: i64 = 1;
-
-const LAST_VERSION: i64 = 2;
 
 /// The numbers that a file begins with.
 #[derive(Clone, Copy)]
@@ -40,6 +36,31 @@ pub(crate) struct Numbers {
     pub pool: i64,
 }
 
+impl Numbers {
+    /// Whether the destinations of the file may be joined.
+    fn has_joined(self) -> bool
+        ensures { result ≡ has_joined self.version }
+    {
+        has_joined(self.version)
+    }
+
+    /// Whether the file has the keys `extended_unitdata`, `subsystem_tests` and `share`.
+    fn has_extensions(self) -> bool
+        ensures { result ≡ has_extensions self.version }
+    {
+        has_extensions(self.version)
+    }
+}
+
+/// What a file asks for about subsystems.
+#[derive(Clone, Copy)]
+pub(crate) struct Services {
+    /// Whether extended unitdata (XUDT, XUDTS) are relayed.
+    pub extended_unitdata: bool,
+    /// Whether a test of a subsystem on this node (SST) is answered.
+    pub subsystem_tests: bool,
+}
+
 /// What a document says: the version of its format, and settings.
 #[derive(Drop)]
 pub(crate) struct Document {
@@ -47,6 +68,15 @@ pub(crate) struct Document {
     pub version: i64,
     /// The settings, not checked yet.
     pub draft: Draft,
+}
+
+impl Document {
+    /// Whether the document is of a version of the format.
+    fn is_of_known_version(&self) -> bool
+        ensures { result ≡ is_known_version self.now.version }
+    {
+        is_known_version(self.version)
+    }
 }
 
 /// The numbers that a file begins with.
@@ -63,6 +93,17 @@ fn leading_numbers(table: &Table) -> Result<Numbers, SettingsFault>
     })
 }
 
+/// What a file asks for about subsystems, if its version has these keys.
+#[tactic(auto, unfolding(crate::specs::Document::services_at))]
+fn asked_services(has_keys: bool, table: &Table) -> Result<Services, SettingsFault>
+    ensures { result ≡ services_at has_keys (table_view table.now) }
+{
+    Ok(Services {
+        extended_unitdata: truth(has_keys, table, "extended_unitdata", Key::ExtendedUnitdata)?,
+        subsystem_tests: truth(has_keys, table, "subsystem_tests", Key::SubsystemTests)?,
+    })
+}
+
 /// What a document says.
 #[tactic(auto, unfolding(crate::specs::Document::document))]
 fn contents(alloc: Global, table: &Table) -> Result<Document, SettingsFault>
@@ -72,11 +113,11 @@ fn contents(alloc: Global, table: &Table) -> Result<Document, SettingsFault>
     let numbers = leading_numbers(table)?;
     let users = integers(alloc, table, "users", Key::Users)?;
     let subsystems = integers(alloc, table, "subsystems", Key::Subsystems)?;
+    let services = asked_services(numbers.has_extensions(), table)?;
     let timers = timers(table)?;
     let sets = sets(alloc, table)?;
-    let links = links(alloc, table)?;
-    let has_joined = numbers.version == LAST_VERSION;
-    let destinations = destinations(alloc, has_joined, table)?;
+    let links = links(alloc, numbers.has_extensions(), table)?;
+    let destinations = destinations(alloc, numbers.has_joined(), table)?;
     let titles = titles(alloc, table)?;
     Ok(Document {
         version: numbers.version,
@@ -87,6 +128,8 @@ fn contents(alloc: Global, table: &Table) -> Result<Document, SettingsFault>
             pool: numbers.pool,
             users,
             subsystems,
+            extended_unitdata: services.extended_unitdata,
+            subsystem_tests: services.subsystem_tests,
             timers,
             sets,
             links,
@@ -103,7 +146,7 @@ fn known_contents(alloc: Global, table: &Table) -> Result<Document, SettingsFaul
         (reading_in (table_view table.now)) result }
 {
     let document = contents(alloc, table)?;
-    if document.version != FIRST_VERSION && document.version != LAST_VERSION {
+    if !document.is_of_known_version() {
         return Err(SettingsFault::Version);
     }
     Ok(document)
@@ -114,7 +157,7 @@ fn keep_limits(version: i64, settings: &Settings) -> Result<(), DraftFault>
     ensures well { OnOk result (limits_fault version settings.now ≡ None) }
     ensures fault { IfErr result (λ fault. limits_fault version settings.now ≡ Some fault) }
 {
-    if version != FIRST_VERSION {
+    if !is_first_version(version) {
         return Ok(());
     }
     if settings.window() > FirstLimits::WINDOW {

@@ -52,13 +52,15 @@ pub(crate) fn key_row(key: Key) -> KeyRow
     ensures { row_place result ≡ key_place key }
 {
     match key {
-        Key::Version => lone_key("version", INTEGER, "1 or 2"),
+        Key::Version => lone_key("version", INTEGER, "1, 2 or 3"),
         Key::Own => lone_key("own", INTEGER, POINT),
         Key::Network => lone_key("network", INTEGER, "0 to 3"),
         Key::Window => lone_key("window", INTEGER, "1 to 16384"),
         Key::Pool => lone_key("pool", INTEGER, "1 to 65535"),
         Key::Users => lone_key("users", INTEGERS, "numbers from 4 to 15"),
         Key::Subsystems => lone_key("subsystems", INTEGERS, "numbers from 1 to 255"),
+        Key::ExtendedUnitdata => lone_key("extended_unitdata", TRUTH, ""),
+        Key::SubsystemTests => lone_key("subsystem_tests", TRUTH, ""),
         Key::Timers => lone_key("timers", TABLE, ""),
         Key::Timer(timer) => lone_key(timer.path(), INTEGER, TICKS),
         Key::Set => lone_key("set", TABLES, "1 to 32"),
@@ -70,6 +72,7 @@ pub(crate) fn key_row(key: Key) -> KeyRow
         Key::LinkName(i) => entry_key("link", i, "name", TEXT, NAME),
         Key::LinkSet(i) => entry_key("link", i, "set", TEXT, NAME),
         Key::LinkSlc(i) => entry_key("link", i, "slc", INTEGER, "0 to 15"),
+        Key::LinkShare(i) => entry_key("link", i, "share", INTEGER, "1 to 65535"),
         Key::Destination => lone_key("destination", TABLES, "1 to 4096"),
         Key::DestinationEntry(i) => entry_key("destination", i, "", TABLE, ""),
         Key::DestinationPoint(i) => entry_key("destination", i, "point", INTEGER, FAR_POINT),

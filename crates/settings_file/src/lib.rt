@@ -6,6 +6,7 @@ mod document;
 mod documents;
 pub mod fault;
 mod key_rows;
+mod known_keys;
 pub mod limits;
 mod phrases;
 mod places;
@@ -14,6 +15,7 @@ mod shapes;
 mod timers;
 mod unknown;
 mod values;
+mod versions;
 
 pub use document::{read, read_document};
 pub use documents::{document_in, parse};

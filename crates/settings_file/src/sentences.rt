@@ -4,16 +4,13 @@ ghost use Rattle.std.specs.Prelude.{◌≡◌, Some, IfOk, string_bytes};
 ghost use Rattle.settings_rows.specs.declared.key.Key.{Key};
 ghost use Rattle.settings_file.specs.Sentences.{IsAbout, Names, key_of};
 
-use crate::SettingsFault;
 use crate::key_rows::{KeyRow, key_row};
 use crate::phrases::{missing, must_be, value_is};
 use crate::places::{about, value_at};
+use crate::{SettingsFault, versions};
 use settings::{DraftFault, FaultKind, Key};
 use std::alloc::{AllocError, Global};
 use toml::{Table, Value};
-
-/// The first version of the format, which has smaller limits.
-const FIRST_VERSION: i64 = 1;
 
 /// The sentence that says what this fault is, in the document of a settings file of this name, with a line feed:
 /// `node.toml: link[2] "e2": slc is 16, must be 0 to 15`.
@@ -64,7 +61,7 @@ fn demand(document: &Table, key: Key) -> &'static str {
 /// Whether a file is of the first version.
 fn is_first_version(document: &Table) -> bool {
     match document.get("version") {
-        Some(Value::Integer(version)) => *version == FIRST_VERSION,
+        Some(Value::Integer(version)) => versions::is_first_version(*version),
         _ => false,
     }
 }

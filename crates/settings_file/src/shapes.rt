@@ -5,8 +5,8 @@ ghost use Rattle.std.specs.Option.{option_map};
 ghost use Rattle.toml.specs.Data.{get_member};
 ghost use Rattle.toml.specs.View.{view, table_view};
 ghost use Rattle.settings_file.specs.Faults.{Answers, AnswersOrNoMemory};
-ghost use Rattle.settings_file.specs.Shapes.{value_at, integer_in, integer_at, truth_in, text_in, text_at, table_in};
-ghost use Rattle.settings_file.specs.Shapes.{array_in, some_in, each, integers_at, texts_at, entries_at};
+ghost use Rattle.settings_file.specs.Shapes.{value_at, integer_in, integer_at, truth_in, truth_at, text_in, text_at};
+ghost use Rattle.settings_file.specs.Shapes.{table_in, array_in, some_in, each, integers_at, texts_at, entries_at};
 
 use crate::fault::SettingsFault;
 use settings::Key;
@@ -41,7 +41,7 @@ pub(crate) fn integer_in(value: &Value, key: Key) -> Result<i64, SettingsFault>
 }
 
 #[tactic(auto, unfolding(crate::specs::Shapes::truth_in))]
-pub(crate) fn truth_in(value: &Value, key: Key) -> Result<bool, SettingsFault>
+fn truth_in(value: &Value, key: Key) -> Result<bool, SettingsFault>
     ensures { result ≡ truth_in key (view value.now) }
 {
     value.as_bool().ok_or(SettingsFault::Kind(key))
@@ -84,6 +84,26 @@ pub(crate) fn integer(table: &Table, name: &str, key: Key) -> Result<i64, Settin
 {
     let value = value(table, name, key)?;
     integer_in(value, key)
+}
+
+/// The truth value at a key, which is `false` if it is left out. If the file's version doesn't have the key it is
+/// ignored.
+#[tactic(auto, unfolding(crate::specs::Shapes::truth_at))]
+pub(crate) fn truth(
+    has_key: bool,
+    table: &Table,
+    name: &str,
+    key: Key,
+) -> Result<bool, SettingsFault>
+    ensures { result ≡ truth_at has_key name.now key (table_view table.now) }
+{
+    if !has_key {
+        return Ok(false);
+    }
+    match found(table, name) {
+        Some(value) => truth_in(value, key),
+        None => Ok(false),
+    }
 }
 
 /// The text at a key.

@@ -1,101 +1,13 @@
 //! Keys of a settings file that no table knows.
 
-ghost use Rattle.std.specs.Prelude.{◌≡◌, IfOk, OnOk, map, string_bytes};
-ghost use Rattle.toml.specs.View.{table_view};
-ghost use Rattle.settings_file.specs.KnownKeys.{version_of, arrays_of, known_in};
+ghost use Rattle.std.specs.Prelude.{◌≡◌, IfOk, OnOk, string_bytes};
 ghost use Rattle.settings_file.specs.Warnings.{Ignored, warning, AreWarnings, IsSoFar, GoesOn};
 
+use crate::known_keys::{SCTP, SERVE, TIMERS, arrays_of, top_of};
 use crate::values::is_shown;
 use std::alloc::{AllocError, Global};
 use strsim::osa_distance;
 use toml::{Table, Value};
-
-/// The keys of a settings file that are in no array.
-const TOP: [&str; 13] = [
-    "version",
-    "own",
-    "network",
-    "window",
-    "pool",
-    "users",
-    "subsystems",
-    "timers",
-    "set",
-    "link",
-    "destination",
-    "title",
-    "serve",
-];
-
-/// The keys of the table `timers`.
-const TIMERS: [&str; 13] = [
-    "l1", "l2", "l3", "l4", "l6", "l7", "t1", "t2", "t3", "t4", "t6", "t8", "t10",
-];
-
-/// The keys of the table `serve`.
-const SERVE: [&str; 9] = [
-    "tick_ms",
-    "console",
-    "capture",
-    "console_open",
-    "points",
-    "udp",
-    "sctp",
-    "page_open",
-    "page",
-];
-
-/// The keys of the table `serve.sctp`.
-const SCTP: [&str; 6] = [
-    "rto_initial_ms",
-    "rto_min_ms",
-    "rto_max_ms",
-    "init_tries",
-    "retransmissions",
-    "heartbeat_ms",
-];
-
-/// The keys of a link set.
-const SET: &[&str] = &["name", "adjacent"];
-
-/// The keys of a link.
-const LINK: &[&str] = &[
-    "name",
-    "set",
-    "slc",
-    "listen",
-    "connect",
-    "remote",
-    "sctp_port",
-    "remote_sctp_port",
-    "tries",
-];
-
-/// The keys of a translation row.
-const TITLE: &[&str] = &[
-    "translation",
-    "plan",
-    "nature",
-    "digits",
-    "point",
-    "route",
-    "ssn",
-];
-
-/// The keys of a destination.
-const DESTINATION: &[&str] = &["point", "sets"];
-
-/// The keys of a destination in a file of version 2.
-const DESTINATION_OF_TWO: &[&str] = &["point", "sets", "joined"];
-
-/// An array of tables.
-#[derive(Clone, Copy)]
-struct TableArray {
-    /// The key of the array.
-    name: &'static str,
-    /// The keys of its entries.
-    keys: &'static [&'static str],
-}
 
 /// Warnings of one file, at most.
 const MOST_WARNINGS: usize = 20;
@@ -134,7 +46,7 @@ impl WarningText<'_> {
         requires { IsSoFar self.old }
         ensures { OnOk result (GoesOn self.old self.new) }
     {
-        self.add_table(alloc, "", document, &TOP)?;
+        self.add_table(alloc, "", document, top_of(document))?;
         self.add_inner_table(alloc, document, "timers", "timers.", &TIMERS)?;
         self.add_serve(alloc, document)?;
         self.add_arrays(alloc, document)
@@ -242,40 +154,6 @@ impl WarningText<'_> {
         self.count += 1;
         self.text.push_str(warning.as_str())
     }
-}
-
-/// The version of a document, if it says one.
-fn version_of(document: &Table) -> Option<i64>
-    ensures { result ≡ version_of (table_view document.now) }
-{
-    match document.get("version") {
-        Some(version) => version.as_integer(),
-        None => None,
-    }
-}
-
-/// The arrays of tables of a document, by its version.
-fn arrays_of(document: &Table) -> [TableArray; 4]
-    ensures { map known_in result ≡ arrays_of (version_of (table_view document.now)) }
-{
-    let destination = match version_of(document) {
-        Some(2) => DESTINATION_OF_TWO,
-        _ => DESTINATION,
-    };
-    [
-        array("set", SET),
-        array("link", LINK),
-        array("destination", destination),
-        array("title", TITLE),
-    ]
-}
-
-/// An array of tables, whose entries have these keys.
-fn array(name: &'static str, keys: &'static [&'static str]) -> TableArray
-    ensures name { result.name.now ≡ name.now }
-    ensures keys { result.keys.now ≡ keys.now }
-{
-    TableArray { name, keys }
 }
 
 /// The warning of a key, whose path begins like this.

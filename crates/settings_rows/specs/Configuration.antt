@@ -1,5 +1,5 @@
 -- The checked settings of a node, as plain data.
-use Rattle.std.specs.Prelude.{ℕ, Bool, List}
+use Rattle.std.specs.Prelude.{ℕ, Bool, List, Option}
 use Rattle.settings_rows.specs.declared.timer_ticks.TimerTicks.{TimerTicks}
 use Rattle.settings_rows.specs.declared.title_row.TitleRoute.{TitleRoute}
 
@@ -8,11 +8,13 @@ pub record SetEntry : Type 0 where
   pub name : List ℕ
   pub adjacent : ℕ
 
--- a link: its name, the number of its set, and its signalling link code there
+-- a link: its name, the number of its set, its signalling link code there, and its share of the pool, which is how many
+-- messages it may keep before more are refused; without a share, as many as the pool has room for
 pub record LinkEntry : Type 0 where
   pub name : List ℕ
   pub set : ℕ
   pub slc : ℕ
+  pub share : Option ℕ
 
 -- a destination: its point code, the numbers of the sets that lead to it, the preferred one first, and whether the
 -- first two of them are joined, which means preferred alike
@@ -30,7 +32,8 @@ pub record TitleEntry : Type 0 where
   pub point : ℕ
   pub route : TitleRoute
 
--- all settings of a node, its sets, links and destinations by number in the order of the settings
+-- all settings of a node, its sets, links and destinations by number in the order of the settings; among them whether it
+-- relays extended unitdata (XUDT, XUDTS), and whether it answers a test of a subsystem that it has (SST)
 pub record Configuration : Type 0 where
   pub own : ℕ
   pub network : ℕ
@@ -38,6 +41,8 @@ pub record Configuration : Type 0 where
   pub pool : ℕ
   pub users : List ℕ
   pub subsystems : List ℕ
+  pub extended_unitdata : Bool
+  pub subsystem_tests : Bool
   pub timers : TimerTicks
   pub sets : List SetEntry
   pub links : List LinkEntry

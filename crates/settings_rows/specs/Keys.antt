@@ -5,8 +5,9 @@ use Rattle.settings_rows.specs.declared.key.TimerKey.{TimerKey}
 use Rattle.settings_rows.specs.declared.key.TimerKey.TheVariants.{L1, L2, L3, L4, L6, L7, T1, T2, T3, T4, T6, T8, T10}
 use Rattle.settings_rows.specs.declared.key.Key.{Key}
 use Rattle.settings_rows.specs.declared.key.Key.TheVariants.{Version, Own, Network, Window, Pool, Users, Subsystems}
+use Rattle.settings_rows.specs.declared.key.Key.TheVariants.{ExtendedUnitdata, SubsystemTests}
 use Rattle.settings_rows.specs.declared.key.Key.TheVariants.{Timers, Timer, Set, SetEntry, SetName, SetAdjacent, Link}
-use Rattle.settings_rows.specs.declared.key.Key.TheVariants.{LinkEntry, LinkName, LinkSet, LinkSlc, Destination}
+use Rattle.settings_rows.specs.declared.key.Key.TheVariants.{LinkEntry, LinkName, LinkSet, LinkSlc, LinkShare, Destination}
 use Rattle.settings_rows.specs.declared.key.Key.TheVariants.{DestinationEntry, DestinationPoint, DestinationSets}
 use Rattle.settings_rows.specs.declared.key.Key.TheVariants.{DestinationJoined}
 use Rattle.settings_rows.specs.declared.key.Key.TheVariants.{Title, TitleEntry, TitleTranslation, TitlePlan}
@@ -38,6 +39,8 @@ key_front Window = codes "window"
 key_front Pool = codes "pool"
 key_front Users = codes "users"
 key_front Subsystems = codes "subsystems"
+key_front ExtendedUnitdata = codes "extended_unitdata"
+key_front SubsystemTests = codes "subsystem_tests"
 key_front Timers = codes "timers"
 key_front (Timer timer) = timer_path timer
 key_front Set = codes "set"
@@ -49,6 +52,7 @@ key_front (LinkEntry i) = codes "link"
 key_front (LinkName i) = codes "link"
 key_front (LinkSet i) = codes "link"
 key_front (LinkSlc i) = codes "link"
+key_front (LinkShare i) = codes "link"
 key_front Destination = codes "destination"
 key_front (DestinationEntry i) = codes "destination"
 key_front (DestinationPoint i) = codes "destination"
@@ -73,6 +77,7 @@ key_index (LinkEntry i) = Some i
 key_index (LinkName i) = Some i
 key_index (LinkSet i) = Some i
 key_index (LinkSlc i) = Some i
+key_index (LinkShare i) = Some i
 key_index (DestinationEntry i) = Some i
 key_index (DestinationPoint i) = Some i
 key_index (DestinationSets i) = Some i
@@ -94,6 +99,7 @@ key_back (SetAdjacent i) = codes ".adjacent"
 key_back (LinkName i) = codes ".name"
 key_back (LinkSet i) = codes ".set"
 key_back (LinkSlc i) = codes ".slc"
+key_back (LinkShare i) = codes ".share"
 key_back (DestinationPoint i) = codes ".point"
 key_back (DestinationSets i) = codes ".sets"
 key_back (DestinationJoined i) = codes ".joined"

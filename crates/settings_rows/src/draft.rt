@@ -15,6 +15,10 @@ pub struct Draft {
     pub users: Vec<i64>,
     /// Numbers of the subsystems that are on this node.
     pub subsystems: Vec<i64>,
+    /// Whether extended unitdata (XUDT, XUDTS) are relayed.
+    pub extended_unitdata: bool,
+    /// Whether a test of a subsystem on this node (SST) is answered.
+    pub subsystem_tests: bool,
     /// How long each timer runs.
     pub timers: TimersDraft,
     /// The link sets.
@@ -76,6 +80,8 @@ pub struct LinkDraft {
     pub set: String,
     /// Its signalling link code.
     pub slc: i64,
+    /// How many messages it may keep before more are refused; as many as the pool has room for, if none.
+    pub share: Option<i64>,
 }
 
 /// A destination, as it was written.

@@ -77,6 +77,10 @@ pub enum Key {
     Users,
     /// `subsystems`.
     Subsystems,
+    /// `extended_unitdata`.
+    ExtendedUnitdata,
+    /// `subsystem_tests`.
+    SubsystemTests,
     /// `timers`, the table itself.
     Timers,
     /// A key of `timers`.
@@ -99,6 +103,8 @@ pub enum Key {
     LinkSet(usize),
     /// `link[i].slc`.
     LinkSlc(usize),
+    /// `link[i].share`.
+    LinkShare(usize),
     /// `destination`, the array itself.
     Destination,
     /// `destination[i]`, the entry itself.
@@ -142,11 +148,17 @@ impl Key {
             Key::Pool => "pool",
             Key::Users => "users",
             Key::Subsystems => "subsystems",
+            Key::ExtendedUnitdata => "extended_unitdata",
+            Key::SubsystemTests => "subsystem_tests",
             Key::Timers => "timers",
             Key::Timer(timer) => timer.path(),
             Key::Set | Key::SetEntry(_) | Key::SetName(_) | Key::SetAdjacent(_) => "set",
-            Key::Link | Key::LinkEntry(_) | Key::LinkName(_) | Key::LinkSet(_) | Key::LinkSlc(_) =>
-                "link",
+            Key::Link
+            | Key::LinkEntry(_)
+            | Key::LinkName(_)
+            | Key::LinkSet(_)
+            | Key::LinkSlc(_)
+            | Key::LinkShare(_) => "link",
             Key::Destination
             | Key::DestinationEntry(_)
             | Key::DestinationPoint(_)
@@ -176,6 +188,7 @@ impl Key {
             | Key::LinkName(i)
             | Key::LinkSet(i)
             | Key::LinkSlc(i)
+            | Key::LinkShare(i)
             | Key::DestinationEntry(i)
             | Key::DestinationPoint(i)
             | Key::DestinationSets(i)
@@ -201,6 +214,7 @@ impl Key {
             Key::SetAdjacent(_) => ".adjacent",
             Key::LinkSet(_) => ".set",
             Key::LinkSlc(_) => ".slc",
+            Key::LinkShare(_) => ".share",
             Key::DestinationPoint(_) | Key::TitlePoint(_) => ".point",
             Key::DestinationSets(_) => ".sets",
             Key::DestinationJoined(_) => ".joined",

@@ -14,6 +14,7 @@ pub struct LinkRow {
     name: ArrayString<{ Limits::NAME_OCTETS }>,
     set: SetId,
     slc: u8,
+    share: Option<u16>,
 }
 
 impl Model for LinkRow {
@@ -23,22 +24,23 @@ impl Model for LinkRow {
 
     ghost Value = { LinkEntry };
 
-    ghost view = { λ l. record { name = l.name.bytes; set = l.set; slc = l.slc } };
+    ghost view = { λ l. record { name = l.name.bytes; set = l.set; slc = l.slc; share = l.share } };
 
     ghost invariant = { λ l. IsTrue (is_name l.name.bytes) × (l.slc < 2 ^ 4) };
 }
 
 impl LinkRow {
-    /// The link of this name and this set, with this signalling link code there.
-    pub fn new(name: &str, set: SetId, slc: u8) -> LinkRow
+    /// The link of this name and this set, with this signalling link code there and this share of the pool.
+    pub fn new(name: &str, set: SetId, slc: u8, share: Option<u16>) -> LinkRow
         requires name { IsTrue (is_name name.now) }
         requires slc { slc < 2 ^ 4 }
-        ensures { result ≡ record { name = name.now; set = set; slc = slc } }
+        ensures { result ≡ record { name = name.now; set = set; slc = slc; share = share } }
     {
         LinkRow {
             name: kept_name(name),
             set,
             slc,
+            share,
         }
     }
 
@@ -64,5 +66,12 @@ impl LinkRow {
         ensures fits { self.now.slc < 2 ^ 4 }
     {
         self.slc
+    }
+
+    /// How many messages the link may keep before more are refused; `None` if as many as the pool has room for.
+    pub fn share(&self) -> Option<u16>
+        ensures { result ≡ self.now.share }
+    {
+        self.share
     }
 }

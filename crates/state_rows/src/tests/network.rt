@@ -60,7 +60,7 @@ fn wrong_with(alloc: Global, links: &[LinkRow]) -> Result<&'static str, AllocErr
 fn wrong(alloc: Global) -> Result<&'static str, AllocError> {
     let mut links = Vec::new(alloc);
     for code in 0..32u8 {
-        links.push(LinkRow::new("l", SetId::new(code / 16), code % 16))?;
+        links.push(LinkRow::new("l", SetId::new(code / 16), code % 16, None))?;
     }
     if links.len() > 32 {
         return Ok("too many links");

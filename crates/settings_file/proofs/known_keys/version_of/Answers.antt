@@ -1,5 +1,5 @@
 use Rattle.settings_file.proofs.Basics.{refl, codes, table_get}
-use Rattle.settings_file.proofs.unknown.version_of.Goals as goal
+use Rattle.settings_file.proofs.known_keys.version_of.Goals as goal
 
 pub returns-in-Some : goal.returns-in-Some
 returns-in-Some c = rw (

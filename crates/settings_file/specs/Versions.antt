@@ -1,0 +1,24 @@
+-- The versions of the format of settings files.
+use Rattle.std.specs.Prelude.{ℤ, pos, Bool, ◌||◌}
+use Rattle.std.specs.Ordering.{int_eq}
+
+abbrev pub FIRST_VERSION : ℤ
+FIRST_VERSION = pos 1
+
+abbrev pub SECOND_VERSION : ℤ
+SECOND_VERSION = pos 2
+
+abbrev pub LAST_VERSION : ℤ
+LAST_VERSION = pos 3
+
+abbrev pub is_known_version : ℤ → Bool
+is_known_version version =
+    int_eq version FIRST_VERSION || int_eq version SECOND_VERSION || int_eq version LAST_VERSION
+
+-- whether the destinations of a file of this version may be joined
+abbrev pub has_joined : ℤ → Bool
+has_joined version = int_eq version SECOND_VERSION || int_eq version LAST_VERSION
+
+-- whether a file of this version may ask for services about subsystems, and give links shares of the pool
+abbrev pub has_extensions : ℤ → Bool
+has_extensions version = int_eq version LAST_VERSION

@@ -1,0 +1,211 @@
+//! The keys that tables of a settings file may have, by the version of the file.
+
+ghost use Rattle.std.specs.Prelude.{◌≡◌, map};
+ghost use Rattle.toml.specs.View.{table_view};
+ghost use Rattle.settings_file.specs.KnownKeys.{version_of, may_be_joined, may_have_extensions, top_keys, link_keys};
+ghost use Rattle.settings_file.specs.KnownKeys.{destination_keys, arrays_of, known_in};
+
+use crate::versions::{has_extensions, has_joined};
+use toml::Table;
+
+/// The keys of a settings file that are in no array.
+const TOP: &[&str] = &[
+    "version",
+    "own",
+    "network",
+    "window",
+    "pool",
+    "users",
+    "subsystems",
+    "timers",
+    "set",
+    "link",
+    "destination",
+    "title",
+    "serve",
+];
+
+/// The same in a file of version 3.
+const TOP_OF_THREE: &[&str] = &[
+    "version",
+    "own",
+    "network",
+    "window",
+    "pool",
+    "users",
+    "subsystems",
+    "extended_unitdata",
+    "subsystem_tests",
+    "timers",
+    "set",
+    "link",
+    "destination",
+    "title",
+    "serve",
+];
+
+/// The keys of the table `timers`.
+pub(crate) const TIMERS: [&str; 13] = [
+    "l1", "l2", "l3", "l4", "l6", "l7", "t1", "t2", "t3", "t4", "t6", "t8", "t10",
+];
+
+/// The keys of the table `serve`.
+pub(crate) const SERVE: [&str; 9] = [
+    "tick_ms",
+    "console",
+    "capture",
+    "console_open",
+    "points",
+    "udp",
+    "sctp",
+    "page_open",
+    "page",
+];
+
+/// The keys of the table `serve.sctp`.
+pub(crate) const SCTP: [&str; 6] = [
+    "rto_initial_ms",
+    "rto_min_ms",
+    "rto_max_ms",
+    "init_tries",
+    "retransmissions",
+    "heartbeat_ms",
+];
+
+/// The keys of a link set.
+const SET: &[&str] = &["name", "adjacent"];
+
+/// The keys of a link.
+const LINK: &[&str] = &[
+    "name",
+    "set",
+    "slc",
+    "listen",
+    "connect",
+    "remote",
+    "sctp_port",
+    "remote_sctp_port",
+    "tries",
+];
+
+/// The keys of a link in a file of version 3.
+const LINK_OF_THREE: &[&str] = &[
+    "name",
+    "set",
+    "slc",
+    "share",
+    "listen",
+    "connect",
+    "remote",
+    "sctp_port",
+    "remote_sctp_port",
+    "tries",
+];
+
+/// The keys of a translation row.
+const TITLE: &[&str] = &[
+    "translation",
+    "plan",
+    "nature",
+    "digits",
+    "point",
+    "route",
+    "ssn",
+];
+
+/// The keys of a destination.
+const DESTINATION: &[&str] = &["point", "sets"];
+
+/// The keys of a destination in a file of version 2 or 3.
+const DESTINATION_OF_TWO: &[&str] = &["point", "sets", "joined"];
+
+/// An array of tables.
+#[derive(Clone, Copy)]
+pub(crate) struct TableArray {
+    /// The key of the array.
+    pub name: &'static str,
+    /// The keys of its entries.
+    pub keys: &'static [&'static str],
+}
+
+/// The version of a document, if it says one.
+fn version_of(document: &Table) -> Option<i64>
+    ensures { result ≡ version_of (table_view document.now) }
+{
+    match document.get("version") {
+        Some(version) => version.as_integer(),
+        None => None,
+    }
+}
+
+/// Whether the destinations of a document may be joined.
+fn may_be_joined(document: &Table) -> bool
+    ensures { result ≡ may_be_joined (version_of (table_view document.now)) }
+{
+    match version_of(document) {
+        Some(version) => has_joined(version),
+        None => false,
+    }
+}
+
+/// Whether a document may ask for services about subsystems, and give links shares of the pool.
+fn may_have_extensions(document: &Table) -> bool
+    ensures { result ≡ may_have_extensions (version_of (table_view document.now)) }
+{
+    match version_of(document) {
+        Some(version) => has_extensions(version),
+        None => false,
+    }
+}
+
+/// The keys of a document that are in no array, by its version.
+pub(crate) fn top_of(document: &Table) -> &'static [&'static str]
+    ensures { map (λ key. key.now) result.now
+        ≡ top_keys (may_have_extensions (version_of (table_view document.now))) }
+{
+    if may_have_extensions(document) {
+        TOP_OF_THREE
+    } else {
+        TOP
+    }
+}
+
+/// The keys of a link, in a document whose links may have a share or may not.
+fn link_keys(may_have_share: bool) -> &'static [&'static str]
+    ensures { map (λ key. key.now) result.now ≡ link_keys may_have_share }
+{
+    if may_have_share { LINK_OF_THREE } else { LINK }
+}
+
+/// The keys of a destination, in a document whose destinations may be joined or may not.
+fn destination_keys(may_be_joined: bool) -> &'static [&'static str]
+    ensures { map (λ key. key.now) result.now ≡ destination_keys may_be_joined }
+{
+    if may_be_joined {
+        DESTINATION_OF_TWO
+    } else {
+        DESTINATION
+    }
+}
+
+/// The arrays of tables of a document, by its version.
+pub(crate) fn arrays_of(document: &Table) -> [TableArray; 4]
+    ensures { map known_in result ≡ arrays_of (version_of (table_view document.now)) }
+{
+    let link = link_keys(may_have_extensions(document));
+    let destination = destination_keys(may_be_joined(document));
+    [
+        array("set", SET),
+        array("link", link),
+        array("destination", destination),
+        array("title", TITLE),
+    ]
+}
+
+/// An array of tables, whose entries have these keys.
+fn array(name: &'static str, keys: &'static [&'static str]) -> TableArray
+    ensures name { result.name.now ≡ name.now }
+    ensures keys { result.keys.now ≡ keys.now }
+{
+    TableArray { name, keys }
+}

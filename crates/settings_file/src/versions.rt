@@ -1,0 +1,42 @@
+//! The versions of the format of settings files.
+
+ghost use Rattle.std.specs.Prelude.{◌≡◌};
+ghost use Rattle.std.specs.Ordering.{int_eq};
+ghost use Rattle.settings_file.specs.Versions.{FIRST_VERSION, is_known_version, has_joined, has_extensions};
+
+/// The first version, which keeps the limits that it had.
+const FIRST_VERSION: i64 = 1;
+
+/// The version that brought combined link sets and larger limits.
+const SECOND_VERSION: i64 = 2;
+
+/// The version that brought extended unitdata, tests of subsystems and shares of the pool.
+const LAST_VERSION: i64 = 3;
+
+/// Whether this is the first version.
+pub(crate) fn is_first_version(version: i64) -> bool
+    ensures { result ≡ int_eq version FIRST_VERSION }
+{
+    version == FIRST_VERSION
+}
+
+/// Whether this is a version of the format.
+pub(crate) fn is_known_version(version: i64) -> bool
+    ensures { result ≡ is_known_version version }
+{
+    version == FIRST_VERSION || version == SECOND_VERSION || version == LAST_VERSION
+}
+
+/// Whether the destinations of a file of this version may be joined.
+pub(crate) fn has_joined(version: i64) -> bool
+    ensures { result ≡ has_joined version }
+{
+    version == SECOND_VERSION || version == LAST_VERSION
+}
+
+/// Whether a file of this version has the keys `extended_unitdata`, `subsystem_tests` and `share`.
+pub(crate) fn has_extensions(version: i64) -> bool
+    ensures { result ≡ has_extensions version }
+{
+    version == LAST_VERSION
+}
