@@ -18,6 +18,7 @@ use Rattle.pair_moves.specs.Order as order
 use Rattle.pair_moves.specs.Theorems as theorems
 use Rattle.pair_moves.proofs.Concluded.{each_message_once-always, each_flow_in_order-always, what_waits-always}
 use Rattle.pair_moves.proofs.Counts.{count-append, count-cons, sum-alike}
+use Rattle.pair_moves.proofs.First.{quiet-first}
 use Rattle.pair_moves.proofs.Joins.{join-alike, join-none}
 use Rattle.pair_rules.specs.Accepting.{IsUserMessageTo}
 use Rattle.pair_rules.specs.Promises.{BothWays, IsPunctual, is_of_flow, of_flow, user}
@@ -164,7 +165,7 @@ module _ (c z : Configuration) (a : AreFacing c z) (q : PairState) (s : Stands c
   of-shown Statement law =
       let shows : last_of (ends.first_pair codes) s.goes.through ≡ view = s.goes.ends in
       subst (theorems.BothWays (Statement read)) shows
-      (law read codes s.goes.through s.goes.moves (ap (λ (x : Pair). x.near.lost) shows ∙ kept.near) (ap (λ (x : Pair). x.far.lost) shows ∙ kept.far))
+      (law read (ends.first_pair codes) s.goes.through (quiet-first codes) s.goes.moves (ap (λ (x : Pair). x.near.lost) shows ∙ kept.near) (ap (λ (x : Pair). x.far.lost) shows ∙ kept.far))
 
   -- ---- what the far end lacks, by links and by codes
 

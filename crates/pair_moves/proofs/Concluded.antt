@@ -1,6 +1,6 @@
 -- The laws, after every list of moves.
 use Rattle.pair_moves.proofs.Basics.{◌≡◌, inl, inr, ℕ, false, drop, ap, arith}
-use Rattle.pair_moves.proofs.Definitions.{Message, Flow, Saying, Pair, turned, first_pair, last_of, IsInOrder}
+use Rattle.pair_moves.proofs.Definitions.{Message, Flow, Saying, Pair, turned, last_of, IsInOrder}
 use Rattle.pair_moves.specs.Theorems.{Always, lines_flow, first_ends_are_alone, ends_are_sound, messages_come_in_order, orders_are_awaited, opens_with_nothing_under_way, follows_with_nothing_under_way}
 use Rattle.pair_moves.specs.Theorems.{words_are_true, numbers_name_what_was_received, what_waits_is_lacked}
 use Rattle.pair_moves.specs.Theorems.{orders_move_what_is_lacked, answers_move_what_is_lacked}
@@ -18,9 +18,9 @@ laws-of read p near far (all_kept h) = h
 
 -- what follows from all laws holds always
 always : (Statement : (Message → Saying) → Pair → Type 0) → ((read : Message → Saying) (p : Pair) → AllLaws read p → Statement read p) → Always Statement
-always Statement follows read links pairs moves near far =
-    let p : Pair = last_of (first_pair links) pairs in
-    let h : AllLaws read p = laws-of read p near far (all-kept read links pairs moves) in
+always Statement follows read start pairs quiet moves near far =
+    let p : Pair = last_of start pairs in
+    let h : AllLaws read p = laws-of read p near far (all-kept read start pairs quiet moves) in
     record { there = follows read p h; back = follows read (turned p) (turned-laws read p h) }
 
 pub lines_flow-always : lines_flow

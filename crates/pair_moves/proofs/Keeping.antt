@@ -1,10 +1,10 @@
 -- Every list of moves keeps all laws.
-use Rattle.pair_moves.proofs.Basics.{◌≡◌, ◌⊎◌, inl, inr, ℕ, true, List, [], ◌∷◌, refl, ap, ◌∙◌}
-use Rattle.pair_moves.proofs.Definitions.{Message, Flow, Saying, Pair, turned, first_pair, NearMove, Move, Moves, last_of, IsInOrder}
+use Rattle.pair_moves.proofs.Basics.{◌≡◌, ◌⊎◌, inl, inr, true, List, [], ◌∷◌, refl, ap, ◌∙◌}
+use Rattle.pair_moves.proofs.Definitions.{Message, Flow, Saying, Pair, turned, NearMove, Move, Moves, last_of, IsInOrder, IsQuiet}
 use Rattle.pair_moves.specs.Moves as moves
 use Rattle.pair_moves.proofs.Lines.{line-turned}
 use Rattle.pair_moves.proofs.Sound.{Sound}
-use Rattle.pair_moves.proofs.First.{sound-first_pair, order-first_pair}
+use Rattle.pair_moves.proofs.First.{sound-quiet, order-quiet, quiet-turned}
 use Rattle.pair_moves.proofs.Passed.{sound-accepts, sound-takes_out, sound-keeps, sound-places, sound-hands_over, sound-sends_status, sound-sends_message, sound-sends_empty, sound-hears_status, sound-takes_status, sound-doubles_status, sound-drops, sound-takes_empty, sound-takes_message}
 use Rattle.pair_moves.proofs.Failed.{sound-falls, sound-falls_with_order, sound-completes_by_order, sound-answers_order, sound-completes_by_answer, sound-ends_wait, sound-ignores_answer}
 use Rattle.pair_moves.proofs.Returned.{sound-opens_first, sound-opens_second, sound-enters, sound-declares, sound-waits, sound-confirms, sound-ends_hold, sound-ignores_confirmation, sound-runs_late}
@@ -145,7 +145,11 @@ module _ (read : Message → Saying) where
   moves-kept p [] m h = h
   moves-kept p (q ∷ pairs) m h = moves-kept q pairs m.1 (move-kept p q m.0 h)
 
-  pub all-kept : (links : ℕ) (pairs : List Pair) → Moves read (first_pair links) pairs → IsKept (last_of (first_pair links) pairs)
-  all-kept links pairs m =
-      moves-kept (first_pair links) pairs m
-      (all_kept (record { sound = sound-first_pair read links; there = inr (order-first_pair read links); back = inr (order-first_pair read links) }))
+  pub all-kept : (start : Pair) (pairs : List Pair) → IsQuiet start → Moves read start pairs → IsKept (last_of start pairs)
+  all-kept start pairs quiet m =
+      moves-kept start pairs m
+      (all_kept (record {
+        sound = sound-quiet read start quiet;
+        there = inr (λ flow. order-quiet read flow start quiet);
+        back = inr (λ flow. order-quiet read flow (turned start) (quiet-turned start quiet));
+      }))
