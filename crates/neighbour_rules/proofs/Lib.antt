@@ -1,5 +1,6 @@
 pub mod Asked
 pub mod Staying
+pub mod Counted
 pub mod World
 pub mod Bound
 pub mod Lone

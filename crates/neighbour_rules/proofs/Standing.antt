@@ -40,7 +40,7 @@ pub record Stands (c z : Configuration) (a : AreFacing c z) (p : PairState) : Ty
   pub far_alone : (link : ℕ) → IsAway z c link → may_follow p.far link ≡ false
   pub near_good : Good c z (near_joint c z a) (world_of p to_near to_far)
   pub far_good : Good z c (far_joint c z a) (turned_world (world_of p to_near to_far))
-  pub goes : Goes (says_of c.own z.own) (ends.first_pair codes) (shown c z a.near_set a.far_set (world_of p to_near to_far))
+  pub goes : Goes (says_of c.own z.own) (ends.first_pair codes) (shown c z a.near_set a.far_set a.base (world_of p to_near to_far))
 
 -- good is what the node and what comes to it are
 pub regood : (c z : Configuration) (j : Joint c z) (x y other : Mid) (f g h : Flying) (m n s t : ℕ → Bool) → Good c z j (record { near = x; far = y; to_near = f; to_far = g; near_may = m; far_may = n })
@@ -56,6 +56,7 @@ regood c z j x y other f g h m n s t a = record {
   loose = a.loose;
   arrived = a.arrived;
   coming = a.coming;
+  counted = a.counted;
 }
 
 -- ---- something happens at the near end
