@@ -14,7 +14,7 @@ use Rattle.pair_rules.proofs.Standing.{AreStreams, Waits, end_with, rests, world
 use Rattle.pair_rules.proofs.Flights.{changed_at, changed-here, changed-other, texts-changed}
 use Rattle.neighbour_rules.specs.Neighbours.{Doing, Does, OpensElsewhere, HearsElsewhere, Step, AtNear, AtFar, after_steps, did, did_between, end_there, far_may_open, leads_elsewhere, opens_first, speaks_for_either, takes_elsewhere, takes_in, turn}
 use Rattle.neighbour_rules.proofs.Counted.{turned_base}
-use Rattle.neighbour_rules.proofs.World.{codes, says-alike, says_of, shown}
+use Rattle.neighbour_rules.proofs.World.{says-alike, says_of, shown}
 use Rattle.neighbour_rules.proofs.Good.{AreFlying, Good, IsFlying, Joint, Passes, at}
 use Rattle.neighbour_rules.proofs.Adjacents.{KnowsPoints, event-knows}
 use Rattle.neighbour_rules.proofs.Events.{event-passes, settled-passes}
@@ -54,8 +54,8 @@ module _ (c z : Configuration) (a : AreFacing c z) where
     far_good = s.near_good;
     goes =
         (let w : World = world_of p s.to_near s.to_far in
-        subst (λ (read : Message → Saying). Goes read (ends.first_pair codes) (shown z c a.far_set a.near_set (turned_base a.base) (turned_world w))) (says-alike c.own z.own)
-        (goes-turned (says_of c.own z.own) (ends.first_pair codes) (shown c z a.near_set a.far_set a.base w) s.goes));
+        subst (λ (read : Message → Saying). Goes read (ends.turned a.start) (shown z c a.far_set a.near_set (turned_base a.base) (turned_world w))) (says-alike c.own z.own)
+        (goes-turned (says_of c.own z.own) a.start (shown c z a.near_set a.far_set a.base w) s.goes));
   }
 
   -- ---- a link opens at the near end

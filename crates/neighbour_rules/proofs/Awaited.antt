@@ -11,21 +11,20 @@ use Rattle.pair_rules.proofs.World.{World}
 use Rattle.pair_rules.proofs.Standing.{world_of}
 use Rattle.neighbour_rules.specs.Awaiting.{AwaitsNothingInVain, is_awaited, nothing_is_awaited_in_vain, says_to, under_way}
 use Rattle.neighbour_rules.specs.Laws.{unreceived}
-use Rattle.neighbour_rules.proofs.Counted.{LostNoMore}
 use Rattle.neighbour_rules.proofs.World.{code_of, says-alike, says_of, shown}
 use Rattle.neighbour_rules.proofs.Good.{IsSent}
 use Rattle.neighbour_rules.proofs.Staying.{with_settings}
 use Rattle.neighbour_rules.proofs.Sharing.{AreFacing, facing_back, far_joint, from_first, near_joint}
 use Rattle.neighbour_rules.proofs.FarEnds.{IsLine, is-line, line-known, line_at}
 use Rattle.neighbour_rules.proofs.FarEnds as far_ends
-use Rattle.neighbour_rules.proofs.Standing.{Stands}
+use Rattle.neighbour_rules.proofs.Standing.{Since, Stands, since-back}
 use Rattle.neighbour_rules.proofs.AllSteps.{stands-turned}
 use Rattle.neighbour_rules.proofs.Promised.{always, of-shown}
 use Rattle.neighbour_rules.proofs.FourLaws.{between, counted}
 use Rattle.neighbour_rules.proofs.SaidWords as said
 use Rattle.neighbour_rules.proofs.SaidWords.{codes-alike, count-alike}
 
-module _ (c z : Configuration) (a : AreFacing c z) (q : PairState) (s : Stands c z a (with_settings c z q)) (kept : LostNoMore a.base (with_settings c z q)) where
+module _ (c z : Configuration) (a : AreFacing c z) (q : PairState) (s : Stands c z a (with_settings c z q)) (kept : Since c z a (with_settings c z q)) where
   -- as many are under way there as in the machine
   pub ways : (of : Kind) (named : ℕ) (test : Saying → Bool) → test Other ≡ false → ((m : Message) → IsSent c z a.near_set m → says_to of c.own z named m ≡ test (says_of c.own z.own m))
       → under_way of named (with_settings c z q) ≡ moves.under_way (saying (says_of c.own z.own) test) (shown c z a.near_set a.far_set a.base (world_of (with_settings c z q) s.to_near s.to_far))
@@ -33,7 +32,7 @@ module _ (c z : Configuration) (a : AreFacing c z) (q : PairState) (s : Stands c
       count-alike (IsSent c z a.near_set) (says_to of c.own z named) (saying (says_of c.own z.own) test) (unreceived (with_settings c z q)) same (between c z a q s kept)
       ∙ counted c z a q s kept test none
 
-module _ (c z : Configuration) (a : AreFacing c z) (q : PairState) (s : Stands c z a (with_settings c z q)) (kept : LostNoMore a.base (with_settings c z q)) where
+module _ (c z : Configuration) (a : AreFacing c z) (q : PairState) (s : Stands c z a (with_settings c z q)) (kept : Since c z a (with_settings c z q)) where
   abbrev p : PairState
   p = with_settings c z q
 
@@ -49,7 +48,7 @@ module _ (c z : Configuration) (a : AreFacing c z) (q : PairState) (s : Stands c
   back : (of : Kind) (named : ℕ) (test : Saying → Bool) → test Other ≡ false → ((m : Message) → IsSent z c a.far_set m → says_to of z.own c named m ≡ test (says_of z.own c.own m))
       → under_way of named (turned p) ≡ moves.under_way (saying read test) (ends.turned view)
   back of named test none same =
-      ways z c (facing_back c z a) (turned q) (stands-turned c z a p s) (record { near = kept.far; far = kept.near }) of named test none same
+      ways z c (facing_back c z a) (turned q) (stands-turned c z a p s) (since-back c z a p kept) of named test none same
       ∙ ap (λ (reads : Message → Saying). moves.under_way (saying reads test) (ends.turned view)) (sym (says-alike c.own z.own))
 
   module _ (link other : ℕ) (e : IsLine c z (near_joint c z a) link other) where

@@ -1,7 +1,7 @@
 -- How often a node has counted, beyond a base, that a message may be lost or out of order. The base is what the two
 -- nodes had counted when the promise between them began.
 use Rattle.pair_rules.proofs.Basics.{◌≡◌, ◌<◌, ◌≤◌, ◌-◌, ◌^◌, ℕ, zero, suc, true, false, nat_lt, refl, ap, sym, subst, ◌∙◌, arith, nat_tests}
-use Rattle.pair_rules.proofs.Definitions.{Parts, PairState, LostNothing}
+use Rattle.pair_rules.proofs.Definitions.{Parts}
 use Rattle.exchange_rules.specs.State.{is_raised, once_more}
 
 -- what a node counts
@@ -78,14 +78,3 @@ beyond-late b n grows h = exceeds b.late n.late grows.late h.late
 pub beyond-none : (times : ℕ) → nat_lt 0 times ≡ is_raised times
 beyond-none zero = refl
 beyond-none (suc times) = grind (arith, nat_tests)
-
--- neither node has counted a loss beyond the base
-pub record LostNoMore (b : Base) (p : PairState) : Type 0 where
-  pub near : nat_lt b.near.lost p.near.exchange.node.parts.times_lost ≡ false
-  pub far : nat_lt b.far.lost p.far.exchange.node.parts.times_lost ≡ false
-
-pub lost-no-more : (p : PairState) → LostNothing p → LostNoMore no_base p
-lost-no-more p kept = record {
-  near = beyond-none p.near.exchange.node.parts.times_lost ∙ kept.near;
-  far = beyond-none p.far.exchange.node.parts.times_lost ∙ kept.far;
-}

@@ -79,7 +79,7 @@ module _ (c z : Configuration) (its : ℕ) where
       by (Some destination) = contains-empty by_numbers (record { procedure = procedure_of c z its procedure; destination = destination; sls = flow.sls })
       by None = refl
 
-  code-none : (code : ℕ) → is_outstanding p.codes its code ≡ false
+  pub code-none : (code : ℕ) → is_outstanding p.codes its code ≡ false
   code-none code = by (length c.sets) its
     where
       by : (sets one : ℕ) → is_outstanding (no_codes sets) one code ≡ false

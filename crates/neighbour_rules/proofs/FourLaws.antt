@@ -23,20 +23,19 @@ use Rattle.pair_rules.proofs.CarriedTexts.{may-so, new-up, no-message, none-show
 use Rattle.pair_rules.proofs.SaidWords.{contained-behind, contained-join, contained-take, each-drop, each-join, none-contained}
 use Rattle.neighbour_rules.specs.Neighbours.{end_there}
 use Rattle.neighbour_rules.specs.Laws.{AreFinal, FramesCarry, IsCarried, IsFinal, IsInFlight, IsUnderWay, MovesLacked, NextIsFirst, NoneIsLeft, OpenedAlone, frames_carry, is_in_use, moves_are_lacked, none_is_left, unreceived, unreceived_at, unreceived_by, words_are_final}
-use Rattle.neighbour_rules.proofs.Counted.{LostNoMore, turned_base}
 use Rattle.neighbour_rules.proofs.World.{code_of, line_of, says_of, shown}
 use Rattle.neighbour_rules.proofs.Good.{IsSent, Joint}
 use Rattle.neighbour_rules.proofs.Staying.{with_settings}
 use Rattle.neighbour_rules.proofs.Sharing.{AreFacing, facing_back, far_joint, from_first, near_joint}
 use Rattle.neighbour_rules.proofs.FarEnds.{HasEnd, IsLine, has-end, is-line, its-far, line-known, line_at, near-own}
 use Rattle.neighbour_rules.proofs.FarEnds as far_ends
-use Rattle.neighbour_rules.proofs.Standing.{Stands}
+use Rattle.neighbour_rules.proofs.Standing.{Since, Stands, since-back}
 use Rattle.neighbour_rules.proofs.AllSteps.{stands-turned}
 use Rattle.neighbour_rules.proofs.Promised.{always, by-link, lacked-at, lacks, of-shown, summed-lines}
 use Rattle.neighbour_rules.proofs.CarriedTexts.{first-text, texts-carry}
 use Rattle.neighbour_rules.proofs.SaidWords.{IsCode, Says, count-past, is-code, word-says}
 
-module _ (c z : Configuration) (a : AreFacing c z) (q : PairState) (s : Stands c z a (with_settings c z q)) (kept : LostNoMore a.base (with_settings c z q)) where
+module _ (c z : Configuration) (a : AreFacing c z) (q : PairState) (s : Stands c z a (with_settings c z q)) (kept : Since c z a (with_settings c z q)) where
   abbrev p : PairState
   p = with_settings c z q
 
@@ -341,15 +340,15 @@ module _ (c z : Configuration) (a : AreFacing c z) (q : PairState) (s : Stands c
 
 -- ---- both directions
 
-module _ (c z : Configuration) (a : AreFacing c z) (q : PairState) (s : Stands c z a (with_settings c z q)) (kept : LostNoMore a.base (with_settings c z q)) where
+module _ (c z : Configuration) (a : AreFacing c z) (q : PairState) (s : Stands c z a (with_settings c z q)) (kept : Since c z a (with_settings c z q)) where
   abbrev there : PairState
   there = with_settings c z q
 
   back-stands : Stands z c (facing_back c z a) (with_settings z c (turned q))
   back-stands = stands-turned c z a there s
 
-  back-kept : LostNoMore (turned_base a.base) (with_settings z c (turned q))
-  back-kept = record { near = kept.far; far = kept.near }
+  back-kept : Since z c (facing_back c z a) (with_settings z c (turned q))
+  back-kept = since-back c z a (with_settings c z q) kept
 
   back-line : (link other : ℕ) → end_there c z (slice_get c.links link) ≡ Some other → IsLine z c (far_joint c z a) other link
   back-line link other e = far_ends.ends-turned c z a.near_set a.far_set link other (is-line c z (near_joint c z a) link other e)

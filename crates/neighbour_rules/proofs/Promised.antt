@@ -18,7 +18,6 @@ use Rattle.pair_moves.specs.Order as order
 use Rattle.pair_moves.specs.Theorems as theorems
 use Rattle.pair_moves.proofs.Concluded.{each_message_once-always, each_flow_in_order-always, what_waits-always}
 use Rattle.pair_moves.proofs.Counts.{count-append, count-cons, sum-alike}
-use Rattle.pair_moves.proofs.First.{quiet-first}
 use Rattle.pair_moves.proofs.Joins.{join-alike, join-none}
 use Rattle.pair_rules.specs.Accepting.{IsUserMessageTo}
 use Rattle.pair_rules.specs.Promises.{BothWays, IsPunctual, is_of_flow, of_flow, user}
@@ -30,7 +29,7 @@ use Rattle.pair_rules.proofs.Standing.{AreTexts, world_of}
 use Rattle.neighbour_rules.specs.Neighbours.{Step, after_steps, end_there, users_to}
 use Rattle.neighbour_rules.specs.Promises.{Always, AreBooked, EachOnce, InOrder, accepted_there, each_flow_in_order, each_message_once, waiting, waiting_by, waiting_on}
 use Rattle.neighbour_rules.specs.Laws.{unreceived_at}
-use Rattle.neighbour_rules.proofs.Counted.{LostNoMore, base-same, beyond-none, lost-no-more, no_base, no_counts}
+use Rattle.neighbour_rules.proofs.Counted.{base-same, beyond-none, no_counts}
 use Rattle.neighbour_rules.proofs.World.{code_of, codes, is_between, line_of, link_at_code, says_by, says_of, shown}
 use Rattle.neighbour_rules.proofs.Messages.{word-says}
 use Rattle.neighbour_rules.proofs.Good.{Joint}
@@ -43,7 +42,7 @@ use Rattle.neighbour_rules.proofs.FarEnds.{IsLine, far-own, is-line, line-known,
 use Rattle.neighbour_rules.proofs.First.{first-good, first-shown}
 use Rattle.neighbour_rules.proofs.Adjacents.{first-knows}
 use Rattle.neighbour_rules.proofs.Summed.{are-own, join-lines, sum-lines}
-use Rattle.neighbour_rules.proofs.Standing.{Stands}
+use Rattle.neighbour_rules.proofs.Standing.{Since, Stands, since-first}
 use Rattle.neighbour_rules.proofs.AllSteps.{stands-turned, steps-stand}
 
 -- ---- the messages of a list that are for a point
@@ -136,7 +135,7 @@ none-of-flow flow point (m ∷ ms) d = by (is_management m) (nat_eq (dpc_of m) p
 
 -- ---- after some steps
 
-module _ (c z : Configuration) (a : AreFacing c z) (q : PairState) (s : Stands c z a (with_settings c z q)) (kept : LostNoMore a.base (with_settings c z q)) where
+module _ (c z : Configuration) (a : AreFacing c z) (q : PairState) (s : Stands c z a (with_settings c z q)) (kept : Since c z a (with_settings c z q)) where
   abbrev p : PairState
   p = with_settings c z q
 
@@ -164,9 +163,9 @@ module _ (c z : Configuration) (a : AreFacing c z) (q : PairState) (s : Stands c
   -- a law of the moves, of the pair as it is shown
   pub of-shown : (Statement : (Message → Saying) → Pair → Type 0) → theorems.Always Statement → theorems.BothWays (Statement read) view
   of-shown Statement law =
-      let shows : last_of (ends.first_pair codes) s.goes.through ≡ view = s.goes.ends in
+      let shows : last_of a.start s.goes.through ≡ view = s.goes.ends in
       subst (theorems.BothWays (Statement read)) shows
-      (law read (ends.first_pair codes) s.goes.through (quiet-first codes) s.goes.moves (ap (λ (x : Pair). x.near.lost) shows ∙ kept.near) (ap (λ (x : Pair). x.far.lost) shows ∙ kept.far))
+      (law read a.start s.goes.through kept.quiet s.goes.moves (ap (λ (x : Pair). x.near.lost) shows ∙ kept.near) (ap (λ (x : Pair). x.far.lost) shows ∙ kept.far))
 
   -- ---- what the far end lacks, by links and by codes
 
@@ -340,7 +339,7 @@ module _ (c z : Configuration) (a : AreFacing c z) (q : PairState) (s : Stands c
 
 -- ---- always
 
-no-texts : (c : Configuration) → AreTexts c (replicate (length c.links) []) (λ link. [])
+pub no-texts : (c : Configuration) → AreTexts c (replicate (length c.links) []) (λ link. [])
 no-texts c = record { many = length-replicate (length c.links) []; each = λ link. each-replicate (λ (ts : List (List ℕ)). ts ≡ []) (length c.links) link [] refl }
 
 pub first-stands : (near far : Configuration) (a : AreFacing near far) → Stands near far (from_first near far a) (first_pair near far)
@@ -371,7 +370,7 @@ all-stand near far steps a = steps-stand near far (from_first near far a) steps 
 
 -- a statement about one direction, that follows from what is there and from the books
 pub always : (Statement : PairState → Type 0)
-    → ((c z : Configuration) (a : AreFacing c z) (q : PairState) → Stands c z (from_first c z a) (with_settings c z q) → LostNoMore no_base (with_settings c z q) → AreBooked (with_settings c z q) → AreBooked (turned (with_settings c z q)) → Statement (with_settings c z q))
+    → ((c z : Configuration) (a : AreFacing c z) (q : PairState) → Stands c z (from_first c z a) (with_settings c z q) → Since c z (from_first c z a) (with_settings c z q) → AreBooked (with_settings c z q) → AreBooked (turned (with_settings c z q)) → Statement (with_settings c z q))
     → Always (λ p. LostNothing p → BothWays Statement p)
 always Statement holds near far steps g kept =
     let p : PairState = after_steps steps (first_pair near far) in
@@ -387,7 +386,7 @@ always Statement holds near far steps g kept =
     one c z a q s kept near far =
         let e : q ≡ with_settings c z q = written c z q s.near_settings s.far_settings in
         subst Statement (sym e)
-        (holds c z a q (subst (Stands c z (from_first c z a)) e s) (lost-no-more (with_settings c z q) (subst LostNothing e kept)) (subst AreBooked e near) (subst (λ (x : PairState). AreBooked (turned x)) e far))
+        (holds c z a q (subst (Stands c z (from_first c z a)) e s) (since-first c z a (with_settings c z q) (subst LostNothing e kept)) (subst AreBooked e near) (subst (λ (x : PairState). AreBooked (turned x)) e far))
 
 pub each-once : each_message_once
 each-once = always EachOnce (λ c z a q s kept near far. once-there c z (from_first c z a) q s kept near far)

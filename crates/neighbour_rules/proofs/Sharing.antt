@@ -2,10 +2,12 @@
 use Rattle.pair_rules.proofs.Basics.{◌≡◌, ◌≢◌, ◌<◌, ℕ, [], false, Some, length, nat_eq, sym}
 use Rattle.std.proofs.lemmas.List.Quantifiers.{position-Some}
 use Rattle.settings.specs.Sharing.{LeadsAlone, has_link_of}
-use Rattle.pair_rules.proofs.Definitions.{Configuration, DestinationEntry, IsWell, destination_place}
+use Rattle.pair_rules.proofs.Definitions.{Configuration, DestinationEntry, IsWell, Pair, destination_place}
+use Rattle.pair_moves.specs.Ends as ends
 use Rattle.pair_rules.specs.Sharing.{AreSharing}
 use Rattle.neighbour_rules.proofs.Bringing.{destination-far}
 use Rattle.neighbour_rules.proofs.Counted.{Base, CanGrow, no_base, none-grow, turned_base}
+use Rattle.neighbour_rules.proofs.World.{codes}
 use Rattle.neighbour_rules.proofs.Good.{Joint}
 use Rattle.neighbour_rules.proofs.Staying.{IsKnown, known}
 
@@ -29,10 +31,11 @@ pub record AreFacing (near far : Configuration) : Type 0 where
   pub back_destination : ℕ
   pub back_place : destination_place far near.own ≡ Some back_destination
   pub back_there : back_destination < length far.destinations
-  -- what the two had counted when the promise began
+  -- what the two had counted when the promise began, and the pair with which the moves between them did
   pub base : Base
   pub near_grows : CanGrow base.near
   pub far_grows : CanGrow base.far
+  pub start : Pair
 
 abbrev pub near_joint : (near far : Configuration) → AreFacing near far → Joint near far
 near_joint near far a = record {
@@ -71,6 +74,7 @@ facing_back near far a = record {
   base = turned_base a.base;
   near_grows = a.far_grows;
   far_grows = a.near_grows;
+  start = ends.turned a.start;
 }
 
 abbrev pub far_joint : (near far : Configuration) → AreFacing near far → Joint far near
@@ -82,7 +86,7 @@ counting_from near far b near_grows far_grows a = record a { base = b; near_grow
 
 -- and where nothing was counted
 abbrev pub from_first : (near far : Configuration) → AreFacing near far → AreFacing near far
-from_first near far a = counting_from near far no_base none-grow none-grow a
+from_first near far a = record (counting_from near far no_base none-grow none-grow a) { start = ends.first_pair codes }
 
 -- ---- of two settings
 
@@ -122,4 +126,5 @@ are-facing near far g =
       base = no_base;
       near_grows = none-grow;
       far_grows = none-grow;
+      start = ends.first_pair codes;
     }
