@@ -1,25 +1,22 @@
 -- From every quiet pair on both promises hold anew.
-use Rattle.pair_rules.proofs.Basics.{◌≡◌, ◌<◌, ◌≤◌, ◌&&◌, ℕ, Bool, true, false, List, length, Option, Some, None, nat_lt, refl, ap, sym, subst, ◌∙◌, arith, nat_tests}
+use Rattle.pair_rules.proofs.Basics.{◌≡◌, ◌<◌, ◌≤◌, ◌&&◌, ℕ, Bool, true, false, List, length, nat_lt, refl, ap, sym, subst, ◌∙◌, arith, nat_tests}
 use Rattle.std.proofs.lemmas.List.Elements.{All-nil}
-use Rattle.pair_rules.proofs.Definitions.{Configuration, set_place, Link, down_link, is_down, Standing, no_changeover, may_restart, changeover_of, Pair, PairState, first_pair, may_open_at, turned, each-replicate}
+use Rattle.pair_rules.proofs.Definitions.{Configuration, is_outstanding, Link, down_link, is_down, Standing, no_changeover, may_restart, changeover_of, Pair, PairState, first_pair, may_open_at, turned, each-replicate}
 use Rattle.exchange_rules.specs.First.{first_parts}
 use Rattle.pair_moves.specs.Quiet.{IsQuiet}
-use Rattle.pair_moves.proofs.First.{quiet-turned}
 use Rattle.pair_rules.specs.Accepting.{IsUserMessageTo}
 use Rattle.pair_rules.proofs.Going.{goes-none}
 use Rattle.pair_rules.proofs.Standing.{world_of}
 use Rattle.neighbour_rules.specs.Neighbours.{Step, after_steps}
 use Rattle.neighbour_rules.specs.Promises.{EachOnce, InOrder}
 use Rattle.neighbour_rules.specs.Anew.{BothKeep, Change, HoldAnew, IsQuietEnd, IsQuietPair, KeepsPromises, LostNothingSince, Stays, after_all, begun_anew, most, pairs_begin_quietly, promises_begin_anew, times_late, times_lost}
-use Rattle.neighbour_rules.specs.Awaiting.{is_awaited}
 use Rattle.neighbour_rules.proofs.Counted.{Base, CanGrow, IsBase, counts_of}
 use Rattle.neighbour_rules.proofs.World.{says_of, shown}
 use Rattle.neighbour_rules.proofs.Good.{Good}
 use Rattle.neighbour_rules.proofs.Asked.{AreEnds, begin-ends, ends-turned, steps-ends}
 use Rattle.neighbour_rules.proofs.Staying.{are-booked, with_settings, written}
 use Rattle.neighbour_rules.proofs.Sharing.{AreFacing, are-facing, facing_back, far_joint, near_joint}
-use Rattle.neighbour_rules.proofs.First.{code-none}
-use Rattle.neighbour_rules.proofs.Standing.{Since, Stands}
+use Rattle.neighbour_rules.proofs.Standing.{Since, Stands, since-back}
 use Rattle.neighbour_rules.proofs.AllSteps.{stands-turned, steps-stand}
 use Rattle.neighbour_rules.proofs.Promised.{once-there, order-there}
 use Rattle.neighbour_rules.proofs.Restarted.{Works, all-changes-end, all-work, begun}
@@ -75,6 +72,8 @@ module _ (c z : Configuration) (a : AreFacing c z) (q : PairState) (w : Works c 
     far_grows : CanGrow base.far
     near : IsBase base.near (counts_of p.near.exchange.node.parts)
     far : IsBase base.far (counts_of p.far.exchange.node.parts)
+    near_given : (code : ℕ) → is_outstanding p.near.exchange.node.parts.codes a.near_set code ≡ base.near_given_up code
+    far_given : (code : ℕ) → is_outstanding p.far.exchange.node.parts.codes a.far_set code ≡ base.far_given_up code
 
   module _ (b : Bases) where
     abbrev view : Pair
@@ -83,9 +82,9 @@ module _ (c z : Configuration) (a : AreFacing c z) (q : PairState) (w : Works c 
     abbrev anew : AreFacing c z
     anew = record a { base = b.base; near_grows = b.near_grows; far_grows = b.far_grows; start = view }
 
-    quietly : IsQuiet view
+    quietly : IsQuiet (says_of c.own z.own) view
     quietly =
-        quiet-shown c z a q s.near_good.fits s.far_good.fits t.near_is.exchange t.far_is.exchange s.near_flags s.far_flags quiet b.base s.to_near s.to_far
+        quiet-shown c z a q s.near_good.fits s.far_good.fits t.near_is.exchange t.far_is.exchange s.near_flags s.far_flags quiet b.base b.near_given b.far_given s.to_near s.to_far
 
     begins : Stands c z anew (begun_anew p)
     begins = record {
@@ -148,11 +147,18 @@ module _ (c z : Configuration) (a : AreFacing c z) (q : PairState) (w : Works c 
     -- losses are counted on, and what is late from these counts
     abbrev counted : (near_late far_late : ℕ) → near_late < most → far_late < most → (near_late ≤ times_late p) → (far_late ≤ times_late (turned p)) → Bases
     counted near_late far_late near_grows far_grows near far = record {
-      base = record { near = record { lost = times_lost p; late = near_late }; far = record { lost = times_lost (turned p); late = far_late } };
+      base = record {
+        near = record { lost = times_lost p; late = near_late };
+        far = record { lost = times_lost (turned p); late = far_late };
+        near_given_up = λ code. is_outstanding p.near.exchange.node.parts.codes a.near_set code;
+        far_given_up = λ code. is_outstanding p.far.exchange.node.parts.codes a.far_set code;
+      };
       near_grows = record { lost = since.near.countable; late = near_grows };
       far_grows = record { lost = since.far.countable; late = far_grows };
       near = record { lost = omega arith; late = near };
       far = record { lost = omega arith; late = far };
+      near_given = λ code. refl;
+      far_given = λ code. refl;
     }
 
     module _ (near_late far_late : ℕ) (near_grows : near_late < most) (far_grows : far_late < most) (near : near_late ≤ times_late p) (far : far_late ≤ times_late (turned p)) where
@@ -169,7 +175,7 @@ module _ (c z : Configuration) (a : AreFacing c z) (q : PairState) (w : Works c 
       back-stands = stands-turned c z (anew b) later later-stands
 
       back-since : Since z c (facing_back c z (anew b)) (turned later)
-      back-since = record { quiet = quiet-turned (view b) (quietly b); near = later-since.far; far = later-since.near }
+      back-since = since-back c z (anew b) later later-since
 
       once-on : EachOnce later
       once-on = keeps-once c z (anew b) later later-stands later-since later-ends
@@ -216,15 +222,10 @@ first-may c z link =
     ∙ ap (λ (x : Standing). true && may_restart x)
     (each-replicate (λ (x : Standing). x ≡ no_changeover) (length c.links) link no_changeover refl)
 
-first-code : (c z : Configuration) (set : Option ℕ) (code : ℕ) → is_awaited (first_pair c z) set code ≡ false
-first-code c z (Some set) code = code-none c z set code
-first-code c z None code = code-none c z 0 code
-
 first-quiet : (c z : Configuration) → IsQuietEnd (first_pair c z)
 first-quiet c z = record {
   links = λ link other e. (first-may c z link, each-replicate (λ (b : Bool). b ≡ false) (length c.links) link false refl);
   held = refl;
-  codes = first-code c z (set_place c z.own);
 }
 
 pub begin-quietly : pairs_begin_quietly

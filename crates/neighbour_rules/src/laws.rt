@@ -28,10 +28,10 @@ pub fn each_flow_keeps_its_order()
 {}
 
 /// Both promises begin anew whenever nothing is left between the two, whatever was lost before, and however often either
-/// node has started again: while each link between them may open at both ends, neither may follow, nothing is in Held,
-/// and no changeback code awaits its answer. Of what is accepted from then on "Exactly once" holds until either node
-/// counts one loss more, and "Order" until the accepting one ends a hold by a timer. Two newly booted exchanges are such a
-/// pair.
+/// node has started again: while each link between them may open at both ends, neither of which may follow the other,
+/// and no message between the two is in Held. Of what is accepted from then on "Exactly once" holds until either node
+/// counts one loss more, and "Order" until the accepting one ends a hold by a timer besides. Two newly booted exchanges
+/// are such a pair.
 pub fn promises_begin_anew()
     ensures anew { promises_begin_anew }
     ensures first { pairs_begin_quietly }
