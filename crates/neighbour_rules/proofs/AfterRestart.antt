@@ -1,6 +1,6 @@
 -- The run in which a message comes after a restart, by computation, except whether it waits, which is looked at once.
-use Rattle.pair_rules.proofs.Basics.{◌≡◌, ◌<◌, ℕ, zero, suc, Bool, true, false, [], ◌∷◌, ◌++◌, Option, None, Some, refl, ap, sym, subst, ◌∙◌, arith}
-use Rattle.pair_rules.proofs.Definitions.{flow_of, set_place, set_timer, start_unless_running, clear_timer, clear_set, due_name, after_due, due_count, first_sets, choice_among, link_by, any_flow, flows, HoldSet, no_holds, none_at_first, Done, Node, WholeQueues, whole, no_room, waits, link_of, apply, settled, take_back_each, PairState, taken_in, may_follow, may_open_at, turned}
+use Rattle.pair_rules.proofs.Basics.{◌≡◌, ◌<◌, ℕ, zero, suc, Bool, true, false, [], ◌∷◌, ◌++◌, None, Some, refl, ap, sym, subst, ◌∙◌, arith}
+use Rattle.pair_rules.proofs.Definitions.{flow_of, set_timer, start_unless_running, clear_timer, clear_set, due_name, after_due, due_count, first_sets, choice_among, link_by, any_flow, flows, no_holds, none_at_first, Done, Node, WholeQueues, whole, no_room, waits, link_of, apply, settled, take_back_each, PairState, taken_in, may_follow, may_open_at, turned}
 use Rattle.timers.specs.Timers.{names_of}
 use Rattle.routes.specs.Routes.{links_below}
 use Rattle.route_management.specs.Told.{owes_nothing}
@@ -16,8 +16,7 @@ use Rattle.neighbour_rules.specs.Neighbours.{Does, AtNear, AtFar, after_steps, f
 use Rattle.neighbour_rules.specs.Promises.{waiting}
 use Rattle.neighbour_rules.specs.Anew.{IsQuietEnd, Stays, most, times_late, times_lost}
 use Rattle.neighbour_rules.specs.AfterRestart.{ComesAfterRestart, broken, returned, submitted}
-use Rattle.neighbour_rules.specs.AfterRestart as run
-use Rattle.pair_rules.specs.Pairs.{Submits, Takes, Delivers}
+use Rattle.pair_rules.specs.Pairs.{Takes, Delivers}
 use Rattle.neighbour_rules.proofs.Special.{sharing}
 
 -- ---- the message is queued

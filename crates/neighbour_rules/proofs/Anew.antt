@@ -9,7 +9,7 @@ use Rattle.pair_rules.proofs.Going.{goes-none}
 use Rattle.pair_rules.proofs.Standing.{world_of}
 use Rattle.neighbour_rules.specs.Neighbours.{Step, after_steps}
 use Rattle.neighbour_rules.specs.Promises.{EachOnce, InOrder}
-use Rattle.neighbour_rules.specs.Anew.{BothKeep, Change, HoldAnew, IsQuietEnd, IsQuietPair, KeepsPromises, LostNothingSince, Stays, after_all, begun_anew, most, pairs_begin_quietly, promises_begin_anew, times_late, times_lost}
+use Rattle.neighbour_rules.specs.Anew.{BothKeep, HoldAnew, IsQuietEnd, IsQuietPair, LostNothingSince, Stays, after_all, begun_anew, most, pairs_begin_quietly, promises_begin_anew, times_late, times_lost}
 use Rattle.neighbour_rules.proofs.Counted.{Base, CanGrow, IsBase, counts_of}
 use Rattle.neighbour_rules.proofs.World.{says_of, shown}
 use Rattle.neighbour_rules.proofs.Good.{Good}

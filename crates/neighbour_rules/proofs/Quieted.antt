@@ -1,11 +1,10 @@
 -- What the machine of moves shows of a quiet pair is quiet.
-use Rattle.pair_rules.proofs.Basics.{◌≡◌, ◌<◌, ◌≤◌, ◌&&◌, ◌||◌, ℕ, Bool, true, false, not, List, [], ◌∷◌, length, nat_eq, if◌then◌else◌, refl, ap, sym, subst, ◌∙◌, arith, ⊎_elim, cases_lt, get_or_past, and_parts, slice_get}
-use Rattle.pair_rules.proofs.Definitions.{WINDOW, Message, dpc_of, is_management, Saying, is_outstanding, Configuration, Queue, IsQueue, Standing, no_changeover, may_restart, Link, down_link, is_down, Node, Fits, WholeQueues, queue_at, down, link_at, changeover_of, LinkEnd, MayOpen, PairState, may_follow, may_open_at, turned}
+use Rattle.pair_rules.proofs.Basics.{◌≡◌, ◌<◌, ◌≤◌, ◌&&◌, ◌||◌, ℕ, Bool, true, false, not, List, [], ◌∷◌, length, nat_eq, if◌then◌else◌, refl, ap, sym, subst, ◌∙◌, arith, ⊎_elim, cases_lt, get_or_past, and_parts}
+use Rattle.pair_rules.proofs.Definitions.{WINDOW, Message, dpc_of, is_management, Saying, is_outstanding, Configuration, Queue, IsQueue, Standing, no_changeover, may_restart, Link, down_link, is_down, Node, Fits, WholeQueues, queue_at, down, link_at, changeover_of, MayOpen, PairState, may_follow, may_open_at, turned}
 use Rattle.std.specs.List.{list_any}
 use Rattle.pair_moves.specs.Passing.{without_others}
 use Rattle.pair_moves.specs.Sayings.{Other, is_other}
 use Rattle.pair_moves.specs.Quiet.{IsClosed, IsIdle, IsQuiet}
-use Rattle.pair_moves.specs.Flowing.{IsEnd}
 use Rattle.pair_rules.proofs.Deliveries.{serving-up}
 use Rattle.pair_rules.proofs.Opening.{may_open-at}
 use Rattle.pair_rules.proofs.World.{Flying, end_of}
