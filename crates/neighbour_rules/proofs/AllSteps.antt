@@ -13,7 +13,8 @@ use Rattle.pair_rules.proofs.Opening.{MayComeUp, came-up, may_open-at, opened_ne
 use Rattle.pair_rules.proofs.Standing.{AreStreams, Waits, end_with, rests, world_of}
 use Rattle.pair_rules.proofs.Flights.{changed_at, changed-here, changed-other, texts-changed}
 use Rattle.neighbour_rules.specs.Neighbours.{Doing, Does, OpensElsewhere, HearsElsewhere, Step, AtNear, AtFar, after_steps, did, did_between, end_there, far_may_open, leads_elsewhere, opens_first, speaks_for_either, takes_elsewhere, takes_in, turn}
-use Rattle.neighbour_rules.proofs.World.{codes, says-alike, says_of, shown}
+use Rattle.neighbour_rules.proofs.Counted.{turned_base}
+use Rattle.neighbour_rules.proofs.World.{says-alike, says_of, shown}
 use Rattle.neighbour_rules.proofs.Good.{AreFlying, Good, IsFlying, Joint, Passes, at}
 use Rattle.neighbour_rules.proofs.Adjacents.{KnowsPoints, event-knows}
 use Rattle.neighbour_rules.proofs.Events.{event-passes, settled-passes}
@@ -53,8 +54,8 @@ module _ (c z : Configuration) (a : AreFacing c z) where
     far_good = s.near_good;
     goes =
         (let w : World = world_of p s.to_near s.to_far in
-        subst (λ (read : Message → Saying). Goes read (ends.first_pair codes) (shown z c a.far_set a.near_set (turned_world w))) (says-alike c.own z.own)
-        (goes-turned (says_of c.own z.own) (ends.first_pair codes) (shown c z a.near_set a.far_set w) s.goes));
+        subst (λ (read : Message → Saying). Goes read (ends.turned a.start) (shown z c a.far_set a.near_set (turned_base a.base) (turned_world w))) (says-alike c.own z.own)
+        (goes-turned (says_of c.own z.own) a.start (shown c z a.near_set a.far_set a.base w) s.goes));
   }
 
   -- ---- a link opens at the near end
@@ -129,7 +130,7 @@ module _ (c z : Configuration) (a : AreFacing c z) where
           let v : ℕ → Bool = λ i. slice_index_or (slice_set nv link false) i false in
           let u : ℕ → Bool = λ i. slice_index_or (slice_set fv other true) i false in
           let one : World = opened_near c w link v u g f in
-          let first : Goes (says_of c.own z.own) (shown c z a.near_set a.far_set w) (shown c z a.near_set a.far_set one) =
+          let first : Goes (says_of c.own z.own) (shown c z a.near_set a.far_set a.base w) (shown c z a.near_set a.far_set a.base one) =
           first-goes c z j w link near v u g f other line (record {
             near_here = changed-here link [] s.to_near.user_data;
             far_here = changed-here other [] s.to_far.user_data;
@@ -159,6 +160,7 @@ module _ (c z : Configuration) (a : AreFacing c z) where
             loose = s.far_good.loose;
             arrived = s.far_good.arrived;
             coming = still c z a.near_set other s.to_far s.far_good.coming;
+            counted = s.far_good.counted;
           } in
           record {
             near_settings = refl;
@@ -192,7 +194,7 @@ module _ (c z : Configuration) (a : AreFacing c z) where
           let v : ℕ → Bool = λ i. slice_index_or (slice_set nv link false) i false in
           let u : ℕ → Bool = λ i. may_follow p.far i in
           let one : World = opened_near c w link v u s.to_near s.to_far in
-          let second : Goes (says_of c.own z.own) (shown c z a.near_set a.far_set w) (shown c z a.near_set a.far_set one) =
+          let second : Goes (says_of c.own z.own) (shown c z a.near_set a.far_set a.base w) (shown c z a.near_set a.far_set a.base one) =
           second-goes c z j w link near v u s.to_near s.to_far other line (record {
             followed = follows;
             near_here = refl;

@@ -63,7 +63,7 @@ pub record IsEnd (own other : Configuration) (e : End) : Type 0 where
 
 module _ (own other : Configuration) (e : End) (i : IsEnd own other e) where
   -- beside its exchange and its books
-  aside : (s : Streams) (v : List Bool) → IsEnd own other (record e { incoming = s; following = v })
+  pub aside : (s : Streams) (v : List Bool) → IsEnd own other (record e { incoming = s; following = v })
   aside s v = record { exchange = i.exchange; accepted = i.accepted; received = i.received }
 
   -- its exchange is asked something
@@ -176,12 +176,13 @@ module _ (near far : Configuration) (p : PairState) (t : AreEnds near far p) whe
   did-ends (OpensElsewhere link) = elsewhere-ends (leads_elsewhere p link) false (happening.CameUp link)
   did-ends (HearsElsewhere link text) = elsewhere-ends (leads_elsewhere p link) (speaks_for_either p text) (happening.FrameCame link text)
 
-steps-ends : (near far : Configuration) (steps : List Step) (p : PairState) → AreEnds near far p → AreEnds near far (after_steps steps p)
+pub step-ends : (near far : Configuration) (step : Step) (p : PairState) → AreEnds near far p → AreEnds near far (turn step p).left
+step-ends near far (AtNear what) p t = did-ends near far p t what
+step-ends near far (AtFar what) p t = ends-turned far near (did what (turned p)).left (did-ends far near (turned p) (ends-turned near far p t) what)
+
+pub steps-ends : (near far : Configuration) (steps : List Step) (p : PairState) → AreEnds near far p → AreEnds near far (after_steps steps p)
 steps-ends near far [] p t = t
-steps-ends near far (AtNear what ∷ steps) p t = steps-ends near far steps (turn (AtNear what) p).left (did-ends near far p t what)
-steps-ends near far (AtFar what ∷ steps) p t =
-    steps-ends near far steps (turn (AtFar what) p).left
-    (ends-turned far near (did what (turned p)).left (did-ends far near (turned p) (ends-turned near far p t) what))
+steps-ends near far (step ∷ steps) p t = steps-ends near far steps (turn step p).left (step-ends near far step p t)
 
 first-end : (own other : Configuration) → IsEnd own other (pairs.first_end own)
 first-end own other = record {
@@ -190,5 +191,8 @@ first-end own other = record {
   received = All-nil (IsUserMessageTo own.own);
 }
 
+pub begin-ends : (near far : Configuration) → AreEnds near far (first_pair near far)
+begin-ends near far = record { near_is = first-end near far; far_is = first-end far near }
+
 pub all-ends : (near far : Configuration) (steps : List Step) → AreEnds near far (after_steps steps (first_pair near far))
-all-ends near far steps = steps-ends near far steps (first_pair near far) (record { near_is = first-end near far; far_is = first-end far near })
+all-ends near far steps = steps-ends near far steps (first_pair near far) (begin-ends near far)

@@ -1,6 +1,6 @@
 -- Nothing is awaited in vain, since this holds of the moves.
 use Rattle.pair_rules.proofs.Basics.{◌≡◌, ◌+◌, ℕ, Bool, false, Option, refl, ap, sym, ◌∙◌, arith}
-use Rattle.pair_rules.proofs.Definitions.{Message, Configuration, Saying, is_order, is_answer, Pair, PairState, turned, LostNothing}
+use Rattle.pair_rules.proofs.Definitions.{Message, Configuration, Saying, is_order, is_answer, Pair, PairState, turned}
 use Rattle.pair_moves.specs.Ends as ends
 use Rattle.pair_moves.specs.Sayings.{Other, is_declaration, is_confirmation}
 use Rattle.pair_moves.specs.Laws as moves
@@ -14,25 +14,25 @@ use Rattle.neighbour_rules.specs.Laws.{unreceived}
 use Rattle.neighbour_rules.proofs.World.{code_of, says-alike, says_of, shown}
 use Rattle.neighbour_rules.proofs.Good.{IsSent}
 use Rattle.neighbour_rules.proofs.Staying.{with_settings}
-use Rattle.neighbour_rules.proofs.Sharing.{AreFacing, facing_back, far_joint, near_joint}
+use Rattle.neighbour_rules.proofs.Sharing.{AreFacing, facing_back, far_joint, from_first, near_joint}
 use Rattle.neighbour_rules.proofs.FarEnds.{IsLine, is-line, line-known, line_at}
 use Rattle.neighbour_rules.proofs.FarEnds as far_ends
-use Rattle.neighbour_rules.proofs.Standing.{Stands}
+use Rattle.neighbour_rules.proofs.Standing.{Since, Stands, since-back}
 use Rattle.neighbour_rules.proofs.AllSteps.{stands-turned}
 use Rattle.neighbour_rules.proofs.Promised.{always, of-shown}
 use Rattle.neighbour_rules.proofs.FourLaws.{between, counted}
 use Rattle.neighbour_rules.proofs.SaidWords as said
 use Rattle.neighbour_rules.proofs.SaidWords.{codes-alike, count-alike}
 
-module _ (c z : Configuration) (a : AreFacing c z) (q : PairState) (s : Stands c z a (with_settings c z q)) (kept : LostNothing (with_settings c z q)) where
+module _ (c z : Configuration) (a : AreFacing c z) (q : PairState) (s : Stands c z a (with_settings c z q)) (kept : Since c z a (with_settings c z q)) where
   -- as many are under way there as in the machine
   pub ways : (of : Kind) (named : ℕ) (test : Saying → Bool) → test Other ≡ false → ((m : Message) → IsSent c z a.near_set m → says_to of c.own z named m ≡ test (says_of c.own z.own m))
-      → under_way of named (with_settings c z q) ≡ moves.under_way (saying (says_of c.own z.own) test) (shown c z a.near_set a.far_set (world_of (with_settings c z q) s.to_near s.to_far))
+      → under_way of named (with_settings c z q) ≡ moves.under_way (saying (says_of c.own z.own) test) (shown c z a.near_set a.far_set a.base (world_of (with_settings c z q) s.to_near s.to_far))
   ways of named test none same =
       count-alike (IsSent c z a.near_set) (says_to of c.own z named) (saying (says_of c.own z.own) test) (unreceived (with_settings c z q)) same (between c z a q s kept)
       ∙ counted c z a q s kept test none
 
-module _ (c z : Configuration) (a : AreFacing c z) (q : PairState) (s : Stands c z a (with_settings c z q)) (kept : LostNothing (with_settings c z q)) where
+module _ (c z : Configuration) (a : AreFacing c z) (q : PairState) (s : Stands c z a (with_settings c z q)) (kept : Since c z a (with_settings c z q)) where
   abbrev p : PairState
   p = with_settings c z q
 
@@ -40,7 +40,7 @@ module _ (c z : Configuration) (a : AreFacing c z) (q : PairState) (s : Stands c
   w = world_of p s.to_near s.to_far
 
   abbrev view : Pair
-  view = shown c z a.near_set a.far_set w
+  view = shown c z a.near_set a.far_set a.base w
 
   abbrev read : Message → Saying
   read = says_of c.own z.own
@@ -48,7 +48,7 @@ module _ (c z : Configuration) (a : AreFacing c z) (q : PairState) (s : Stands c
   back : (of : Kind) (named : ℕ) (test : Saying → Bool) → test Other ≡ false → ((m : Message) → IsSent z c a.far_set m → says_to of z.own c named m ≡ test (says_of z.own c.own m))
       → under_way of named (turned p) ≡ moves.under_way (saying read test) (ends.turned view)
   back of named test none same =
-      ways z c (facing_back c z a) (turned q) (stands-turned c z a p s) (record { near = kept.far; far = kept.near }) of named test none same
+      ways z c (facing_back c z a) (turned q) (stands-turned c z a p s) (since-back c z a p kept) of named test none same
       ∙ ap (λ (reads : Message → Saying). moves.under_way (saying reads test) (ends.turned view)) (sym (says-alike c.own z.own))
 
   module _ (link other : ℕ) (e : IsLine c z (near_joint c z a) link other) where
@@ -63,8 +63,9 @@ module _ (c z : Configuration) (a : AreFacing c z) (q : PairState) (s : Stands c
         (of-shown c z a q s kept OrdersAreAwaited orders_are_awaited-always).there (code_of c link)
         ∙ ap (λ (l : ends.Line). one_if l.near.awaited) (line-known c z (near_joint c z a) w link other e)
 
-  pub awaits-there : AwaitsNothingInVain p
-  awaits-there = record {
+  -- no code was given up
+  pub awaits-there : ((code : ℕ) → a.base.near_given_up code ≡ false) → AwaitsNothingInVain p
+  awaits-there none = record {
     answers = λ link other f.
         let e : IsLine c z (near_joint c z a) link other = is-line c z (near_joint c z a) link other f in
         omega (
@@ -80,8 +81,9 @@ module _ (c z : Configuration) (a : AreFacing c z) (q : PairState) (s : Stands c
           back confirmed code (is_confirmation code) refl (λ m is. (codes-alike z c (far_joint c z a) m is).confirmations code),
           (of-shown c z a q s kept CodesAreOutstanding codes_are_outstanding-always).there code,
           ap (λ (o : Option ℕ). one_if (is_awaited p o code)) a.near_leads.adjacent,
+          ap one_if (none code),
         );
   }
 
 pub nothing-in-vain : nothing_is_awaited_in_vain
-nothing-in-vain = always AwaitsNothingInVain (λ c z a q s kept near far. awaits-there c z a q s kept)
+nothing-in-vain = always AwaitsNothingInVain (λ c z a q s kept near far. awaits-there c z (from_first c z a) q s kept (λ code. refl))

@@ -106,6 +106,7 @@ module _ (c z : Configuration) (j : Joint c z) where
       loose = (accepted is, tt);
       arrived = g.arrived;
       coming = g.coming;
+      counted = g.counted;
     };
   }
 

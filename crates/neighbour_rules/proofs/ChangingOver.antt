@@ -123,6 +123,7 @@ module _ (c z : Configuration) (j : Joint c z) where
       loose = (sent, tt);
       arrived = g.arrived.1;
       coming = g.coming;
+      counted = g.counted;
     };
   }
 
@@ -258,8 +259,8 @@ module _ (c z : Configuration) (j : Joint c z) where
         wait_ends : Passes c z j (at c z j w n (m ∷ rest) []) (at c z j w (acknowledged_node n link) rest [])
         wait_ends = record {
           goes = λ g.
-              let done : Pair = shown c z (set c z j) j.shares.far_set (at c z j w (acknowledged_node n link) rest []) in
-              goes-one read (shown c z (set c z j) j.shares.far_set (at c z j w n (m ∷ rest) [])) done
+              let done : Pair = shown c z (set c z j) j.shares.far_set j.base (at c z j w (acknowledged_node n link) rest []) in
+              goes-one read (shown c z (set c z j) j.shares.far_set j.base (at c z j w n (m ∷ rest) [])) done
               (moves.ends_wait (record {
                 link = code_of c link;
                 number = number;
@@ -287,6 +288,7 @@ module _ (c z : Configuration) (j : Joint c z) where
             loose = tt;
             arrived = g.arrived.1;
             coming = g.coming;
+            counted = g.counted;
           };
         }
 
@@ -312,6 +314,7 @@ module _ (c z : Configuration) (j : Joint c z) where
         loose = tt;
         arrived = g.arrived.1;
         coming = g.coming;
+        counted = g.counted;
       };
     }
 

@@ -1,6 +1,6 @@
 -- A changeover is completed: of a link between the two nodes, by the peer's order or its answer; of another link, by
 -- anything. By moves.
-use Rattle.pair_rules.proofs.Basics.{append-nil, filter, ◌≡◌, ◌≢◌, ◌<◌, ◌&&◌, ℕ, Bool, true, false, not, List, [], ◌∷◌, ◌++◌, length, Option, Some, None, refl, ap, sym, subst, ◌∙◌, nat_eq, drop, if◌then◌else◌, is_some, slice_set, slice_index_or, ⊎_elim, cases_eq}
+use Rattle.pair_rules.proofs.Basics.{append-nil, filter, ◌≡◌, ◌≢◌, ◌<◌, ◌&&◌, ℕ, Bool, true, false, not, List, [], ◌∷◌, ◌++◌, length, Option, Some, None, refl, ap, sym, subst, ◌∙◌, nat_eq, nat_lt, drop, if◌then◌else◌, is_some, slice_set, slice_index_or, ⊎_elim, cases_eq}
 use Rattle.pair_rules.proofs.Definitions.{link_at, send_anew, Message, Flow, is_management, Configuration, Running, clear_timer, Link, link_in, is_down, lifted, leaves_others, HoldSet, Queue, emptied, named_count, last_accepted, Standing, standing_at, with_standing, behind, users_of, managements_of, Node, Parts, Found, Route, down, WholeQueues, queue_at, whole, changeover_of, concluded, lose, lose_each, send_each, set_of, Fits, StaysFit, Order, Answer, Pair, Saying, ChangesOnly, with_completion}
 use Rattle.signalling_types.specs.declared.cause.Cause.TheVariants.{LostUnconfirmed}
 use Rattle.timers.specs.declared.name.TimerName.TheVariants.{T1}
@@ -16,6 +16,7 @@ use Rattle.pair_rules.proofs.Good.{IsSilent, Each, each-behind}
 use Rattle.pair_rules.proofs.Going.{Goes, goes-both, goes-one, goes-lost, goes-same}
 use Rattle.pair_rules.proofs.Lines.{end-by, end_by, queue-here, queue-other, standing-here, standing-other}
 use Rattle.pair_rules.proofs.UserLists.{each-drop, each-filter}
+use Rattle.neighbour_rules.proofs.Counted.{IsBase, base-lost, beyond-lost, counts_of}
 use Rattle.neighbour_rules.proofs.World.{code_of, holds_of, line_of, route_of, says_of, shown}
 use Rattle.neighbour_rules.proofs.Good.{Good, IsSent, Joint, Passes, at, passes-both, passes-none, set}
 use Rattle.neighbour_rules.proofs.Lines.{at-line, becomes, none-becomes, own-line}
@@ -120,6 +121,7 @@ module _ (c z : Configuration) (j : Joint c z) where
       loose = m;
       arrived = r;
       coming = g.coming;
+      counted = g.counted;
     }
 
     -- ---- of a link between the two
@@ -163,8 +165,8 @@ module _ (c z : Configuration) (j : Joint c z) where
       goes = λ g.
           let k : ℕ = own c z j (code_of c link) in
           let mine : k ≡ link = own-line c j.near_well (set c z j) link l its in
-          let before : Pair = shown c z (set c z j) j.shares.far_set (at c z j w n (m ∷ rest) []) in
-          let after : Pair = shown c z (set c z j) j.shares.far_set (at c z j w done rest (anew ++ reply ∷ [])) in
+          let before : Pair = shown c z (set c z j) j.shares.far_set j.base (at c z j w n (m ∷ rest) []) in
+          let after : Pair = shown c z (set c z j) j.shares.far_set j.base (at c z j w done rest (anew ++ reply ∷ [])) in
           let between : Pair = as_moved after (coarse.users_of read (drop count (queue_at n.queues k).all) ++ n.queues.held)
           (coarse.managements_of read (drop count (queue_at n.queues k).all) ++ reply ∷ []) in
           goes-both read before between after
@@ -205,8 +207,8 @@ module _ (c z : Configuration) (j : Joint c z) where
       goes = λ g.
           let k : ℕ = own c z j (code_of c link) in
           let mine : k ≡ link = own-line c j.near_well (set c z j) link l its in
-          let before : Pair = shown c z (set c z j) j.shares.far_set (at c z j w n (m ∷ rest) []) in
-          let after : Pair = shown c z (set c z j) j.shares.far_set (at c z j w done rest (anew ++ [])) in
+          let before : Pair = shown c z (set c z j) j.shares.far_set j.base (at c z j w n (m ∷ rest) []) in
+          let after : Pair = shown c z (set c z j) j.shares.far_set j.base (at c z j w done rest (anew ++ [])) in
           let between : Pair = as_moved after (coarse.users_of read (drop count (queue_at n.queues k).all) ++ n.queues.held)
           (coarse.managements_of read (drop count (queue_at n.queues k).all) ++ []) in
           goes-both read before between after
@@ -243,9 +245,9 @@ module _ (c z : Configuration) (j : Joint c z) where
         → Passes c z j (at c z j w n arrived more) (at c z j w done arrived (anew ++ more))
     finishing-elsewhere arrived more d l awaits stay = record {
       goes = λ g.
-          let before : Pair = shown c z (set c z j) j.shares.far_set (at c z j w n arrived more) in
+          let before : Pair = shown c z (set c z j) j.shares.far_set j.base (at c z j w n arrived more) in
           let between : Pair = as_moved before (users_of moved ++ n.queues.held) (anew ++ more) in
-          let after : Pair = shown c z (set c z j) j.shares.far_set (at c z j w done arrived (anew ++ more)) in
+          let after : Pair = shown c z (set c z j) j.shares.far_set j.base (at c z j w done arrived (anew ++ more)) in
           let same : after ≡ between = λ i. record between {
             line = none-becomes c z j (at c z j w n arrived more) done arrived (anew ++ more) link l d done-other i;
             near = record between.near { holds = λ procedure flow. holds-past procedure flow i };
@@ -291,12 +293,18 @@ module _ (c z : Configuration) (j : Joint c z) where
     links : q.links ≡ p.links
     routes : q.routes ≡ p.routes
     changeovers : q.changeovers ≡ p.changeovers
+    counted : IsBase j.base.near (counts_of p) → IsBase j.base.near (counts_of q)
 
   losses-noted : (ms : List Message) (p : Parts) → IsNoted p (lose_each ms p)
-  losses-noted [] p = record { links = refl; routes = refl; changeovers = refl }
+  losses-noted [] p = record { links = refl; routes = refl; changeovers = refl; counted = λ h. h }
   losses-noted (m ∷ ms) p =
       let rest : IsNoted (lose LostUnconfirmed m p) (lose_each ms (lose LostUnconfirmed m p)) = losses-noted ms (lose LostUnconfirmed m p) in
-      record { links = rest.links; routes = rest.routes; changeovers = rest.changeovers }
+      record {
+        links = rest.links;
+        routes = rest.routes;
+        changeovers = rest.changeovers;
+        counted = λ h. rest.counted (base-lost j.base.near (counts_of p) j.grows h);
+      }
 
   module _ (w : World) (n : Node WholeQueues) (link : ℕ) (s : Standing) (t : Running) where
     abbrev q : Queue
@@ -312,11 +320,21 @@ module _ (c z : Configuration) (j : Joint c z) where
       parts = concluded link (found_by q count) ended;
     }
 
+    -- it counts what it loses, and the loss that there may be
+    abbrev lost_then : Parts
+    lost_then = lose_each (users_of (completion.in_doubt q None)) ended
+
+    still-counted : IsBase j.base.near (counts_of n.parts) → IsBase j.base.near (counts_of lost_then)
+    still-counted h = (losses-noted (users_of (completion.in_doubt q None)) ended).counted h
+
+    pub concluded-beyond : IsBase j.base.near (counts_of n.parts) → nat_lt j.base.near.lost (concluded_at None).parts.times_lost ≡ true
+    concluded-beyond h = beyond-lost j.base.near (counts_of lost_then) (counts_of (concluded_at None).parts) j.grows refl (still-counted h)
+
     pub lost-good : (arrived rest before next : List Message) → StaysFit c n (concluded_at None) → (Good c z j (at c z j w n arrived before) → Each (IsSent z c j.shares.far_set) rest)
         → (Good c z j (at c z j w n arrived before) → Each Sent next) → (s.awaited ≡ true → (changeover_of n.parts link).awaited ≡ true) → link < length c.links
         → Good c z j (at c z j w n arrived before) → Good c z j (at c z j w (concluded_at None) rest next)
     lost-good arrived rest before next stay r m awaits l g =
-        let noted : IsNoted ended (lose_each (users_of (completion.in_doubt q None)) ended) = losses-noted (users_of (completion.in_doubt q None)) ended in
+        let noted : IsNoted ended lost_then = losses-noted (users_of (completion.in_doubt q None)) ended in
         record {
           fits = stay.stay g.fits;
           route = ap (λ (rs : List (List Route)). slice_index_or rs j.destination []) noted.routes ∙ g.route;
@@ -330,6 +348,7 @@ module _ (c z : Configuration) (j : Joint c z) where
           loose = m g;
           arrived = r g;
           coming = g.coming;
+          counted = base-lost j.base.near (counts_of lost_then) j.grows (still-counted g.counted);
         }
 
     pub anew-sent : Each Sent q.all → Each Sent (managements_of (behind q None))
@@ -343,7 +362,7 @@ module _ (c z : Configuration) (j : Joint c z) where
     by_order (Some count) m rest number reply its named says l incomplete complete same answers sent stay =
         completing w n link count s (clear_timer (T1 link) t) m rest number reply its says l incomplete complete same named answers sent stay
     by_order None m rest number reply its named says l incomplete complete same answers sent stay = record {
-      goes = λ g. goes-lost read _ _ refl;
+      goes = λ g. goes-lost read _ _ (concluded-beyond g.counted);
       good = λ g. lost-good (m ∷ rest) rest [] (managements_of (behind q None) ++ reply ∷ []) stay (λ h. h.arrived.1)
           (λ h. each-behind Sent (managements_of (behind q None)) (reply ∷ []) (anew-sent (h.queued link)) (sent, tt))
           (λ e. sym same ∙ e) l g;
@@ -356,7 +375,7 @@ module _ (c z : Configuration) (j : Joint c z) where
     by_answer (Some count) m rest number its named says l incomplete awaited complete over stay =
         ending w n link count s (clear_timer (T1 link) t) m rest number its says l incomplete awaited complete over named stay
     by_answer None m rest number its named says l incomplete awaited complete over stay = record {
-      goes = λ g. goes-lost read _ _ refl;
+      goes = λ g. goes-lost read _ _ (concluded-beyond g.counted);
       good = λ g. lost-good (m ∷ rest) rest [] (managements_of (behind q None) ++ []) stay (λ h. h.arrived.1)
           (λ h. each-behind Sent (managements_of (behind q None)) [] (anew-sent (h.queued link)) tt) (λ e. awaited) l g;
     }
@@ -366,7 +385,7 @@ module _ (c z : Configuration) (j : Joint c z) where
         → StaysFit c n (concluded_at count) → Passes c z j (at c z j w n arrived more) (at c z j w (concluded_at count) arrived (managements_of (behind q count) ++ more))
     by_any-elsewhere (Some count) arrived more d l awaits stay = finishing-elsewhere w n link count s (clear_timer (T1 link) t) arrived more d l awaits stay
     by_any-elsewhere None arrived more d l awaits stay = record {
-      goes = λ g. goes-lost read _ _ refl;
+      goes = λ g. goes-lost read _ _ (concluded-beyond g.counted);
       good = λ g. lost-good arrived arrived more (managements_of (behind q None) ++ more) stay (λ h. h.arrived)
           (λ h. each-behind Sent (managements_of (behind q None)) more (anew-sent (h.queued link)) h.loose) awaits l g;
     }

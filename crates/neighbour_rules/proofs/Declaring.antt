@@ -81,6 +81,7 @@ module _ (c z : Configuration) (j : Joint c z) where
         loose = g.loose;
         arrived = g.arrived;
         coming = g.coming;
+        counted = g.counted;
       };
     }
 
@@ -185,6 +186,7 @@ module _ (c z : Configuration) (j : Joint c z) where
             loose = g.loose;
             arrived = g.arrived;
             coming = g.coming;
+            counted = g.counted;
           };
     }
 
@@ -210,7 +212,7 @@ module _ (c z : Configuration) (j : Joint c z) where
           (λ (same : by_turn (suc other) flow ≡ by_turn other flow). sym same)
           (λ (l : Leaves c z j p first.parts link other flow). absurd (none-leaves other e flow l))
           (turn-of c z j p first.parts link other flow i.known)) in
-          goes-same read _ _ (ap (λ (r : Flow → Option ℕ). shown_by c z (set c z j) j.shares.far_set r (mid n)) stay);
+          goes-same read _ _ (ap (λ (r : Flow → Option ℕ). shown_by c z (set c z j) j.shares.far_set j.base r (mid n)) stay);
       good = λ g. g;
     }
 

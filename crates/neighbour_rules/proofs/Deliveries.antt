@@ -50,7 +50,7 @@ module _ (c z : Configuration) (j : Joint c z) where
   read = says_of c.own z.own
 
   abbrev view : World → Pair
-  view w = shown c z (set c z j) j.shares.far_set w
+  view w = shown c z (set c z j) j.shares.far_set j.base w
 
   -- a link that failed is down
   failed-down : (link : ℕ) (why : FailureReason) (n : Node WholeQueues) → Fits c n → link < length c.links → down (fail whole c link why n).parts link ≡ true

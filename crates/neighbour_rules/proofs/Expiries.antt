@@ -1,16 +1,17 @@
 -- T1 or T2 of a link runs out: by moves.
 use Rattle.pair_rules.proofs.Basics.{append-nil, ◌≡◌, ◌≢◌, ◌<◌, ℕ, Bool, true, false, List, [], length, None, refl, ap, sym, subst, ◌∙◌, nat_lt, arith, if◌then◌else◌, ⊎_elim, cases_eq, nat_tests}
-use Rattle.pair_rules.proofs.Definitions.{flagged, Message, Configuration, Queue, Standing, acknowledged, completed, behind, managements_of, Node, lost_any, with_parts, is_link, WholeQueues, queue_at, whole, changeover_of, with_changeover, complete_if, on_changeover_timer, with_expiry, Fits, StaysFit, fit-steps, concluded-steps}
+use Rattle.pair_rules.proofs.Definitions.{flagged, Message, Configuration, Queue, Standing, acknowledged, completed, behind, managements_of, Node, with_parts, is_link, WholeQueues, queue_at, whole, changeover_of, with_changeover, complete_if, on_changeover_timer, with_expiry, Fits, StaysFit, fit-steps, concluded-steps}
 use Rattle.signalling_types.specs.declared.notice.ChangeoverTimer.{ChangeoverTimer}
 use Rattle.signalling_types.specs.declared.notice.ChangeoverTimer.TheVariants as timer
 use Rattle.signalling_types.specs.declared.notice.Notice.TheVariants as notices
 use Rattle.pair_rules.proofs.World.{World}
 use Rattle.pair_rules.proofs.Going.{goes-lost}
 use Rattle.pair_rules.proofs.Lines.{standing-here, standing-other}
+use Rattle.neighbour_rules.proofs.Counted.{IsBase, base-lost, beyond-lost, counts_of, with_loss}
 use Rattle.neighbour_rules.proofs.World.{says_of}
-use Rattle.neighbour_rules.proofs.Good.{Joint, Passes, at, passes-both, passes-none}
+use Rattle.neighbour_rules.proofs.Good.{Joint, Passes, at, passes-both, passes-good, passes-none}
 use Rattle.neighbour_rules.proofs.Relinked.{noted-passes}
-use Rattle.neighbour_rules.proofs.Completions.{anew-passes, anew-sent, concluded_at, found_by, lost-good}
+use Rattle.neighbour_rules.proofs.Completions.{anew-passes, anew-sent, concluded-beyond, concluded_at, found_by, lost-good}
 use Rattle.neighbour_rules.proofs.ChangingOver.{completed-same}
 
 module _ (c z : Configuration) (j : Joint c z) where
@@ -31,7 +32,7 @@ module _ (c z : Configuration) (j : Joint c z) where
         passes-both c z j _ _ _
         (subst (λ (loose : List Message). Passes c z j (at c z j w n [] []) (at c z j w (concluded_at c z j w n link s n.parts.timers None) [] loose)) (sym (append-nil ms))
         (record {
-          goes = λ g. goes-lost (says_of c.own z.own) _ _ refl;
+          goes = λ g. goes-lost (says_of c.own z.own) _ _ (concluded-beyond c z j w n link s n.parts.timers g.counted);
           good = λ g. lost-good c z j w n link s n.parts.timers [] [] [] ms concluded-fits (λ h. tt) (λ h. anew-sent c z j w n link s n.parts.timers (h.queued link)) awaits (listed n link g.fits there) g;
         }))
         (anew-passes c z j (behind q None) w (concluded_at c z j w n link s n.parts.timers None) [] [])
@@ -51,7 +52,7 @@ module _ (c z : Configuration) (j : Joint c z) where
 
   -- ---- T2
 
-  t2-ends : (b : Bool) (w : World) (n : Node WholeQueues) (link : ℕ) → (changeover_of n.parts link).incomplete ≡ b → is_link n.parts link ≡ true → lost_any n.parts ≡ true
+  t2-ends : (b : Bool) (w : World) (n : Node WholeQueues) (link : ℕ) → (changeover_of n.parts link).incomplete ≡ b → is_link n.parts link ≡ true → nat_lt j.base.near.lost n.parts.times_lost ≡ true
       → Passes c z j (at c z j w n [] []) (at c z j w (complete_if whole c b link None (with_parts n (with_changeover link (acknowledged (changeover_of n.parts link)) n.parts))) [] [])
   t2-ends true w n link e there lost = ends-lost w n link (acknowledged (changeover_of n.parts link)) (λ h. absurd cc) there e refl
   t2-ends false w n link e there lost = record {
@@ -73,17 +74,21 @@ module _ (c z : Configuration) (j : Joint c z) where
       loose = tt;
       arrived = g.arrived;
       coming = g.coming;
+      counted = g.counted;
     };
   }
     where
       over : Standing
       over = acknowledged (changeover_of n.parts link)
 
+  flagged-beyond : (n : Node WholeQueues) → IsBase j.base.near (counts_of n.parts) → nat_lt j.base.near.lost (flagged n.parts).times_lost ≡ true
+  flagged-beyond n h = beyond-lost j.base.near (counts_of n.parts) (with_loss (counts_of n.parts)) j.grows refl h
+
   flagging : (w : World) (n : Node WholeQueues) (link : ℕ)
       → Passes c z j (at c z j w n [] [])
       (at c z j w (with_parts n (record n.parts { notices = (with_expiry timer.T2 link n.parts).notices; times_lost = (with_expiry timer.T2 link n.parts).times_lost })) [] [])
   flagging w n link = record {
-    goes = λ g. goes-lost (says_of c.own z.own) _ _ refl;
+    goes = λ g. goes-lost (says_of c.own z.own) _ _ (flagged-beyond n g.counted);
     good = λ g. record {
       fits = ((fit-steps c).both _ _ _ ((fit-steps c).lost n) ((fit-steps c).noted (notices.Expired timer.T2 link) (with_parts n (flagged n.parts)) (record { lost = λ f. refl; late = λ f. absurd cc }))).stay g.fits;
       route = g.route;
@@ -95,6 +100,7 @@ module _ (c z : Configuration) (j : Joint c z) where
       loose = tt;
       arrived = g.arrived;
       coming = g.coming;
+      counted = base-lost j.base.near (counts_of n.parts) j.grows g.counted;
     };
   }
 
@@ -107,7 +113,8 @@ module _ (c z : Configuration) (j : Joint c z) where
       (t1-ends (changeover_of n.parts link).incomplete w noted link refl there)
   expiry-passes timer.T2 w n link there =
       let noted : Node WholeQueues = with_parts n (record n.parts { notices = (with_expiry timer.T2 link n.parts).notices; times_lost = (with_expiry timer.T2 link n.parts).times_lost }) in
-      passes-both c z j _ _ _ (flagging w n link) (t2-ends (changeover_of n.parts link).incomplete w noted link refl there refl)
+      passes-good c z j _ _
+      (λ g. passes-both c z j _ _ _ (flagging w n link) (t2-ends (changeover_of n.parts link).incomplete w noted link refl there (flagged-beyond n g.counted)))
 
   pub changeover_timer-passes : (which : ChangeoverTimer) (w : World) (n : Node WholeQueues) (link : ℕ) → Passes c z j (at c z j w n [] []) (at c z j w (on_changeover_timer whole c which link n) [] [])
   changeover_timer-passes which w n link = by (is_link n.parts link) refl

@@ -139,7 +139,7 @@ module _ (c z : Configuration) (j : Joint c z) where
       goes = λ g.
           let l : link < length c.links = up-listed c z n link g.fits up in
           let mine : own c z j (code_of c link) ≡ link = own-line c j.near_well (set c z j) link l its in
-          goes-one (says_of c.own z.own) (shown c z (set c z j) j.shares.far_set (at c z j w n arrived [])) (shown c z (set c z j) j.shares.far_set (at c z j w lost arrived []))
+          goes-one (says_of c.own z.own) (shown c z (set c z j) j.shares.far_set j.base (at c z j w n arrived [])) (shown c z (set c z j) j.shares.far_set j.base (at c z j w lost arrived []))
           (moves.falls (record {
             link = code_of c link;
             up = ap (λ (k : ℕ). not (down n.parts k)) mine ∙ ap not up;
@@ -170,6 +170,7 @@ module _ (c z : Configuration) (j : Joint c z) where
         loose = tt;
         arrived = g.arrived;
         coming = g.coming;
+        counted = g.counted;
       };
     }
 

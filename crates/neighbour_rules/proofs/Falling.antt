@@ -139,7 +139,7 @@ module _ (c z : Configuration) (j : Joint c z) where
         (and-true (hold.may_hold n.parts.holds (held_by.Changeover link) j.destination flow.sls) (test j.destination flow.sls) places fails))
 
     suspending : (s : Standing) (t : Running) → Good c z j (at c z j w n arrived loose) → link < length c.links → set_of c link ≡ set c z j
-        → Suspends (shown c z (set c z j) j.shares.far_set (at c z j w n arrived loose)) (code_of c link) (route_of c z (set c z j) (fell s t).parts) (holds_of c z (set c z j) (fell s t).parts)
+        → Suspends (shown c z (set c z j) j.shares.far_set j.base (at c z j w n arrived loose)) (code_of c link) (route_of c z (set c z j) (fell s t).parts) (holds_of c z (set c z j) (fell s t).parts)
     suspending s t g l its = record {
       others = λ flow other d e. route-stays c z j n.parts (fell s t).parts link other flow (failed-facts c link n.parts (fell s t).parts.links refl) d e;
       kept = λ procedure flow e.
@@ -181,6 +181,7 @@ module _ (c z : Configuration) (j : Joint c z) where
       loose = m;
       arrived = g.arrived;
       coming = g.coming;
+      counted = g.counted;
     }
 
     -- no order goes out

@@ -167,7 +167,7 @@ module _ (c z : Configuration) (j : Joint c z) where
   -- it becomes this, and no other line changes
   pub line-becomes : (v w : World) (route : Flow → Option ℕ) (link other : ℕ) (change : Line → Line) → IsLine link other → line_at v link other ≡ change (line_at w link other)
       → ((k i : ℕ) → k ≢ link → i ≢ other → line_at v k i ≡ line_at w k i)
-      → BecomeAt (shown_by c z (set c z j) j.shares.far_set route w) (code_of c link) (change (line_of c z (set c z j) j.shares.far_set w (code_of c link))) (line_of c z (set c z j) j.shares.far_set v)
+      → BecomeAt (shown_by c z (set c z j) j.shares.far_set j.base route w) (code_of c link) (change (line_of c z (set c z j) j.shares.far_set w (code_of c link))) (line_of c z (set c z j) j.shares.far_set v)
   line-becomes v w route link other change e here others = record {
     inside = code-fits c j.near_well link;
     here = line-known v link other e ∙ here ∙ ap change (sym (line-known w link other e));

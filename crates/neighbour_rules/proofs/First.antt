@@ -12,11 +12,12 @@ use Rattle.pair_moves.specs.Sayings.{Other}
 use Rattle.pair_rules.proofs.World.{is_heard, end_of}
 use Rattle.pair_rules.proofs.Good.{Each, IsSilent}
 use Rattle.pair_rules.proofs.First.{first_mid, first_world, fits-first}
+use Rattle.neighbour_rules.proofs.Counted.{IsBase, no_base, no_counts}
 use Rattle.neighbour_rules.proofs.World.{code_of, codes, link_at_code, holds_at, holds_of, procedure_of, route_of, says_of, shown, side_by}
 use Rattle.neighbour_rules.proofs.Good.{Good, IsSent, Joint, set}
 
-pub first-good : (near far : Configuration) (j : Joint near far) → Good near far j (first_world near far)
-first-good near far j = record {
+pub first-good : (near far : Configuration) (j : Joint near far) → IsBase j.base.near no_counts → Good near far j (first_world near far)
+first-good near far j counted = record {
   fits = fits-first near j.near_well;
   route = (flows-stay near [] (set near far j) far.own j.destination j.shares.near_leads j.place).route;
   unawaited = λ link e. each-replicate (λ (s : Standing). s.awaited ≡ false) (length near.links) link no_changeover refl;
@@ -27,6 +28,7 @@ first-good near far j = record {
   loose = tt;
   arrived = tt;
   coming = record { statuses = λ link. tt; user_data = λ link. tt };
+  counted = counted;
 }
 
 -- ---- what is shown of it
@@ -85,7 +87,7 @@ module _ (c z : Configuration) (its : ℕ) where
       by (suc sets) zero = each-replicate (λ (b : Bool). b ≡ false) CHANGEBACK_CODES code false refl
       by (suc sets) (suc one) = by sets one
 
-  side-first : side_by c z its (route_of c z its p) (first_mid c) ≡ first_side
+  side-first : side_by c z its no_counts (λ code. false) (route_of c z its p) (first_mid c) ≡ first_side
   side-first = λ i. record first_side {
     route = λ flow. route-none flow i;
     holds = λ procedure flow. holds-none procedure flow i;
@@ -101,7 +103,7 @@ module _ (c z : Configuration) (its : ℕ) where
       (each-replicate (λ (l : Link). l ≡ down_link) (length c.links) link down_link refl i)
       (each-replicate (λ (s : Standing). s ≡ no_changeover) (length c.links) link no_changeover refl i)
 
-pub first-shown : (near far : Configuration) (near_set far_set : ℕ) → shown near far near_set far_set (first_world near far) ≡ first_pair codes
+pub first-shown : (near far : Configuration) (near_set far_set : ℕ) → shown near far near_set far_set no_base (first_world near far) ≡ first_pair codes
 first-shown near far near_set far_set = λ i. record {
   links = codes;
   line = λ code. record {

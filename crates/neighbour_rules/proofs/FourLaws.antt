@@ -1,6 +1,6 @@
 -- The four laws of two exchanges, link by link.
 use Rattle.pair_rules.proofs.Basics.{◌≡◌, ◌≢◌, ◌⊎◌, inl, inr, ◌<◌, ◌+◌, ◌-◌, ◌||◌, ℕ, Bool, true, false, not, List, [], length, map, Option, Some, None, refl, ap, sym, subst, ◌∙◌, arith, nat_eq, if◌then◌else◌, Contains, count_by, slice_get, ⊎_elim, Contains-append_left}
-use Rattle.pair_rules.proofs.Definitions.{Message, Configuration, FrameValue, first_queue, last_accepted, named_count, behind, Open, down, wants_of, new_message, changeover_of, Saying, Order, Answer, is_answer, is_order, is_untrue, MayOpen, Pair, PairState, in_flight, may_follow, may_open_at, turned, LostNothing, queue_of, spelled, Word, is_down_at, is_incomplete_at, messages_in, set_of}
+use Rattle.pair_rules.proofs.Definitions.{Message, Configuration, FrameValue, first_queue, last_accepted, named_count, behind, Open, down, wants_of, new_message, changeover_of, Saying, Order, Answer, is_answer, is_order, is_untrue, MayOpen, Pair, PairState, in_flight, may_follow, may_open_at, turned, queue_of, spelled, Word, is_down_at, is_incomplete_at, messages_in, set_of}
 use Rattle.exchange_rules.proofs.CarriedMessages.{new-carried}
 use Rattle.pair_moves.specs.Ends as ends
 use Rattle.pair_moves.specs.Flowing.{Flows, IsFlowing, NamesReceived, OpensAlone}
@@ -26,16 +26,16 @@ use Rattle.neighbour_rules.specs.Laws.{AreFinal, FramesCarry, IsCarried, IsFinal
 use Rattle.neighbour_rules.proofs.World.{code_of, line_of, says_of, shown}
 use Rattle.neighbour_rules.proofs.Good.{IsSent, Joint}
 use Rattle.neighbour_rules.proofs.Staying.{with_settings}
-use Rattle.neighbour_rules.proofs.Sharing.{AreFacing, facing_back, far_joint, near_joint}
+use Rattle.neighbour_rules.proofs.Sharing.{AreFacing, facing_back, far_joint, from_first, near_joint}
 use Rattle.neighbour_rules.proofs.FarEnds.{HasEnd, IsLine, has-end, is-line, its-far, line-known, line_at, near-own}
 use Rattle.neighbour_rules.proofs.FarEnds as far_ends
-use Rattle.neighbour_rules.proofs.Standing.{Stands}
+use Rattle.neighbour_rules.proofs.Standing.{Since, Stands, since-back}
 use Rattle.neighbour_rules.proofs.AllSteps.{stands-turned}
 use Rattle.neighbour_rules.proofs.Promised.{always, by-link, lacked-at, lacks, of-shown, summed-lines}
 use Rattle.neighbour_rules.proofs.CarriedTexts.{first-text, texts-carry}
 use Rattle.neighbour_rules.proofs.SaidWords.{IsCode, Says, count-past, is-code, word-says}
 
-module _ (c z : Configuration) (a : AreFacing c z) (q : PairState) (s : Stands c z a (with_settings c z q)) (kept : LostNothing (with_settings c z q)) where
+module _ (c z : Configuration) (a : AreFacing c z) (q : PairState) (s : Stands c z a (with_settings c z q)) (kept : Since c z a (with_settings c z q)) where
   abbrev p : PairState
   p = with_settings c z q
 
@@ -49,7 +49,7 @@ module _ (c z : Configuration) (a : AreFacing c z) (q : PairState) (s : Stands c
   read = says_of c.own z.own
 
   abbrev view : Pair
-  view = shown c z a.near_set a.far_set w
+  view = shown c z a.near_set a.far_set a.base w
 
   abbrev links : ℕ
   links = length c.links
@@ -340,15 +340,15 @@ module _ (c z : Configuration) (a : AreFacing c z) (q : PairState) (s : Stands c
 
 -- ---- both directions
 
-module _ (c z : Configuration) (a : AreFacing c z) (q : PairState) (s : Stands c z a (with_settings c z q)) (kept : LostNothing (with_settings c z q)) where
+module _ (c z : Configuration) (a : AreFacing c z) (q : PairState) (s : Stands c z a (with_settings c z q)) (kept : Since c z a (with_settings c z q)) where
   abbrev there : PairState
   there = with_settings c z q
 
   back-stands : Stands z c (facing_back c z a) (with_settings z c (turned q))
   back-stands = stands-turned c z a there s
 
-  back-kept : LostNothing (with_settings z c (turned q))
-  back-kept = record { near = kept.far; far = kept.near }
+  back-kept : Since z c (facing_back c z a) (with_settings z c (turned q))
+  back-kept = since-back c z a (with_settings c z q) kept
 
   back-line : (link other : ℕ) → end_there c z (slice_get c.links link) ≡ Some other → IsLine z c (far_joint c z a) other link
   back-line link other e = far_ends.ends-turned c z a.near_set a.far_set link other (is-line c z (near_joint c z a) link other e)
@@ -386,13 +386,13 @@ module _ (c z : Configuration) (a : AreFacing c z) (q : PairState) (s : Stands c
 -- ---- always
 
 pub frames-carry : frames_carry
-frames-carry = always IsCarried (λ c z a q s kept near far. carried-there c z a q s kept)
+frames-carry = always IsCarried (λ c z a q s kept near far. carried-there c z (from_first c z a) q s kept)
 
 pub none-left : none_is_left
-none-left = always NoneIsLeft (λ c z a q s kept near far. left-there c z a q s kept)
+none-left = always NoneIsLeft (λ c z a q s kept near far. left-there c z (from_first c z a) q s kept)
 
 pub words-final : words_are_final
-words-final = always AreFinal (λ c z a q s kept near far. final-there c z a q s kept)
+words-final = always AreFinal (λ c z a q s kept near far. final-there c z (from_first c z a) q s kept)
 
 pub moves-lacked : moves_are_lacked
-moves-lacked = always MovesLacked (λ c z a q s kept near far. lacked-there c z a q s kept)
+moves-lacked = always MovesLacked (λ c z a q s kept near far. lacked-there c z (from_first c z a) q s kept)

@@ -24,7 +24,7 @@ module _ (c z : Configuration) (j : Joint c z) where
   read = says_of c.own z.own
 
   abbrev view : World → Pair
-  view w = shown c z (set c z j) j.shares.far_set w
+  view w = shown c z (set c z j) j.shares.far_set j.base w
 
   abbrev lines_of : World → ℕ → ends.Line
   lines_of w = line_of c z (set c z j) j.shares.far_set w
@@ -93,6 +93,7 @@ module _ (c z : Configuration) (j : Joint c z) where
       loose = g.loose;
       arrived = g.arrived;
       coming = still-telling (each (subst (Each IsTelling) r.first (g.coming.statuses link))) g.coming;
+      counted = g.counted;
     }
 
     told-first : length (w.to_near.statuses (own c z j (code_of c link))) ≡ length (frame ∷ rest)
@@ -227,6 +228,7 @@ module _ (c z : Configuration) (j : Joint c z) where
         loose = g.loose;
         arrived = g.arrived;
         coming = still-coming g.coming;
+        counted = g.counted;
       };
     }
 
@@ -278,6 +280,7 @@ module _ (c z : Configuration) (j : Joint c z) where
         loose = tt;
         arrived = came g;
         coming = still-coming g.coming;
+        counted = g.counted;
       }
 
   -- ---- User Data on a link that leads elsewhere
@@ -310,5 +313,6 @@ module _ (c z : Configuration) (j : Joint c z) where
         loose = g.loose;
         arrived = g.arrived;
         coming = g.coming;
+        counted = g.counted;
       };
     }

@@ -10,6 +10,7 @@ use Rattle.pair_rules.proofs.World.{Flying, World}
 use Rattle.pair_rules.proofs.Good.{Each, IsSilent, IsTelling}
 use Rattle.pair_rules.proofs.Going.{Goes, goes-none, goes-both}
 use Rattle.neighbour_rules.proofs.Bound.{IsBound}
+use Rattle.neighbour_rules.proofs.Counted.{Base, CanGrow, IsBase, counts_of}
 use Rattle.neighbour_rules.proofs.World.{code_of, says_of, shown}
 
 -- ---- messages from one node to the other, and past it
@@ -60,7 +61,7 @@ pub record AreFlying (c z : Configuration) (set : ℕ) (f : Flying) : Type 0 whe
 
 -- ---- a node at work
 
--- the settings of the two, and what the pass needs of them
+-- the settings of the two, what they had counted when the promise began, and what the pass needs of both
 pub record Joint (c z : Configuration) : Type 0 where
   pub near_well : IsWell c
   pub far_well : IsWell z
@@ -69,6 +70,8 @@ pub record Joint (c z : Configuration) : Type 0 where
   pub destination : ℕ
   pub place : destination_place c z.own ≡ Some destination
   pub there : destination < length c.destinations
+  pub base : Base
+  pub grows : CanGrow base.near
 
 module _ (c z : Configuration) (j : Joint c z) where
   abbrev pub set : ℕ
@@ -89,19 +92,21 @@ module _ (c z : Configuration) (j : Joint c z) where
     -- what comes from the other
     pub arrived : Each (IsSent z c j.shares.far_set) w.near.arrived
     pub coming : AreFlying z c j.shares.far_set w.to_near
+    -- counts don't fall
+    pub counted : IsBase j.base.near (counts_of w.near.node.parts)
 
   -- one goes by moves to another, and stays good
   pub record Passes (v w : World) : Type 0 where
-    pub goes : Good v → Goes (says_of c.own z.own) (shown c z set j.shares.far_set v) (shown c z set j.shares.far_set w)
+    pub goes : Good v → Goes (says_of c.own z.own) (shown c z set j.shares.far_set j.base v) (shown c z set j.shares.far_set j.base w)
     pub good : Good v → Good w
 
   pub passes-none : (w : World) → Passes w w
-  passes-none w = record { goes = λ g. goes-none (says_of c.own z.own) (shown c z set j.shares.far_set w); good = λ g. g }
+  passes-none w = record { goes = λ g. goes-none (says_of c.own z.own) (shown c z set j.shares.far_set j.base w); good = λ g. g }
 
   pub passes-both : (u v w : World) → Passes u v → Passes v w → Passes u w
   passes-both u v w p q = record {
     goes = λ g.
-        goes-both (says_of c.own z.own) (shown c z set j.shares.far_set u) (shown c z set j.shares.far_set v) (shown c z set j.shares.far_set w)
+        goes-both (says_of c.own z.own) (shown c z set j.shares.far_set j.base u) (shown c z set j.shares.far_set j.base v) (shown c z set j.shares.far_set j.base w)
         (p.goes g) (q.goes (p.good g));
     good = λ g. q.good (p.good g);
   }

@@ -261,6 +261,7 @@ module _ (c z : Configuration) (j : Joint c z) where
           loose = tt;
           arrived = g.arrived.1;
           coming = g.coming;
+          counted = g.counted;
         };
       })
 
@@ -289,6 +290,7 @@ module _ (c z : Configuration) (j : Joint c z) where
       loose = tt;
       arrived = g.arrived.1;
       coming = g.coming;
+      counted = g.counted;
     };
   }
 

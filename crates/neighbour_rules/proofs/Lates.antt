@@ -1,7 +1,7 @@
 -- A declaration is confirmed, the confirmation of one ends its hold, and timers end holds, of the set between the two
 -- or of another: by moves.
 use Rattle.pair_rules.proofs.Basics.{◌≡◌, ◌≢◌, ◌<◌, ◌&&◌, ℕ, Bool, true, false, List, [], ◌∷◌, Some, refl, ap, sym, ◌∙◌, nat_eq, if◌then◌else◌, slice_index_or, get_or-set_other, ◌^◌}
-use Rattle.pair_rules.proofs.Definitions.{Message, Handled, Ignored, Configuration, ChangebackAcknowledgement, HoldSet, Procedure, leaves_others, is_outstanding, Node, Noted, answer, with_parts, flagged_late, WholeQueues, whole, freed, late_code, late_time, changeback_acknowledgement, on_changeback_acknowledgement, on_changeback_declaration, rerouting_ended, made-management, StaysFit, fit-steps, run_timer-steps, Saying, Declaration, Confirmation}
+use Rattle.pair_rules.proofs.Definitions.{Message, Handled, Ignored, Configuration, ChangebackAcknowledgement, HoldSet, Procedure, leaves_others, is_outstanding, Node, Noted, answer, with_parts, flagged_late, WholeQueues, whole, freed, late_code, late_time, changeback_acknowledgement, on_changeback_acknowledgement, on_changeback_declaration, rerouting_ended, made-management, StaysFit, fit-steps, run_timer-steps, Flow, Pair, Saying, Declaration, Confirmation}
 use Rattle.timers.specs.declared.name.TimerName.TheVariants as name
 use Rattle.flow_hold.specs.Holds as hold
 use Rattle.flow_hold.specs.declared.procedure.Procedure.TheVariants as held_by
@@ -12,7 +12,8 @@ use Rattle.pair_moves.specs.Moves as moves
 use Rattle.pair_rules.proofs.World.{World}
 use Rattle.pair_rules.proofs.Going.{goes-one}
 use Rattle.pair_rules.proofs.Lates.{freed-other, freed-own}
-use Rattle.neighbour_rules.proofs.World.{holds_of, procedure_of, says_of}
+use Rattle.neighbour_rules.proofs.Counted.{base-late, beyond-late, counts_of}
+use Rattle.neighbour_rules.proofs.World.{holds_of, procedure_of, says_of, shown}
 use Rattle.neighbour_rules.proofs.Good.{Joint, Passes, at, confirms, made, passes-both, set}
 use Rattle.neighbour_rules.proofs.Messages.{making, send_routed-passes}
 use Rattle.neighbour_rules.proofs.Made.{confirmation-past, made-brief, word-made, word-says}
@@ -69,6 +70,7 @@ module _ (c z : Configuration) (j : Joint c z) where
       loose = (made (word-made c z j (ChangebackAcknowledgement slc code) (few, small) (confirms slc code)), tt);
       arrived = g.arrived.1;
       coming = g.coming;
+      counted = g.counted;
     };
   }
 
@@ -117,6 +119,7 @@ module _ (c z : Configuration) (j : Joint c z) where
       loose = g.loose;
       arrived = g.arrived.1;
       coming = g.coming;
+      counted = g.counted;
     };
   }
 
@@ -142,6 +145,7 @@ module _ (c z : Configuration) (j : Joint c z) where
       loose = g.loose;
       arrived = g.arrived.1;
       coming = g.coming;
+      counted = g.counted;
     };
   }
 
@@ -180,7 +184,14 @@ module _ (c z : Configuration) (j : Joint c z) where
   running-late : (w : World) (n : Node WholeQueues) (arrived loose : List Message) (procedure : Procedure) (notices : Noted) → StaysFit c n (ended procedure notices n)
       → Passes c z j (at c z j w n arrived loose) (at c z j w (ended procedure notices n) arrived loose)
   running-late w n arrived loose procedure notices stay = record {
-    goes = λ g. goes-one read _ _ (moves.runs_late (record { holds = holds_of c z (set c z j) (ended procedure notices n).parts; after = refl }));
+    goes = λ g.
+        let before : Pair = shown c z (set c z j) j.shares.far_set j.base (at c z j w n arrived loose) in
+        let held_then : ends.Procedure → Flow → Bool = holds_of c z (set c z j) (ended procedure notices n).parts in
+        goes-one read _ _
+        (moves.runs_late (record {
+          holds = held_then;
+          after = ap (λ (late : Bool). record before { near = record before.near { holds = held_then; late = late } }) (beyond-late j.base.near (counts_of n.parts) j.grows g.counted);
+        }));
     good = λ g. record {
       fits = stay.stay g.fits;
       route = g.route;
@@ -192,6 +203,7 @@ module _ (c z : Configuration) (j : Joint c z) where
       loose = g.loose;
       arrived = g.arrived;
       coming = g.coming;
+      counted = base-late j.base.near (counts_of n.parts) j.grows g.counted;
     };
   }
 

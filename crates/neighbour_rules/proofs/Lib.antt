@@ -1,5 +1,6 @@
 pub mod Asked
 pub mod Staying
+pub mod Counted
 pub mod World
 pub mod Bound
 pub mod Lone
@@ -32,6 +33,10 @@ pub mod CarriedTexts
 pub mod SaidWords
 pub mod FourLaws
 pub mod Awaited
+pub mod Bases
+pub mod Restarted
+pub mod Quieted
+pub mod Anew
 pub mod Failures
 pub mod Completions
 pub mod Relinked
@@ -50,3 +55,4 @@ pub mod Hearing
 pub mod Deliveries
 pub mod Summed
 pub mod ThirdNode
+pub mod AfterRestart

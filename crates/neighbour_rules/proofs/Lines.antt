@@ -47,7 +47,7 @@ module _ (c z : Configuration) (j : Joint c z) where
   -- the near end of one line becomes this, and no other changes
   pub becomes : (w : World) (n : Node WholeQueues) (arrived loose : List Message) (route : Flow → Option ℕ) (link : ℕ) (x : LinkEnd) → link < length c.links → set_of c link ≡ set c z j
       → end_of n link ≡ x → ((other : ℕ) → other ≢ link → end_of n other ≡ end_of w.near.node other)
-      → BecomeAt (shown_by c z (set c z j) j.shares.far_set route w) (code_of c link) (record (line_of c z (set c z j) j.shares.far_set w (code_of c link)) { near = x })
+      → BecomeAt (shown_by c z (set c z j) j.shares.far_set j.base route w) (code_of c link) (record (line_of c z (set c z j) j.shares.far_set w (code_of c link)) { near = x })
       (line_of c z (set c z j) j.shares.far_set (at c z j w n arrived loose))
   becomes w n arrived loose route link x l its here others = record {
     inside = code-fits c j.near_well link;

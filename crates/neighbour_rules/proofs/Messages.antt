@@ -1,6 +1,6 @@
 -- Messages that a node accepts, makes, holds and lets go on, for the other or past it: each rule goes by moves.
 use Rattle.pair_rules.proofs.Basics.{◌≡◌, ◌≢◌, ◌≤◌, length, ◌%◌, ◌^◌, ◌/◌, ◌&&◌, ℕ, Bool, true, false, not, List, [], ◌∷◌, ◌++◌, Option, Some, None, Result, Ok, Err, refl, ap, sym, subst, ◌∙◌, nat_eq, nat_lt, arith, filter, if◌then◌else◌, option_map, ⊎_elim, cases_eq, eq-eqb, nat_tests, and_right as free-false}
-use Rattle.pair_rules.proofs.Definitions.{SELECTIONS, SIF_OCTETS, Message, flow_of, is_management, dpc_of, label_number, Flow, Cause, Configuration, destination_place, Management, MgmtFault, read_management, HoldSet, is_held, Procedure, held_by, Node, lost_any, in_service, WholeQueues, queue_at, whole, queue_on, no_room, is_held_at, is_flow_held, waits, all_wait, link_of, set_of, facts, chosen_link, send, send_anew, send_routed, go, go_by, go_each, go_on, release, StaysFit, fit-steps, go_by-steps, Route, first_route, Standing, standing_at, Link, link_in, is_down, Saying, is_user_message, is_of_flow, is_same_flow, MayGo}
+use Rattle.pair_rules.proofs.Definitions.{SELECTIONS, SIF_OCTETS, Message, flow_of, is_management, dpc_of, label_number, Flow, Cause, Configuration, destination_place, Management, MgmtFault, read_management, HoldSet, is_held, Procedure, held_by, Node, in_service, WholeQueues, queue_at, whole, queue_on, no_room, is_held_at, is_flow_held, waits, all_wait, link_of, set_of, facts, chosen_link, send, send_anew, send_routed, go, go_by, go_each, go_on, release, StaysFit, fit-steps, go_by-steps, Route, first_route, Standing, standing_at, Link, link_in, is_down, Saying, is_user_message, is_of_flow, is_same_flow, MayGo}
 use Rattle.std.proofs.Common.{option_and_then, slice_index_or}
 use Rattle.mtp3_codec.specs.declared.management.Management.TheVariants as says
 use Rattle.flow_hold.specs.Holds as hold
@@ -17,6 +17,7 @@ use Rattle.pair_moves.specs.Sayings.{Other}
 use Rattle.pair_rules.proofs.World.{World}
 use Rattle.pair_rules.proofs.Good.{IsSilent, Each, each-behind}
 use Rattle.pair_rules.proofs.Going.{goes-one, goes-lost}
+use Rattle.neighbour_rules.proofs.Counted.{IsBase, base-lost, beyond-lost, counts_of, with_loss}
 use Rattle.neighbour_rules.proofs.World.{code_of, holds_at, is_between, is_for_either, management_says, procedure_of, read_says, route_of, says_by, says_of, shown}
 use Rattle.neighbour_rules.proofs.Good.{Good, IsSent, Joint, Passes, accepted, at, made, passes-both, passes-none, passes_by, set}
 use Rattle.neighbour_rules.proofs.Placing.{leaving, other-leaves, placing}
@@ -116,7 +117,7 @@ module _ (c z : Configuration) (j : Joint c z) where
 
   pub may-go : (n : Node WholeQueues) (loose arrived : List Message) (w : World) (m : Message) (link : ℕ) → dpc_of m ≡ z.own → is_flow_held c n.parts.holds m ≡ false
       → all_wait c n.parts.holds n.queues.held ≡ true → link_of c n.parts (flow_of m) ≡ Some link
-      → MayGo read (shown c z (set c z j) j.shares.far_set (at c z j w n arrived loose)).near (flow_of m) (code_of c link)
+      → MayGo read (shown c z (set c z j) j.shares.far_set j.base (at c z j w n arrived loose)).near (flow_of m) (code_of c link)
   may-go n loose arrived w m link to free wait e = record {
     routed = flow-routed n m link to e;
     unheld = λ procedure. free-false _ _ (unheld-at (destination_place c z.own) j.place procedure);
@@ -187,15 +188,16 @@ module _ (c z : Configuration) (j : Joint c z) where
       loose = g.loose.1;
       arrived = g.arrived;
       coming = g.coming;
+      counted = g.counted;
     };
   }
 
-  -- what is nowhere is given up: a flag tells
-  pub dropping : (w : World) (n o : Node WholeQueues) (arrived : List Message) (m : Message) (rest : List Message) → lost_any o.parts ≡ true → StaysFit c n o → o.queues ≡ n.queues
+  -- what is nowhere is given up: that is counted
+  pub dropping : (w : World) (n o : Node WholeQueues) (arrived : List Message) (m : Message) (rest : List Message) → counts_of o.parts ≡ with_loss (counts_of n.parts) → StaysFit c n o → o.queues ≡ n.queues
       → o.parts.routes ≡ n.parts.routes → o.parts.links ≡ n.parts.links → o.parts.changeovers ≡ n.parts.changeovers
       → Passes c z j (at c z j w n arrived (m ∷ rest)) (at c z j w o arrived rest)
   dropping w n o arrived m rest lost stay queues routes links changeovers = record {
-    goes = λ g. goes-lost read _ _ lost;
+    goes = λ g. goes-lost read _ _ (beyond-lost j.base.near (counts_of n.parts) (counts_of o.parts) j.grows lost g.counted);
     good = λ g. record {
       fits = stay.stay g.fits;
       route = ap (λ (rs : List (List Route)). slice_index_or rs j.destination []) routes ∙ g.route;
@@ -209,6 +211,7 @@ module _ (c z : Configuration) (j : Joint c z) where
       loose = g.loose.1;
       arrived = g.arrived;
       coming = g.coming;
+      counted = subst (IsBase j.base.near) (sym lost) (base-lost j.base.near (counts_of n.parts) j.grows g.counted);
     };
   }
 
@@ -246,6 +249,7 @@ module _ (c z : Configuration) (j : Joint c z) where
       loose = each-behind (IsSent c z (set c z j)) n.queues.held [] g.held tt;
       arrived = g.arrived;
       coming = g.coming;
+      counted = g.counted;
     };
   }
 
@@ -303,5 +307,6 @@ module _ (c z : Configuration) (j : Joint c z) where
       loose = (passes_by says short, g.loose);
       arrived = g.arrived;
       coming = g.coming;
+      counted = g.counted;
     };
   }

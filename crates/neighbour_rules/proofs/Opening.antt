@@ -87,6 +87,7 @@ module _ (c z : Configuration) (j : Joint c z) (w : World) (link : ℕ) (m : May
       loose = h.loose;
       arrived = h.arrived;
       coming = coming;
+      counted = h.counted;
     }
 
     abbrev line_with : LinkEnd → LinkEnd → List FrameValue → List FrameValue → List FrameValue → List FrameValue → Bool → Bool → Line
@@ -104,10 +105,10 @@ module _ (c z : Configuration) (j : Joint c z) (w : World) (link : ℕ) (m : May
     seven : {x a y : LinkEnd} {s i t k h l c d : List FrameValue} {n o v b : Bool} → x ≡ a → s ≡ i → t ≡ k → h ≡ l → c ≡ d → n ≡ o → v ≡ b → line_with x y s t h c n v ≡ line_with a y i k l d o b
     seven {y = y} p r u h t q e = λ i. line_with (p i) y (r i) (u i) (h i) (t i) (q i) (e i)
 
-    routed : shown c z (set c z j) j.shares.far_set after_opening ≡ record (shown c z (set c z j) j.shares.far_set w) { line = line_of c z (set c z j) j.shares.far_set after_opening }
-    routed = λ i. record (shown c z (set c z j) j.shares.far_set w) {
+    routed : shown c z (set c z j) j.shares.far_set j.base after_opening ≡ record (shown c z (set c z j) j.shares.far_set j.base w) { line = line_of c z (set c z j) j.shares.far_set after_opening }
+    routed = λ i. record (shown c z (set c z j) j.shares.far_set j.base w) {
       line = line_of c z (set c z j) j.shares.far_set after_opening;
-      near = record (shown c z (set c z j) j.shares.far_set w).near { route = route-same i; holds = λ procedure flow. holds-same procedure flow i };
+      near = record (shown c z (set c z j) j.shares.far_set j.base w).near { route = route-same i; holds = λ procedure flow. holds-same procedure flow i };
     }
 
     -- ---- a link between the two
@@ -139,9 +140,9 @@ module _ (c z : Configuration) (j : Joint c z) (w : World) (link : ℕ) (m : May
           seven (opened-other c z n link m k d) (s.to_far i t) (s.to_near k d) (s.told_far i t) (s.told_near k d) (s.near_follows k d) (s.far_follows i t)
 
       pub first-goes : IsFirst → AreOthers → MayOpen (end_of w.far.node other) → Good c z j w
-          → Goes (says_of c.own z.own) (shown c z (set c z j) j.shares.far_set w) (shown c z (set c z j) j.shares.far_set after_opening)
+          → Goes (says_of c.own z.own) (shown c z (set c z j) j.shares.far_set j.base w) (shown c z (set c z j) j.shares.far_set j.base after_opening)
       first-goes i s far h =
-          goes-one (says_of c.own z.own) (shown c z (set c z j) j.shares.far_set w) (shown c z (set c z j) j.shares.far_set after_opening)
+          goes-one (says_of c.own z.own) (shown c z (set c z j) j.shares.far_set j.base w) (shown c z (set c z j) j.shares.far_set j.base after_opening)
           (moves.opens_first (record {
             link = code_of c link;
             near_may = near-may;
@@ -163,9 +164,9 @@ module _ (c z : Configuration) (j : Joint c z) (w : World) (link : ℕ) (m : May
         pub far_follows : far_may other ≡ w.far_may other
 
       pub second-goes : IsSecond → AreOthers → Good c z j w
-          → Goes (says_of c.own z.own) (shown c z (set c z j) j.shares.far_set w) (shown c z (set c z j) j.shares.far_set after_opening)
+          → Goes (says_of c.own z.own) (shown c z (set c z j) j.shares.far_set j.base w) (shown c z (set c z j) j.shares.far_set j.base after_opening)
       second-goes i s h =
-          goes-one (says_of c.own z.own) (shown c z (set c z j) j.shares.far_set w) (shown c z (set c z j) j.shares.far_set after_opening)
+          goes-one (says_of c.own z.own) (shown c z (set c z j) j.shares.far_set j.base w) (shown c z (set c z j) j.shares.far_set j.base after_opening)
           (moves.opens_second (record {
             link = code_of c link;
             follows = ap w.near_may (near-own c z j link other e) ∙ i.followed;
@@ -237,7 +238,7 @@ module _ (c z : Configuration) (j : Joint c z) (w : World) (n : Node WholeQueues
     queue-begins l f = record {
       goes = λ g.
           goes-same (says_of c.own z.own) _ _
-          (sym (ap (λ (lines : ℕ → Line). record (shown c z (set c z j) j.shares.far_set (at c z j w aligning [] [])) { line = lines })
+          (sym (ap (λ (lines : ℕ → Line). record (shown c z (set c z j) j.shares.far_set j.base (at c z j w aligning [] [])) { line = lines })
           (none-becomes c z j (at c z j w aligning [] []) anew [] [] link l apart
           (λ other d. ap (λ (q : Queue). record (end_of aligning other) { queue = q }) (queue-other c z n.queues link other first_queue d)))));
       good = λ g. record {
@@ -251,6 +252,7 @@ module _ (c z : Configuration) (j : Joint c z) (w : World) (n : Node WholeQueues
         loose = tt;
         arrived = tt;
         coming = g.coming;
+        counted = g.counted;
       };
     }
 

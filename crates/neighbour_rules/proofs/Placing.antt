@@ -49,7 +49,7 @@ module _ (c z : Configuration) (j : Joint c z) where
   pub placing : (w : World) (n : Node WholeQueues) (arrived : List Message) (link : ℕ) (m : Message) (rest : List Message) → in_service n.parts link ≡ true → set_of c link ≡ set c z j
       → StaysFit c n (queue_on whole c link m n)
       → (Good c z j (at c z j w n arrived (m ∷ rest)) → is_user_message (read m) ≡ true
-      → MayGo read (shown c z (set c z j) j.shares.far_set (at c z j w n arrived (m ∷ rest))).near (flow_of m) (code_of c link))
+      → MayGo read (shown c z (set c z j) j.shares.far_set j.base (at c z j w n arrived (m ∷ rest))).near (flow_of m) (code_of c link))
       → Passes c z j (at c z j w n arrived (m ∷ rest)) (at c z j w (queue_on whole c link m n) arrived rest)
   placing w n arrived link m rest serves its stay may = record {
     goes = λ g.
@@ -85,6 +85,7 @@ module _ (c z : Configuration) (j : Joint c z) where
           loose = g.loose.1;
           arrived = g.arrived;
           coming = g.coming;
+          counted = g.counted;
         };
   }
 
@@ -103,7 +104,7 @@ module _ (c z : Configuration) (j : Joint c z) where
           held_stay = refl;
           loose_stay = sym (other-leaves read m rest says);
           arrived_stay = refl;
-          after = ap (λ (lines : ℕ → Line). record (shown c z (set c z j) j.shares.far_set (at c z j w n arrived rest)) { line = lines })
+          after = ap (λ (lines : ℕ → Line). record (shown c z (set c z j) j.shares.far_set j.base (at c z j w n arrived rest)) { line = lines })
               (none-becomes c z j (at c z j w n arrived (m ∷ rest)) (queue_on whole c link m n) arrived rest link l apart (λ other d. others-same n link other m d));
         }));
     good = λ g.
@@ -119,5 +120,6 @@ module _ (c z : Configuration) (j : Joint c z) where
           loose = g.loose.1;
           arrived = g.arrived;
           coming = g.coming;
+          counted = g.counted;
         };
   }

@@ -1,9 +1,9 @@
 -- What moves promise, two exchanges promise.
-use Rattle.pair_rules.proofs.Basics.{◌≡◌, ◌≢◌, ◌<◌, ◌≤◌, ◌&&◌, ◌||◌, ◌+◌, ℕ, zero, suc, Bool, true, false, not, List, [], ◌∷◌, ◌++◌, length, Option, Some, None, refl, ap, sym, subst, ◌∙◌, nat_eq, arith, append-nil, if◌then◌else◌, count_by, drop, filter, replicate, All, slice_get, ⊎_elim, cases_eq, cases_lt, eq-eqb, get_or_past}
+use Rattle.pair_rules.proofs.Basics.{◌≡◌, ◌≢◌, ◌<◌, ◌≤◌, ◌&&◌, ◌||◌, ◌+◌, ℕ, zero, suc, Bool, true, false, not, List, [], ◌∷◌, ◌++◌, length, Option, Some, None, refl, ap, sym, subst, ◌∙◌, nat_eq, nat_lt, arith, append-nil, if◌then◌else◌, count_by, drop, filter, replicate, All, slice_get, ⊎_elim, cases_eq, cases_lt, eq-eqb, get_or_past}
 use Rattle.std.proofs.Common.{append_assoc}
 use Rattle.std.proofs.lemmas.List.{length-replicate}
 use Rattle.std.proofs.lemmas.List.Elements.{filter-append}
-use Rattle.pair_rules.proofs.Definitions.{Message, Flow, flow_of, dpc_of, is_management, read_management, Configuration, Queue, first_queue, Saying, is_user_message, Pair, PairState, first_pair, turned, LostNothing, queue_of, late_any, set_of, each-replicate}
+use Rattle.pair_rules.proofs.Definitions.{Message, Flow, flow_of, dpc_of, is_management, read_management, Configuration, Queue, first_queue, Saying, is_user_message, Pair, PairState, first_pair, turned, LostNothing, queue_of, set_of, each-replicate}
 use Rattle.exchange_rules.proofs.Basics.{eqb-true}
 use Rattle.exchange_rules.specs.LoneRoutes.{is_user_to}
 use Rattle.pair_moves.specs.Sayings as sayings
@@ -29,6 +29,7 @@ use Rattle.pair_rules.proofs.Standing.{AreTexts, world_of}
 use Rattle.neighbour_rules.specs.Neighbours.{Step, after_steps, end_there, users_to}
 use Rattle.neighbour_rules.specs.Promises.{Always, AreBooked, EachOnce, InOrder, accepted_there, each_flow_in_order, each_message_once, waiting, waiting_by, waiting_on}
 use Rattle.neighbour_rules.specs.Laws.{unreceived_at}
+use Rattle.neighbour_rules.proofs.Counted.{base-same, beyond-none, no_counts}
 use Rattle.neighbour_rules.proofs.World.{code_of, codes, is_between, line_of, link_at_code, says_by, says_of, shown}
 use Rattle.neighbour_rules.proofs.Messages.{word-says}
 use Rattle.neighbour_rules.proofs.Good.{Joint}
@@ -36,12 +37,12 @@ use Rattle.neighbour_rules.proofs.Lines.{at-line}
 use Rattle.neighbour_rules.proofs.Made.{not-same}
 use Rattle.neighbour_rules.proofs.Lone.{all-to}
 use Rattle.neighbour_rules.proofs.Staying.{books-stay, with_settings, written}
-use Rattle.neighbour_rules.proofs.Sharing.{AreFacing, are-facing, facing_back, far_joint, near_joint}
+use Rattle.neighbour_rules.proofs.Sharing.{AreFacing, are-facing, facing_back, far_joint, from_first, near_joint}
 use Rattle.neighbour_rules.proofs.FarEnds.{IsLine, far-own, is-line, line-known, of-no-set}
 use Rattle.neighbour_rules.proofs.First.{first-good, first-shown}
 use Rattle.neighbour_rules.proofs.Adjacents.{first-knows}
 use Rattle.neighbour_rules.proofs.Summed.{are-own, join-lines, sum-lines}
-use Rattle.neighbour_rules.proofs.Standing.{Stands}
+use Rattle.neighbour_rules.proofs.Standing.{Since, Stands, since-first}
 use Rattle.neighbour_rules.proofs.AllSteps.{stands-turned, steps-stand}
 
 -- ---- the messages of a list that are for a point
@@ -134,7 +135,7 @@ none-of-flow flow point (m ∷ ms) d = by (is_management m) (nat_eq (dpc_of m) p
 
 -- ---- after some steps
 
-module _ (c z : Configuration) (a : AreFacing c z) (q : PairState) (s : Stands c z a (with_settings c z q)) (kept : LostNothing (with_settings c z q)) where
+module _ (c z : Configuration) (a : AreFacing c z) (q : PairState) (s : Stands c z a (with_settings c z q)) (kept : Since c z a (with_settings c z q)) where
   abbrev p : PairState
   p = with_settings c z q
 
@@ -148,7 +149,7 @@ module _ (c z : Configuration) (a : AreFacing c z) (q : PairState) (s : Stands c
   read = says_of c.own z.own
 
   abbrev view : Pair
-  view = shown c z a.near_set a.far_set w
+  view = shown c z a.near_set a.far_set a.base w
 
   abbrev links : ℕ
   links = length c.links
@@ -162,9 +163,9 @@ module _ (c z : Configuration) (a : AreFacing c z) (q : PairState) (s : Stands c
   -- a law of the moves, of the pair as it is shown
   pub of-shown : (Statement : (Message → Saying) → Pair → Type 0) → theorems.Always Statement → theorems.BothWays (Statement read) view
   of-shown Statement law =
-      let shows : last_of (ends.first_pair codes) s.goes.through ≡ view = s.goes.ends in
+      let shows : last_of a.start s.goes.through ≡ view = s.goes.ends in
       subst (theorems.BothWays (Statement read)) shows
-      (law read codes s.goes.through s.goes.moves (ap (λ (x : Pair). x.near.lost) shows ∙ kept.near) (ap (λ (x : Pair). x.far.lost) shows ∙ kept.far))
+      (law read a.start s.goes.through kept.quiet s.goes.moves (ap (λ (x : Pair). x.near.lost) shows ∙ kept.near) (ap (λ (x : Pair). x.far.lost) shows ∙ kept.far))
 
   -- ---- what the far end lacks, by links and by codes
 
@@ -299,7 +300,7 @@ module _ (c z : Configuration) (a : AreFacing c z) (q : PairState) (s : Stands c
     kept-flow : (ms : List Message) → All (IsUserMessageTo z.own) ms → of_flow flow ms ≡ its ms
     kept-flow ms h = ap (of_flow flow) (sym (all-to z.own ms h)) ∙ flow-users c.own z.own sls ms
 
-    order-so : late_any p.near.exchange.node.parts ≡ false → All (IsUserMessageTo z.own) p.near.accepted → All (IsUserMessageTo z.own) p.far.received
+    order-so : nat_lt a.base.near.late p.near.exchange.node.parts.times_late ≡ false → All (IsUserMessageTo z.own) p.near.accepted → All (IsUserMessageTo z.own) p.far.received
         → of_flow flow p.near.accepted ≡ of_flow flow p.far.received ++ of_flow flow (waiting p)
     order-so punctual accepted received =
         let o : order.IsInOrder read flow view = (of-shown (λ read x. x.near.late ≡ false → (f : Flow) → order.IsInOrder read f x) each_flow_in_order-always).there punctual flow in
@@ -324,7 +325,7 @@ module _ (c z : Configuration) (a : AreFacing c z) (q : PairState) (s : Stands c
       by link (Some other) = none-of-flow flow z.own (drop (accepted_there p link other) (queue_of p.near link).all) d
       by link None = refl
 
-  pub order-there : AreBooked p → AreBooked (turned p) → IsPunctual p → InOrder p
+  pub order-there : AreBooked p → AreBooked (turned p) → nat_lt a.base.near.late p.near.exchange.node.parts.times_late ≡ false → InOrder p
   order-there near far punctual flow =
       ⊎_elim
       (λ (to : flow.point ≡ z.own).
@@ -338,10 +339,10 @@ module _ (c z : Configuration) (a : AreFacing c z) (q : PairState) (s : Stands c
 
 -- ---- always
 
-no-texts : (c : Configuration) → AreTexts c (replicate (length c.links) []) (λ link. [])
+pub no-texts : (c : Configuration) → AreTexts c (replicate (length c.links) []) (λ link. [])
 no-texts c = record { many = length-replicate (length c.links) []; each = λ link. each-replicate (λ (ts : List (List ℕ)). ts ≡ []) (length c.links) link [] refl }
 
-pub first-stands : (near far : Configuration) (a : AreFacing near far) → Stands near far a (first_pair near far)
+pub first-stands : (near far : Configuration) (a : AreFacing near far) → Stands near far (from_first near far a) (first_pair near far)
 first-stands near far a = record {
   near_settings = refl;
   far_settings = refl;
@@ -359,36 +360,37 @@ first-stands near far a = record {
   far_quiet = λ link away. record { user_data = refl; statuses = refl };
   near_alone = λ link away. each-replicate (λ (b : Bool). b ≡ false) (length near.links) link false refl;
   far_alone = λ link away. each-replicate (λ (b : Bool). b ≡ false) (length far.links) link false refl;
-  near_good = first-good near far (near_joint near far a);
-  far_good = first-good far near (far_joint near far a);
+  near_good = first-good near far (near_joint near far (from_first near far a)) (base-same no_counts);
+  far_good = first-good far near (far_joint near far (from_first near far a)) (base-same no_counts);
   goes = goes-same (says_of near.own far.own) _ _ (sym (first-shown near far a.near_set a.far_set));
 }
 
-pub all-stand : (near far : Configuration) (steps : List Step) (a : AreFacing near far) → Stands near far a (after_steps steps (first_pair near far))
-all-stand near far steps a = steps-stand near far a steps (first_pair near far) (first-stands near far a)
+pub all-stand : (near far : Configuration) (steps : List Step) (a : AreFacing near far) → Stands near far (from_first near far a) (after_steps steps (first_pair near far))
+all-stand near far steps a = steps-stand near far (from_first near far a) steps (first_pair near far) (first-stands near far a)
 
 -- a statement about one direction, that follows from what is there and from the books
 pub always : (Statement : PairState → Type 0)
-    → ((c z : Configuration) (a : AreFacing c z) (q : PairState) → Stands c z a (with_settings c z q) → LostNothing (with_settings c z q) → AreBooked (with_settings c z q) → AreBooked (turned (with_settings c z q)) → Statement (with_settings c z q))
+    → ((c z : Configuration) (a : AreFacing c z) (q : PairState) → Stands c z (from_first c z a) (with_settings c z q) → Since c z (from_first c z a) (with_settings c z q) → AreBooked (with_settings c z q) → AreBooked (turned (with_settings c z q)) → Statement (with_settings c z q))
     → Always (λ p. LostNothing p → BothWays Statement p)
 always Statement holds near far steps g kept =
     let p : PairState = after_steps steps (first_pair near far) in
     let a : AreFacing near far = are-facing near far g in
-    let s : Stands near far a p = all-stand near far steps a in
+    let s : Stands near far (from_first near far a) p = all-stand near far steps a in
     let b : BothWays AreBooked p = books-stay near far steps g in
     record {
       there = one near far a p s kept b.there b.back;
-      back = one far near (facing_back near far a) (turned p) (stands-turned near far a p s) (record { near = kept.far; far = kept.near }) b.back b.there;
+      back = one far near (facing_back near far a) (turned p) (stands-turned near far (from_first near far a) p s) (record { near = kept.far; far = kept.near }) b.back b.there;
     }
   where
-    one : (c z : Configuration) (a : AreFacing c z) (q : PairState) → Stands c z a q → LostNothing q → AreBooked q → AreBooked (turned q) → Statement q
+    one : (c z : Configuration) (a : AreFacing c z) (q : PairState) → Stands c z (from_first c z a) q → LostNothing q → AreBooked q → AreBooked (turned q) → Statement q
     one c z a q s kept near far =
         let e : q ≡ with_settings c z q = written c z q s.near_settings s.far_settings in
         subst Statement (sym e)
-        (holds c z a q (subst (Stands c z a) e s) (subst LostNothing e kept) (subst AreBooked e near) (subst (λ (x : PairState). AreBooked (turned x)) e far))
+        (holds c z a q (subst (Stands c z (from_first c z a)) e s) (since-first c z a (with_settings c z q) (subst LostNothing e kept)) (subst AreBooked e near) (subst (λ (x : PairState). AreBooked (turned x)) e far))
 
 pub each-once : each_message_once
-each-once = always EachOnce (λ c z a q s kept near far. once-there c z a q s kept near far)
+each-once = always EachOnce (λ c z a q s kept near far. once-there c z (from_first c z a) q s kept near far)
 
 pub each-in-order : each_flow_in_order
-each-in-order = always (λ p. IsPunctual p → InOrder p) (λ c z a q s kept near far. order-there c z a q s kept near far)
+each-in-order = always (λ p. IsPunctual p → InOrder p) (λ c z a q s kept near far punctual.
+    order-there c z (from_first c z a) q s kept near far (beyond-none (with_settings c z q).near.exchange.node.parts.times_late ∙ punctual))

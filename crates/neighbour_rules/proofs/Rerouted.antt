@@ -1,7 +1,7 @@
 -- What adjacent points tell of routes, and ask about them: by moves. The route to the other node stays allowed, and no
 -- hold of a rerouting is shown.
 use Rattle.pair_rules.proofs.Basics.{◌≡◌, ◌≢◌, ℕ, Bool, true, false, List, [], ◌∷◌, map, Option, Some, None, Result, Ok, Err, refl, ap, sym, subst, ◌∙◌, nat_eq, if◌then◌else◌, slice_index_or, slice_set, ⊎_elim, cases_eq, get_or-set_other, true≢false, set-get_or}
-use Rattle.pair_rules.proofs.Definitions.{Message, Outcome, Ignored, Handled, Configuration, RouteStatus, Route, first_route, HoldSet, is_own_point, Node, Parts, Standing, standing_at, Link, link_in, is_down, Codes, is_outstanding, WholeQueues, whole, lost_any, late_any, answer, with_parts, facts, StaysFit, fit-steps}
+use Rattle.pair_rules.proofs.Definitions.{Message, Outcome, Ignored, Handled, Configuration, RouteStatus, Route, first_route, HoldSet, is_own_point, Node, Parts, Standing, standing_at, Link, link_in, is_down, Codes, is_outstanding, WholeQueues, whole, answer, with_parts, facts, StaysFit, fit-steps}
 use Rattle.changeback.specs.Rerouting.{held_for, rerouted}
 use Rattle.flow_hold.specs.Holds.{with_hold}
 use Rattle.flow_hold.specs.Pairs.{pair}
@@ -40,8 +40,8 @@ record AreAlike (p q : Parts) : Type 0 where
   links : q.links ≡ p.links
   changeovers : q.changeovers ≡ p.changeovers
   codes : q.codes ≡ p.codes
-  lost : lost_any q ≡ lost_any p
-  late : late_any q ≡ late_any p
+  lost : q.times_lost ≡ p.times_lost
+  late : q.times_late ≡ p.times_late
 
 held-alike : (c : Configuration) (destination : ℕ) (selections : List ℕ) (p : Parts) → AreAlike p (held_by_rerouting c destination selections p)
 held-alike c destination [] p = record { links = refl; changeovers = refl; codes = refl; lost = refl; late = refl }

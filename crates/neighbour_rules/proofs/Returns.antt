@@ -12,6 +12,7 @@ use Rattle.pair_moves.specs.Moves as moves
 use Rattle.pair_rules.proofs.World.{World, heard, is_heard, end_of}
 use Rattle.pair_rules.proofs.Good.{IsSilent}
 use Rattle.pair_rules.proofs.Going.{Goes, goes-both, goes-none, goes-one, goes-same}
+use Rattle.neighbour_rules.proofs.Counted.{IsBase, counts_of}
 use Rattle.neighbour_rules.proofs.World.{code_of, line_of, route_of, says_of, shown, shown_by}
 use Rattle.neighbour_rules.proofs.Good.{Good, Joint, Passes, at, passes-both, passes-good, passes-none, set}
 use Rattle.neighbour_rules.proofs.Lines.{at-line, becomes, own-line}
@@ -63,10 +64,10 @@ module _ (c z : Configuration) (j : Joint c z) where
   read = says_of c.own z.own
 
   abbrev pub shown_at : World → Pair
-  shown_at w = shown c z (set c z j) j.shares.far_set w
+  shown_at w = shown c z (set c z j) j.shares.far_set j.base w
 
   abbrev pub shown_with : (Flow → Option ℕ) → World → Pair
-  shown_with routes w = shown_by c z (set c z j) j.shares.far_set routes w
+  shown_with routes w = shown_by c z (set c z j) j.shares.far_set j.base routes w
 
   -- the lines of flows by what is known of routes
   abbrev pub route_by : Facts → Flow → Option ℕ
@@ -213,6 +214,10 @@ module _ (c z : Configuration) (j : Joint c z) where
     anew-standing true other = refl
     anew-standing false other = refl
 
+    anew-counted : (again : Bool) → IsBase j.base.near (counts_of n.parts) → IsBase j.base.near (counts_of (anew again c link step n.parts))
+    anew-counted true h = h
+    anew-counted false h = h
+
     anew-good : (again : Bool) → Good c z j (now n) → Good c z j (now (with_parts n (anew again c link step n.parts)))
     anew-good again g = record {
       fits = (anew-fits again).stay g.fits;
@@ -225,6 +230,7 @@ module _ (c z : Configuration) (j : Joint c z) where
       loose = g.loose;
       arrived = g.arrived;
       coming = g.coming;
+      counted = anew-counted again g.counted;
     }
 
     -- ---- where it doesn't enter service, and is one of the two

@@ -2,9 +2,12 @@
 use Rattle.pair_rules.proofs.Basics.{◌≡◌, ◌≢◌, ◌<◌, ℕ, [], false, Some, length, nat_eq, sym}
 use Rattle.std.proofs.lemmas.List.Quantifiers.{position-Some}
 use Rattle.settings.specs.Sharing.{LeadsAlone, has_link_of}
-use Rattle.pair_rules.proofs.Definitions.{Configuration, DestinationEntry, IsWell, destination_place}
+use Rattle.pair_rules.proofs.Definitions.{Configuration, DestinationEntry, IsWell, Pair, destination_place}
+use Rattle.pair_moves.specs.Ends as ends
 use Rattle.pair_rules.specs.Sharing.{AreSharing}
 use Rattle.neighbour_rules.proofs.Bringing.{destination-far}
+use Rattle.neighbour_rules.proofs.Counted.{Base, CanGrow, no_base, none-grow, turned_base}
+use Rattle.neighbour_rules.proofs.World.{codes}
 use Rattle.neighbour_rules.proofs.Good.{Joint}
 use Rattle.neighbour_rules.proofs.Staying.{IsKnown, known}
 
@@ -28,6 +31,11 @@ pub record AreFacing (near far : Configuration) : Type 0 where
   pub back_destination : ℕ
   pub back_place : destination_place far near.own ≡ Some back_destination
   pub back_there : back_destination < length far.destinations
+  -- what the two had counted when the promise began, and the pair with which the moves between them did
+  pub base : Base
+  pub near_grows : CanGrow base.near
+  pub far_grows : CanGrow base.far
+  pub start : Pair
 
 abbrev pub near_joint : (near far : Configuration) → AreFacing near far → Joint near far
 near_joint near far a = record {
@@ -38,6 +46,8 @@ near_joint near far a = record {
   destination = a.destination;
   place = a.place;
   there = a.there;
+  base = a.base;
+  grows = a.near_grows;
 }
 
 -- the same, seen from the far node
@@ -61,10 +71,22 @@ facing_back near far a = record {
   back_destination = a.destination;
   back_place = a.place;
   back_there = a.there;
+  base = turned_base a.base;
+  near_grows = a.far_grows;
+  far_grows = a.near_grows;
+  start = ends.turned a.start;
 }
 
 abbrev pub far_joint : (near far : Configuration) → AreFacing near far → Joint far near
 far_joint near far a = near_joint far near (facing_back near far a)
+
+-- the promise begins where the two had counted this
+abbrev pub counting_from : (near far : Configuration) (b : Base) → CanGrow b.near → CanGrow b.far → AreFacing near far → AreFacing near far
+counting_from near far b near_grows far_grows a = record a { base = b; near_grows = near_grows; far_grows = far_grows }
+
+-- and where nothing was counted
+abbrev pub from_first : (near far : Configuration) → AreFacing near far → AreFacing near far
+from_first near far a = record (counting_from near far no_base none-grow none-grow a) { start = ends.first_pair codes }
 
 -- ---- of two settings
 
@@ -101,4 +123,8 @@ are-facing near far g =
       back_destination = there.destination;
       back_place = there.is;
       back_there = its-there far near g.far_well g.shares.far_set g.shares.far_leads;
+      base = no_base;
+      near_grows = none-grow;
+      far_grows = none-grow;
+      start = ends.first_pair codes;
     }

@@ -31,7 +31,7 @@ use Rattle.neighbour_rules.proofs.Good as good
 use Rattle.neighbour_rules.proofs.Good.{IsFlying}
 use Rattle.neighbour_rules.proofs.Lone.{HasOnly, all-to, has-only, heard, its-point, not-own, submitted}
 use Rattle.neighbour_rules.proofs.Promised.{each-in-order, each-once, first-stands}
-use Rattle.neighbour_rules.proofs.Sharing.{AreFacing, are-facing, facing_back}
+use Rattle.neighbour_rules.proofs.Sharing.{AreFacing, are-facing, facing_back, from_first}
 use Rattle.neighbour_rules.proofs.Standing.{Stands}
 use Rattle.neighbour_rules.proofs.Steps.{flies-back}
 use Rattle.pair_rules.proofs.Steps.{taken-there}
@@ -119,7 +119,7 @@ sharing near far g = record {
 }
 
 abbrev pub facing : (near far : Configuration) → AreJoined near far → AreFacing near far
-facing near far g = are-facing near far (sharing near far g)
+facing near far g = from_first near far (are-facing near far (sharing near far g))
 
 -- ---- what is done at the near end
 

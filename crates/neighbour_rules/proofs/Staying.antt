@@ -32,7 +32,7 @@ held-in-no-vain near far steps g =
 
 -- ---- books
 
-are-booked : (near far : Configuration) (p : PairState) → AreEnds near far p → AreBooked p
+pub are-booked : (near far : Configuration) (p : PairState) → AreEnds near far p → AreBooked p
 are-booked near far p t = record {
   accepted = subst (λ (x : Configuration). All (IsUserMessageTo x.own) p.near.accepted) (sym t.far_is.exchange.settings) t.near_is.accepted;
   received = subst (λ (x : Configuration). All (IsUserMessageTo x.own) p.near.received) (sym t.near_is.exchange.settings) t.near_is.received;

@@ -113,6 +113,7 @@ module _ (c z : Configuration) (a : AreFacing c z) where
       loose = d.loose;
       arrived = d.arrived;
       coming = flying;
+      counted = d.counted;
     }
 
     -- one more that flies

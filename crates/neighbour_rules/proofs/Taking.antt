@@ -83,6 +83,7 @@ module _ (c z : Configuration) (j : Joint c z) (w : World) (link : ℕ) where
     loose = tt;
     arrived = tt;
     coming = coming;
+    counted = g.counted;
   }
 
   -- ---- what goes out
@@ -132,7 +133,7 @@ module _ (c z : Configuration) (j : Joint c z) (w : World) (link : ℕ) where
   away-sent n apart serves = record {
     goes = λ g.
         goes-same (says_of c.own z.own) _ _
-        (sym (ap (λ (lines : ℕ → Line). record (shown c z (set c z j) j.shares.far_set (at c z j w n [] [])) { line = lines })
+        (sym (ap (λ (lines : ℕ → Line). record (shown c z (set c z j) j.shares.far_set j.base (at c z j w n [] [])) { line = lines })
         (none-becomes c z j (at c z j w n [] []) (sent_from n) [] [] link (served-listed c z n link g.fits serves) apart (λ other d. sent-other n other d))));
     good = λ g. sent-good w n g.coming (served-listed c z n link g.fits serves) g;
   }
@@ -185,6 +186,7 @@ module _ (c z : Configuration) (j : Joint c z) (w : World) (link : ℕ) where
       loose = tt;
       arrived = tt;
       coming = subst (AreFlying z c j.shares.far_set) (sym e) g.coming;
+      counted = g.counted;
     }
 
     not-down : (n : Node WholeQueues) → down n.parts link ≡ false → not (down n.parts (link_at_code c (set c z j) (code_of c link))) ≡ true

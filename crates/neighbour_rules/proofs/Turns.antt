@@ -171,13 +171,13 @@ module _ (c z : Configuration) (j : Joint c z) where
   -- ---- by moves, as flows change their lines
 
   pub record PassesBy (one two : Flow → Option ℕ) (v u : World) : Type 0 where
-    pub goes : Good c z j v → Goes (says_of c.own z.own) (shown_by c z (set c z j) j.shares.far_set one v) (shown_by c z (set c z j) j.shares.far_set two u)
+    pub goes : Good c z j v → Goes (says_of c.own z.own) (shown_by c z (set c z j) j.shares.far_set j.base one v) (shown_by c z (set c z j) j.shares.far_set j.base two u)
     pub good : Good c z j v → Good c z j u
 
   pub by-both : (one two three : Flow → Option ℕ) (u v w : World) → PassesBy one two u v → PassesBy two three v w → PassesBy one three u w
   by-both one two three u v w p q = record {
     goes = λ g.
-        goes-both (says_of c.own z.own) (shown_by c z (set c z j) j.shares.far_set one u) (shown_by c z (set c z j) j.shares.far_set two v) (shown_by c z (set c z j) j.shares.far_set three w)
+        goes-both (says_of c.own z.own) (shown_by c z (set c z j) j.shares.far_set j.base one u) (shown_by c z (set c z j) j.shares.far_set j.base two v) (shown_by c z (set c z j) j.shares.far_set j.base three w)
         (p.goes g) (q.goes (p.good g));
     good = λ g. q.good (p.good g);
   }
@@ -221,7 +221,7 @@ module _ (c z : Configuration) (j : Joint c z) where
 
     -- each flow stays, or is held
     pub stays-or-held : (other : ℕ) (v : World) (its : ends.Procedure) (holds : ends.Procedure → Flow → Bool) → ((flow : Flow) → Leaves p first.parts link other flow → holds its flow ≡ true)
-        → (flow : Flow) → StaysOrIsHeld (shown_by c z (set c z j) j.shares.far_set (route other) v) (code_of c other) its (route (suc other)) holds flow
+        → (flow : Flow) → StaysOrIsHeld (shown_by c z (set c z j) j.shares.far_set j.base (route other) v) (code_of c other) its (route (suc other)) holds flow
     stays-or-held other v its holds held flow =
         ⊎_elim
         (λ (same : route (suc other) flow ≡ route other flow). inl same)

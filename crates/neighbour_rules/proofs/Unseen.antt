@@ -1,7 +1,7 @@
 -- What isn't shown changes: timers, notices, what points are told, routes to third points, and the links that lead
 -- elsewhere. The same pair is shown.
 use Rattle.pair_rules.proofs.Basics.{◌≡◌, ◌≢◌, ◌<◌, ◌≤◌, ℕ, Bool, true, false, not, ◌&&◌, List, [], ◌∷◌, length, Option, Some, None, refl, ap, sym, subst, ◌∙◌, nat_eq, nat_lt, if◌then◌else◌, option_and_then, option_map, slice_index_or, ⊎_elim, cases_lt, get_or_past}
-use Rattle.pair_rules.proofs.Definitions.{SELECTIONS, Message, Flow, Configuration, destination_place, is_outstanding, Alignment, Link, down_link, is_down, is_in_service, chosen_link, Node, Parts, down, in_service, link_at, link_of, lost_any, late_any, WholeQueues, queue_at, changeover_of, Standing, standing_at, HoldSet, Codes, link_in, facts, set_of, first_route, Fits, StaysFit, Pair}
+use Rattle.pair_rules.proofs.Definitions.{SELECTIONS, Message, Flow, Configuration, destination_place, is_outstanding, Alignment, Link, down_link, is_down, is_in_service, chosen_link, Node, Parts, down, in_service, link_at, link_of, WholeQueues, queue_at, changeover_of, Standing, standing_at, HoldSet, Codes, link_in, facts, set_of, first_route, Fits, StaysFit, Pair}
 use Rattle.exchange_rules.proofs.Basics.{eqb-true}
 use Rattle.exchange_rules.proofs.LoneRoutes.{set-decides}
 use Rattle.flow_hold.specs.Holds as hold
@@ -10,6 +10,7 @@ use Rattle.pair_moves.specs.Sayings.{Other}
 use Rattle.pair_rules.proofs.World.{World, end_of, is_heard}
 use Rattle.pair_rules.proofs.Good.{Each, IsSilent}
 use Rattle.pair_rules.proofs.Going.{goes-same}
+use Rattle.neighbour_rules.proofs.Counted.{base-alike, counts_of}
 use Rattle.neighbour_rules.proofs.World.{code_of, holds_at, holds_of, link_at_code, procedure_of, route_of, says_of, shown}
 use Rattle.neighbour_rules.proofs.Good.{Good, IsSent, Joint, Passes, at, set}
 use Rattle.neighbour_rules.proofs.Lines.{own-line}
@@ -31,8 +32,8 @@ module _ (c z : Configuration) (j : Joint c z) where
     pub standings : (code : ℕ) → changeover_of o.parts (own code) ≡ changeover_of n.parts (own code)
     pub holds : (procedure : ends.Procedure) (sls : ℕ) → holds_at c z (set c z j) (Some j.destination) o.parts procedure sls ≡ holds_at c z (set c z j) (Some j.destination) n.parts procedure sls
     pub codes : (code : ℕ) → is_outstanding o.parts.codes (set c z j) code ≡ is_outstanding n.parts.codes (set c z j) code
-    pub lost : lost_any o.parts ≡ lost_any n.parts
-    pub late : late_any o.parts ≡ late_any n.parts
+    pub lost : o.parts.times_lost ≡ n.parts.times_lost
+    pub late : o.parts.times_late ≡ n.parts.times_late
     pub route : IsOpen n → IsOpen o
     pub unawaited : ((link : ℕ) → down n.parts link ≡ false → (changeover_of n.parts link).awaited ≡ false) → (link : ℕ) → down o.parts link ≡ false → (changeover_of o.parts link).awaited ≡ false
     pub silent : ((link : ℕ) → IsSilent (link_at n.parts link)) → (link : ℕ) → IsSilent (link_at o.parts link)
@@ -92,9 +93,9 @@ module _ (c z : Configuration) (j : Joint c z) where
 
     module _ (w : World) (arrived loose : List Message) where
       abbrev before : Pair
-      before = shown c z (set c z j) j.shares.far_set (at c z j w n arrived loose)
+      before = shown c z (set c z j) j.shares.far_set j.base (at c z j w n arrived loose)
 
-      shown-same : Good c z j (at c z j w n arrived loose) → shown c z (set c z j) j.shares.far_set (at c z j w o arrived loose) ≡ before
+      shown-same : Good c z j (at c z j w n arrived loose) → shown c z (set c z j) j.shares.far_set j.base (at c z j w o arrived loose) ≡ before
       shown-same g = λ i. record before {
         line = λ code. record (before.line code) { near = end-same code i };
         near = record before.near {
@@ -102,8 +103,8 @@ module _ (c z : Configuration) (j : Joint c z) where
           route = λ flow. route-same g.fits g.route flow i;
           holds = λ procedure flow. holds-same procedure flow i;
           outstanding = λ code. u.codes code i;
-          lost = u.lost i;
-          late = u.late i;
+          lost = ap (nat_lt j.base.near.lost) u.lost i;
+          late = ap (nat_lt j.base.near.late) u.late i;
         };
       }
 
@@ -121,17 +122,18 @@ module _ (c z : Configuration) (j : Joint c z) where
           loose = g.loose;
           arrived = g.arrived;
           coming = g.coming;
+          counted = base-alike j.base.near (counts_of n.parts) (counts_of o.parts) u.lost u.late g.counted;
         };
       }
 
-  -- ---- parts that concern no link, no flow to the other, and no flag
+  -- ---- parts that concern no link, no flow to the other, and no count
 
   module _ (w : World) (n : Node WholeQueues) (arrived loose : List Message) (p : Parts) where
     abbrev left : Node WholeQueues
     left = record n { parts = p }
 
     pub aside-passes : StaysFit c n left → p.links ≡ n.parts.links → p.changeovers ≡ n.parts.changeovers → p.holds ≡ n.parts.holds → p.codes ≡ n.parts.codes
-        → lost_any p ≡ lost_any n.parts → late_any p ≡ late_any n.parts → (IsOpen n → IsOpen left) → Passes c z j (at c z j w n arrived loose) (at c z j w left arrived loose)
+        → p.times_lost ≡ n.parts.times_lost → p.times_late ≡ n.parts.times_late → (IsOpen n → IsOpen left) → Passes c z j (at c z j w n arrived loose) (at c z j w left arrived loose)
     aside-passes stay links changeovers holds codes lost late route = unseen-passes n left (record {
       fits = stay;
       queues = refl;

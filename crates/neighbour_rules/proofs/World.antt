@@ -4,7 +4,7 @@
 use Rattle.pair_rules.proofs.Basics.{◌≡◌, ℕ, Bool, true, false, ◌&&◌, ◌||◌, Option, Some, None, Result, Ok, Err, length, nat_eq, nat_lt, refl, ap, ◌∙◌, if◌then◌else◌, option_map}
 use Rattle.std.specs.List.{position_or_len}
 use Rattle.std.specs.Prelude.{map}
-use Rattle.pair_rules.proofs.Definitions.{SELECTIONS, Message, dpc_of, is_management, Flow, Configuration, read_management, MgmtFault, Management, Procedure, is_outstanding, Parts, lost_any, late_any, destination_place, entry_of, link_of, Saying, UserMessage, Order, Answer, Declaration, Confirmation, LinkEnd, Line, Side, Pair}
+use Rattle.pair_rules.proofs.Definitions.{SELECTIONS, Message, dpc_of, is_management, Flow, Configuration, read_management, MgmtFault, Management, Procedure, is_outstanding, Parts, destination_place, entry_of, link_of, Saying, UserMessage, Order, Answer, Declaration, Confirmation, LinkEnd, Line, Side, Pair}
 use Rattle.settings.specs.Sharing.{is_link_of}
 use Rattle.mtp3_codec.specs.declared.management.Management.TheVariants as says
 use Rattle.flow_hold.specs.Holds as hold
@@ -13,6 +13,7 @@ use Rattle.pair_moves.specs.Ends as ends
 use Rattle.pair_moves.specs.Sayings.{Other}
 use Rattle.pair_rules.proofs.World.{Mid, World, end_of, frame_of, turned_world}
 use Rattle.neighbour_rules.specs.Neighbours.{is_management_between}
+use Rattle.neighbour_rules.proofs.Counted.{Base, Counts, turned_base}
 
 -- ---- what messages say to the two
 
@@ -97,8 +98,9 @@ module _ (c z : Configuration) (set : ℕ) where
   abbrev pub route_of : Parts → Flow → Option ℕ
   route_of p flow = if nat_eq flow.point z.own && nat_lt flow.sls SELECTIONS then option_map (code_of c) (link_of c p flow) else None
 
-  abbrev pub side_by : (Flow → Option ℕ) → Mid → Side
-  side_by route m = record {
+  -- what it lost, and what went late, counts from a base on
+  abbrev pub side_by : Counts → (given_up : ℕ → Bool) → (Flow → Option ℕ) → Mid → Side
+  side_by base given_up route m = record {
     accepted = m.accepted;
     received = m.received;
     arrived = m.arrived;
@@ -107,8 +109,9 @@ module _ (c z : Configuration) (set : ℕ) where
     route = route;
     holds = holds_of m.node.parts;
     outstanding = λ code. is_outstanding m.node.parts.codes set code;
-    lost = lost_any m.node.parts;
-    late = late_any m.node.parts;
+    given_up = given_up;
+    lost = nat_lt base.lost m.node.parts.times_lost;
+    late = nat_lt base.late m.node.parts.times_late;
   }
 
   abbrev pub end_at : Mid → (code : ℕ) → LinkEnd
@@ -133,17 +136,17 @@ module _ (c z : Configuration) (near_set far_set : ℕ) where
       }
 
   -- where the near node's flows take these lines
-  abbrev pub shown_by : (Flow → Option ℕ) → World → Pair
-  shown_by route w = record {
+  abbrev pub shown_by : Base → (Flow → Option ℕ) → World → Pair
+  shown_by base route w = record {
     links = codes;
     line = line_of w;
-    near = side_by c z near_set route w.near;
-    far = side_by z c far_set (route_of z c far_set w.far.node.parts) w.far;
+    near = side_by c z near_set base.near base.near_given_up route w.near;
+    far = side_by z c far_set base.far base.far_given_up (route_of z c far_set w.far.node.parts) w.far;
   }
 
-  abbrev pub shown : World → Pair
-  shown w = shown_by (route_of c z near_set w.near.node.parts) w
+  abbrev pub shown : Base → World → Pair
+  shown base w = shown_by base (route_of c z near_set w.near.node.parts) w
 
 -- what is shown, as the far node sees it
-pub shown-turned : (c z : Configuration) (near_set far_set : ℕ) (w : World) → shown z c far_set near_set (turned_world w) ≡ ends.turned (shown c z near_set far_set w)
-shown-turned c z near_set far_set w = refl
+pub shown-turned : (c z : Configuration) (near_set far_set : ℕ) (base : Base) (w : World) → shown z c far_set near_set (turned_base base) (turned_world w) ≡ ends.turned (shown c z near_set far_set base w)
+shown-turned c z near_set far_set base w = refl

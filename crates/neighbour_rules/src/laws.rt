@@ -3,7 +3,9 @@
 //! contract, and does nothing.
 
 ghost use Rattle.pair_rules.specs.Deliveries.{deliveries_tell};
+ghost use Rattle.neighbour_rules.specs.AfterRestart.{ComesAfterRestart};
 ghost use Rattle.neighbour_rules.specs.Alone.{alone_is_special};
+ghost use Rattle.neighbour_rules.specs.Anew.{pairs_begin_quietly, promises_begin_anew};
 ghost use Rattle.neighbour_rules.specs.Awaiting.{nothing_is_awaited_in_vain, nothing_is_held_in_vain};
 ghost use Rattle.neighbour_rules.specs.Laws.{frames_carry, none_is_left, words_are_final};
 ghost use Rattle.neighbour_rules.specs.Laws.{moves_are_lacked};
@@ -23,6 +25,16 @@ pub fn each_message_comes_once()
 /// in order, those that the other received, and then those that wait.
 pub fn each_flow_keeps_its_order()
     ensures { each_flow_in_order }
+{}
+
+/// Both promises begin anew whenever nothing is left between the two, whatever was lost before, and however often either
+/// node has started again: while each link between them may open at both ends, neither of which may follow the other,
+/// and no message between the two is in Held. Of what is accepted from then on "Exactly once" holds until either node
+/// counts one loss more, and "Order" until the accepting one ends a hold by a timer besides. Two newly booted exchanges
+/// are such a pair.
+pub fn promises_begin_anew()
+    ensures anew { promises_begin_anew }
+    ensures first { pairs_begin_quietly }
 {}
 
 /// Law (i), of a link between the two and either direction. While the link is up at either end, and until the near
@@ -80,6 +92,12 @@ pub fn a_pair_alone_is_the_special_case()
 /// raised.
 pub fn a_message_comes_from_a_third_node()
     ensures { GoesOn }
+{}
+
+/// Nor is what begins anew. In a run of 46 steps a node starts again while a link to it is in service, and the other gives
+/// up what it may have lost. Nothing is left between them then; the link returns, and a message crosses it, once.
+pub fn a_message_comes_after_a_restart()
+    ensures { ComesAfterRestart }
 {}
 
 /// All that an end booked as accepted is for the point of the other end, all that it booked as received

@@ -11,7 +11,7 @@ use Rattle.pair_rules.proofs.Good.{Each, each-get}
 use Rattle.neighbour_rules.specs.Neighbours as neighbours
 use Rattle.neighbour_rules.specs.Neighbours.{leads_elsewhere, speaks_for_either}
 use Rattle.neighbour_rules.proofs.World.{says_of}
-use Rattle.neighbour_rules.proofs.Sharing.{AreFacing, are-facing, far_joint, near_joint}
+use Rattle.neighbour_rules.proofs.Sharing.{AreFacing, are-facing, far_joint, from_first, near_joint}
 use Rattle.neighbour_rules.proofs.Standing.{Stands}
 use Rattle.neighbour_rules.proofs.AllSteps.{steps-stand}
 use Rattle.network_rules.specs.Networks.{NetworkState, Step, after_step, after_steps, first_network}
@@ -33,7 +33,7 @@ module _ (settings : (point : ℕ) → Configuration) (near far : ℕ) (points :
   z = settings far
 
   a : AreFacing c z
-  a = are-facing c z sharing
+  a = from_first c z (are-facing c z sharing)
 
   apart : near ≢ far
   apart = are-apart settings near far points sharing
@@ -151,6 +151,7 @@ module _ (settings : (point : ℕ) → Configuration) (near far : ℕ) (points :
       }
 
   all-goes : (steps : List Step) → Goes (after_steps steps (first_network settings)) (first_pair c z)
+  unfolding a
   all-goes steps = goes steps (first_network settings) (first_pair c z) first-calm (first-stands c z a) (first-alike settings near far)
 
   run-of : (steps : List Step) → IsRunOfNeighbours (pair_of (after_steps steps (first_network settings)) near far)

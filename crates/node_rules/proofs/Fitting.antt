@@ -23,7 +23,7 @@ use Rattle.pair_rules.specs.Pairs.{PairState, first_pair}
 use Rattle.pair_rules.proofs.Good.{Each, each-get}
 use Rattle.neighbour_rules.specs.Neighbours.{after_steps}
 use Rattle.neighbour_rules.proofs.Good.{IsSent, made, accepted, passes_by}
-use Rattle.neighbour_rules.proofs.Sharing.{AreFacing}
+use Rattle.neighbour_rules.proofs.Sharing.{AreFacing, from_first}
 use Rattle.neighbour_rules.proofs.Standing.{Stands}
 use Rattle.neighbour_rules.proofs.Promised.{all-stand}
 use Rattle.node_rules.specs.Worlds.{Make, World, new_world, last_world}
@@ -111,7 +111,7 @@ module _ (c z : Configuration) (set link : ℕ) (a : Abstract) (queued : Each (I
 pub run-short : (near far : Make) (f : AreFacing near.configuration far.configuration) (w : World) → IsRun near far f w → BothAreShort w
 run-short near far f w r =
     let p : PairState = after_steps r.steps (first_pair near.configuration far.configuration) in
-    let s : Stands near.configuration far.configuration f p = all-stand near.configuration far.configuration r.steps f in
+    let s : Stands near.configuration far.configuration (from_first near.configuration far.configuration f) p = all-stand near.configuration far.configuration r.steps f in
     record {
       near = λ link. subst (λ (a : Abstract). (frame : FrameValue) → frame_to_take whole a link ≡ Some frame → IsShort frame) (sym r.meets.shows.near_has.exchange)
           (taken-short near.configuration far.configuration f.near_set link p.near.exchange (s.near_good.queued link));

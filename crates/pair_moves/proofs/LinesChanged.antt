@@ -1,6 +1,6 @@
 -- An end that fails, completes its changeover, opens or enters service keeps law (i); and law (iv).
 use Rattle.pair_moves.proofs.Basics.{◌≡◌, ◌⊎◌, inl, inr, ℕ, zero, suc, Bool, true, false, not, ◌||◌, ◌&&◌, ◌≤◌, List, [], drop, Option, refl, ap, sym, ◌∙◌, subst, arith}
-use Rattle.pair_moves.proofs.Definitions.{Message, WINDOW, Queue, first_queue, named_count, last_accepted, sound-first, sound-emptied, Frame, LinkEnd, Line, turned_line, closed_end, closed_line, with_failure, with_completion, without_wait, opened_end, opened_first, opened_second, MayOpen, with_service, Carry, Name, Flows, IsEnd, OpenedAlone, is_in_use, NamesReceived, WaitsRightly}
+use Rattle.pair_moves.proofs.Definitions.{Message, WINDOW, Queue, first_queue, named_count, last_accepted, sound-first, sound-emptied, Frame, LinkEnd, Line, turned_line, with_failure, with_completion, without_wait, opened_end, opened_first, opened_second, MayOpen, with_service, Carry, Name, Flows, IsEnd, OpenedAlone, is_in_use, NamesReceived, WaitsRightly}
 use Rattle.std.specs.Prelude.{unwrap_or}
 use Rattle.pair_moves.proofs.Frames.{named-there}
 use Rattle.pair_moves.proofs.Lines.{IsLine, false_is_true, true_is_false, both, or-first, or-third, none-of, none-first, none-second, none-of_two, not-without, used-by, none-may, up-first, incomplete-joined, incomplete-first}
@@ -222,25 +222,3 @@ waits z false e h =
 
 pub line-waits : (z : Line) → IsLine z → WaitsRightly z
 line-waits z h = waits z (is_in_use z) refl h
-
--- ---- the first pair's lines
-
-pub line-closed : IsLine closed_line
-line-closed = record {
-  near = closed;
-  far = closed;
-  there = λ e. false_is_true e;
-  back = λ e. false_is_true e;
-  first = λ n. false_is_true n;
-  second = λ n. false_is_true n;
-}
-  where
-    closed : IsEnd closed_end
-    closed = record {
-      queue = sound-first WINDOW (omega arith);
-      base = refl;
-      serving = λ e. e;
-      incomplete = λ e. refl;
-      awaited = λ e. refl;
-      idle = λ e. refl;
-    }

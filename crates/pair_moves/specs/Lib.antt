@@ -6,6 +6,7 @@ pub mod Returning
 pub mod Failing
 pub mod Moves
 pub mod Flowing
+pub mod Quiet
 pub mod Laws
 pub mod Once
 pub mod Order

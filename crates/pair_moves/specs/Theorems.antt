@@ -3,12 +3,13 @@ use Rattle.std.specs.Prelude.{◌≡◌, ℕ, true, false, ◌+◌, List, drop, 
 use Rattle.signalling_types.specs.Message.{Message}
 use Rattle.signalling_types.specs.declared.point.Flow.{Flow}
 use Rattle.pair_moves.specs.Sayings.{Saying, is_order, is_answer}
-use Rattle.pair_moves.specs.Ends.{Pair, turned, first_pair, unreceived}
+use Rattle.pair_moves.specs.Ends.{Pair, turned, unreceived}
 use Rattle.pair_moves.specs.Carrying.{TakesMessage}
 use Rattle.pair_moves.specs.Failing.{CompletesByOrder, CompletesByAnswer}
 use Rattle.pair_moves.specs.Returning.{MayOpen}
 use Rattle.pair_moves.specs.Moves.{Moves, last_of}
 use Rattle.pair_moves.specs.Flowing.{IsFlowing, OpensAlone, IsEnd, NamesReceived, WaitsRightly}
+use Rattle.pair_moves.specs.Quiet.{IsQuiet}
 use Rattle.pair_moves.specs.Laws.{OrdersAreAwaited, WordsAreTrue, CodesAreOutstanding, under_way, saying}
 use Rattle.pair_moves.specs.Once.{EachOnce}
 use Rattle.pair_moves.specs.Order.{IsInOrder}
@@ -18,14 +19,13 @@ pub record BothWays (Statement : Pair → Type 0) (p : Pair) : Type 0 where
   pub there : Statement p
   pub back : Statement (turned p)
 
--- and it does so after every list of moves from the first pair on, however messages are read, while
+-- and it does so after every list of moves from every quiet pair on, as the first is, however messages are read, while
 -- neither node lost anything
 abbrev pub Always : ((Message → Saying) → Pair → Type 0) → Type 0
 Always Statement =
-    (read : Message → Saying) (links : ℕ) (pairs : List Pair) → Moves read (first_pair links) pairs →
-    (last_of (first_pair links) pairs).near.lost ≡ false →
-    (last_of (first_pair links) pairs).far.lost ≡ false →
-    BothWays (Statement read) (last_of (first_pair links) pairs)
+    (read : Message → Saying) (start : Pair) (pairs : List Pair) → IsQuiet read start → Moves read start pairs →
+    (last_of start pairs).near.lost ≡ false →
+    (last_of start pairs).far.lost ≡ false → BothWays (Statement read) (last_of start pairs)
 
 -- law (i), and what holds in place of it; how the ends of a link are; a message that comes is the first that its end
 -- lacked
@@ -87,9 +87,17 @@ answers_move_what_is_lacked =
     (q : Pair) (m : CompletesByAnswer read p q) →
     drop m.count (p.line m.link).near.queue.all ≡ unreceived (p.line m.link))
 
--- the law of codes
+-- the law of codes; and none is given up later
 abbrev pub codes_are_outstanding : Type 0
 codes_are_outstanding = Always CodesAreOutstanding
+
+abbrev pub none_is_given_up : Type 0
+none_is_given_up =
+    (read : Message → Saying) (start : Pair) (pairs : List Pair) → IsQuiet read start → Moves read start pairs →
+    (last_of start pairs).near.lost ≡ false →
+    (last_of start pairs).far.lost ≡ false →
+    ((last_of start pairs).near.given_up ≡ start.near.given_up)
+    × ((last_of start pairs).far.given_up ≡ start.far.given_up)
 
 -- "Exactly once"
 abbrev pub each_message_once : Type 0

@@ -17,10 +17,10 @@ use Rattle.pair_rules.specs.OneEndFirst as run
 
 -- ---- whether the message waits
 
-abbrev Free : HoldSet → Type 0
+abbrev pub Free : HoldSet → Type 0
 Free h = (procedure : Procedure) → holds h procedure 0 0 ≡ false
 
-none-held : (h : HoldSet) → Free h → is_held h 0 0 ≡ false
+pub none-held : (h : HoldSet) → Free h → is_held h 0 0 ≡ false
 none-held h none = by (is_held h 0 0) refl
   where
     by : (b : Bool) → is_held h 0 0 ≡ b → b ≡ false
@@ -61,7 +61,7 @@ free-flows h procedure test f t = λ one.
     (λ d. flows_leave h procedure one test 0 0 d ∙ f one)
 
 -- what a procedure held is lifted
-free-lifted : (h : HoldSet) (procedure : Procedure) (test : (destination sls : ℕ) → Bool) → Free h → Free (lifted (with_flows h procedure test) procedure)
+pub free-lifted : (h : HoldSet) (procedure : Procedure) (test : (destination sls : ℕ) → Bool) → Free h → Free (lifted (with_flows h procedure test) procedure)
 free-lifted h procedure test f = λ one.
     contains-lifted (with_flows h procedure test) procedure (record { procedure = one; destination = 0; sls = 0 })
     ∙ either one procedure
