@@ -108,3 +108,5 @@ pub mod CarriedMessages
 pub mod RuleExamples
 pub mod ProvedFirst
 pub mod ProvedAll
+pub mod Inhibited
+pub mod InhibitedTicks

@@ -18,6 +18,18 @@ use Rattle.exchange_rules.proofs.SteppingEvents.{IsOf, carry-steps, apply-steps,
 use Rattle.exchange_rules.proofs.ProvedFirst.{Climbs, Hears, Keeps, alike-keeps, both-climb, both-hear, both-keep, each-leads, frame-hears, is_expiry, is_low, keeps-climbs, keeps-hears, leads, low-keeps, other-keeps, same-keeps, timed-climbs}
 use Rattle.exchange_rules.proofs.Asked.{any}
 
+-- a timer of no link
+pub no-link : (due : TimerName) (link : ℕ) (its : LinkTimer) → is_of_link due ≡ false → due ≡ timer_name link its → ⊥
+no-link due link its e f = (let no : is_of_link (timer_name link its) ≡ false = ap is_of_link (sym f) ∙ e in is-one its no)
+  where
+    is-one : (t : LinkTimer) → is_of_link (timer_name link t) ≡ false → ⊥
+    is-one timer.L1 h = absurd cc
+    is-one timer.L2 h = absurd cc
+    is-one timer.L3 h = absurd cc
+    is-one timer.L4 h = absurd cc
+    is-one timer.L6 h = absurd cc
+    is-one timer.L7 h = absurd cc
+
 module _ (c : Configuration) (l : ℕ) where
   keep-steps : IsOfSteps c (but l) any (Keeps l)
   keep-steps = record {
@@ -76,21 +88,10 @@ module _ (c : Configuration) (l : ℕ) where
       by (inl same) = subst (λ (k : ℕ). Climbing n (run_out whole c k its n)) (sym same) (run_own-climbs (action_at (link_at n.parts l).alignment (Expiry its)) its n refl)
       by (inr apart) = keeps-climbs l n _ (run_out-steps keeps link its n apart)
 
-  no-link : (due : TimerName) (link : ℕ) (its : LinkTimer) → is_of_link due ≡ false → due ≡ timer_name link its → but l link
-  no-link due link its e f = absurd (let no : is_of_link (timer_name link its) ≡ false = ap is_of_link (sym f) ∙ e in is-one its no)
-    where
-      is-one : (t : LinkTimer) → is_of_link (timer_name link t) ≡ false → ⊥
-      is-one timer.L1 h = absurd cc
-      is-one timer.L2 h = absurd cc
-      is-one timer.L3 h = absurd cc
-      is-one timer.L4 h = absurd cc
-      is-one timer.L6 h = absurd cc
-      is-one timer.L7 h = absurd cc
-
   other-climbs : (due : TimerName) (n : Node WholeQueues) → is_of_link due ≡ false → Climbing n (run_timer whole c due n)
-  other-climbs due n e = keeps-climbs l n _ (run_timer-steps keeps due n (λ link its f. no-link due link its e f))
+  other-climbs due n e = keeps-climbs l n _ (run_timer-steps keeps due n (λ link its f. absurd (no-link due link its e f)))
 
-  due-climbs : (due : Option TimerName) (n : Node WholeQueues) → Climbing n (run_due whole c due n)
+  pub due-climbs : (due : Option TimerName) (n : Node WholeQueues) → Climbing n (run_due whole c due n)
   due-climbs None n = keeps-climbs l n n (same-keeps l n n refl)
   due-climbs (Some (name.L1 link)) n = run_out-climbs link timer.L1 n
   due-climbs (Some (name.L2 link)) n = run_out-climbs link timer.L2 n

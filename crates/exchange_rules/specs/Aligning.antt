@@ -62,11 +62,15 @@ state_of p link = (link_at p link).alignment
 abbrev pub IsFrameOf : (link : ℕ) → Happening → Type 0
 IsFrameOf link what = (text : List ℕ) × (what ≡ FrameCame link text)
 
--- A link enters service only at a tick, if it was being proved and its peer was ready, or by a frame, if its proving
--- had ended. Its proving ends only at a tick.
+-- a link may enter service by an event: at a tick, if it was being proved and its peer was ready, or by a frame, if its
+-- proving had ended
+abbrev pub MayEnter : (link : ℕ) → Happening → Alignment → Type 0
+MayEnter link what before =
+    ((what ≡ Ticked) × (before ≡ Proving true)) ⊎ (IsFrameOf link what × (before ≡ AlignedReady))
+
+-- A link enters service only where it may. Its proving ends only at a tick.
 pub record IsProvedFirst (what : Happening) (link : ℕ) (before after : Alignment) : Type 0 where
-  pub enters : after ≡ InService → before ≢ InService →
-      ((what ≡ Ticked) × (before ≡ Proving true)) ⊎ (IsFrameOf link what × (before ≡ AlignedReady))
+  pub enters : after ≡ InService → before ≢ InService → MayEnter link what before
   pub ends : after ≡ AlignedReady → before ≢ AlignedReady → (what ≡ Ticked) × (before ≡ Proving false)
 
 abbrev pub links_are_proved_first : Type 0

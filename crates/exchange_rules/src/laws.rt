@@ -30,7 +30,7 @@ ghost use Rattle.exchange_rules.specs.LawsOfFailures.{failures_hold_their_flows,
 ghost use Rattle.exchange_rules.specs.LawsOfFailures.{idle_failures_hold_nothing, idle_failures_by_peer_hold_nothing};
 ghost use Rattle.exchange_rules.specs.LawsOfReturns.{entries_hold_changed_flows, changed_flows_are_held};
 ghost use Rattle.exchange_rules.specs.LawsOfAnswers.{wanted_links_open, queued_stands_last};
-ghost use Rattle.exchange_rules.specs.LawsOfAnswers.{one_answer_within_t8};
+ghost use Rattle.exchange_rules.specs.LawsOfAnswers.{one_answer_within_t8, t8_runs_its_time, takes_leave_t8};
 ghost use Rattle.exchange_rules.specs.LawsOfReturns.{returns_keep_holds};
 ghost use Rattle.exchange_rules.specs.LawsOfReturns.{flows_return_by_their_procedures, entries_are_returns};
 
@@ -77,9 +77,12 @@ pub fn queued_messages_stand_last()
 {}
 
 /// While T8 of a set and a destination runs, no message from the set that finds no route to the destination is answered
-/// with TFP; and where one is, T8 runs from then on, as long as it is set to (Q.704 §13.2).
+/// with TFP; and where one is, T8 runs from then on, as long as it is set to (Q.704 §13.2). It stops only at a tick, as
+/// it runs out, or as the set comes back: as one of its links enters service, and none of them was in service.
 pub fn no_message_is_answered_while_t8_runs()
-    ensures { one_answer_within_t8 }
+    ensures answered { one_answer_within_t8 }
+    ensures event { t8_runs_its_time }
+    ensures take { takes_leave_t8 }
 {}
 
 /// The move of a completed changeover touches the queue of no other link. In Held the messages that it moves stand
