@@ -1,6 +1,6 @@
 -- T8 of a set and a destination runs until it runs out, or its set comes back.
-use Rattle.exchange_rules.proofs.Basics.{◌≡◌, ◌≢◌, ◌⊎◌, inl, inr, ℕ, Bool, true, false, ◌&&◌, not, Result, Ok, Err, refl, ap, sym, subst, ◌∙◌, ⊎_elim, cases_eq, if◌then◌else◌}
-use Rattle.exchange_rules.proofs.Definitions.{Configuration, Action, Alignment, Input, Expiry, Status, UserData, Transition, state_number, action_at, LinkStatus, LinkTimer, Running, FrameFault, FrameValue, EmptyFrame, MessageFrame, StatusFrame, is_in_service, Parts, Node, with_parts, answer, refuse, Ignored, link_at, in_service, set_of, has_other, step_on, begun_anew_if, moved_on, enters, advance, timed_busy, timed_busy_ended, is_running, Carrying, empty_data, message_data, numbers, act_by_data, act_by_status, serve_status, read, WholeQueues, whole}
+use Rattle.exchange_rules.proofs.Basics.{◌≡◌, ◌≢◌, ◌⊎◌, inl, inr, ℕ, List, Bool, true, false, ◌&&◌, not, Result, Ok, Err, refl, ap, sym, subst, ◌∙◌, ⊎_elim, cases_eq, if◌then◌else◌}
+use Rattle.exchange_rules.proofs.Definitions.{Configuration, Action, Alignment, Input, Expiry, Status, UserData, Transition, action_at, LinkStatus, LinkTimer, Running, FrameFault, FrameValue, EmptyFrame, MessageFrame, StatusFrame, read_frame, FrameCame, is_in_service, Parts, Node, with_parts, answer, refuse, Ignored, link_at, in_service, set_of, has_other, step_on, begun_anew_if, moved_on, enters, advance, timed_busy, timed_busy_ended, is_running, Carrying, empty_data, message_data, numbers, act_by_data, act_by_status, serve_status, read, WholeQueues, whole}
 use Rattle.signalling_types.specs.declared.cause.Cause.TheVariants as causes
 use Rattle.signalling_types.specs.declared.notice.FailureReason.TheVariants as reasons
 use Rattle.m2pa_codec.specs.declared.status.LinkStatus.TheVariants as says
@@ -8,9 +8,11 @@ use Rattle.link.specs.declared.action.Action.TheVariants as act
 use Rattle.link.specs.declared.action.LinkTimer.TheVariants as timer
 use Rattle.link.specs.declared.alignment.Alignment.TheVariants.{Down, NotAligned, Aligned, Proving, AlignedReady, InService}
 use Rattle.timers.specs.declared.name.TimerName.TheVariants.{T8}
-use Rattle.exchange_rules.specs.Aligning.{state_of}
+use Rattle.exchange_rules.specs.Aligning.{Carries, Says, state_of}
 use Rattle.exchange_rules.proofs.Asked.{any}
-use Rattle.exchange_rules.proofs.ProvedFirst.{each-leads, frame-hears, is_expiry, leads, timed-climbs}
+use Rattle.exchange_rules.proofs.ProvedFirst.{each-leads, frame-hears, kind_of, no-data, no-timer, timer-climbs}
+use Rattle.exchange_rules.proofs.ProvedEvents.{says-of}
+use Rattle.m2pa_codec.specs.Frames.{status_number}
 use Rattle.exchange_rules.proofs.Serving.{data-serves}
 use Rattle.exchange_rules.proofs.SettingTimers.{Sets, sets-rules}
 use Rattle.exchange_rules.proofs.SteppingEvents.{handle_by-steps, leave_aside-steps}
@@ -41,30 +43,19 @@ first-enters true b e = refl
 first-enters false b e = absurd cc
 
 -- of a state that isn't in service: a frame leads there from AlignedReady, L4 from Proving
-by-frame : (x : Alignment) (input : Input) (step : Transition) → is_expiry input ≡ false → action_at x input ≡ act.Go step → (is_in_service step.state && not (is_in_service x)) ≡ true → x ≡ AlignedReady
-by-frame x input step e f g =
-    let parts = enters-serving (is_in_service step.state) (is_in_service x) g in
-    ⊎_elim (λ (k : x ≡ AlignedReady). k) (λ (k : x ≡ InService). no-way (is_in_service x) (ap is_in_service k) parts.1)
-    ((frame-hears x step.state (ap (λ (b : Bool). leads b (state_number x) (state_number step.state)) (sym e) ∙ each-leads x input step f)).serves (serving-is step.state parts.0))
+by-frame : (x : Alignment) (input : Input) (step : Transition) → (kind_of input ≡ 10 → ⊥) → action_at x input ≡ act.Go step → (is_in_service step.state && not (is_in_service x)) ≡ true
+    → ((kind_of input ≡ 4) ⊎ (kind_of input ≡ 0)) × (x ≡ AlignedReady)
+by-frame x input step frame e f =
+    let parts = enters-serving (is_in_service step.state) (is_in_service x) f in
+    ⊎_elim (λ (k : x ≡ InService). no-way (is_in_service x) (ap is_in_service k) parts.1) (λ (k : ((kind_of input ≡ 4) ⊎ (kind_of input ≡ 0)) × (x ≡ AlignedReady)). k)
+    ((frame-hears (kind_of input) x step.state frame (each-leads x input step e)).serves (serving-is step.state parts.0))
 
-pub by-timer : (x : Alignment) (its : LinkTimer) (step : Transition) → action_at x (Expiry its) ≡ act.Go step → (is_in_service step.state && not (is_in_service x)) ≡ true → (x ≡ Proving true) × (its ≡ timer.L4)
-by-timer x its step f g = (from, only its (ap (λ (y : Alignment). action_at y (Expiry its)) (sym from) ∙ f))
-  where
-    parts : (is_in_service step.state ≡ true) × (is_in_service x ≡ false)
-    parts = enters-serving (is_in_service step.state) (is_in_service x) g
-
-    from : x ≡ Proving true
-    from =
-        ⊎_elim (λ (k : x ≡ InService). no-way (is_in_service x) (ap is_in_service k) parts.1) (λ (k : x ≡ Proving true). k)
-        ((timed-climbs x step.state (each-leads x (Expiry its) step f)).serves (serving-is step.state parts.0))
-
-    only : (t : LinkTimer) → action_at (Proving true) (Expiry t) ≡ act.Go step → t ≡ timer.L4
-    only timer.L4 h = refl
-    only timer.L1 h = absurd cc
-    only timer.L2 h = absurd cc
-    only timer.L3 h = absurd cc
-    only timer.L6 h = absurd cc
-    only timer.L7 h = absurd cc
+pub by-timer : (x : Alignment) (its : LinkTimer) (step : Transition) → action_at x (Expiry its) ≡ act.Go step → (is_in_service step.state && not (is_in_service x)) ≡ true
+    → (its ≡ timer.L4) × (x ≡ Proving true)
+by-timer x its step e f =
+    let parts = enters-serving (is_in_service step.state) (is_in_service x) f in
+    ⊎_elim (λ (k : x ≡ InService). no-way (is_in_service x) (ap is_in_service k) parts.1) (λ (k : (its ≡ timer.L4) × (x ≡ Proving true)). k)
+    ((timer-climbs (its ≡ timer.L4) its x step.state (λ g. g) (each-leads x (Expiry its) step e)).serves (serving-is step.state parts.0))
 
 module _ (c : Configuration) (s d : ℕ) where
   abbrev pub Runs : Node WholeQueues → Type 0
@@ -126,15 +117,22 @@ module _ (c : Configuration) (s d : ℕ) where
 
   -- ---- a frame
 
-  module _ (l : ℕ) where
+  module _ (l : ℕ) (text : List ℕ) where
+    abbrev Said : Type 0
+    Said = Says l says.Ready (FrameCame l text) ⊎ Carries l (FrameCame l text)
+
     -- the set comes back by a frame of the link
     pub record Returns (n : Node WholeQueues) : Type 0 where
       pub of_set : set_of c l ≡ s
+      pub said : Said
       pub ready : state_of n.parts l ≡ AlignedReady
       pub first : has_other c l n.parts ≡ false
 
-    returns : (input : Input) (step : Transition) (n : Node WholeQueues) → is_expiry input ≡ false → action_at (link_at n.parts l).alignment input ≡ act.Go step → Enters l step n → Returns n
-    returns input step n e f h = record { of_set = h.of_set; ready = by-frame (state_of n.parts l) input step e f h.enters; first = h.first }
+    returns : (input : Input) (step : Transition) (n : Node WholeQueues) → (kind_of input ≡ 10 → ⊥) → action_at (link_at n.parts l).alignment input ≡ act.Go step
+        → ((kind_of input ≡ 4) ⊎ (kind_of input ≡ 0) → Said) → Enters l step n → Returns n
+    returns input step n frame e said h =
+        let from = by-frame (state_of n.parts l) input step frame e h.enters in
+        record { of_set = h.of_set; said = said from.0; ready = from.1; first = h.first }
 
     serve-runs : (status : LinkStatus) (n : Node WholeQueues) → Runs n → Runs (serve_status whole c l status n)
     serve-runs says.Busy n r =
@@ -155,34 +153,40 @@ module _ (c : Configuration) (s d : ℕ) where
     served-runs true status n r = serve-runs status n r
     served-runs false status n r = r
 
-    status-runs : (a : Action) (status : LinkStatus) (n : Node WholeQueues) → action_at (link_at n.parts l).alignment (Status status) ≡ a → Runs n
-        → Runs (act_by_status whole c a l status n).left ⊎ Returns n
-    status-runs act.Ignored status n e r = inl r
-    status-runs act.Fail status n e r = inl (runs-on n _ (rules.fails l reasons.Status n) r)
-    status-runs (act.Go step) status n e r =
-        ⊎_elim (λ (h : Runs (advance whole c l step n)). inl (served-runs step.serve status (advance whole c l step n) h)) (λ (h : Enters l step n). inr (returns (Status status) step n refl e h))
+    status-runs : (a : Action) (bsn fsn : ℕ) (status : LinkStatus) (n : Node WholeQueues) → read_frame text ≡ Ok (StatusFrame bsn fsn status)
+        → action_at (link_at n.parts l).alignment (Status status) ≡ a → Runs n → Runs (act_by_status whole c a l status n).left ⊎ Returns n
+    status-runs act.Ignored bsn fsn status n is e r = inl r
+    status-runs act.Fail bsn fsn status n is e r = inl (runs-on n _ (rules.fails l reasons.Status n) r)
+    status-runs (act.Go step) bsn fsn status n is e r =
+        ⊎_elim (λ (h : Runs (advance whole c l step n)). inl (served-runs step.serve status (advance whole c l step n) h))
+        (λ (h : Enters l step n).
+        inr (returns (Status status) step n (no-timer status) e
+        (λ k. inl (⊎_elim (λ (f : status_number status ≡ 4). says-of l text bsn fsn status says.Ready is f) (λ (f : status_number status ≡ 0). absurd (no-data status f)) k)) h))
         (advance-runs l (Status status) step n e r)
 
-    data-runs : (a : Action) (x : Carrying) (n : Node WholeQueues) → action_at (link_at n.parts l).alignment UserData ≡ a → Runs n
+    data-runs : (a : Action) (x : Carrying) (n : Node WholeQueues) → Carries l (FrameCame l text) → action_at (link_at n.parts l).alignment UserData ≡ a → Runs n
         → Runs (act_by_data whole c a l x n).left ⊎ Returns n
-    data-runs act.Ignored x n e r = inl r
-    data-runs act.Fail x n e r = inl (runs-on n _ (rules.fails l reasons.Sequence n) r)
-    data-runs (act.Go step) x n e r =
+    data-runs act.Ignored x n is e r = inl r
+    data-runs act.Fail x n is e r = inl (runs-on n _ (rules.fails l reasons.Sequence n) r)
+    data-runs (act.Go step) x n is e r =
         let next : Node WholeQueues = advance whole c l step n in
         ⊎_elim
         (λ (h : Runs next).
         inl (runs-on next _ (handle_by-steps rules (numbers whole c l x next) l x next tt (advance-serves c l UserData step n e ∙ data-serves (link_at n.parts l).alignment step e) refl) h))
-        (λ (h : Enters l step n). inr (returns UserData step n refl e h))
+        (λ (h : Enters l step n). inr (returns UserData step n (λ no. cc) e (λ k. inr is) h))
         (advance-runs l UserData step n e r)
 
-    read-runs : (x : Result FrameValue FrameFault) (n : Node WholeQueues) → Runs n → Runs (read whole c l x n).left ⊎ Returns n
-    read-runs (Ok (EmptyFrame bsn fsn)) n r = data-runs (action_at (link_at n.parts l).alignment UserData) (empty_data bsn fsn) n refl r
-    read-runs (Ok (MessageFrame bsn fsn sio sif)) n r = data-runs (action_at (link_at n.parts l).alignment UserData) (message_data bsn fsn sio sif) n refl r
-    read-runs (Ok (StatusFrame bsn fsn status)) n r = status-runs (action_at (link_at n.parts l).alignment (Status status)) status n refl r
-    read-runs (Err fault) n r = inl (runs-on n _ (leave_aside-steps rules l fault n) r)
+    read-runs : (x : Result FrameValue FrameFault) (n : Node WholeQueues) → read_frame text ≡ x → Runs n → Runs (read whole c l x n).left ⊎ Returns n
+    read-runs (Ok (EmptyFrame bsn fsn)) n e r =
+        data-runs (action_at (link_at n.parts l).alignment UserData) (empty_data bsn fsn) n (record { text = text; frame = EmptyFrame bsn fsn; came = refl; reads = e; carries = refl }) refl r
+    read-runs (Ok (MessageFrame bsn fsn sio sif)) n e r =
+        data-runs (action_at (link_at n.parts l).alignment UserData) (message_data bsn fsn sio sif) n
+        (record { text = text; frame = MessageFrame bsn fsn sio sif; came = refl; reads = e; carries = refl }) refl r
+    read-runs (Ok (StatusFrame bsn fsn status)) n e r = status-runs (action_at (link_at n.parts l).alignment (Status status)) bsn fsn status n e refl r
+    read-runs (Err fault) n e r = inl (runs-on n _ (leave_aside-steps rules l fault n) r)
 
-    pub receive-runs : (is_there is_down : Bool) (x : Result FrameValue FrameFault) (n : Node WholeQueues) → Runs n
+    pub receive-runs : (is_there is_down : Bool) (x : Result FrameValue FrameFault) (n : Node WholeQueues) → read_frame text ≡ x → Runs n
         → Runs (if is_there then (if is_down then answer Ignored n else read whole c l x n) else refuse causes.NoSuchName n).left ⊎ Returns n
-    receive-runs false is_down x n r = inl r
-    receive-runs true true x n r = inl r
-    receive-runs true false x n r = read-runs x n r
+    receive-runs false is_down x n e r = inl r
+    receive-runs true true x n e r = inl r
+    receive-runs true false x n e r = read-runs x n e r

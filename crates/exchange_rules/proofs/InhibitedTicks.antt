@@ -10,17 +10,15 @@ use Rattle.timers.specs.declared.name.TimerName.TheVariants as name
 use Rattle.timers.specs.declared.name.TimerName.TheVariants.{T8}
 use Rattle.timers.proofs.Dues.{due-first, no_ticks}
 use Rattle.node_links.specs.NodeLinks.{link_in}
-use Rattle.exchange_rules.specs.Aligning.{state_of}
+use Rattle.exchange_rules.specs.Aligning.{RunsOut, state_of}
 use Rattle.exchange_rules.specs.LawsOfAnswers.{ComesBack, t8_runs_its_time, takes_leave_t8}
 use Rattle.exchange_rules.specs.Testing.{serves_set}
-use Rattle.exchange_rules.proofs.DueTimers.{Dues, dues-steps}
+use Rattle.exchange_rules.proofs.DueTimers.{next-dues, ran-dues, was-due}
 use Rattle.exchange_rules.proofs.ProvedAll.{due-climbs, no-link}
-use Rattle.exchange_rules.proofs.Rules.{rules-of}
-use Rattle.exchange_rules.proofs.SteppingEvents.{IsOf, apply-steps, run_due-steps, run_timer-steps, settled-steps}
+use Rattle.exchange_rules.proofs.SteppingEvents.{IsOf, apply-steps, run_timer-steps, settled-steps}
 use Rattle.exchange_rules.proofs.SteppingFailures.{fail-links}
 use Rattle.exchange_rules.proofs.SteppingLinks.{association_up-steps, moved-at, returned-links, stepped-other}
 use Rattle.exchange_rules.proofs.Steps.{is_of_link}
-use Rattle.exchange_rules.proofs.SteppingTimers.{due-clear}
 use Rattle.exchange_rules.proofs.Tested.{serves-before}
 use Rattle.exchange_rules.proofs.TimerSettings.{cases-name}
 use Rattle.exchange_rules.proofs.Inhibited.{no-way, serving-is, by-timer, Runs, rules, runs-on, Enters, advance-runs, Returns, receive-runs}
@@ -73,12 +71,14 @@ module _ (c : Configuration) (s d : ℕ) (first : Node WholeQueues) where
   record Proved : Type 0 where
     link : ℕ
     of_set : set_of c link ≡ s
+    due : is_due first.parts.timers (name.L4 link) ≡ true
     ready : state_of first.parts link ≡ Proving true
     none : serves_set c first.parts s ≡ false
 
   -- in the midst of it: links that are to enter service were to do so before, and while L4 is due none left service
   record Midst (n : Node WholeQueues) : Type 0 where
     proving : (link : ℕ) → state_of n.parts link ≡ Proving true → state_of first.parts link ≡ Proving true
+    dues : (its : TimerName) → is_due n.parts.timers its ≡ true → is_due first.parts.timers its ≡ true
     serving : (link : ℕ) → is_due n.parts.timers (name.L4 link) ≡ true → (other : ℕ) → in_service first.parts other ≡ true → in_service n.parts other ≡ true
     due : is_due n.parts.timers (T8 s d) ≡ false
 
@@ -101,8 +101,9 @@ module _ (c : Configuration) (s d : ℕ) (first : Node WholeQueues) where
         inr (record {
           link = link;
           of_set = k.of_set;
-          ready = h.proving link from.0;
-          none = none-before n (h.serving link (due from.1)) (ap (serves_set c n.parts) (sym k.of_set) ∙ k.first);
+          due = h.dues (name.L4 link) (due from.0);
+          ready = h.proving link from.1;
+          none = none-before n (h.serving link (due from.0)) (ap (serves_set c n.parts) (sym k.of_set) ∙ k.first);
         }))
         (advance-runs c s d link (Expiry its) step handed e r)
 
@@ -142,19 +143,12 @@ module _ (c : Configuration) (s d : ℕ) (first : Node WholeQueues) where
     next-runs : Runs c s d n → Runs c s d (run_next whole c n) ⊎ Proved
     next-runs r = due-runs (due_name n.parts.timers) refl (handed-runs (due_name n.parts.timers) refl r)
 
-    handed-due : (due : Option TimerName) → due_name n.parts.timers ≡ due → (its : TimerName) → is_due handed.parts.timers its ≡ true → is_due n.parts.timers its ≡ true
-    handed-due None e its f = sym (ap (λ (t : Running). is_due t its) (after-none n.parts.timers e)) ∙ f
-    handed-due (Some one) e its f = due-clear one its n.parts.timers (sym (ap (λ (t : Running). is_due t its) (after-clear one n.parts.timers e)) ∙ f)
-
-    was-due : (its : TimerName) → is_due handed.parts.timers its ≡ true → is_due n.parts.timers its ≡ true
-    was-due = handed-due (due_name n.parts.timers) refl
-
     served : (due : Option TimerName) → due_name n.parts.timers ≡ due → (link : ℕ) → is_due handed.parts.timers (name.L4 link) ≡ true → (other : ℕ) → in_service n.parts other ≡ true
         → in_service (run_due whole c due handed).parts other ≡ true
     served None e link f other g = g
     served (Some its) e link f other g =
         next-serves c its link other handed
-        (due-first its (name.L4 link) n.parts.timers e (no_ticks (n.parts.timers.left (name.L4 link)) (was-due (name.L4 link) f)) apart) g
+        (due-first its (name.L4 link) n.parts.timers e (no_ticks (n.parts.timers.left (name.L4 link)) (was-due n.parts.timers (name.L4 link) f)) apart) g
       where
         apart : its ≢ name.L4 link
         apart same =
@@ -163,14 +157,12 @@ module _ (c : Configuration) (s d : ℕ) (first : Node WholeQueues) where
             ∙ ap no_tick_left (ap (λ (x : TimerName). (clear_timer its n.parts.timers).left x) (sym same) ∙ left-clear its n.parts.timers))
 
     midst-next : Midst (run_next whole c n)
-    midst-next =
-        let ran : Dues handed (run_next whole c n) = run_due-steps (rules-of (dues-steps c)) (due_name n.parts.timers) handed (λ link its e. tt) in
-        record {
-          proving = λ link e. h.proving link ((due-climbs c link (due_name n.parts.timers) handed).proving true e);
-          serving = λ link e other f.
-              served (due_name n.parts.timers) refl link (ran.due (name.L4 link) e) other (h.serving link (was-due (name.L4 link) (ran.due (name.L4 link) e)) other f);
-          due = not-so (is_due (run_next whole c n).parts.timers (T8 s d)) (λ e. no-way (is_due n.parts.timers (T8 s d)) (was-due (T8 s d) (ran.due (T8 s d) e)) h.due);
-        }
+    midst-next = record {
+      proving = λ link e. h.proving link ((due-climbs c link Unit (due_name n.parts.timers) handed (λ f. tt)).proving true e);
+      dues = λ its e. h.dues its (next-dues c n its e);
+      serving = λ link e other f. served (due_name n.parts.timers) refl link (ran-dues c n (name.L4 link) e) other (h.serving link (next-dues c n (name.L4 link) e) other f);
+      due = not-so (is_due (run_next whole c n).parts.timers (T8 s d)) (λ e. no-way (is_due n.parts.timers (T8 s d)) (next-dues c n (T8 s d) e) h.due);
+    }
 
   times-run : (many : ℕ) (n : Node WholeQueues) → Midst n → Runs c s d n → Runs c s d (run_times whole c many n) ⊎ Proved
   times-run zero n h r = inl r
@@ -186,7 +178,7 @@ still-running (Some n) = refl
 module _ (c : Configuration) (s d : ℕ) (n : Node WholeQueues) where
   -- it stops as it should
   abbrev Ends : Happening → Type 0
-  Ends what = ((what ≡ Ticked) × (is_due (ticked n.parts.timers) (T8 s d) ≡ true)) ⊎ ComesBack c what s n.parts
+  Ends what = RunsOut (T8 s d) what n.parts.timers ⊎ ComesBack c what s n.parts
 
   settled-runs : (m : Node WholeQueues) → Runs c s d m → Runs c s d (tell_owed whole c (release whole c m))
   settled-runs m r = runs-on c s d m _ (settled-steps (rules c s d) m) r
@@ -197,17 +189,17 @@ module _ (c : Configuration) (s d : ℕ) (n : Node WholeQueues) where
   tick-runs false e r =
       let begun : Node WholeQueues = with_timers n (ticked n.parts.timers) in
       ⊎_elim (λ (k : Runs c s d (tick whole c n).left). inl (settled-runs (tick whole c n).left k))
-      (λ (p : Proved c s d begun). inr (inr (record { link = p.link; of_set = p.of_set; enters = inl (refl, p.ready); first = p.none })))
-      (times-run c s d begun (due_count (ticked n.parts.timers)) begun (record { proving = λ link f. f; serving = λ link f other g. g; due = e })
+      (λ (p : Proved c s d begun). inr (inr (record { link = p.link; of_set = p.of_set; enters = inl ((refl, p.due), p.ready); first = p.none })))
+      (times-run c s d begun (due_count (ticked n.parts.timers)) begun (record { proving = λ link f. f; dues = λ its f. f; serving = λ link f other g. g; due = e })
       (ap is_some (left-ticked (T8 s d) n.parts.timers) ∙ still-running (n.parts.timers.left (T8 s d)) ∙ r))
 
   frame-runs : (link : ℕ) (text : List ℕ) → Runs c s d n → Runs c s d (apply whole c (FrameCame link text) n).left ⊎ Ends (FrameCame link text)
   unfolding apply
   frame-runs link text r =
       ⊎_elim (λ (k : Runs c s d (receive whole c link text n).left). inl (settled-runs (receive whole c link text n).left k))
-      (λ (b : Returns c s d link n).
-      inr (inr (record { link = link; of_set = b.of_set; enters = inr ((text, refl), b.ready); first = ap (serves_set c n.parts) (sym b.of_set) ∙ b.first })))
-      (receive-runs c s d link (is_link n.parts link) (down n.parts link) (read_frame text) n r)
+      (λ (b : Returns c s d link text n).
+      inr (inr (record { link = link; of_set = b.of_set; enters = inr (b.said, b.ready); first = ap (serves_set c n.parts) (sym b.of_set) ∙ b.first })))
+      (receive-runs c s d link text (is_link n.parts link) (down n.parts link) (read_frame text) n refl r)
 
   up-runs : (link : ℕ) → Runs c s d n → Runs c s d (apply whole c (CameUp link) n).left
   unfolding apply

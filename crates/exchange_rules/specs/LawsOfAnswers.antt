@@ -7,16 +7,16 @@ use Rattle.signalling_types.specs.declared.outcome.Outcome.TheVariants.{Queued, 
 use Rattle.signalling_types.specs.declared.cause.Cause.TheVariants.{NoRoute}
 use Rattle.settings.specs.Readings.{destination_place}
 use Rattle.timers.specs.declared.name.TimerName.TheVariants.{T8}
-use Rattle.timers.specs.Timers.{is_due, is_running, ticked}
+use Rattle.timers.specs.Timers.{is_running}
 use Rattle.exchange_rules.specs.declared.wants.Wants.TheVariants.{Open}
-use Rattle.exchange_rules.specs.State.{Asking, CameUp, Happening, Node, Parts, Ticked}
+use Rattle.exchange_rules.specs.State.{Asking, CameUp, Happening, Node, Parts}
 use Rattle.exchange_rules.specs.Routing.{link_of, set_of}
 use Rattle.exchange_rules.specs.Messages.{transfer}
 use Rattle.exchange_rules.specs.Queues.{WholeQueues, queue_at, whole}
 use Rattle.exchange_rules.specs.Exchange.{after, outcome_of, taken, wants_of}
 use Rattle.exchange_rules.specs.First.{Abstract, first_state}
 use Rattle.exchange_rules.specs.Lasting.{HasAllPlaces, after_each}
-use Rattle.exchange_rules.specs.Aligning.{MayEnter, state_of}
+use Rattle.exchange_rules.specs.Aligning.{MayEnter, RunsOut}
 use Rattle.exchange_rules.specs.Testing.{serves_set}
 
 -- a link wants to open exactly when its association would be accepted, in each state reached from the first
@@ -54,7 +54,7 @@ one_answer_within_t8 =
 pub record ComesBack (c : Configuration) (what : Happening) (set : ℕ) (p : Parts) : Type 0 where
   pub link : ℕ
   pub of_set : set_of c link ≡ set
-  pub enters : MayEnter link what (state_of p link)
+  pub enters : MayEnter link what p
   pub first : serves_set c p set ≡ false
 
 -- T8 of a set and a destination runs on over each event, unless it runs out at this tick or the set comes back
@@ -63,8 +63,7 @@ t8_runs_its_time =
     (what : Happening) (a : Abstract) (set destination : ℕ) →
     is_running (T8 set destination) a.node.parts.timers ≡ true →
     (is_running (T8 set destination) (after whole what a).node.parts.timers ≡ true)
-    ⊎ (((what ≡ Ticked) × (is_due (ticked a.node.parts.timers) (T8 set destination) ≡ true))
-    ⊎ ComesBack a.settings what set a.node.parts)
+    ⊎ (RunsOut (T8 set destination) what a.node.parts.timers ⊎ ComesBack a.settings what set a.node.parts)
 
 -- and a take leaves it
 abbrev pub takes_leave_t8 : Type 0

@@ -178,9 +178,10 @@ pub fn links_have_the_timers_of_their_states()
     ensures { links_have_their_timers }
 {}
 
-/// A link is proved before it enters service (Q.703 §7). By an event it enters service only at a tick, as its proving
-/// ends and its peer is ready; or, once its proving has succeeded, by a frame that comes by it. Its proving succeeds
-/// only at a tick.
+/// A link is proved before it enters service (Q.703 §7). It begins to align as its association comes up, and is aligned
+/// by its peer's Alignment. Its peer's Proving begins its proving, and its peer's Ready is remembered meanwhile. Its
+/// proving ends only as L4 runs out; then it enters service if its peer was ready, or else by its peer's Ready or User
+/// Data. Nothing else leads it on.
 pub fn links_are_proved_before_they_enter_service()
     ensures { links_are_proved_first }
 {}
