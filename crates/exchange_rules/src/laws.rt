@@ -287,11 +287,12 @@ pub fn user_messages_are_conserved()
     ensures always { all_that_came_adds_up }
 {}
 
-/// What is lost is named, and flags rise only for a reason. Of every event the notices that name a user message as lost
-/// are those of what it loses, in order, and no others: what its completions leave in doubt, then what its release
-/// finds without a route. It counts a possible loss for each of its notices that tells of one (Lost, Unsent, Expired of
-/// T2) and for each completion without a reasonable number, and no other; and a possible lateness for each notice of
-/// one (Late). How many notices of other kinds it makes has a bound. A take counts neither.
+/// What is lost or late is named, and flags rise only for a reason. Of every event the notices that name a user message
+/// as lost are those of what it loses, in order, and no others: what its completions leave in doubt, then what its
+/// release finds without a route. Its notices of lateness (Late) are those of each T3 and each T4 that runs out, and so
+/// ends holds. It counts a possible loss for each of its notices that tells of one (Lost, Unsent, Expired of T2) and
+/// for each completion without a reasonable number, and no other; and a possible lateness for each notice of one. How
+/// many notices of other kinds it makes has a bound. A take counts neither.
 pub fn what_is_lost_is_named()
     ensures event { events_account_for_losses }
     ensures take { takes_flag_nothing }
