@@ -1,8 +1,8 @@
 -- Each loss of an event is among its notices, and counted.
-use Rattle.exchange_rules.proofs.Basics.{Bool, Err, List, None, Ok, Option, Result, Some, [], append-nil, arith, false, length, map, not, refl, true, ℕ, ◌&&◌, ◌*◌, ◌+◌, ◌++◌, ◌∙◌, ◌≡◌, ◌≤◌, if◌then◌else◌}
-use Rattle.exchange_rules.proofs.Definitions.{AreAccounted, takes_flag_nothing, Acknowledges, Outgoing, SendsMessage, SendsNothing, SendsStatus, after_sending, goes_out, events_account_for_losses, losses_of, others_of, rules_run, naming, LostUnconfirmed, changeover_of, Configuration, TitleEntry, Message, Cause, FrameFault, Outcome, Handled, Held, Ignored, Local, Queued, Refused, Gone, gone, gone_by, gone_by_message, gone_by_new, gone_by_release, nothing_gone, is_link, whither_goes, deliver_to, note_outcome, WholeQueues, whole, release, tell_owed, owed, facts, Node, Done, answer, refuse, with_parts, action_at, Action, UserData, count_confirmed, SeqFault, EmptyFrame, FrameValue, MessageFrame, StatusFrame, read_frame, accept_data, accept_frame, accept_text, new_at, new_by, new_in, new_of, Carrying, accept, act_by_data, advance, carry, empty_data, handle_by, message_data, numbers, owing, timed_parts, read, receive_data, Happening, Activated, CameUp, Deactivated, FrameCame, Submitted, Ticked, TitleAdded, TitleRemoved, WentDown, apply, handle_event, may_open, may_restart, open_link, add_title_unless, title_refusal, has_row, place_of, with_titles, without_row, down, link_at, Abstract}
+use Rattle.exchange_rules.proofs.Basics.{Bool, Err, List, None, Ok, Option, Result, Some, [], append-nil, arith, false, length, map, not, refl, true, ℕ, ◌&&◌, ◌*◌, ◌+◌, ◌++◌, ◌∙◌, ◌≡◌, ◌≤◌, if◌then◌else◌, subst, ap}
+use Rattle.exchange_rules.proofs.Definitions.{AreAccounted, takes_flag_nothing, Acknowledges, Outgoing, SendsMessage, SendsNothing, SendsStatus, after_sending, goes_out, events_account_for_losses, losses_of, others_of, rules_run, naming, LostUnconfirmed, changeover_of, Configuration, TitleEntry, Message, Cause, FrameFault, Outcome, Handled, Held, Ignored, Local, Queued, Refused, Gone, gone, gone_by, gone_by_message, gone_by_new, gone_by_release, nothing_gone, is_link, whither_goes, deliver_to, note_outcome, WholeQueues, whole, release, tell_owed, owed, facts, Node, Done, answer, refuse, with_parts, action_at, Action, UserData, count_confirmed, SeqFault, EmptyFrame, FrameValue, MessageFrame, StatusFrame, read_frame, accept_data, accept_frame, accept_text, new_at, new_by, new_in, new_of, Carrying, accept, act_by_data, advance, carry, empty_data, handle_by, message_data, numbers, owing, timed_parts, read, receive_data, Happening, Activated, CameUp, Deactivated, FrameCame, Submitted, Ticked, TitleAdded, TitleRemoved, WentDown, apply, handle_event, may_open, may_restart, open_link, add_title_unless, title_refusal, has_row, place_of, with_titles, without_row, down, link_at, Abstract, send, no_room, link_of, flow_of, queue_on}
 use Rattle.exchange_rules.specs.Conserving.{confirmed}
-use Rattle.exchange_rules.specs.LawsOfLosses.{lateness_of}
+use Rattle.exchange_rules.specs.LawsOfLosses.{IsGivenUp, IsPlaced, lateness_of, management_is_named}
 use Rattle.link.specs.declared.action.Action.TheVariants as act
 use Rattle.signalling_types.specs.declared.cause.Cause.TheVariants as causes
 use Rattle.signalling_types.specs.declared.notice.Notice.{Notice}
@@ -149,3 +149,26 @@ takes-flag a link = by (goes_out whole a.settings link a.node)
     by (SendsMessage next) = (refl, refl)
     by Acknowledges = (refl, refl)
     by SendsNothing = (refl, refl)
+
+-- ---- management
+
+module _ (c : Configuration) (m : Message) (n : Node WholeQueues) where
+  send-placed : (room : Option Cause) (link : Option ℕ) → IsPlaced room link m n (send whole c room link m n)
+  send-placed (Some cause) link = record {
+    queued = λ its e f. absurd cc;
+    full = λ other e. (let same : cause ≡ other = cc in subst (λ (x : Cause). IsGivenUp x m n (send whole c (Some cause) link m n)) same (record { queues = refl; parts = refl }));
+    stranded = λ e f. absurd cc;
+  }
+  send-placed None None = record { queued = λ its e f. absurd cc; full = λ other e. absurd cc; stranded = λ e f. record { queues = refl; parts = refl } }
+  send-placed None (Some link) = record {
+    queued = λ its e f. (let same : link ≡ its = cc in ap (λ (l : ℕ). queue_on whole c l m n) same);
+    full = λ other e. absurd cc;
+    stranded = λ e f. absurd cc;
+  }
+
+pub management-named : management_is_named
+management-named c link m n = record {
+  routed = send-placed c m n (no_room whole c m n.queues) (link_of c n.parts (flow_of m));
+  answered = send-placed c m n (no_room whole c m n.queues) (Some link);
+  anew = send-placed c m n None (link_of c n.parts (flow_of m));
+}

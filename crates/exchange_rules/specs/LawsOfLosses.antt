@@ -1,6 +1,6 @@
 -- Each loss is among the notices of its event, and counted: laws.
-use Rattle.std.specs.Prelude.{Bool, List, Option, Some, [], ◌∷◌, count_by, false, filter, length, map, not, suc, true, zero, ℕ, ◌*◌, ◌+◌, ◌++◌, ◌≡◌, ◌≤◌}
-use Rattle.signalling_types.specs.Message.{Message, flow_of}
+use Rattle.std.specs.Prelude.{Bool, List, None, Option, Some, [], ◌∷◌, count_by, false, filter, length, map, not, suc, true, zero, ℕ, ◌*◌, ◌+◌, ◌++◌, ◌≡◌, ◌≤◌}
+use Rattle.signalling_types.specs.Message.{Message, dpc_of, flow_of}
 use Rattle.signalling_types.specs.declared.cause.Cause.{Cause}
 use Rattle.signalling_types.specs.declared.cause.Cause.TheVariants.{LostUnconfirmed, NoRoute}
 use Rattle.signalling_types.specs.declared.notice.Notice.{Notice}
@@ -11,8 +11,9 @@ use Rattle.timers.specs.declared.name.TimerName.{TimerName}
 use Rattle.timers.specs.declared.name.TimerName.TheVariants.{T3, T4}
 use Rattle.timers.specs.Timers.{due_count, due_name, ticked}
 use Rattle.route_management.specs.Told.{owed}
-use Rattle.exchange_rules.specs.State.{Ticked, Happening, Node, Parts, noted_all, once_more}
-use Rattle.exchange_rules.specs.Routing.{facts}
+use Rattle.exchange_rules.specs.State.{Ticked, Happening, Node, Parts, noted_all, once_more, noted}
+use Rattle.exchange_rules.specs.Telling.{send_anew, send_on, send_routed}
+use Rattle.exchange_rules.specs.Routing.{facts, link_of, no_room}
 use Rattle.exchange_rules.specs.Exchange.{after, handle_event, release, run_next, taken, with_timers}
 use Rattle.exchange_rules.specs.Queues.{WholeQueues, whole}
 use Rattle.exchange_rules.specs.First.{Abstract}
@@ -111,3 +112,33 @@ takes_flag_nothing =
     (a : Abstract) (link : ℕ) →
     ((taken whole a link).node.parts.times_lost ≡ a.node.parts.times_lost)
     × ((taken whole a link).node.parts.times_late ≡ a.node.parts.times_late)
+
+-- ---- management that is given up
+
+-- a message made here is given up: that is named, with why and the point that it was for, and counts as a possible loss;
+-- nothing else changes
+pub record IsGivenUp (cause : Cause) (m : Message) (old new : Node WholeQueues) : Type 0 where
+  pub queues : new.queues ≡ old.queues
+  pub parts : new.parts ≡ record old.parts {
+    notices = noted (notices.Unsent cause (dpc_of m)) old.parts.notices;
+    times_lost = once_more old.parts.times_lost;
+  }
+
+-- it goes to the end of a link's queue, and nothing else changes; but without room or a link it is given up
+pub record IsPlaced (room : Option Cause) (link : Option ℕ) (m : Message) (old new : Node WholeQueues) : Type 0 where
+  pub queued : (its : ℕ) → room ≡ None → link ≡ Some its →
+      new ≡ record old { queues = whole.appended old.queues its m }
+  pub full : (cause : Cause) → room ≡ Some cause → IsGivenUp cause m old new
+  pub stranded : room ≡ None → link ≡ None → IsGivenUp NoRoute m old new
+
+-- so it is with a message that goes by its flow, with one that goes by a given link, and with one that is queued anew
+-- and has its room
+pub record IsSent (c : Configuration) (link : ℕ) (m : Message) (node : Node WholeQueues) : Type 0 where
+  pub routed : IsPlaced (no_room whole c m node.queues) (link_of c node.parts (flow_of m)) m node
+      (send_routed whole c m node)
+  pub answered : IsPlaced (no_room whole c m node.queues) (Some link) m node (send_on whole c link m node)
+  pub anew : IsPlaced None (link_of c node.parts (flow_of m)) m node (send_anew whole c m node)
+
+abbrev pub management_is_named : Type 0
+management_is_named =
+    (c : Configuration) (link : ℕ) (m : Message) (node : Node WholeQueues) → IsSent c link m node

@@ -2,8 +2,7 @@
 
 ghost use Rattle.exchange_rules.specs.Laws.{refusals_leave, nothing_taken_leaves, queued_in_service};
 ghost use Rattle.exchange_rules.specs.Laws.{routed_in_service, declared_in_service, queued_anew_in_service};
-ghost use Rattle.exchange_rules.specs.Laws.{settled_in_service};
-ghost use Rattle.exchange_rules.specs.Laws.{first_is_told, events_tell_all, takes_owe_nothing};
+ghost use Rattle.exchange_rules.specs.Laws.{first_is_told, events_tell_all, takes_owe_nothing, settled_in_service};
 ghost use Rattle.exchange_rules.specs.Laws.{completion_leaves_others, release_keeps_order, moved_before_held};
 ghost use Rattle.exchange_rules.specs.LastingLinks.{links_first_steady, links_stay_steady, l7_watches};
 ghost use Rattle.exchange_rules.specs.LastingHolds.{holds_stay_timed, every_hold_has_its_timer_or_its_word};
@@ -16,12 +15,11 @@ ghost use Rattle.exchange_rules.specs.Receiving.{received_is_counted, takes_rece
 ghost use Rattle.exchange_rules.specs.LawsOfMessages.{user_messages_are_conserved, takes_leave_user_messages};
 ghost use Rattle.exchange_rules.specs.LawsOfMessages.{all_that_came_adds_up};
 ghost use Rattle.exchange_rules.specs.LawsOfMessages.{carried_messages_have_a_fate, submissions_have_a_fate};
-ghost use Rattle.exchange_rules.specs.LawsOfLosses.{events_account_for_losses, takes_flag_nothing};
-ghost use Rattle.exchange_rules.specs.Lasting.{places_at_first, places_stay};
+ghost use Rattle.exchange_rules.specs.LawsOfLosses.{events_account_for_losses, takes_flag_nothing, management_is_named};
+ghost use Rattle.exchange_rules.specs.Lasting.{places_at_first, places_stay, notices_keep_their_limits};
 ghost use Rattle.exchange_rules.specs.Lasting.{no_flag_at_first, losses_stay, lateness_stays};
 ghost use Rattle.exchange_rules.specs.Lasting.{notices_raise_flags, unreasonable_numbers_raise_it};
 ghost use Rattle.exchange_rules.specs.Lasting.{notices_made_are_counted, new_notices_are_the_last};
-ghost use Rattle.exchange_rules.specs.Lasting.{notices_keep_their_limits};
 ghost use Rattle.exchange_rules.specs.TimerSettings.{events_set_timers_to_their_settings, timers_keep_their_settings};
 ghost use Rattle.exchange_rules.specs.TimerSettings.{takes_set_timers_to_their_settings};
 ghost use Rattle.exchange_rules.specs.Aligning.{links_are_proved_first, links_have_their_timers};
@@ -289,11 +287,13 @@ pub fn user_messages_are_conserved()
 
 /// What is lost or late is named, and flags rise only for a reason. Of every event the notices that name a user message
 /// as lost are those of what it loses, in order, and no others: what its completions leave in doubt, then what its
-/// release finds without a route. Its notices of lateness (Late) are those of each T3 and each T4 that runs out, and so
-/// ends holds. It counts a possible loss for each of its notices that tells of one (Lost, Unsent, Expired of T2) and
-/// for each completion without a reasonable number, and no other; and a possible lateness for each notice of one. How
-/// many notices of other kinds it makes has a bound. A take counts neither.
+/// release finds without a route. Each T3 and each T4 that runs out, and so ends holds, makes a notice of lateness
+/// (Late), and nothing else does. It counts a possible loss for each of its notices that tells of one (Lost, Unsent,
+/// Expired of T2) and for each completion without a reasonable number, and no other; and a possible lateness for each
+/// notice of one. How many notices of other kinds it makes has a bound. A take counts neither. Management that finds no
+/// room or no link is named with why (Unsent), and counts; any other goes to the end of a queue.
 pub fn what_is_lost_is_named()
     ensures event { events_account_for_losses }
+    ensures management { management_is_named }
     ensures take { takes_flag_nothing }
 {}
