@@ -116,7 +116,7 @@ module _ (l : ℕ) where
     untested-alike false link n = record {
       links = refl;
       counts = counts-clear_set of_set.T10 (set_of c link) n.parts.timers;
-      timers = (clear_set-quiet c of_set.T10 (set_of c link) n.parts.timers).links;
+      timers = (clear_set-quiet {E = any} c of_set.T10 (set_of c link) n.parts.timers (λ e. tt)).links;
     }
 
     gone-alike : (served : Bool) (link : ℕ) (why : FailureReason) (n : Node WholeQueues)

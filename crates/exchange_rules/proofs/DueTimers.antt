@@ -1,9 +1,10 @@
 -- A tick hands out all timers that are due, and makes none due: afterwards none is.
 use Rattle.exchange_rules.proofs.Basics.{◌≡◌, ◌≢◌, ◌≤◌, ℕ, zero, suc, Bool, true, false, cond, List, [], ◌∷◌, length, filter, Option, Some, None, refl, ap, sym, ◌∙◌, arith}
-use Rattle.exchange_rules.proofs.Definitions.{Configuration, opening, carries, TimerName, Running, NodeCounts, is_due, due_name, after_due, after-none, Node, link_at, with_timers, run_due, run_next, run_times, WholeQueues, whole}
+use Rattle.exchange_rules.proofs.Definitions.{Configuration, opening, carries, TimerName, Running, NodeCounts, is_due, due_name, after_due, after-clear, after-none, Node, link_at, with_timers, run_due, run_next, run_times, WholeQueues, whole}
 use Rattle.timers.specs.Timers.{names_of, due_count}
 use Rattle.timers.proofs.Dues.{count-after, count-none, due-none}
 use Rattle.exchange_rules.proofs.Steps.{IsOfSteps}
+use Rattle.exchange_rules.proofs.SteppingTimers.{due-clear}
 use Rattle.exchange_rules.proofs.Rules.{rules-of}
 use Rattle.exchange_rules.proofs.Asked.{any}
 use Rattle.exchange_rules.proofs.LinkTimers.{timed-for, without_timers-for, timed_busy-for, timed_busy_ended-for, timed_confirming-for, timed_sending-for}
@@ -53,6 +54,25 @@ dues-steps c = record {
       record { counts = t.counts; due = t.due });
   sent = λ link next n own e. (let t = timed_sending-for link c n.parts.timers in record { counts = t.counts; due = t.due });
 }
+
+-- ---- a timer that is handed out
+
+handed-due : (due : Option TimerName) (r : Running) → due_name r ≡ due → (its : TimerName) → is_due (after_due r) its ≡ true → is_due r its ≡ true
+handed-due None r e its f = sym (ap (λ (t : Running). is_due t its) (after-none r e)) ∙ f
+handed-due (Some one) r e its f = due-clear one its r (sym (ap (λ (t : Running). is_due t its) (after-clear one r e)) ∙ f)
+
+pub was-due : (r : Running) (its : TimerName) → is_due (after_due r) its ≡ true → is_due r its ≡ true
+was-due r = handed-due (due_name r) r refl
+
+module _ (c : Configuration) (n : Node WholeQueues) where
+  pub ran-dues : (its : TimerName) → is_due (run_next whole c n).parts.timers its ≡ true → is_due (after_due n.parts.timers) its ≡ true
+  ran-dues its e =
+      let ran : Dues (with_timers n (after_due n.parts.timers)) (run_next whole c n) =
+      run_due-steps (rules-of (dues-steps c)) (due_name n.parts.timers) (with_timers n (after_due n.parts.timers)) (λ link t f. tt) in
+      ran.due its e
+
+  pub next-dues : (its : TimerName) → is_due (run_next whole c n).parts.timers its ≡ true → is_due n.parts.timers its ≡ true
+  next-dues its e = was-due n.parts.timers its (ran-dues its e)
 
 -- ---- how many are due
 

@@ -1,26 +1,14 @@
 -- T10 of a route runs on as timers are set, and stops only if the route is allowed.
 use Rattle.exchange_rules.proofs.Basics.{◌≡◌, ◌≢◌, ℕ, Bool, true, false, ◌==◌, refl, ap, sym, subst, ◌∙◌, arith, ⊎_elim, is_some, nat_tests}
-use Rattle.exchange_rules.proofs.Definitions.{Configuration, RouteStatus, Allowed, Restricted, Prohibited, TimerName, Running, has_name, is_running, set_timer, clear_timer, clear_set, left-set, left-set_other, left-clear_other, left-clear_set_other, Parts, timed_telling}
+use Rattle.exchange_rules.proofs.Definitions.{Configuration, RouteStatus, Allowed, Restricted, Prohibited, TimerName, Running, is_running, set_timer, clear_timer, clear_set, left-clear_other, left-clear_set_other, Parts, timed_telling}
 use Rattle.timers.specs.declared.name.TimerName.TheVariants as name
 use Rattle.timers.specs.declared.name.RouteTimer.TheVariants as of_set
 use Rattle.exchange_rules.specs.Testing.{is_unsure}
-use Rattle.exchange_rules.proofs.TimerSettings.{cases-name}
+use Rattle.exchange_rules.proofs.TimerSettings.{cases-name, set-still}
 use Rattle.exchange_rules.proofs.Steps.{status_over, KeepsTests}
 
 no-way : {A : Type 0} (b : Bool) → b ≡ true → b ≡ false → A
 no-way b e f = (let no : true ≡ false = sym e ∙ f in absurd cc)
-
--- one that runs runs on if another is set, or it is set again
-pub set-still : (its : TimerName) (ticks : ℕ) (r : Running) (other : TimerName) → is_running other r ≡ true → is_running other (set_timer its ticks r) ≡ true
-set-still its ticks r other e =
-    ⊎_elim
-    (λ (same : its ≡ other). subst (λ (x : TimerName). is_running x r ≡ true → is_running x (set_timer its ticks r) ≡ true) same (here (has_name r.counts its) refl) e)
-    (λ (apart : its ≢ other). ap is_some (left-set_other its other ticks r apart) ∙ e)
-    (cases-name its other)
-  where
-    here : (has : Bool) → has_name r.counts its ≡ has → is_running its r ≡ true → is_running its (set_timer its ticks r) ≡ true
-    here true h runs = ap is_some (left-set its ticks r h)
-    here false h runs = no-way (is_running its r) runs (ap is_some (r.only its h))
 
 module _ (p : Parts) where
   pub still-tests : (r : Running) → ((set destination : ℕ) → is_running (name.T10 set destination) p.timers ≡ true → is_running (name.T10 set destination) r ≡ true) → KeepsTests p r

@@ -107,4 +107,8 @@ pub mod HeardManagement
 pub mod CarriedMessages
 pub mod RuleExamples
 pub mod ProvedFirst
+pub mod ProvedKeeps
 pub mod ProvedAll
+pub mod ProvedEvents
+pub mod Inhibited
+pub mod InhibitedTicks

@@ -1,7 +1,8 @@
 -- Each loss of an event is among its notices, and counted.
-use Rattle.exchange_rules.proofs.Basics.{Bool, Err, List, None, Ok, Option, Result, Some, [], append-nil, arith, false, length, map, not, refl, true, ℕ, ◌&&◌, ◌*◌, ◌+◌, ◌++◌, ◌≡◌, ◌≤◌, if◌then◌else◌}
-use Rattle.exchange_rules.proofs.Definitions.{AreAccounted, takes_flag_nothing, Acknowledges, Outgoing, SendsMessage, SendsNothing, SendsStatus, after_sending, goes_out, events_account_for_losses, losses_of, others_of, rules_run, naming, LostUnconfirmed, changeover_of, Configuration, TitleEntry, Message, Cause, FrameFault, Outcome, Handled, Held, Ignored, Local, Queued, Refused, Gone, gone, gone_by, gone_by_message, gone_by_new, gone_by_release, nothing_gone, is_link, whither_goes, deliver_to, note_outcome, WholeQueues, whole, release, tell_owed, owed, facts, Node, Done, answer, refuse, with_parts, action_at, Action, UserData, count_confirmed, SeqFault, EmptyFrame, FrameValue, MessageFrame, StatusFrame, read_frame, accept_data, accept_frame, accept_text, new_at, new_by, new_in, new_of, Carrying, accept, act_by_data, advance, carry, empty_data, handle_by, message_data, numbers, owing, timed_parts, read, receive_data, Happening, Activated, CameUp, Deactivated, FrameCame, Submitted, Ticked, TitleAdded, TitleRemoved, WentDown, apply, handle_event, may_open, may_restart, open_link, add_title_unless, title_refusal, has_row, place_of, with_titles, without_row, down, link_at, Abstract}
+use Rattle.exchange_rules.proofs.Basics.{Bool, Err, List, None, Ok, Option, Result, Some, [], append-nil, arith, false, length, map, not, refl, true, ℕ, ◌&&◌, ◌*◌, ◌+◌, ◌++◌, ◌∙◌, ◌≡◌, ◌≤◌, if◌then◌else◌, subst, ap}
+use Rattle.exchange_rules.proofs.Definitions.{AreAccounted, takes_flag_nothing, Acknowledges, Outgoing, SendsMessage, SendsNothing, SendsStatus, after_sending, goes_out, events_account_for_losses, losses_of, others_of, rules_run, naming, LostUnconfirmed, changeover_of, Configuration, TitleEntry, Message, Cause, FrameFault, Outcome, Handled, Held, Ignored, Local, Queued, Refused, Gone, gone, gone_by, gone_by_message, gone_by_new, gone_by_release, nothing_gone, is_link, whither_goes, deliver_to, note_outcome, WholeQueues, whole, release, tell_owed, owed, facts, Node, Done, answer, refuse, with_parts, action_at, Action, UserData, count_confirmed, SeqFault, EmptyFrame, FrameValue, MessageFrame, StatusFrame, read_frame, accept_data, accept_frame, accept_text, new_at, new_by, new_in, new_of, Carrying, accept, act_by_data, advance, carry, empty_data, handle_by, message_data, numbers, owing, timed_parts, read, receive_data, Happening, Activated, CameUp, Deactivated, FrameCame, Submitted, Ticked, TitleAdded, TitleRemoved, WentDown, apply, handle_event, may_open, may_restart, open_link, add_title_unless, title_refusal, has_row, place_of, with_titles, without_row, down, link_at, Abstract, send, no_room, link_of, flow_of, queue_on}
 use Rattle.exchange_rules.specs.Conserving.{confirmed}
+use Rattle.exchange_rules.specs.LawsOfLosses.{IsGivenUp, IsPlaced, lateness_of, management_is_named}
 use Rattle.link.specs.declared.action.Action.TheVariants as act
 use Rattle.signalling_types.specs.declared.cause.Cause.TheVariants as causes
 use Rattle.signalling_types.specs.declared.notice.Notice.{Notice}
@@ -10,13 +11,13 @@ use Rattle.signalling_types.specs.declared.notice.FailureReason.TheVariants as r
 use Rattle.exchange_rules.proofs.Naming.{Quiet, accounted-as, any-quiet, both-accounted, either_done-quiet, more-quiet, one-quiet, same-quiet}
 use Rattle.exchange_rules.proofs.QuietMessages.{submit-quiet, tell_owed-quiet}
 use Rattle.exchange_rules.proofs.QuietLinks.{activate-quiet, advance-quiet, association_down-quiet, deactivate-quiet, fail-quiet, leave_aside-quiet, on_link_status-quiet}
-use Rattle.exchange_rules.proofs.NamedLosses.{Names, accepted-names, deliver_to-names, first-names, go_each-accounted, more-names, quiet-names, then-names, tick-names}
+use Rattle.exchange_rules.proofs.NamedLosses.{Names, NamesLate, accepted-names, deliver_to-names, first-names, go_each-accounted, more-names, quiet-names, then-names, tick-names}
 
 module _ (c : Configuration) where
   -- ---- a frame
 
   refusal-quiet : (link : ℕ) (o : Outcome) (n : Node WholeQueues) → Quiet 1 n (with_parts n (note_outcome link o n.parts))
-  refusal-quiet link (Refused cause) n = one-quiet (notices.Refused cause link) n _ refl refl refl refl
+  refusal-quiet link (Refused cause) n = one-quiet (notices.Refused cause link) n _ refl refl refl refl refl
   refusal-quiet link (Queued other) n = any-quiet 1 n
   refusal-quiet link Held n = any-quiet 1 n
   refusal-quiet link Local n = any-quiet 1 n
@@ -98,7 +99,7 @@ module _ (a : Abstract) where
   some : (k : ℕ) (m : Node WholeQueues) → k ≤ 3 → Quiet k was m → Names nothing_gone (3 * 1) was m
   some k m l q = quiet-names (3 * 1) was m (more-quiet k (3 * 1) was m (omega (arith, l)) q)
 
-  rule-names : (what : Happening) → Names (gone_by what a) (3 * rules_run what was.parts) was (handle_event whole set what was).left
+  rule-names : (what : Happening) → NamesLate (gone_by what a) (lateness_of what a) (3 * rules_run what was.parts) was (handle_event whole set what was).left
   unfolding apply
   rule-names (CameUp link) = some 0 _ (omega arith) (up-quiet (is_link was.parts link) (may_open (link_at was.parts link)) (may_restart (changeover_of was.parts link)) link)
   rule-names (WentDown link) = some 2 _ (omega arith) (association_down-quiet set link was)
@@ -114,7 +115,7 @@ module _ (a : Abstract) where
       (either_done-quiet 0 (has_row was.parts.titles (place_of key digits)) was (answer Handled (with_parts was (with_titles (without_row (place_of key digits) was.parts.titles) was.parts)))
       (refuse causes.NoSuchName was) (same-quiet was _ refl refl refl) (any-quiet 0 was))
 
-  event-accounts : (what : Happening) → AreAccounted (losses_of what a) (gone what a).doubts (others_of what a) was.parts (apply whole set what was).left.parts
+  event-accounts : (what : Happening) → AreAccounted (losses_of what a) (lateness_of what a) (gone what a).doubts (others_of what a) was.parts (apply whole set what was).left.parts
   unfolding apply
   event-accounts what =
       let ruled : Node WholeQueues = (handle_event whole set what was).left in
@@ -123,13 +124,14 @@ module _ (a : Abstract) where
       let freed : Node WholeQueues = release whole set ruled in
       let told : Node WholeQueues = tell_owed whole set freed in
       let lost : List Notice = map (naming LostUnconfirmed) g.lost in
+      let late : List Notice = lateness_of what a in
       let stranded : List Notice = map (naming causes.NoRoute) r.lost in
       let most : ℕ = length g.queued_anew + 3 * rules_run what was.parts in
       let owes : ℕ = length (owed (facts set freed.parts) freed.parts.told) in
-      accounted-as (lost ++ stranded ++ []) (g.doubts + 0 + 0) (lost ++ stranded) (g.doubts + 0) (most + 0 + owes) (most + owes) was.parts told.parts
-      (append-nil (lost ++ stranded)) (omega arith) (omega arith)
-      (both-accounted (lost ++ stranded) [] (g.doubts + 0) 0 (most + 0) owes was.parts freed.parts told.parts
-      (both-accounted lost stranded g.doubts 0 most 0 was.parts ruled.parts freed.parts (rule-names what).is
+      accounted-as (lost ++ stranded ++ []) (late ++ [] ++ []) (g.doubts + 0 + 0) (lost ++ stranded) late (g.doubts + 0) (most + 0 + owes) (most + owes) was.parts told.parts
+      (append-nil (lost ++ stranded)) (append-nil (late ++ []) ∙ append-nil late) (omega arith) (omega arith)
+      (both-accounted (lost ++ stranded) [] (late ++ []) [] (g.doubts + 0) 0 (most + 0) owes was.parts freed.parts told.parts
+      (both-accounted lost stranded late [] g.doubts 0 most 0 was.parts ruled.parts freed.parts (rule-names what).is
       (go_each-accounted set ruled.queues.held (record ruled { queues = whole.without_held ruled.queues })))
       (tell_owed-quiet set freed).is)
 
@@ -147,3 +149,26 @@ takes-flag a link = by (goes_out whole a.settings link a.node)
     by (SendsMessage next) = (refl, refl)
     by Acknowledges = (refl, refl)
     by SendsNothing = (refl, refl)
+
+-- ---- management
+
+module _ (c : Configuration) (m : Message) (n : Node WholeQueues) where
+  send-placed : (room : Option Cause) (link : Option ℕ) → IsPlaced room link m n (send whole c room link m n)
+  send-placed (Some cause) link = record {
+    queued = λ its e f. absurd cc;
+    full = λ other e. (let same : cause ≡ other = cc in subst (λ (x : Cause). IsGivenUp x m n (send whole c (Some cause) link m n)) same (record { queues = refl; parts = refl }));
+    stranded = λ e f. absurd cc;
+  }
+  send-placed None None = record { queued = λ its e f. absurd cc; full = λ other e. absurd cc; stranded = λ e f. record { queues = refl; parts = refl } }
+  send-placed None (Some link) = record {
+    queued = λ its e f. (let same : link ≡ its = cc in ap (λ (l : ℕ). queue_on whole c l m n) same);
+    full = λ other e. absurd cc;
+    stranded = λ e f. absurd cc;
+  }
+
+pub management-named : management_is_named
+management-named c link m n = record {
+  routed = send-placed c m n (no_room whole c m n.queues) (link_of c n.parts (flow_of m));
+  answered = send-placed c m n (no_room whole c m n.queues) (Some link);
+  anew = send-placed c m n None (link_of c n.parts (flow_of m));
+}

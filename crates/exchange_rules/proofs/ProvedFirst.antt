@@ -1,35 +1,47 @@
 -- A link is proved before it enters service.
-use Rattle.exchange_rules.proofs.Basics.{◌≡◌, ◌≢◌, ◌⊎◌, inl, inr, ◌<◌, ◌≤◌, ℕ, Bool, true, false, ◌&&◌, ◌||◌, ◌==◌, List, [], ◌∷◌, length, Option, Some, None, refl, ap, sym, subst, ◌∙◌, arith, nat_tests, ⊎_elim, cases_eq, cases_lt, list_all, get_or_past, get_or-set_same, get_or-set_other, length-set, if◌then◌else◌}
-use Rattle.exchange_rules.proofs.Definitions.{Alignment, Input, Expiry, Status, UserData, Go, Transition, Effect, Fails, Remembers, Enters, EntersServing, Serves, Cell, table, state_number, is_same_input, effect_in, action_of, action_at, Link, down_link, Node, link_at, links_with, WholeQueues}
+use Rattle.exchange_rules.proofs.Basics.{◌≡◌, ◌⊎◌, inl, inr, ℕ, Bool, true, false, ◌&&◌, ◌||◌, ◌==◌, List, [], ◌∷◌, Option, Some, None, refl, ap, sym, subst, ◌∙◌, arith, nat_tests, ⊎_elim, list_all, if◌then◌else◌}
+use Rattle.exchange_rules.proofs.Definitions.{Alignment, LinkStatus, LinkTimer, Input, Expiry, Status, UserData, Go, Transition, Effect, Fails, Remembers, Enters, EntersServing, Serves, Cell, table, state_number, is_same_input, effect_in, action_of, action_at}
 use Rattle.link.specs.declared.alignment.Alignment.TheVariants.{Down, NotAligned, Aligned, Proving, AlignedReady, InService}
-use Rattle.exchange_rules.specs.Aligning.{state_of}
-use Rattle.exchange_rules.proofs.Lists.{alike-at}
+use Rattle.link.specs.Table.{timer_number}
+use Rattle.link.specs.declared.action.LinkTimer.TheVariants.{L1, L2, L3, L4, L6, L7}
+use Rattle.m2pa_codec.specs.Frames.{status_number, status_of}
+use Rattle.m2pa_codec.proofs.StatusNumbers.{status_of-number}
 use Rattle.exchange_rules.proofs.Serving.{step_in}
 
 -- ---- the table
 
-abbrev pub is_expiry : Input → Bool
-is_expiry (Expiry its) = true
-is_expiry (Status status) = false
-is_expiry UserData = false
+-- what leads a link on: User Data, a link status by its number, and L4
+abbrev pub kind_of : Input → ℕ
+kind_of UserData = 0
+kind_of (Status status) = status_number status
+kind_of (Expiry its) = if timer_number its == 4 then 10 else 11
 
--- whether a timer leads from one state to another, or a frame
-abbrev pub leads : (timed : Bool) → (before after : ℕ) → Bool
-leads true before after = (after == 6 && before == 4) || (after == 5 && before == 3)
-leads false before after = if after == 6 then before == 5 || before == 6 else (if after == 5 then before == 5 else true)
+-- whether it leads from one state to another
+abbrev pub leads : (kind : ℕ) → (before after : ℕ) → Bool
+leads kind before after =
+    if after == 2 then kind == 1 && before == 1
+    else if after == 3 then (kind == 2 || kind == 3) && (before == 1 || before == 2)
+    else if after == 4 then kind == 4 && (before == 3 || before == 4)
+    else if after == 5 then kind == 10 && before == 3
+    else if after == 6
+    then (kind == 10 && before == 4) || ((kind == 4 && before == 5) || ((kind == 0 && (before == 5 || before == 6)) || ((kind == 7 || kind == 8) && before == 6)))
+    else false
 
-abbrev leads_by : (timed : Bool) → ℕ → Effect → Bool
-leads_by timed before Fails = true
-leads_by timed before Remembers = leads timed before 4
-leads_by timed before (Enters after sent started) = leads timed before (state_number after)
-leads_by timed before EntersServing = leads timed before 6
-leads_by timed before Serves = leads timed before before
+abbrev leads_by : (kind : ℕ) → ℕ → Effect → Bool
+leads_by kind before Fails = true
+leads_by kind before Remembers = leads kind before 4
+leads_by kind before (Enters after sent started) = leads kind before (state_number after)
+leads_by kind before EntersServing = leads kind before 6
+leads_by kind before Serves = leads kind before before
 
 abbrev cell_leads : Cell → Bool
-cell_leads c = leads_by (is_expiry c.input) (state_number c.state) c.effect
+cell_leads c = leads_by (kind_of c.input) (state_number c.state) c.effect
 
-same-kind : (x y : Input) → is_same_input x y ≡ true → is_expiry x ≡ is_expiry y
-same-kind (Status x) (Status y) e = refl
+same-number : (m n : ℕ) → (m == n) ≡ true → m ≡ n
+same-number m n e = grind (arith, nat_tests, e)
+
+same-kind : (x y : Input) → is_same_input x y ≡ true → kind_of x ≡ kind_of y
+same-kind (Status x) (Status y) e = same-number (status_number x) (status_number y) e
 same-kind (Status x) UserData e = absurd cc
 same-kind (Status x) (Expiry y) e = absurd cc
 same-kind UserData (Status y) e = absurd cc
@@ -37,10 +49,7 @@ same-kind UserData UserData e = refl
 same-kind UserData (Expiry y) e = absurd cc
 same-kind (Expiry x) (Status y) e = absurd cc
 same-kind (Expiry x) UserData e = absurd cc
-same-kind (Expiry x) (Expiry y) e = refl
-
-same-number : (m n : ℕ) → (m == n) ≡ true → m ≡ n
-same-number m n e = grind (arith, nat_tests, e)
+same-kind (Expiry x) (Expiry y) e = ap (λ (n : ℕ). if n == 4 then 10 else 11) (same-number (timer_number x) (timer_number y) e)
 
 front : (a b : Bool) → (a && b) ≡ true → a ≡ true
 front true b e = refl
@@ -55,22 +64,22 @@ effect_or other (Some effect) = effect
 effect_or other None = other
 
 found-leads : (cells : List Cell) (a : Alignment) (input : Input) (effect : Effect) → list_all cell_leads cells ≡ true → effect_in cells a input ≡ Some effect
-    → leads_by (is_expiry input) (state_number a) effect ≡ true
+    → leads_by (kind_of input) (state_number a) effect ≡ true
 found-leads [] a input effect e h = absurd cc
 found-leads (c ∷ cells) a input effect e h =
     elim ((state_number c.state == state_number a) && is_same_input c.input input) as
     (λ b. ((state_number c.state == state_number a) && is_same_input c.input input) ≡ b → (if b then Some c.effect else effect_in cells a input) ≡ Some effect
-    → leads_by (is_expiry input) (state_number a) effect ≡ true) [
+    → leads_by (kind_of input) (state_number a) effect ≡ true) [
       | true ↦ λ same g.
-          ap (λ (x : Effect). leads_by (is_expiry input) (state_number a) x) (sym (ap (effect_or effect) g))
-          ∙ ap (λ (n : ℕ). leads_by (is_expiry input) n c.effect) (sym (same-number (state_number c.state) (state_number a) (front (state_number c.state == state_number a) (is_same_input c.input input) same)))
-          ∙ ap (λ (b : Bool). leads_by b (state_number c.state) c.effect) (sym (same-kind c.input input (rest (state_number c.state == state_number a) (is_same_input c.input input) same)))
+          ap (λ (x : Effect). leads_by (kind_of input) (state_number a) x) (sym (ap (effect_or effect) g))
+          ∙ ap (λ (n : ℕ). leads_by (kind_of input) n c.effect) (sym (same-number (state_number c.state) (state_number a) (front (state_number c.state == state_number a) (is_same_input c.input input) same)))
+          ∙ ap (λ (k : ℕ). leads_by k (state_number c.state) c.effect) (sym (same-kind c.input input (rest (state_number c.state == state_number a) (is_same_input c.input input) same)))
           ∙ front (cell_leads c) (list_all cell_leads cells) e
       | false ↦ λ other g. found-leads cells a input effect (rest (cell_leads c) (list_all cell_leads cells) e) g
     ] refl h
 
 effect-leads : (effect : Option Effect) (a : Alignment) (input : Input) (step : Transition) → effect_in table a input ≡ effect → action_of a effect ≡ Go step
-    → leads (is_expiry input) (state_number a) (state_number (step_in (action_of a effect)).state) ≡ true
+    → leads (kind_of input) (state_number a) (state_number (step_in (action_of a effect)).state) ≡ true
 effect-leads None a input step f e = absurd cc
 effect-leads (Some Fails) a input step f e = absurd cc
 effect-leads (Some Remembers) a input step f e = found-leads table a input Remembers refl f
@@ -78,167 +87,199 @@ effect-leads (Some (Enters after sent start)) a input step f e = found-leads tab
 effect-leads (Some EntersServing) a input step f e = found-leads table a input EntersServing refl f
 effect-leads (Some Serves) a input step f e = found-leads table a input Serves refl f
 
-pub each-leads : (a : Alignment) (input : Input) (step : Transition) → action_at a input ≡ Go step → leads (is_expiry input) (state_number a) (state_number step.state) ≡ true
+pub each-leads : (a : Alignment) (input : Input) (step : Transition) → action_at a input ≡ Go step → leads (kind_of input) (state_number a) (state_number step.state) ≡ true
 each-leads a input step e =
-    subst (λ (t : Transition). leads (is_expiry input) (state_number a) (state_number t.state) ≡ true) (ap step_in e) (effect-leads (effect_in table a input) a input step refl e)
+    subst (λ (t : Transition). leads (kind_of input) (state_number a) (state_number t.state) ≡ true) (ap step_in e) (effect-leads (effect_in table a input) a input step refl e)
 
--- ---- states by their numbers
+-- ---- states and statuses by their numbers
 
-ready-of : (x : Alignment) → (state_number x == 5) ≡ true → x ≡ AlignedReady
-ready-of AlignedReady e = refl
-ready-of Down e = absurd cc
-ready-of NotAligned e = absurd cc
-ready-of Aligned e = absurd cc
-ready-of (Proving true) e = absurd cc
-ready-of (Proving false) e = absurd cc
-ready-of InService e = absurd cc
+abbrev state_numbered : ℕ → Alignment
+state_numbered n =
+    if n == 1 then NotAligned else if n == 2 then Aligned else if n == 3 then Proving false else if n == 4 then Proving true
+    else if n == 5 then AlignedReady else if n == 6 then InService else Down
 
-proved-of : (x : Alignment) → (state_number x == 4) ≡ true → x ≡ Proving true
-proved-of (Proving true) e = refl
-proved-of Down e = absurd cc
-proved-of NotAligned e = absurd cc
-proved-of Aligned e = absurd cc
-proved-of (Proving false) e = absurd cc
-proved-of AlignedReady e = absurd cc
-proved-of InService e = absurd cc
+from-number : (x : Alignment) → state_numbered (state_number x) ≡ x
+from-number Down = refl
+from-number NotAligned = refl
+from-number Aligned = refl
+from-number (Proving true) = refl
+from-number (Proving false) = refl
+from-number AlignedReady = refl
+from-number InService = refl
 
-proving-of : (x : Alignment) → (state_number x == 3) ≡ true → x ≡ Proving false
-proving-of (Proving false) e = refl
-proving-of Down e = absurd cc
-proving-of NotAligned e = absurd cc
-proving-of Aligned e = absurd cc
-proving-of (Proving true) e = absurd cc
-proving-of AlignedReady e = absurd cc
-proving-of InService e = absurd cc
+numbered : (x : Alignment) (n : ℕ) → (state_number x == n) ≡ true → x ≡ state_numbered n
+numbered x n e = sym (from-number x) ∙ ap state_numbered (same-number (state_number x) n e)
 
-ready-or-serving : (x : Alignment) → (state_number x == 5 || state_number x == 6) ≡ true → (x ≡ AlignedReady) ⊎ (x ≡ InService)
-ready-or-serving AlignedReady e = inl refl
-ready-or-serving InService e = inr refl
-ready-or-serving Down e = absurd cc
-ready-or-serving NotAligned e = absurd cc
-ready-or-serving Aligned e = absurd cc
-ready-or-serving (Proving true) e = absurd cc
-ready-or-serving (Proving false) e = absurd cc
+abbrev some-of : {A : Type 0} (d : A) → Option A → A
+some-of d (Some x) = x
+some-of d None = d
+
+pub status-numbered : (x y : LinkStatus) → status_number x ≡ status_number y → x ≡ y
+status-numbered x y e = ap (some-of x) (sym (status_of-number x) ∙ ap status_of e ∙ status_of-number y)
+
+no-status : (x : LinkStatus) (n : ℕ) → status_of n ≡ None → status_number x ≡ n → ⊥
+no-status x n e f = (let no : Some x ≡ None = sym (status_of-number x) ∙ ap status_of f ∙ e in cc)
+
+pub no-timer : (x : LinkStatus) → status_number x ≡ 10 → ⊥
+unfolding status_of
+no-timer x e = no-status x 10 refl e
+
+pub no-data : (x : LinkStatus) → status_number x ≡ 0 → ⊥
+unfolding status_of
+no-data x e = no-status x 0 refl e
+
+either : (a b : Bool) → (a || b) ≡ true → (a ≡ true) ⊎ (b ≡ true)
+either true b e = inl refl
+either false b e = inr e
 
 -- ---- from one state to another
 
--- at a tick, and by a frame
-pub record Climbs (x y : Alignment) : Type 0 where
+-- in the midst of a tick; by D L4 of the link runs out
+pub record Climbs (D : Type 0) (x y : Alignment) : Type 0 where
+  pub begins : y ≡ NotAligned → x ≡ NotAligned
+  pub aligned : y ≡ Aligned → x ≡ Aligned
   pub proving : (ready : Bool) → y ≡ Proving ready → x ≡ Proving ready
-  pub ready : y ≡ AlignedReady → (x ≡ AlignedReady) ⊎ (x ≡ Proving false)
-  pub serves : y ≡ InService → (x ≡ InService) ⊎ (x ≡ Proving true)
+  pub ready : y ≡ AlignedReady → (x ≡ AlignedReady) ⊎ (D × (x ≡ Proving false))
+  pub serves : y ≡ InService → (x ≡ InService) ⊎ (D × (x ≡ Proving true))
 
-pub record Hears (x y : Alignment) : Type 0 where
+-- by a frame of some kind
+pub record Hears (k : ℕ) (x y : Alignment) : Type 0 where
+  pub begins : y ≡ NotAligned → x ≡ NotAligned
+  pub aligns : y ≡ Aligned → (x ≡ Aligned) ⊎ ((k ≡ 1) × (x ≡ NotAligned))
+  pub proves : y ≡ Proving false → (x ≡ Proving false) ⊎ (((k ≡ 2) ⊎ (k ≡ 3)) × ((x ≡ NotAligned) ⊎ (x ≡ Aligned)))
+  pub remembers : y ≡ Proving true → (x ≡ Proving true) ⊎ ((k ≡ 4) × (x ≡ Proving false))
   pub ready : y ≡ AlignedReady → x ≡ AlignedReady
-  pub serves : y ≡ InService → (x ≡ AlignedReady) ⊎ (x ≡ InService)
+  pub serves : y ≡ InService → (x ≡ InService) ⊎ (((k ≡ 4) ⊎ (k ≡ 0)) × (x ≡ AlignedReady))
 
-pub both-climb : (x y z : Alignment) → Climbs x y → Climbs y z → Climbs x z
-both-climb x y z e f = record {
+pub both-climb : (D : Type 0) (x y z : Alignment) → Climbs D x y → Climbs D y z → Climbs D x z
+both-climb D x y z e f = record {
+  begins = λ h. e.begins (f.begins h);
+  aligned = λ h. e.aligned (f.aligned h);
   proving = λ ready h. e.proving ready (f.proving ready h);
-  ready = λ h. ⊎_elim (λ (k : y ≡ AlignedReady). e.ready k) (λ (k : y ≡ Proving false). inr (e.proving false k)) (f.ready h);
-  serves = λ h. ⊎_elim (λ (k : y ≡ InService). e.serves k) (λ (k : y ≡ Proving true). inr (e.proving true k)) (f.serves h);
+  ready = λ h. ⊎_elim (λ (k : y ≡ AlignedReady). e.ready k) (λ (k : D × (y ≡ Proving false)). inr (k.0, e.proving false k.1)) (f.ready h);
+  serves = λ h. ⊎_elim (λ (k : y ≡ InService). e.serves k) (λ (k : D × (y ≡ Proving true)). inr (k.0, e.proving true k.1)) (f.serves h);
 }
 
-pub both-hear : (x y z : Alignment) → Hears x y → Hears y z → Hears x z
-both-hear x y z e f = record {
-  ready = λ h. e.ready (f.ready h);
-  serves = λ h. ⊎_elim (λ (k : y ≡ AlignedReady). inl (e.ready k)) (λ (k : y ≡ InService). e.serves k) (f.serves h);
+pub down-climbs : (D : Type 0) (x y : Alignment) → y ≡ Down → Climbs D x y
+down-climbs D x y e = record {
+  begins = λ h. absurd (let no : Down ≡ NotAligned = sym e ∙ h in cc);
+  aligned = λ h. absurd (let no : Down ≡ Aligned = sym e ∙ h in cc);
+  proving = λ ready h. absurd (let no : Down ≡ Proving ready = sym e ∙ h in cc);
+  ready = λ h. absurd (let no : Down ≡ AlignedReady = sym e ∙ h in cc);
+  serves = λ h. absurd (let no : Down ≡ InService = sym e ∙ h in cc);
 }
 
--- by any rule that lets no link go on: it is as it was, or down, or begins
-abbrev pub is_low : Alignment → Bool
-is_low Down = true
-is_low NotAligned = true
-is_low other = false
-
-pub record Keeps (l : ℕ) (n m : Node WholeQueues) : Type 0 where
-  pub is : (is_low (state_of m.parts l) ≡ true) ⊎ (state_of m.parts l ≡ state_of n.parts l)
-
-low-is : (x y : Alignment) → is_low x ≡ true → x ≡ y → is_low y ≡ true
-low-is x y e f = sym (ap is_low f) ∙ e
-
-low-climbs : (x y : Alignment) → is_low y ≡ true → Climbs x y
-low-climbs x y e = record {
-  proving = λ ready h. absurd (let no : is_low (Proving ready) ≡ true = low-is y (Proving ready) e h in cc);
-  ready = λ h. absurd (let no : is_low AlignedReady ≡ true = low-is y AlignedReady e h in cc);
-  serves = λ h. absurd (let no : is_low InService ≡ true = low-is y InService e h in cc);
+-- what is heard first, and what keeps it
+pub heard-climbs : (k : ℕ) (x y z : Alignment) → Hears k x y → Climbs ⊥ y z → Hears k x z
+heard-climbs k x y z e f = record {
+  begins = λ h. e.begins (f.begins h);
+  aligns = λ h. e.aligns (f.aligned h);
+  proves = λ h. e.proves (f.proving false h);
+  remembers = λ h. e.remembers (f.proving true h);
+  ready = λ h. e.ready (⊎_elim (λ (g : y ≡ AlignedReady). g) (λ (g : ⊥ × (y ≡ Proving false)). absurd g.0) (f.ready h));
+  serves = λ h. e.serves (⊎_elim (λ (g : y ≡ InService). g) (λ (g : ⊥ × (y ≡ Proving true)). absurd g.0) (f.serves h));
 }
 
-pub keeps-climbs : (l : ℕ) (n m : Node WholeQueues) → Keeps l n m → Climbs (state_of n.parts l) (state_of m.parts l)
-keeps-climbs l n m k = by k.is
-  where
-    by : (is_low (state_of m.parts l) ≡ true) ⊎ (state_of m.parts l ≡ state_of n.parts l) → Climbs (state_of n.parts l) (state_of m.parts l)
-    by (inl e) = low-climbs _ _ e
-    by (inr e) = record { proving = λ ready h. sym e ∙ h; ready = λ h. inl (sym e ∙ h); serves = λ h. inl (sym e ∙ h) }
+pub same-hears : (k : ℕ) (x : Alignment) → Hears k x x
+same-hears k x = record { begins = λ h. h; aligns = λ h. inl h; proves = λ h. inl h; remembers = λ h. inl h; ready = λ h. h; serves = λ h. inl h }
 
-pub keeps-hears : (l : ℕ) (n m : Node WholeQueues) → Keeps l n m → Hears (state_of n.parts l) (state_of m.parts l)
-keeps-hears l n m k = by k.is
-  where
-    by : (is_low (state_of m.parts l) ≡ true) ⊎ (state_of m.parts l ≡ state_of n.parts l) → Hears (state_of n.parts l) (state_of m.parts l)
-    by (inl e) = record {
-      ready = λ h. absurd (let no : is_low AlignedReady ≡ true = low-is _ AlignedReady e h in cc);
-      serves = λ h. absurd (let no : is_low InService ≡ true = low-is _ InService e h in cc);
-    }
-    by (inr e) = record { ready = λ h. sym e ∙ h; serves = λ h. inr (sym e ∙ h) }
-
-pub timed-climbs : (x y : Alignment) → leads true (state_number x) (state_number y) ≡ true → Climbs x y
-timed-climbs x Down e = low-climbs x Down refl
-timed-climbs x NotAligned e = low-climbs x NotAligned refl
-timed-climbs x Aligned e = absurd cc
-timed-climbs x (Proving true) e = absurd cc
-timed-climbs x (Proving false) e = absurd cc
-timed-climbs x AlignedReady e = record { proving = λ ready h. absurd cc; ready = λ h. inr (proving-of x e); serves = λ h. absurd cc }
-timed-climbs x InService e = record { proving = λ ready h. absurd cc; ready = λ h. absurd cc; serves = λ h. inr (proved-of x (or-false _ e)) }
+timed-climbs : (D : Type 0) → D → (x y : Alignment) → leads 10 (state_number x) (state_number y) ≡ true → Climbs D x y
+timed-climbs D d x Down e = absurd cc
+timed-climbs D d x NotAligned e = absurd cc
+timed-climbs D d x Aligned e = absurd cc
+timed-climbs D d x (Proving true) e = absurd cc
+timed-climbs D d x (Proving false) e = absurd cc
+timed-climbs D d x AlignedReady e = record { begins = λ h. absurd cc; aligned = λ h. absurd cc; proving = λ ready h. absurd cc; ready = λ h. inr (d, numbered x 3 e); serves = λ h. absurd cc }
+timed-climbs D d x InService e = record {
+  begins = λ h. absurd cc;
+  aligned = λ h. absurd cc;
+  proving = λ ready h. absurd cc;
+  ready = λ h. absurd cc;
+  serves = λ h. inr (d, numbered x 4 (or-false (state_number x == 4) e));
+}
   where
     or-false : (b : Bool) → (b || false) ≡ true → b ≡ true
     or-false true h = refl
     or-false false h = absurd cc
 
-pub frame-hears : (x y : Alignment) → leads false (state_number x) (state_number y) ≡ true → Hears x y
-frame-hears x Down e = record { ready = λ h. absurd cc; serves = λ h. absurd cc }
-frame-hears x NotAligned e = record { ready = λ h. absurd cc; serves = λ h. absurd cc }
-frame-hears x Aligned e = record { ready = λ h. absurd cc; serves = λ h. absurd cc }
-frame-hears x (Proving true) e = record { ready = λ h. absurd cc; serves = λ h. absurd cc }
-frame-hears x (Proving false) e = record { ready = λ h. absurd cc; serves = λ h. absurd cc }
-frame-hears x AlignedReady e = record { ready = λ h. ready-of x e; serves = λ h. absurd cc }
-frame-hears x InService e = record { ready = λ h. absurd cc; serves = λ h. ready-or-serving x e }
+none-leads : (x y : Alignment) → leads 11 (state_number x) (state_number y) ≡ true → ⊥
+none-leads x Down e = cc
+none-leads x NotAligned e = cc
+none-leads x Aligned e = cc
+none-leads x (Proving true) e = cc
+none-leads x (Proving false) e = cc
+none-leads x AlignedReady e = cc
+none-leads x InService e = cc
 
--- ---- rules that let no link go on
+pub timer-climbs : (D : Type 0) (its : LinkTimer) (x y : Alignment) → (its ≡ L4 → D) → leads (kind_of (Expiry its)) (state_number x) (state_number y) ≡ true → Climbs D x y
+timer-climbs D L4 x y d e = timed-climbs D (d refl) x y e
+timer-climbs D L1 x y d e = absurd (none-leads x y e)
+timer-climbs D L2 x y d e = absurd (none-leads x y e)
+timer-climbs D L3 x y d e = absurd (none-leads x y e)
+timer-climbs D L6 x y d e = absurd (none-leads x y e)
+timer-climbs D L7 x y d e = absurd (none-leads x y e)
 
-module _ (l : ℕ) where
-  pub same-keeps : (n m : Node WholeQueues) → state_of m.parts l ≡ state_of n.parts l → Keeps l n m
-  same-keeps n m e = record { is = inr e }
+pub frame-hears : (k : ℕ) (x y : Alignment) → (k ≡ 10 → ⊥) → leads k (state_number x) (state_number y) ≡ true → Hears k x y
+frame-hears k x Down frame e = absurd cc
+frame-hears k x NotAligned frame e = absurd cc
+frame-hears k x Aligned frame e = record {
+  begins = λ h. absurd cc;
+  aligns = λ h. inr (same-number k 1 (front (k == 1) _ e), numbered x 1 (rest (k == 1) _ e));
+  proves = λ h. absurd cc;
+  remembers = λ h. absurd cc;
+  ready = λ h. absurd cc;
+  serves = λ h. absurd cc;
+}
+frame-hears k x (Proving false) frame e = record {
+  begins = λ h. absurd cc;
+  aligns = λ h. absurd cc;
+  proves = λ h. inr (
+    ⊎_elim (λ (f : (k == 2) ≡ true). inl (same-number k 2 f)) (λ (f : (k == 3) ≡ true). inr (same-number k 3 f)) (either (k == 2) (k == 3) (front (k == 2 || k == 3) _ e)),
+    ⊎_elim (λ (f : (state_number x == 1) ≡ true). inl (numbered x 1 f)) (λ (f : (state_number x == 2) ≡ true). inr (numbered x 2 f))
+        (either (state_number x == 1) (state_number x == 2) (rest (k == 2 || k == 3) _ e)),
+  );
+  remembers = λ h. absurd cc;
+  ready = λ h. absurd cc;
+  serves = λ h. absurd cc;
+}
+frame-hears k x (Proving true) frame e = record {
+  begins = λ h. absurd cc;
+  aligns = λ h. absurd cc;
+  proves = λ h. absurd cc;
+  remembers = λ h.
+      ⊎_elim (λ (f : (state_number x == 3) ≡ true). inr (same-number k 4 (front (k == 4) _ e), numbered x 3 f)) (λ (f : (state_number x == 4) ≡ true). inl (numbered x 4 f))
+      (either (state_number x == 3) (state_number x == 4) (rest (k == 4) _ e));
+  ready = λ h. absurd cc;
+  serves = λ h. absurd cc;
+}
+frame-hears k x AlignedReady frame e = absurd (frame (same-number k 10 (front (k == 10) _ e)))
+frame-hears k x InService frame e = record {
+  begins = λ h. absurd cc;
+  aligns = λ h. absurd cc;
+  proves = λ h. absurd cc;
+  remembers = λ h. absurd cc;
+  ready = λ h. absurd cc;
+  serves = λ h. by (either _ _ e);
+}
+  where
+    ready-or : (b d : Bool) → b ≡ (state_number x == 5) → d ≡ (state_number x == 6) → (b || d) ≡ true → (x ≡ AlignedReady) ⊎ (x ≡ InService)
+    ready-or true d f g h = inl (numbered x 5 (sym f))
+    ready-or false d f g h = inr (numbered x 6 (sym g ∙ h))
 
-  pub both-keep : (n m o : Node WholeQueues) → Keeps l n m → Keeps l m o → Keeps l n o
-  both-keep n m o e f = record { is = by e.is f.is }
-    where
-      by : (is_low (state_of m.parts l) ≡ true) ⊎ (state_of m.parts l ≡ state_of n.parts l) → (is_low (state_of o.parts l) ≡ true) ⊎ (state_of o.parts l ≡ state_of m.parts l)
-          → (is_low (state_of o.parts l) ≡ true) ⊎ (state_of o.parts l ≡ state_of n.parts l)
-      by g (inl h) = inl h
-      by (inl g) (inr h) = inl (ap is_low h ∙ g)
-      by (inr g) (inr h) = inr (h ∙ g)
+    by-data : ((k == 0 && (state_number x == 5 || state_number x == 6)) ≡ true) ⊎ (((k == 7 || k == 8) && state_number x == 6) ≡ true)
+        → (x ≡ InService) ⊎ (((k ≡ 4) ⊎ (k ≡ 0)) × (x ≡ AlignedReady))
+    by-data (inl f) =
+        ⊎_elim (λ (g : x ≡ AlignedReady). inr (inr (same-number k 0 (front (k == 0) _ f)), g)) (λ (g : x ≡ InService). inl g)
+        (ready-or (state_number x == 5) (state_number x == 6) refl refl (rest (k == 0) _ f))
+    by-data (inr f) = inl (numbered x 6 (rest (k == 7 || k == 8) _ f))
 
-  -- a link that is low now, whichever it is
-  pub low-keeps : (link : ℕ) (x : Link) (n m : Node WholeQueues) → m.parts.links ≡ links_with n.parts link x → is_low x.alignment ≡ true → Keeps l n m
-  low-keeps link x n m e low = record { is = by (cases_eq l link) }
-    where
-      its : state_of m.parts l ≡ (link_at (record n.parts { links = links_with n.parts link x }) l).alignment
-      its = ap (λ (links : List Link). (link_at (record n.parts { links = links }) l).alignment) e
+    by-status : ((k == 4 && state_number x == 5) ≡ true) ⊎ (((k == 0 && (state_number x == 5 || state_number x == 6)) || ((k == 7 || k == 8) && state_number x == 6)) ≡ true)
+        → (x ≡ InService) ⊎ (((k ≡ 4) ⊎ (k ≡ 0)) × (x ≡ AlignedReady))
+    by-status (inl f) = inr (inl (same-number k 4 (front (k == 4) _ f)), numbered x 5 (rest (k == 4) _ f))
+    by-status (inr f) = by-data (either _ _ f)
 
-      here : (link < length n.parts.links) ⊎ (length n.parts.links ≤ link) → is_low (link_at (record n.parts { links = links_with n.parts link x }) link).alignment ≡ true
-      here (inl there) = ap (λ (y : Link). is_low y.alignment) (get_or-set_same n.parts.links link x down_link there) ∙ low
-      here (inr past) = ap (λ (y : Link). is_low y.alignment) (get_or_past (links_with n.parts link x) link down_link (omega (arith, past, length-set n.parts.links link x)))
-
-      by : (l ≡ link) ⊎ (l ≢ link) → (is_low (state_of m.parts l) ≡ true) ⊎ (state_of m.parts l ≡ state_of n.parts l)
-      by (inl same) =
-          inl (ap is_low its ∙ ap (λ (k : ℕ). is_low (link_at (record n.parts { links = links_with n.parts link x }) k).alignment) same ∙ here (cases_lt link (length n.parts.links)))
-      by (inr apart) = inr (its ∙ ap (λ (y : Link). y.alignment) (get_or-set_other n.parts.links link l x down_link apart))
-
-  pub alike-keeps : (link : ℕ) (x : Link) (n m : Node WholeQueues) → m.parts.links ≡ links_with n.parts link x → x.alignment ≡ (link_at n.parts link).alignment → Keeps l n m
-  alike-keeps link x n m e same = same-keeps n m
-      (ap (λ (links : List Link). (link_at (record n.parts { links = links }) l).alignment) e ∙ alike-at (λ (y : Link). y.alignment) n.parts.links link l x down_link same)
-
-  pub other-keeps : (link : ℕ) (x : Link) (n m : Node WholeQueues) → m.parts.links ≡ links_with n.parts link x → link ≢ l → Keeps l n m
-  other-keeps link x n m e apart = same-keeps n m
-      (ap (λ (links : List Link). (link_at (record n.parts { links = links }) l).alignment) e
-      ∙ ap (λ (y : Link). y.alignment) (get_or-set_other n.parts.links link l x down_link (λ same. apart (sym same))))
+    by : ((k == 10 && state_number x == 4) ≡ true)
+        ⊎ (((k == 4 && state_number x == 5) || ((k == 0 && (state_number x == 5 || state_number x == 6)) || ((k == 7 || k == 8) && state_number x == 6))) ≡ true)
+        → (x ≡ InService) ⊎ (((k ≡ 4) ⊎ (k ≡ 0)) × (x ≡ AlignedReady))
+    by (inl f) = absurd (frame (same-number k 10 (front (k == 10) _ f)))
+    by (inr f) = by-status (either _ _ f)

@@ -14,15 +14,15 @@ module _ (c : Configuration) where
   -- ---- links fail
 
   gone-quiet : (served : Bool) (link : ℕ) (why : FailureReason) (n : Node WholeQueues) → Quiet 1 n (make_unavailable whole c served link why n)
-  gone-quiet false link why n = one-quiet (notices.Failed link why) n _ refl refl refl refl
+  gone-quiet false link why n = one-quiet (notices.Failed link why) n _ refl refl refl refl refl
   gone-quiet true link why n = by (has_other c link failed)
     where
       failed : Parts
       failed = fail_link link why (suspended c link (whole.unconfirmed n.queues link) n.parts)
 
       by : (others : Bool) → Quiet 1 n (with_parts n (if others then failed else without_tests (set_of c link) failed))
-      by true = one-quiet (notices.Failed link why) n _ refl refl refl refl
-      by false = one-quiet (notices.Failed link why) n _ refl refl refl refl
+      by true = one-quiet (notices.Failed link why) n _ refl refl refl refl refl
+      by false = one-quiet (notices.Failed link why) n _ refl refl refl refl refl
 
   begun-quiet : (ordered : Bool) (link : ℕ) (n : Node WholeQueues) → Quiet 1 n (begin whole c ordered link n)
   begun-quiet true link n =
@@ -152,6 +152,6 @@ module _ (c : Configuration) where
 
   pub leave_aside-quiet : (link : ℕ) (fault : FrameFault) (n : Node WholeQueues) → Quiet 2 n (leave_aside whole c link fault n).left
   leave_aside-quiet link faults.Length n = fail-quiet link reasons.Length n
-  leave_aside-quiet link faults.Short n = more-quiet 1 2 n _ (omega arith) (one-quiet (notices.Frame faults.Short link) n _ refl refl refl refl)
-  leave_aside-quiet link faults.Version n = more-quiet 1 2 n _ (omega arith) (one-quiet (notices.Frame faults.Version link) n _ refl refl refl refl)
-  leave_aside-quiet link faults.Unknown n = more-quiet 1 2 n _ (omega arith) (one-quiet (notices.Frame faults.Unknown link) n _ refl refl refl refl)
+  leave_aside-quiet link faults.Short n = more-quiet 1 2 n _ (omega arith) (one-quiet (notices.Frame faults.Short link) n _ refl refl refl refl refl)
+  leave_aside-quiet link faults.Version n = more-quiet 1 2 n _ (omega arith) (one-quiet (notices.Frame faults.Version link) n _ refl refl refl refl refl)
+  leave_aside-quiet link faults.Unknown n = more-quiet 1 2 n _ (omega arith) (one-quiet (notices.Frame faults.Unknown link) n _ refl refl refl refl refl)

@@ -15,8 +15,8 @@ module _ (c : Configuration) where
   -- ---- management goes out
 
   pub send-quiet : (room : Option Cause) (link : Option ℕ) (m : Message) (n : Node WholeQueues) → Quiet 1 n (send whole c room link m n)
-  send-quiet (Some cause) link m n = one-quiet (notices.Unsent cause (dpc_of m)) n _ refl refl refl refl
-  send-quiet None None m n = one-quiet (notices.Unsent causes.NoRoute (dpc_of m)) n _ refl refl refl refl
+  send-quiet (Some cause) link m n = one-quiet (notices.Unsent cause (dpc_of m)) n _ refl refl refl refl refl
+  send-quiet None None m n = one-quiet (notices.Unsent causes.NoRoute (dpc_of m)) n _ refl refl refl refl refl
   send-quiet None (Some link) m n = more-quiet 0 1 n _ (omega arith) (same-quiet n _ refl refl refl)
 
   pub routed-quiet : (m : Message) (n : Node WholeQueues) → Quiet 1 n (send_routed whole c m n)

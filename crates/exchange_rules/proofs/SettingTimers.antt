@@ -6,25 +6,25 @@ use Rattle.timers.specs.declared.name.RouteTimer.TheVariants as of_set
 use Rattle.signalling_types.specs.declared.notice.FailureReason.TheVariants as reasons
 use Rattle.signalling_types.specs.declared.notice.ChangeoverTimer.TheVariants as which
 use Rattle.exchange_rules.specs.TimerSettings.{setting_of, RunsBy, left_by, events_set_timers_to_their_settings, takes_set_timers_to_their_settings, timers_keep_their_settings}
-use Rattle.exchange_rules.proofs.TimerSettings.{AreSet, same-set, both-set, set-set, clear-set, clear_set-set, without_timers-set, timed-set, timed_sending-set, timed_confirming-set, timed_busy-set, timed_busy_ended-set}
+use Rattle.exchange_rules.proofs.TimerSettings.{AreSet, wider-set, same-set, both-set, set-set, clear-set, clear_set-set, without_timers-set, timed-set, timed_sending-set, timed_confirming-set, timed_busy-set, timed_busy_ended-set}
 use Rattle.exchange_rules.proofs.Eased.{losses-timers, judged-timers}
-use Rattle.exchange_rules.proofs.Steps.{IsOfSends, IsOfRules}
+use Rattle.exchange_rules.proofs.Steps.{IsOfSends, IsOfRules, MayReturn}
 use Rattle.exchange_rules.proofs.Asked.{any, settings-stay}
 use Rattle.exchange_rules.proofs.SteppingMessages.{send_routed-steps, send_each-steps}
 use Rattle.exchange_rules.proofs.SteppingEvents.{run_next-steps, settled-steps, apply-steps, take-steps}
 
--- from one node to another timers are set to their settings
-record Sets (c : Configuration) (n m : Node WholeQueues) : Type 0 where
-  pub timers : AreSet c n.parts.timers m.parts.timers
+-- from one node to another timers are set to their settings, and T8 stops only of the sets of E
+pub record Sets (c : Configuration) (E : ℕ → Type 0) (n m : Node WholeQueues) : Type 0 where
+  pub timers : AreSet c E n.parts.timers m.parts.timers
 
-module _ (c : Configuration) where
-  same : (n m : Node WholeQueues) → m.parts.timers ≡ n.parts.timers → Sets c n m
-  same n m e = record { timers = same-set c n.parts.timers m.parts.timers e }
+module _ (c : Configuration) (E : ℕ → Type 0) where
+  same : (n m : Node WholeQueues) → m.parts.timers ≡ n.parts.timers → Sets c E n m
+  same n m e = record { timers = same-set c E n.parts.timers m.parts.timers e }
 
-  both : (n m o : Node WholeQueues) → Sets c n m → Sets c m o → Sets c n o
-  both n m o e f = record { timers = both-set c n.parts.timers m.parts.timers o.parts.timers e.timers f.timers }
+  both : (n m o : Node WholeQueues) → Sets c E n m → Sets c E m o → Sets c E n o
+  both n m o e f = record { timers = both-set c E n.parts.timers m.parts.timers o.parts.timers e.timers f.timers }
 
-  sets-sends : IsOfSends c (Sets c)
+  sets-sends : IsOfSends c (Sets c E)
   sets-sends = record {
     none = λ n. same n n refl;
     both = both;
@@ -35,51 +35,51 @@ module _ (c : Configuration) where
 
   -- ---- a link fails
 
-  gone-sets : (served : Bool) (link : ℕ) (why : FailureReason) (n : Node WholeQueues) → Sets c n (make_unavailable whole c served link why n)
-  gone-sets false link why n = record { timers = without_timers-set c link n.parts.timers }
+  gone-sets : (served : Bool) (link : ℕ) (why : FailureReason) (n : Node WholeQueues) → Sets c E n (make_unavailable whole c served link why n)
+  gone-sets false link why n = record { timers = without_timers-set c E link n.parts.timers }
   gone-sets true link why n = by (has_other c link failed)
     where
       failed : Parts
       failed = fail_link link why (suspended c link (whole.unconfirmed n.queues link) n.parts)
 
-      by : (others : Bool) → Sets c n (with_parts n (if others then failed else without_tests (set_of c link) failed))
-      by true = record { timers = without_timers-set c link n.parts.timers }
-      by false = record { timers = both-set c n.parts.timers failed.timers _ (without_timers-set c link n.parts.timers) (clear_set-set c of_set.T10 (set_of c link) failed.timers) }
+      by : (others : Bool) → Sets c E n (with_parts n (if others then failed else without_tests (set_of c link) failed))
+      by true = record { timers = without_timers-set c E link n.parts.timers }
+      by false = record { timers = both-set c E n.parts.timers failed.timers _ (without_timers-set c E link n.parts.timers) (clear_set-set c E of_set.T10 (set_of c link) failed.timers (λ e. absurd cc)) }
 
-  begun-sets : (ordered : Bool) (link : ℕ) (n : Node WholeQueues) → Sets c n (begin whole c ordered link n)
+  begun-sets : (ordered : Bool) (link : ℕ) (n : Node WholeQueues) → Sets c E n (begin whole c ordered link n)
   begun-sets true link n =
       let next : Node WholeQueues = with_parts n (changing c true link n.parts) in
-      both n next _ (record { timers = set-set c (name.T2 link) c.timers.t2 n.parts.timers refl }) (send_routed-steps sets-sends (changeover_order c link (whole.last_accepted n.queues link)) next)
-  begun-sets false link n = record { timers = set-set c (name.T1 link) c.timers.t1 n.parts.timers refl }
+      both n next _ (record { timers = set-set c E (name.T2 link) c.timers.t2 n.parts.timers refl }) (send_routed-steps sets-sends (changeover_order c link (whole.last_accepted n.queues link)) next)
+  begun-sets false link n = record { timers = set-set c E (name.T1 link) c.timers.t1 n.parts.timers refl }
 
-  fails-sets : (served : Bool) (link : ℕ) (why : FailureReason) (n : Node WholeQueues) → Sets c n (change_over whole c served link (make_unavailable whole c served link why n))
+  fails-sets : (served : Bool) (link : ℕ) (why : FailureReason) (n : Node WholeQueues) → Sets c E n (change_over whole c served link (make_unavailable whole c served link why n))
   fails-sets false link why n = gone-sets false link why n
   fails-sets true link why n =
       let gone : Node WholeQueues = make_unavailable whole c true link why n in
       both n gone _ (gone-sets true link why n) (begun-sets (has_other c link gone.parts) link gone)
 
-  by_peer-sets : (served : Bool) (link : ℕ) (n : Node WholeQueues) → Sets c n (begin_by_peer whole c served link (make_unavailable whole c served link reasons.Changeover n))
+  by_peer-sets : (served : Bool) (link : ℕ) (n : Node WholeQueues) → Sets c E n (begin_by_peer whole c served link (make_unavailable whole c served link reasons.Changeover n))
   by_peer-sets false link n = gone-sets false link reasons.Changeover n
   by_peer-sets true link n =
       let gone : Node WholeQueues = make_unavailable whole c true link reasons.Changeover n in
       both n gone _ (gone-sets true link reasons.Changeover n) (same gone _ refl)
 
-  ordered-sets : (is_down : Bool) (link : ℕ) (n : Node WholeQueues) → Sets c n (if is_down then n else fail_by_peer whole c link n)
+  ordered-sets : (is_down : Bool) (link : ℕ) (n : Node WholeQueues) → Sets c E n (if is_down then n else fail_by_peer whole c link n)
   ordered-sets true link n = same n n refl
   ordered-sets false link n = by_peer-sets (in_service n.parts link) link n
 
   -- ---- a changeover ends
 
-  complete-sets : (incomplete : Bool) (link : ℕ) (number : Option ℕ) (n : Node WholeQueues) → Sets c n (complete_if whole c incomplete link number n)
+  complete-sets : (incomplete : Bool) (link : ℕ) (number : Option ℕ) (n : Node WholeQueues) → Sets c E n (complete_if whole c incomplete link number n)
   complete-sets false link number n = same n n refl
   complete-sets true link number n =
       let found : Found = whole.found n.queues link number in
       let lost : Node WholeQueues = with_parts n (judged found.is_reasonable (lose_each found.lost n.parts)) in
       let done : Node WholeQueues = record { queues = whole.completed n.queues link number; parts = concluded link found n.parts } in
       both n lost _ (same n lost (judged-timers found.is_reasonable (lose_each found.lost n.parts) ∙ losses-timers found.lost n.parts))
-      (both lost done _ (record { timers = clear-set c (name.T1 link) lost.parts.timers }) (send_each-steps sets-sends found.queued_anew done))
+      (both lost done _ (record { timers = clear-set c E (name.T1 link) lost.parts.timers (λ s d e. absurd cc) }) (send_each-steps sets-sends found.queued_anew done))
 
-  orders-sets : (link : ℕ) (number : Option ℕ) (n : Node WholeQueues) → Sets c n (on_changeover_order whole c link number n).left
+  orders-sets : (link : ℕ) (number : Option ℕ) (n : Node WholeQueues) → Sets c E n (on_changeover_order whole c link number n).left
   orders-sets link number n =
       let one : Node WholeQueues = fail_by_order whole c link n in
       let standing : Node WholeQueues = with_parts one (with_changeover link (completed (changeover_of one.parts link)) one.parts) in
@@ -89,19 +89,19 @@ module _ (c : Configuration) where
       (send_routed-steps sets-sends (changeover_acknowledgement c link (whole.last_accepted two.queues link)) two))
 
   acknowledges-sets : (awaited : Bool) (link : ℕ) (number : Option ℕ) (n : Node WholeQueues)
-      → Sets c n (if awaited then answer Handled (complete_if whole c (changeover_of n.parts link).incomplete link number (with_parts n (with_changeover_acknowledged link n.parts)))
+      → Sets c E n (if awaited then answer Handled (complete_if whole c (changeover_of n.parts link).incomplete link number (with_parts n (with_changeover_acknowledged link n.parts)))
       else answer Ignored n).left
   acknowledges-sets false link number n = same n n refl
   acknowledges-sets true link number n =
       let next : Node WholeQueues = with_parts n (with_changeover_acknowledged link n.parts) in
-      both n next _ (record { timers = clear-set c (name.T2 link) n.parts.timers }) (complete-sets (changeover_of n.parts link).incomplete link number next)
+      both n next _ (record { timers = clear-set c E (name.T2 link) n.parts.timers (λ s d e. absurd cc) }) (complete-sets (changeover_of n.parts link).incomplete link number next)
 
-  expiry-sets : (timer : ChangeoverTimer) (link : ℕ) (n : Node WholeQueues) → Sets c n (with_parts n (with_expiry timer link n.parts))
+  expiry-sets : (timer : ChangeoverTimer) (link : ℕ) (n : Node WholeQueues) → Sets c E n (with_parts n (with_expiry timer link n.parts))
   expiry-sets which.T1 link n = same n _ refl
   expiry-sets which.T2 link n = same n _ refl
 
   expires-sets : (is_there : Bool) (timer : ChangeoverTimer) (link : ℕ) (n : Node WholeQueues)
-      → Sets c n (if is_there then complete_if whole c (changeover_of n.parts link).incomplete link None (with_parts n (with_expiry timer link n.parts)) else n)
+      → Sets c E n (if is_there then complete_if whole c (changeover_of n.parts link).incomplete link None (with_parts n (with_expiry timer link n.parts)) else n)
   expires-sets false timer link n = same n n refl
   expires-sets true timer link n =
       both n (with_parts n (with_expiry timer link n.parts)) _ (expiry-sets timer link n)
@@ -109,73 +109,79 @@ module _ (c : Configuration) where
 
   -- ---- flows are held
 
-  returns-sets : (before after : Facts) (code : Option ℕ) (link other : ℕ) (n : Node WholeQueues) → Sets c n (hold_flows whole c before after code link other n)
-  returns-sets before after (Some code) link other n = record { timers = set-set c (name.T4 (set_of c link) code) c.timers.t4 n.parts.timers refl }
-  returns-sets before after None link other n = record { timers = set-set c (name.T3 link) c.timers.t3 n.parts.timers refl }
+  returns-sets : (before after : Facts) (code : Option ℕ) (link other : ℕ) (n : Node WholeQueues) → Sets c E n (hold_flows whole c before after code link other n)
+  returns-sets before after (Some code) link other n = record { timers = set-set c E (name.T4 (set_of c link) code) c.timers.t4 n.parts.timers refl }
+  returns-sets before after None link other n = record { timers = set-set c E (name.T3 link) c.timers.t3 n.parts.timers refl }
 
-  reroutes-sets : (destination : ℕ) (selections : List ℕ) (n : Node WholeQueues) → Sets c n (with_parts n (held_by_rerouting c destination selections n.parts))
+  reroutes-sets : (destination : ℕ) (selections : List ℕ) (n : Node WholeQueues) → Sets c E n (with_parts n (held_by_rerouting c destination selections n.parts))
   reroutes-sets destination [] n = same n n refl
-  reroutes-sets destination (sls ∷ others) n = record { timers = set-set c (name.T6 destination) c.timers.t6 n.parts.timers refl }
+  reroutes-sets destination (sls ∷ others) n = record { timers = set-set c E (name.T6 destination) c.timers.t6 n.parts.timers refl }
 
   -- ---- all rules
 
-  sets-rules : IsOfRules c any any (Sets c)
-  sets-rules = record {
-    sends = sets-sends;
-    tested = λ link point test n e f. same n _ refl;
-    held = λ m n e. same n _ refl;
-    taken_out = λ n. same n _ refl;
-    late = λ notice n e. same n _ refl;
-    timed = λ r n e k. record { timers = record { each = e.set } };
-    rerouted = λ routes n e k. same n _ refl;
-    told = λ t n e. same n _ refl;
-    titled = λ rows n. same n _ refl;
-    linked = λ link x n e. same n _ refl;
-    parted = λ link n e. same n _ refl;
-    opened = λ link n own there e f. record { timers = timed-set c link opening n.parts.timers };
-    stepped = λ link input step n own e k. record { timers = timed-set c link step n.parts.timers };
-    busied = λ link n own e f. record { timers = timed_busy-set c link n.parts.timers };
-    resumed = λ link n own e f. record { timers = timed_busy_ended-set c link (whole.outstanding n.queues link) n.parts.timers };
-    accepted = λ link d confirmed n own e f. record {
-      timers = timed_confirming-set c link (link_at n.parts link).peer_busy confirmed (whole.outstanding (whole.accepted n.queues link d.fsn d.bsn (carries d)) link) n.parts.timers;
-    };
-    sent = λ link next n own e. record { timers = timed_sending-set c link n.parts.timers };
-    fails = λ link why n. fails-sets (in_service n.parts link) link why n;
-    orders = orders-sets;
-    acknowledges = λ link number n. acknowledges-sets (changeover_of n.parts link).awaited link number n;
-    expires = λ timer link n. expires-sets (is_link n.parts link) timer link n;
-    returns = λ before after code link other n e f. returns-sets before after code link other n;
-    frees = λ set code n. record { timers = clear-set c (name.T4 set code) n.parts.timers };
-    reroutes = reroutes-sets;
-    lifts = λ procedure n. same n _ refl;
-  }
+  module _ (Own : ℕ → Type 0) (may : (set : ℕ) → MayReturn c Own set → E set) where
+    pub sets-rules : IsOfRules c Own any (Sets c E)
+    sets-rules = record {
+      sends = sets-sends;
+      tested = λ link point test n e f. same n _ refl;
+      held = λ m n e. same n _ refl;
+      taken_out = λ n. same n _ refl;
+      late = λ notice n e. same n _ refl;
+      timed = λ r n e k. record { timers = wider-set may e.set };
+      rerouted = λ routes n e k. same n _ refl;
+      told = λ t n e. same n _ refl;
+      titled = λ rows n. same n _ refl;
+      linked = λ link x n e. same n _ refl;
+      parted = λ link n e. same n _ refl;
+      opened = λ link n own there e f. record { timers = timed-set c E link opening n.parts.timers };
+      stepped = λ link input step n own e k. record { timers = timed-set c E link step n.parts.timers };
+      busied = λ link n own e f. record { timers = timed_busy-set c E link n.parts.timers };
+      resumed = λ link n own e f. record { timers = timed_busy_ended-set c E link (whole.outstanding n.queues link) n.parts.timers };
+      accepted = λ link d confirmed n own e f. record {
+        timers = timed_confirming-set c E link (link_at n.parts link).peer_busy confirmed (whole.outstanding (whole.accepted n.queues link d.fsn d.bsn (carries d)) link) n.parts.timers;
+      };
+      sent = λ link next n own e. record { timers = timed_sending-set c E link n.parts.timers };
+      fails = λ link why n. fails-sets (in_service n.parts link) link why n;
+      orders = orders-sets;
+      acknowledges = λ link number n. acknowledges-sets (changeover_of n.parts link).awaited link number n;
+      expires = λ timer link n. expires-sets (is_link n.parts link) timer link n;
+      returns = λ before after code link other n e f. returns-sets before after code link other n;
+      frees = λ set code n. record { timers = clear-set c E (name.T4 set code) n.parts.timers (λ s d e. absurd cc) };
+      reroutes = reroutes-sets;
+      lifts = λ procedure n. same n _ refl;
+    }
+
+module _ (c : Configuration) where
+  -- wherever T8 may stop
+  free-rules : IsOfRules c any any (Sets c any)
+  free-rules = sets-rules c any any (λ set m. tt)
 
   -- ---- a tick: of what it lowered, each is handed out that is due
 
-  handed_out-sets : (due : Option TimerName) (n : Node WholeQueues) → due_name n.parts.timers ≡ due → Sets c n (with_timers n (after_due n.parts.timers))
-  handed_out-sets None n e = same n _ (after-none n.parts.timers e)
+  handed_out-sets : (due : Option TimerName) (n : Node WholeQueues) → due_name n.parts.timers ≡ due → Sets c any n (with_timers n (after_due n.parts.timers))
+  handed_out-sets None n e = same c any n _ (after-none n.parts.timers e)
   handed_out-sets (Some its) n e = record {
-    timers = subst (AreSet c n.parts.timers) (sym (after-clear its n.parts.timers e)) (clear-set c its n.parts.timers);
+    timers = subst (AreSet c any n.parts.timers) (sym (after-clear its n.parts.timers e)) (clear-set c any its n.parts.timers (λ s d f. tt));
   }
 
-  next-sets : (n : Node WholeQueues) → Sets c n (run_next whole c n)
-  next-sets n = run_next-steps sets-rules n (handed_out-sets (due_name n.parts.timers) n refl) (λ link. tt)
+  next-sets : (n : Node WholeQueues) → Sets c any n (run_next whole c n)
+  next-sets n = run_next-steps free-rules n (handed_out-sets (due_name n.parts.timers) n refl) (λ link. tt)
 
   abbrev begun : Node WholeQueues → Node WholeQueues
   begun n = with_timers n (ticked n.parts.timers)
 
-  times-sets : (many : ℕ) (n : Node WholeQueues) → Sets c n (run_times whole c many n)
-  times-sets zero n = same n n refl
-  times-sets (suc many) n = both n (run_next whole c n) _ (next-sets n) (times-sets many (run_next whole c n))
+  times-sets : (many : ℕ) (n : Node WholeQueues) → Sets c any n (run_times whole c many n)
+  times-sets zero n = same c any n n refl
+  times-sets (suc many) n = both c any n (run_next whole c n) _ (next-sets n) (times-sets many (run_next whole c n))
 
   -- any other event
-  quiet-sets : (what : Happening) (n : Node WholeQueues) → (what ≡ Ticked → ⊥) → Sets c n (apply whole c what n).left
-  quiet-sets what n other = apply-steps sets-rules what n (λ link own. tt) (λ link own. tt) (λ e. absurd (other e))
+  quiet-sets : (what : Happening) (n : Node WholeQueues) → (what ≡ Ticked → ⊥) → Sets c any n (apply whole c what n).left
+  quiet-sets what n other = apply-steps free-rules what n (λ link own. tt) (λ link own. tt) (λ e. absurd (other e))
 
-  ticked-sets : (n : Node WholeQueues) → Sets c (begun n) (apply whole c Ticked n).left
+  ticked-sets : (n : Node WholeQueues) → Sets c any (begun n) (apply whole c Ticked n).left
   unfolding apply
   ticked-sets n =
-      both (begun n) (tick whole c n).left _ (times-sets (due_count (ticked n.parts.timers)) (begun n)) (settled-steps sets-rules (tick whole c n).left)
+      both c any (begun n) (tick whole c n).left _ (times-sets (due_count (ticked n.parts.timers)) (begun n)) (settled-steps free-rules (tick whole c n).left)
 
 pub events-set : events_set_timers_to_their_settings
 events-set Ticked a timer =
@@ -191,7 +197,7 @@ events-set (TitleAdded row refused) a timer = (quiet-sets a.settings (TitleAdded
 events-set (TitleRemoved key digits) a timer = (quiet-sets a.settings (TitleRemoved key digits) a.node (λ e. cc)).timers.each timer
 
 pub takes-set : takes_set_timers_to_their_settings
-takes-set a link timer = (take-steps (sets-rules a.settings) link a.node tt).timers.each timer
+takes-set a link timer = (take-steps (free-rules a.settings) link a.node tt).timers.each timer
 
 -- ---- so none has more ticks left
 

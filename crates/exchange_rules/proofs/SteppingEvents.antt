@@ -46,7 +46,7 @@ module _ {c : Configuration} {Own Counts : ℕ → Type 0} {R : Node WholeQueues
   owing-steps link None n = s.sends.none n
   owing-steps link (Some m) n = s.linked link (record (link_at n.parts link) { acknowledgement_owed = true }) n (record { alignment = refl; association = refl; busy = refl })
 
-  handle_by-steps : (answer : Result ℕ SeqFault) (link : ℕ) (d : Carrying) (n : Node WholeQueues) → Counts link → in_service n.parts link ≡ true → numbers whole c link d n ≡ answer
+  pub handle_by-steps : (answer : Result ℕ SeqFault) (link : ℕ) (d : Carrying) (n : Node WholeQueues) → Counts link → in_service n.parts link ≡ true → numbers whole c link d n ≡ answer
       → R n (handle_by whole c answer link d n).left
   handle_by-steps (Ok confirmed) link d n own e f =
       let next : Node WholeQueues = accept whole c link d confirmed n in

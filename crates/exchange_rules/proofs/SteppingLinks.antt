@@ -9,7 +9,7 @@ use Rattle.timers.specs.declared.name.RouteTimer.TheVariants as of_set
 use Rattle.node_links.specs.NodeLinks.{link_in}
 use Rattle.exchange_rules.proofs.TakenPairs.{take_back_each-alike}
 use Rattle.exchange_rules.proofs.Serving.{serves-in}
-use Rattle.exchange_rules.proofs.Steps.{IsOfRules, with_busy, without_busy, either-steps, either_done-steps}
+use Rattle.exchange_rules.proofs.Steps.{IsOfRules, MayReturn, with_busy, without_busy, either-steps, either_done-steps}
 use Rattle.exchange_rules.proofs.OwnRoutes.{rerouted-reset, reset-unsure, reset-sure}
 use Rattle.exchange_rules.proofs.SteppingTimers.{both-quiet, clear_set-quiet}
 use Rattle.exchange_rules.proofs.KeepingTests.{reset-tests}
@@ -49,7 +49,7 @@ front true b e = refl
 front false b e = absurd cc
 
 -- it carries messages as the step says, also once it has taken its flows back
-returned-links : (entered : Bool) (c : Configuration) (link : ℕ) (before : Facts) (n : Node WholeQueues) → (return_if whole c entered link before n).parts.links ≡ n.parts.links
+pub returned-links : (entered : Bool) (c : Configuration) (link : ℕ) (before : Facts) (n : Node WholeQueues) → (return_if whole c entered link before n).parts.links ≡ n.parts.links
 returned-links true c link before n = (take_back_each-alike whole c before (facts c n.parts) link (length c.links) n).links
 returned-links false c link before n = refl
 
@@ -92,21 +92,21 @@ complete st e = by st.incomplete st.awaited e
 module _ {c : Configuration} {Own Counts : ℕ → Type 0} {R : Node WholeQueues → Node WholeQueues → Type 0} (s : IsOfRules c Own Counts R) where
   -- ---- a step of an alignment
 
-  set_reset-steps : (set : ℕ) (n : Node WholeQueues) → R n (with_parts n (with_set_reset c set n.parts))
-  set_reset-steps set n =
+  set_reset-steps : (set : ℕ) (n : Node WholeQueues) → MayReturn c Own set → R n (with_parts n (with_set_reset c set n.parts))
+  set_reset-steps set n may =
       let reset : Parts = with_set_reset c set n.parts in
       s.sends.both _ _ _
       (s.rerouted reset.routes n (rerouted-reset n.parts.told n.parts.routes set) (record { each = λ other destination e. inl (reset-unsure n.parts.routes set other destination e) }))
       (s.sends.both _ _ _ (s.told reset.told _ (record { shape = reset_shape n.parts.told set; adjacents = refl }))
-      (s.timed reset.timers _ (both-quiet c _ _ _ (clear_set-quiet c of_set.T8 set n.parts.timers) (clear_set-quiet c of_set.T10 set (clear_set of_set.T8 set n.parts.timers)))
+      (s.timed reset.timers _ (both-quiet c _ _ _ (clear_set-quiet c of_set.T8 set n.parts.timers (λ e. may)) (clear_set-quiet c of_set.T10 set (clear_set of_set.T8 set n.parts.timers) (λ e. absurd cc)))
       (reset-tests _ set (reset-sure n.parts.routes set))))
 
-  pub anew-steps : (first : Bool) (link : ℕ) (n : Node WholeQueues) → R n (with_parts n (begun_anew_if first c link n.parts))
-  anew-steps true link n = set_reset-steps (set_of c link) n
-  anew-steps false link n = s.sends.none n
+  pub anew-steps : (first : Bool) (link : ℕ) (n : Node WholeQueues) → Own link → R n (with_parts n (begun_anew_if first c link n.parts))
+  anew-steps true link n own = set_reset-steps (set_of c link) n (record { link = link; own = own; is = refl })
+  anew-steps false link n own = s.sends.none n
 
   -- a link that entered service takes its flows back
-  entered-steps : (entered : Bool) (link : ℕ) (step : Transition) (n : Node WholeQueues) → link < length n.parts.links → enters link step n.parts ≡ entered
+  pub entered-steps : (entered : Bool) (link : ℕ) (step : Transition) (n : Node WholeQueues) → link < length n.parts.links → enters link step n.parts ≡ entered
       → R (with_parts n (moved_on c link step n.parts)) (return_if whole c entered link (facts c n.parts) (with_parts n (moved_on c link step n.parts)))
   entered-steps true link step n there e =
       let moved : Parts = moved_on c link step n.parts in
@@ -124,7 +124,7 @@ module _ {c : Configuration} {Own Counts : ℕ → Type 0} {R : Node WholeQueues
       let set : ℕ = set_of c link in
       let reset : Node WholeQueues = with_parts n (with_set_reset c set n.parts) in
       subst (λ (p : Parts). R n (with_parts n p)) (sym (reset-first c set link step n.parts))
-      (s.sends.both _ _ _ (set_reset-steps set n)
+      (s.sends.both _ _ _ (set_reset-steps set n (record { link = link; own = own; is = refl }))
       (s.stepped link input step reset own e (record { clean = λ is destination. reset-sure n.parts.routes set destination })))
 
   pub advance-steps : (link : ℕ) (input : Input) (step : Transition) (n : Node WholeQueues) → Own link → action_at (link_at n.parts link).alignment input ≡ act.Go step

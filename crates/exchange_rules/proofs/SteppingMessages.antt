@@ -17,15 +17,15 @@ use Rattle.exchange_rules.proofs.SteppingTimers.{same-quiet, set-quiet, clear-qu
 
 -- ---- timers
 
-timed_telling-quiet : (c : Configuration) (set destination : ℕ) (status : RouteStatus) (r : Running) → AreQuiet c r (timed_telling c set destination status r)
+timed_telling-quiet : {E : ℕ → Type 0} (c : Configuration) (set destination : ℕ) (status : RouteStatus) (r : Running) → AreQuiet c E r (timed_telling c set destination status r)
 timed_telling-quiet c set destination Prohibited r = set-quiet c (name.T8 set destination) c.timers.t8 r (λ link e. cc) refl refl refl
 timed_telling-quiet c set destination Restricted r = same-quiet c r
 timed_telling-quiet c set destination Allowed r = same-quiet c r
 
-timed_status-quiet : (c : Configuration) (set destination : ℕ) (status : RouteStatus) (r : Running) → AreQuiet c r (timed_status c set destination status r)
+timed_status-quiet : {E : ℕ → Type 0} (c : Configuration) (set destination : ℕ) (status : RouteStatus) (r : Running) → AreQuiet c E r (timed_status c set destination status r)
 timed_status-quiet c set destination Prohibited r = set-quiet c (name.T10 set destination) c.timers.t10 r (λ link e. cc) refl refl refl
 timed_status-quiet c set destination Restricted r = set-quiet c (name.T10 set destination) c.timers.t10 r (λ link e. cc) refl refl refl
-timed_status-quiet c set destination Allowed r = clear-quiet c (name.T10 set destination) r (λ link e. cc) refl refl
+timed_status-quiet c set destination Allowed r = clear-quiet c (name.T10 set destination) r (λ link e. cc) refl refl (λ s d e. cc)
 
 -- of a point itself nothing is heard that changes anything
 heard-away : (is_own : Bool) (x : Heard) → (if is_own then hears.Ignored else x) ≡ hears.Changed → is_own ≡ false

@@ -5,8 +5,9 @@ use Rattle.std.specs.Prelude.{Option, Some, None}
 use Rattle.timers.specs.declared.name.RouteTimer.{RouteTimer}
 use Rattle.timers.specs.declared.name.RouteTimer.TheVariants as route
 use Rattle.timers.specs.declared.name.TimerName.TheVariants as name
+use Rattle.timers.specs.declared.name.TimerName.TheVariants.{T8}
 use Rattle.exchange_rules.specs.TimerSettings.{setting_of}
-use Rattle.exchange_rules.proofs.TimerSettings.{runs-both, same-set, set-set, clear-set, clear_set-set}
+use Rattle.exchange_rules.proofs.TimerSettings.{same-set, both-set, set-set, clear-set, clear_set-set}
 use Rattle.exchange_rules.proofs.Steps.{AreTimed, AreQuiet, ends_holds, is_of_link}
 
 -- where a timer that is due is due still, or has what is never due
@@ -88,15 +89,15 @@ clear_set-timed timer set r = record {
 
 -- ---- and none that ends a hold, or is a link's
 
-pub same-quiet : (c : Configuration) (r : Running) → AreQuiet c r r
-same-quiet c r = record { timed = same-timed r; endings = λ name e. refl; links = λ name e. refl; set = (same-set c r r refl).each }
+pub same-quiet : {E : ℕ → Type 0} (c : Configuration) (r : Running) → AreQuiet c E r r
+same-quiet {E} c r = record { timed = same-timed r; endings = λ name e. refl; links = λ name e. refl; set = same-set c E r r refl }
 
-pub both-quiet : (c : Configuration) (r s t : Running) → AreQuiet c r s → AreQuiet c s t → AreQuiet c r t
-both-quiet c r s t e f = record {
+pub both-quiet : {E : ℕ → Type 0} (c : Configuration) (r s t : Running) → AreQuiet c E r s → AreQuiet c E s t → AreQuiet c E r t
+both-quiet {E} c r s t e f = record {
   timed = both-timed r s t e.timed f.timed;
   endings = λ name h. f.endings name h ∙ e.endings name h;
   links = λ name h. f.links name h ∙ e.links name h;
-  set = λ name. runs-both _ _ _ _ (e.set name) (f.set name);
+  set = both-set c E r s t e.set f.set;
 }
 
 -- a name of another kind is another name
@@ -106,21 +107,22 @@ apart-by kind name other not-of of same = (let goal : true ≡ false = sym of �
 pub apart-from : (name ending : TimerName) → ends_holds name ≡ false → ends_holds ending ≡ true → name ≢ ending
 apart-from name ending quiet ends = apart-by ends_holds name ending quiet ends
 
-pub set-quiet : (c : Configuration) (name : TimerName) (ticks : ℕ) (r : Running) → ((link : ℕ) → name ≢ L7 link) → ends_holds name ≡ false → is_of_link name ≡ false
-    → ticks ≡ setting_of c.timers name → AreQuiet c r (set_timer name ticks r)
-set-quiet c name ticks r other quiet none own = record {
+pub set-quiet : {E : ℕ → Type 0} (c : Configuration) (name : TimerName) (ticks : ℕ) (r : Running) → ((link : ℕ) → name ≢ L7 link) → ends_holds name ≡ false → is_of_link name ≡ false
+    → ticks ≡ setting_of c.timers name → AreQuiet c E r (set_timer name ticks r)
+set-quiet {E} c name ticks r other quiet none own = record {
   timed = set-timed name ticks r other;
   endings = λ ending e. left-set_other name ending ticks r (apart-from name ending quiet e);
   links = λ its e. left-set_other name its ticks r (apart-by is_of_link name its none e);
-  set = (set-set c name ticks r own).each;
+  set = set-set c E name ticks r own;
 }
 
-pub clear-quiet : (c : Configuration) (name : TimerName) (r : Running) → ((link : ℕ) → name ≢ L7 link) → ends_holds name ≡ false → is_of_link name ≡ false → AreQuiet c r (clear_timer name r)
-clear-quiet c name r other quiet none = record {
+pub clear-quiet : {E : ℕ → Type 0} (c : Configuration) (name : TimerName) (r : Running) → ((link : ℕ) → name ≢ L7 link) → ends_holds name ≡ false → is_of_link name ≡ false
+    → ((set destination : ℕ) → name ≢ T8 set destination) → AreQuiet c E r (clear_timer name r)
+clear-quiet {E} c name r other quiet none apart = record {
   timed = clear-timed name r other;
   endings = λ ending e. left-clear_other name ending r (apart-from name ending quiet e);
   links = λ its e. left-clear_other name its r (apart-by is_of_link name its none e);
-  set = (clear-set c name r).each;
+  set = clear-set c E name r (λ set destination e. absurd (apart set destination e));
 }
 
 -- the timers of a set are of neither kind
@@ -154,10 +156,10 @@ pub clear_set-endings : (timer : RouteTimer) (set : ℕ) (r : Running) (its : Ti
 clear_set-endings timer set r its e =
     left-clear_set_other timer set its r (not-so (is_of_set timer set its) (λ of. (let no : true ≡ false = sym e ∙ (of_neither timer set its of).0 in cc)))
 
-pub clear_set-quiet : (c : Configuration) (timer : RouteTimer) (set : ℕ) (r : Running) → AreQuiet c r (clear_set timer set r)
-clear_set-quiet c timer set r = record {
+pub clear_set-quiet : {E : ℕ → Type 0} (c : Configuration) (timer : RouteTimer) (set : ℕ) (r : Running) → (timer ≡ route.T8 → E set) → AreQuiet c E r (clear_set timer set r)
+clear_set-quiet {E} c timer set r own = record {
   timed = clear_set-timed timer set r;
   endings = clear_set-endings timer set r;
-  set = (clear_set-set c timer set r).each;
+  set = clear_set-set c E timer set r own;
   links = λ its e. left-clear_set_other timer set its r (not-so (is_of_set timer set its) (λ of. (let no : true ≡ false = sym e ∙ (of_neither timer set its of).1 in cc)));
 }

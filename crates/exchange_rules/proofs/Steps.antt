@@ -5,7 +5,7 @@ use Rattle.exchange_rules.proofs.Basics.{◌≡◌, ◌⊎◌, ◌&&◌, not, �
 use Rattle.exchange_rules.proofs.Definitions.{set_timer, enters, has_other, set_of, Message, flow_of, Notice, FailureReason, Configuration, TitleEntry, Input, Go, Transition, action_at, Sending, LinkTestValue, TimerName, L7, Running, is_running, is_due, Route, RouteStatus, Allowed, leads_by, ToldTable, is_own_point, shape_of, Link, Standing, with_code, HoldSet, Parts, Node, Done, with_parts, lost_any, late_any, is_link, link_at, links_with, with_link, down, in_service, note, flagged, flagged_late, link_of, queue_on, waits, hold, is_adjacent, test_answer, changeover_of, with_changeover, fail_link, declaration, with_titles, step_on, timed_busy, timed_busy_ended, may_open, without_association, open_link, Carrying, carries, numbers, timed_parts, SendsMessage, next_message, after_sending, WholeQueues, whole, HasHoldsFor, tells_of_loss, tells_of_lateness, ChangeoverTimer, Facts, Procedure, lifted, fail, on_changeover_order, on_changeover_acknowledgement, on_changeover_timer, hold_flows, freed, held_by_rerouting}
 use Rattle.std.specs.Prelude.{map, Ok}
 use Rattle.timers.specs.declared.name.TimerName.TheVariants as name
-use Rattle.exchange_rules.specs.TimerSettings.{setting_of, RunsBy}
+use Rattle.exchange_rules.proofs.TimerSettings.{AreSet}
 use Rattle.exchange_rules.specs.Testing.{is_unsure}
 use Rattle.signalling_types.specs.declared.notice.Notice.TheVariants as notices
 
@@ -155,12 +155,13 @@ is_of_link (name.L6 link) = true
 is_of_link (name.L7 link) = true
 is_of_link _ = false
 
--- timers change, but none of a link and none that ends holds, and each that is set is set to its setting
-pub record AreQuiet (c : Configuration) (r s : Running) : Type 0 where
+-- timers change, but none of a link and none that ends holds, and each that is set is set to its setting; T8 stops only
+-- of the sets of E
+pub record AreQuiet (c : Configuration) (E : ℕ → Type 0) (r s : Running) : Type 0 where
   pub timed : AreTimed r s
   pub endings : (name : TimerName) → ends_holds name ≡ true → s.left name ≡ r.left name
   pub links : (name : TimerName) → is_of_link name ≡ true → s.left name ≡ r.left name
-  pub set : (name : TimerName) → RunsBy (setting_of c.timers name) (r.left name) (s.left name)
+  pub set : AreSet c E r s
 
 -- no notice tells of both
 pub not-both : (notice : Notice) → tells_of_loss notice ≡ true → tells_of_lateness notice ≡ true → ⊥
@@ -189,6 +190,12 @@ sends-of s = record {
   noted = s.noted;
   lost = λ notice n e. s.both _ _ _ (s.lost n) (s.noted notice _ (record { lost = λ f. refl; late = λ f. absurd (not-both notice e f) }));
 }
+
+-- what is known over a set may be reset: one of its links may enter service
+pub record MayReturn (c : Configuration) (Own : ℕ → Type 0) (set : ℕ) : Type 0 where
+  pub link : ℕ
+  pub own : Own link
+  pub is : set_of c link ≡ set
 
 -- T10 stops only of a route that is allowed, or isn't there
 pub record KeepsTests (p : Parts) (r : Running) : Type 0 where
@@ -219,7 +226,7 @@ pub record IsOfRules (c : Configuration) (Own Counts : ℕ → Type 0) (R : Node
   pub held : (m : Message) (n : Node WholeQueues) → waits c n.parts.holds m ≡ true → R n (hold whole m n)
   pub taken_out : (n : Node WholeQueues) → R n (record n { queues = whole.without_held n.queues })
   pub late : (notice : Notice) (n : Node WholeQueues) → tells_of_lateness notice ≡ true → R n (with_parts n (flagged_late (note notice n.parts)))
-  pub timed : (r : Running) (n : Node WholeQueues) → AreQuiet c n.parts.timers r → KeepsTests n.parts r → R n (with_parts n (record n.parts { timers = r }))
+  pub timed : (r : Running) (n : Node WholeQueues) → AreQuiet c (MayReturn c Own) n.parts.timers r → KeepsTests n.parts r → R n (with_parts n (record n.parts { timers = r }))
   pub rerouted : (routes : List (List Route)) (n : Node WholeQueues) → AreRerouted n.parts.told n.parts.routes routes → AreTestedAs n.parts routes → R n (with_parts n (record n.parts { routes = routes }))
   pub told : (t : ToldTable) (n : Node WholeQueues) → AreToldMore n.parts.told t → R n (with_parts n (record n.parts { told = t }))
   pub titled : (rows : List TitleEntry) (n : Node WholeQueues) → R n (with_parts n (with_titles rows n.parts))

@@ -11,7 +11,7 @@ use Rattle.exchange_rules.specs.Testing.{serves_set, is_unsure, AreTested}
 use Rattle.exchange_rules.proofs.Belonging.{length-sets}
 use Rattle.exchange_rules.proofs.LinkTimers.{AreTimedFor, without_timers-for, timed-for}
 use Rattle.exchange_rules.proofs.LoneRoutes.{set-exact}
-use Rattle.exchange_rules.proofs.KeepingTests.{set-still}
+use Rattle.exchange_rules.proofs.TimerSettings.{set-still}
 use Rattle.exchange_rules.proofs.Steps.{IsOfSends, status_over, BeginsClean}
 
 no-way : {A : Type 0} (b : Bool) → b ≡ true → b ≡ false → A
@@ -46,7 +46,7 @@ any-still f g (x ∷ xs) h e = by (f x) refl e (any-still f g xs h)
 
 module _ (c : Configuration) where
   -- a set that is in service now was so before, where none entered service
-  serves-before : (p q : Parts) (set : ℕ) → ((l : ℕ) → in_service q l ≡ true → in_service p l ≡ true) → serves_set c q set ≡ true → serves_set c p set ≡ true
+  pub serves-before : (p q : Parts) (set : ℕ) → ((l : ℕ) → in_service q l ≡ true → in_service p l ≡ true) → serves_set c q set ≡ true → serves_set c p set ≡ true
   serves-before p q set h e =
       any-still (routes.is_in_service (serving q.links)) (routes.is_in_service (serving p.links)) (set_at (facts c p) set)
       (λ l f. is-served p.links l ∙ h l (sym (is-served q.links l) ∙ f)) e

@@ -4,8 +4,7 @@ use Rattle.exchange_rules.proofs.Basics.{◌≡◌, ◌≢◌, ◌<◌, ℕ, Boo
 use Rattle.exchange_rules.proofs.Definitions.{Configuration, DestinationEntry, Link, Message, TimerName, NodeCounts, Running, is_running, one_less, set_timer, clear_timer, left-clear_other, left-ticked, counts-set, counts-clear, due_name, after_due, after-clear, after-none, ticked, Route, RouteStatus, Allowed, Restricted, Prohibited, status_of, Node, with_parts, facts, with_timers, run_timer, run_due, ask_by, ask, prohibited_test, restricted_test, first_state, first_routes, WholeQueues, whole}
 use Rattle.timers.specs.declared.name.TimerName.TheVariants as name
 use Rattle.exchange_rules.specs.Testing.{serves_set, is_unsure, unsure_routes_are_tested, tests_are_repeated}
-use Rattle.exchange_rules.proofs.TimerSettings.{cases-name}
-use Rattle.exchange_rules.proofs.KeepingTests.{set-still}
+use Rattle.exchange_rules.proofs.TimerSettings.{cases-name, set-still}
 use Rattle.exchange_rules.proofs.OwnRoutes.{over, first-allowed, not-unsure}
 use Rattle.exchange_rules.proofs.Steps.{status_over}
 use Rattle.exchange_rules.proofs.SteppingMessages.{send_routed-steps}

@@ -1,5 +1,5 @@
 -- Each link has the timer of its state, and is proved before it enters service: laws (Q.703 §7, §12.3).
-use Rattle.std.specs.Prelude.{◌≡◌, ◌≢◌, ◌⊎◌, ◌≤◌, ◌&&◌, ◌==◌, ℕ, Bool, true, false, length, List, Option, Some, None}
+use Rattle.std.specs.Prelude.{◌≡◌, ◌≢◌, ◌⊎◌, ◌≤◌, ◌&&◌, ◌==◌, ℕ, Bool, true, false, length, List, Option, Some, None, is_some, Ok}
 use Rattle.settings_rows.specs.Configuration.{Configuration}
 use Rattle.signalling_types.specs.declared.limits.TheConstants.Limits.{LINKS}
 use Rattle.link.specs.declared.alignment.Alignment.{Alignment}
@@ -7,10 +7,16 @@ use Rattle.link.specs.declared.alignment.Alignment.TheVariants.{Down, NotAligned
 use Rattle.link.specs.declared.action.LinkTimer.{LinkTimer}
 use Rattle.link.specs.declared.action.LinkTimer.TheVariants.{L1, L2, L3, L4, L6, L7}
 use Rattle.link.specs.Table.{timer_number}
-use Rattle.timers.specs.Timers.{Running, is_running}
+use Rattle.timers.specs.Timers.{Running, is_due, is_running, ticked}
+use Rattle.timers.specs.declared.name.TimerName.{TimerName}
+use Rattle.timers.specs.declared.name.TimerName.TheVariants as name
+use Rattle.m2pa_codec.specs.Frames.{FrameValue, StatusFrame, read_frame}
+use Rattle.m2pa_codec.specs.declared.status.LinkStatus.{LinkStatus}
+use Rattle.m2pa_codec.specs.declared.status.LinkStatus.TheVariants.{Alignment as AlignmentStatus, ProvingNormal, ProvingEmergency, Ready}
 use Rattle.node_links.specs.NodeLinks.{Link, is_in_service}
-use Rattle.exchange_rules.specs.State.{Asking, FrameCame, Happening, Parts, Ticked, link_at}
+use Rattle.exchange_rules.specs.State.{Asking, CameUp, FrameCame, Happening, Parts, Ticked, link_at}
 use Rattle.exchange_rules.specs.Timing.{timer_name}
+use Rattle.exchange_rules.specs.Frames.{data_of}
 use Rattle.exchange_rules.specs.Lasting.{after_each}
 use Rattle.exchange_rules.specs.Exchange.{after}
 use Rattle.exchange_rules.specs.Queues.{whole}
@@ -58,18 +64,49 @@ links_have_their_timers =
 abbrev pub state_of : Parts → (link : ℕ) → Alignment
 state_of p link = (link_at p link).alignment
 
--- a frame came by the link
-abbrev pub IsFrameOf : (link : ℕ) → Happening → Type 0
-IsFrameOf link what = (text : List ℕ) × (what ≡ FrameCame link text)
+-- a link status came by the link
+pub record Says (link : ℕ) (status : LinkStatus) (what : Happening) : Type 0 where
+  pub text : List ℕ
+  pub bsn : ℕ
+  pub fsn : ℕ
+  pub came : what ≡ FrameCame link text
+  pub reads : read_frame text ≡ Ok (StatusFrame bsn fsn status)
 
--- A link enters service only at a tick, if it was being proved and its peer was ready, or by a frame, if its proving
--- had ended. Its proving ends only at a tick.
-pub record IsProvedFirst (what : Happening) (link : ℕ) (before after : Alignment) : Type 0 where
-  pub enters : after ≡ InService → before ≢ InService →
-      ((what ≡ Ticked) × (before ≡ Proving true)) ⊎ (IsFrameOf link what × (before ≡ AlignedReady))
-  pub ends : after ≡ AlignedReady → before ≢ AlignedReady → (what ≡ Ticked) × (before ≡ Proving false)
+-- User Data came by it
+pub record Carries (link : ℕ) (what : Happening) : Type 0 where
+  pub text : List ℕ
+  pub frame : FrameValue
+  pub came : what ≡ FrameCame link text
+  pub reads : read_frame text ≡ Ok frame
+  pub carries : is_some (data_of frame) ≡ true
+
+-- a timer runs out at this tick
+abbrev pub RunsOut : TimerName → Happening → Running → Type 0
+RunsOut timer what r = (what ≡ Ticked) × (is_due (ticked r) timer ≡ true)
+
+-- A link may enter service by an event: its proving succeeds as L4 runs out, and its peer said Ready meanwhile; or it
+-- has succeeded, and now the peer says Ready, or sends User Data.
+abbrev pub MayEnter : (link : ℕ) → Happening → Parts → Type 0
+MayEnter link what p =
+    (RunsOut (name.L4 link) what p.timers × (state_of p link ≡ Proving true))
+    ⊎ ((Says link Ready what ⊎ Carries link what) × (state_of p link ≡ AlignedReady))
+
+-- What led a link to the state that it is in after an event, if that is another than before: its association that comes
+-- up, its peer's words, and L4.
+pub record IsProvedFirst (what : Happening) (link : ℕ) (p : Parts) (after : Alignment) : Type 0 where
+  pub begins : after ≡ NotAligned → state_of p link ≢ NotAligned → what ≡ CameUp link
+  pub aligns : after ≡ Aligned → state_of p link ≢ Aligned →
+      Says link AlignmentStatus what × (state_of p link ≡ NotAligned)
+  pub proves : after ≡ Proving false → state_of p link ≢ Proving false →
+      (Says link ProvingNormal what ⊎ Says link ProvingEmergency what)
+      × ((state_of p link ≡ NotAligned) ⊎ (state_of p link ≡ Aligned))
+  pub remembers : after ≡ Proving true → state_of p link ≢ Proving true →
+      Says link Ready what × (state_of p link ≡ Proving false)
+  pub ends : after ≡ AlignedReady → state_of p link ≢ AlignedReady →
+      RunsOut (name.L4 link) what p.timers × (state_of p link ≡ Proving false)
+  pub enters : after ≡ InService → state_of p link ≢ InService → MayEnter link what p
 
 abbrev pub links_are_proved_first : Type 0
 links_are_proved_first =
     (what : Happening) (a : Abstract) (link : ℕ) →
-    IsProvedFirst what link (state_of a.node.parts link) (state_of (after whole what a).node.parts link)
+    IsProvedFirst what link a.node.parts (state_of (after whole what a).node.parts link)

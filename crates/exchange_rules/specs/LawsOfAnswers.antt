@@ -1,5 +1,5 @@
 -- What answers mean: laws.
-use Rattle.std.specs.Prelude.{◌≡◌, ◌≤◌, ◌<◌, ◌⊎◌, ◌++◌, ◌↔◌, ℕ, true, max, length, List, [], ◌∷◌, Option, Some}
+use Rattle.std.specs.Prelude.{◌≡◌, ◌≤◌, ◌<◌, ◌⊎◌, ◌++◌, ◌↔◌, ℕ, true, false, max, length, List, [], ◌∷◌, Option, Some}
 use Rattle.settings_rows.specs.Configuration.{Configuration}
 use Rattle.signalling_types.specs.Message.{Message, dpc_of, flow_of}
 use Rattle.signalling_types.specs.declared.limits.TheConstants.Limits.{LINKS, WINDOW}
@@ -9,13 +9,15 @@ use Rattle.settings.specs.Readings.{destination_place}
 use Rattle.timers.specs.declared.name.TimerName.TheVariants.{T8}
 use Rattle.timers.specs.Timers.{is_running}
 use Rattle.exchange_rules.specs.declared.wants.Wants.TheVariants.{Open}
-use Rattle.exchange_rules.specs.State.{Asking, CameUp, Node}
+use Rattle.exchange_rules.specs.State.{Asking, CameUp, Happening, Node, Parts}
 use Rattle.exchange_rules.specs.Routing.{link_of, set_of}
 use Rattle.exchange_rules.specs.Messages.{transfer}
 use Rattle.exchange_rules.specs.Queues.{WholeQueues, queue_at, whole}
-use Rattle.exchange_rules.specs.Exchange.{outcome_of, wants_of}
-use Rattle.exchange_rules.specs.First.{first_state}
+use Rattle.exchange_rules.specs.Exchange.{after, outcome_of, taken, wants_of}
+use Rattle.exchange_rules.specs.First.{Abstract, first_state}
 use Rattle.exchange_rules.specs.Lasting.{HasAllPlaces, after_each}
+use Rattle.exchange_rules.specs.Aligning.{MayEnter, RunsOut}
+use Rattle.exchange_rules.specs.Testing.{serves_set}
 
 -- a link wants to open exactly when its association would be accepted, in each state reached from the first
 abbrev pub wanted_links_open : Type 0
@@ -45,3 +47,27 @@ one_answer_within_t8 =
     destination_place c (dpc_of m) ≡ Some destination →
     (transfer whole c (Some link) m node).outcome ≡ Refused NoRoute →
     IsToldOnce c (set_of c link) destination node (transfer whole c (Some link) m node).left
+
+-- ---- T8 isn't stopped early
+
+-- a set comes back by an event: one of its links may enter service, and none of them is in service
+pub record ComesBack (c : Configuration) (what : Happening) (set : ℕ) (p : Parts) : Type 0 where
+  pub link : ℕ
+  pub of_set : set_of c link ≡ set
+  pub enters : MayEnter link what p
+  pub first : serves_set c p set ≡ false
+
+-- T8 of a set and a destination runs on over each event, unless it runs out at this tick or the set comes back
+abbrev pub t8_runs_its_time : Type 0
+t8_runs_its_time =
+    (what : Happening) (a : Abstract) (set destination : ℕ) →
+    is_running (T8 set destination) a.node.parts.timers ≡ true →
+    (is_running (T8 set destination) (after whole what a).node.parts.timers ≡ true)
+    ⊎ (RunsOut (T8 set destination) what a.node.parts.timers ⊎ ComesBack a.settings what set a.node.parts)
+
+-- and a take leaves it
+abbrev pub takes_leave_t8 : Type 0
+takes_leave_t8 =
+    (a : Abstract) (link set destination : ℕ) →
+    (taken whole a link).node.parts.timers.left (T8 set destination)
+    ≡ a.node.parts.timers.left (T8 set destination)

@@ -1,15 +1,20 @@
 -- Each loss is among the notices of its event, and counted: laws.
-use Rattle.std.specs.Prelude.{Bool, List, count_by, false, filter, length, map, not, suc, true, zero, ℕ, ◌*◌, ◌+◌, ◌++◌, ◌≡◌, ◌≤◌}
-use Rattle.signalling_types.specs.Message.{Message, flow_of}
+use Rattle.std.specs.Prelude.{Bool, List, None, Option, Some, [], ◌∷◌, count_by, false, filter, length, map, not, suc, true, zero, ℕ, ◌*◌, ◌+◌, ◌++◌, ◌≡◌, ◌≤◌}
+use Rattle.signalling_types.specs.Message.{Message, dpc_of, flow_of}
 use Rattle.signalling_types.specs.declared.cause.Cause.{Cause}
 use Rattle.signalling_types.specs.declared.cause.Cause.TheVariants.{LostUnconfirmed, NoRoute}
 use Rattle.signalling_types.specs.declared.notice.Notice.{Notice}
 use Rattle.signalling_types.specs.declared.notice.Notice.TheVariants as notices
-use Rattle.timers.specs.Timers.{due_count, ticked}
+use Rattle.signalling_types.specs.declared.notice.LateTimer.TheVariants as late_timer
+use Rattle.settings_rows.specs.Configuration.{Configuration}
+use Rattle.timers.specs.declared.name.TimerName.{TimerName}
+use Rattle.timers.specs.declared.name.TimerName.TheVariants.{T3, T4}
+use Rattle.timers.specs.Timers.{due_count, due_name, ticked}
 use Rattle.route_management.specs.Told.{owed}
-use Rattle.exchange_rules.specs.State.{Ticked, Happening, Node, Parts, noted_all, once_more}
-use Rattle.exchange_rules.specs.Routing.{facts}
-use Rattle.exchange_rules.specs.Exchange.{after, handle_event, release, taken}
+use Rattle.exchange_rules.specs.State.{Ticked, Happening, Node, Parts, noted_all, once_more, noted}
+use Rattle.exchange_rules.specs.Telling.{send_anew, send_on, send_routed}
+use Rattle.exchange_rules.specs.Routing.{facts, link_of, no_room}
+use Rattle.exchange_rules.specs.Exchange.{after, handle_event, release, run_next, taken, with_timers}
 use Rattle.exchange_rules.specs.Queues.{WholeQueues, whole}
 use Rattle.exchange_rules.specs.First.{Abstract}
 use Rattle.exchange_rules.specs.Lasting.{tells_of_lateness, tells_of_loss}
@@ -37,12 +42,14 @@ abbrev pub counted : ℕ → (times : ℕ) → ℕ
 counted zero times = times
 counted (suc more) times = counted more (once_more times)
 
--- Some notices were made. Those that name a message as lost are these, in order, and at most `others` are of other
--- kinds. Each possible loss that one of them tells of was counted, and `doubts` more; so was each possible lateness.
-pub record AreAccounted (lost : List Notice) (doubts others : ℕ) (old new : Parts) : Type 0 where
+-- Some notices were made. Those that name a message as lost are `lost`, in order, those of lateness are `late`, and at
+-- most `others` name no message. Each possible loss that one of them tells of was counted, and `doubts` more; so was
+-- each possible lateness.
+pub record AreAccounted (lost late : List Notice) (doubts others : ℕ) (old new : Parts) : Type 0 where
   pub made : List Notice
   pub noted : new.notices ≡ noted_all made old.notices
   pub names : filter names_a_message made ≡ lost
+  pub lates : filter tells_of_lateness made ≡ late
   pub few : count_by names_none made ≤ others
   pub times_lost : new.times_lost ≡ counted (count_by tells_of_loss made + doubts) old.times_lost
   pub times_late : new.times_late ≡ counted (count_by tells_of_lateness made) old.times_late
@@ -57,6 +64,27 @@ losses_of what a =
     map (naming LostUnconfirmed) (gone_by what a).lost
     ++ map (naming NoRoute) (gone_by_release a.settings (handle_event whole a.settings what a.node).left).lost
 
+-- the notice of the timer that ends the holds of a changeback: T3 of those by time, T4 of those of a code
+abbrev pub late_by_timer : Option TimerName → List Notice
+late_by_timer (Some (T3 link)) = notices.Late late_timer.T3 link ∷ []
+late_by_timer (Some (T4 set code)) = notices.Late late_timer.T4 code ∷ []
+late_by_timer other = []
+
+-- those of the timers that run at a tick, each as it runs
+abbrev pub late_by_timers : ℕ → Configuration → Node WholeQueues → List Notice
+late_by_timers zero c node = []
+late_by_timers (suc more) c node =
+    late_by_timer (due_name node.parts.timers) ++ late_by_timers more c (run_next whole c node)
+
+abbrev pub late_by_tick : Configuration → Node WholeQueues → List Notice
+late_by_tick c node =
+    late_by_timers (due_count (ticked node.parts.timers)) c (with_timers node (ticked node.parts.timers))
+
+-- the notices of the lateness of an event
+abbrev pub lateness_of : Happening → Abstract → List Notice
+lateness_of Ticked a = late_by_tick a.settings a.node
+lateness_of what a = []
+
 -- how many rules an event runs: at a tick one for each timer that is due
 abbrev pub rules_run : Happening → Parts → ℕ
 rules_run Ticked p = due_count (ticked p.timers)
@@ -69,12 +97,13 @@ others_of what a =
     length (gone_by what a).queued_anew + 3 * rules_run what a.node.parts
     + length (owed (facts a.settings (released what a).parts) (released what a).parts.told)
 
--- The notices of an event that name a message as lost are those of what it loses. It counts as many losses as its
--- notices tell of, and one more for each completion without a reasonable number.
+-- The notices of an event that name a message as lost are those of what it loses, and those of lateness those of T3 and
+-- T4 that run out. It counts as many losses as its notices tell of, and one more for each completion without a
+-- reasonable number.
 abbrev pub events_account_for_losses : Type 0
 events_account_for_losses =
     (what : Happening) (a : Abstract) →
-    AreAccounted (losses_of what a) (gone what a).doubts (others_of what a) a.node.parts
+    AreAccounted (losses_of what a) (lateness_of what a) (gone what a).doubts (others_of what a) a.node.parts
     (after whole what a).node.parts
 
 -- a take counts neither
@@ -83,3 +112,33 @@ takes_flag_nothing =
     (a : Abstract) (link : ℕ) →
     ((taken whole a link).node.parts.times_lost ≡ a.node.parts.times_lost)
     × ((taken whole a link).node.parts.times_late ≡ a.node.parts.times_late)
+
+-- ---- management that is given up
+
+-- a message made here is given up: that is named, with why and the point that it was for, and counts as a possible loss;
+-- nothing else changes
+pub record IsGivenUp (cause : Cause) (m : Message) (old new : Node WholeQueues) : Type 0 where
+  pub queues : new.queues ≡ old.queues
+  pub parts : new.parts ≡ record old.parts {
+    notices = noted (notices.Unsent cause (dpc_of m)) old.parts.notices;
+    times_lost = once_more old.parts.times_lost;
+  }
+
+-- it goes to the end of a link's queue, and nothing else changes; but without room or a link it is given up
+pub record IsPlaced (room : Option Cause) (link : Option ℕ) (m : Message) (old new : Node WholeQueues) : Type 0 where
+  pub queued : (its : ℕ) → room ≡ None → link ≡ Some its →
+      new ≡ record old { queues = whole.appended old.queues its m }
+  pub full : (cause : Cause) → room ≡ Some cause → IsGivenUp cause m old new
+  pub stranded : room ≡ None → link ≡ None → IsGivenUp NoRoute m old new
+
+-- so it is with a message that goes by its flow, with one that goes by a given link, and with one that is queued anew
+-- and has its room
+pub record IsSent (c : Configuration) (link : ℕ) (m : Message) (node : Node WholeQueues) : Type 0 where
+  pub routed : IsPlaced (no_room whole c m node.queues) (link_of c node.parts (flow_of m)) m node
+      (send_routed whole c m node)
+  pub answered : IsPlaced (no_room whole c m node.queues) (Some link) m node (send_on whole c link m node)
+  pub anew : IsPlaced None (link_of c node.parts (flow_of m)) m node (send_anew whole c m node)
+
+abbrev pub management_is_named : Type 0
+management_is_named =
+    (c : Configuration) (link : ℕ) (m : Message) (node : Node WholeQueues) → IsSent c link m node

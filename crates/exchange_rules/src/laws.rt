@@ -2,8 +2,7 @@
 
 ghost use Rattle.exchange_rules.specs.Laws.{refusals_leave, nothing_taken_leaves, queued_in_service};
 ghost use Rattle.exchange_rules.specs.Laws.{routed_in_service, declared_in_service, queued_anew_in_service};
-ghost use Rattle.exchange_rules.specs.Laws.{settled_in_service};
-ghost use Rattle.exchange_rules.specs.Laws.{first_is_told, events_tell_all, takes_owe_nothing};
+ghost use Rattle.exchange_rules.specs.Laws.{first_is_told, events_tell_all, takes_owe_nothing, settled_in_service};
 ghost use Rattle.exchange_rules.specs.Laws.{completion_leaves_others, release_keeps_order, moved_before_held};
 ghost use Rattle.exchange_rules.specs.LastingLinks.{links_first_steady, links_stay_steady, l7_watches};
 ghost use Rattle.exchange_rules.specs.LastingHolds.{holds_stay_timed, every_hold_has_its_timer_or_its_word};
@@ -16,12 +15,11 @@ ghost use Rattle.exchange_rules.specs.Receiving.{received_is_counted, takes_rece
 ghost use Rattle.exchange_rules.specs.LawsOfMessages.{user_messages_are_conserved, takes_leave_user_messages};
 ghost use Rattle.exchange_rules.specs.LawsOfMessages.{all_that_came_adds_up};
 ghost use Rattle.exchange_rules.specs.LawsOfMessages.{carried_messages_have_a_fate, submissions_have_a_fate};
-ghost use Rattle.exchange_rules.specs.LawsOfLosses.{events_account_for_losses, takes_flag_nothing};
-ghost use Rattle.exchange_rules.specs.Lasting.{places_at_first, places_stay};
+ghost use Rattle.exchange_rules.specs.LawsOfLosses.{events_account_for_losses, takes_flag_nothing, management_is_named};
+ghost use Rattle.exchange_rules.specs.Lasting.{places_at_first, places_stay, notices_keep_their_limits};
 ghost use Rattle.exchange_rules.specs.Lasting.{no_flag_at_first, losses_stay, lateness_stays};
 ghost use Rattle.exchange_rules.specs.Lasting.{notices_raise_flags, unreasonable_numbers_raise_it};
 ghost use Rattle.exchange_rules.specs.Lasting.{notices_made_are_counted, new_notices_are_the_last};
-ghost use Rattle.exchange_rules.specs.Lasting.{notices_keep_their_limits};
 ghost use Rattle.exchange_rules.specs.TimerSettings.{events_set_timers_to_their_settings, timers_keep_their_settings};
 ghost use Rattle.exchange_rules.specs.TimerSettings.{takes_set_timers_to_their_settings};
 ghost use Rattle.exchange_rules.specs.Aligning.{links_are_proved_first, links_have_their_timers};
@@ -30,7 +28,7 @@ ghost use Rattle.exchange_rules.specs.LawsOfFailures.{failures_hold_their_flows,
 ghost use Rattle.exchange_rules.specs.LawsOfFailures.{idle_failures_hold_nothing, idle_failures_by_peer_hold_nothing};
 ghost use Rattle.exchange_rules.specs.LawsOfReturns.{entries_hold_changed_flows, changed_flows_are_held};
 ghost use Rattle.exchange_rules.specs.LawsOfAnswers.{wanted_links_open, queued_stands_last};
-ghost use Rattle.exchange_rules.specs.LawsOfAnswers.{one_answer_within_t8};
+ghost use Rattle.exchange_rules.specs.LawsOfAnswers.{one_answer_within_t8, t8_runs_its_time, takes_leave_t8};
 ghost use Rattle.exchange_rules.specs.LawsOfReturns.{returns_keep_holds};
 ghost use Rattle.exchange_rules.specs.LawsOfReturns.{flows_return_by_their_procedures, entries_are_returns};
 
@@ -77,9 +75,12 @@ pub fn queued_messages_stand_last()
 {}
 
 /// While T8 of a set and a destination runs, no message from the set that finds no route to the destination is answered
-/// with TFP; and where one is, T8 runs from then on, as long as it is set to (Q.704 §13.2).
+/// with TFP; and where one is, T8 runs from then on, as long as it is set to (Q.704 §13.2). It stops only at a tick, as
+/// it runs out, or as the set comes back: as one of its links enters service, and none of them was in service.
 pub fn no_message_is_answered_while_t8_runs()
-    ensures { one_answer_within_t8 }
+    ensures answered { one_answer_within_t8 }
+    ensures event { t8_runs_its_time }
+    ensures take { takes_leave_t8 }
 {}
 
 /// The move of a completed changeover touches the queue of no other link. In Held the messages that it moves stand
@@ -175,9 +176,10 @@ pub fn links_have_the_timers_of_their_states()
     ensures { links_have_their_timers }
 {}
 
-/// A link is proved before it enters service (Q.703 §7). By an event it enters service only at a tick, as its proving
-/// ends and its peer is ready; or, once its proving has succeeded, by a frame that comes by it. Its proving succeeds
-/// only at a tick.
+/// A link is proved before it enters service (Q.703 §7). It begins to align as its association comes up, and is aligned
+/// by its peer's Alignment. Its peer's Proving begins its proving, and its peer's Ready is remembered meanwhile. Its
+/// proving ends only as L4 runs out; then it enters service if its peer was ready, or else by its peer's Ready or User
+/// Data. Nothing else leads it on.
 pub fn links_are_proved_before_they_enter_service()
     ensures { links_are_proved_first }
 {}
@@ -283,12 +285,15 @@ pub fn user_messages_are_conserved()
     ensures always { all_that_came_adds_up }
 {}
 
-/// What is lost is named, and flags rise only for a reason. Of every event the notices that name a user message as lost
-/// are those of what it loses, in order, and no others: what its completions leave in doubt, then what its release
-/// finds without a route. It counts a possible loss for each of its notices that tells of one (Lost, Unsent, Expired of
-/// T2) and for each completion without a reasonable number, and no other; and a possible lateness for each notice of
-/// one (Late). How many notices of other kinds it makes has a bound. A take counts neither.
+/// What is lost or late is named, and flags rise only for a reason. Of every event the notices that name a user message
+/// as lost are those of what it loses, in order, and no others: what its completions leave in doubt, then what its
+/// release finds without a route. Each T3 and each T4 that runs out, and so ends holds, makes a notice of lateness
+/// (Late), and nothing else does. It counts a possible loss for each of its notices that tells of one (Lost, Unsent,
+/// Expired of T2) and for each completion without a reasonable number, and no other; and a possible lateness for each
+/// notice of one. How many notices of other kinds it makes has a bound. A take counts neither. Management that finds no
+/// room or no link is named with why (Unsent), and counts; any other goes to the end of a queue.
 pub fn what_is_lost_is_named()
     ensures event { events_account_for_losses }
+    ensures management { management_is_named }
     ensures take { takes_flag_nothing }
 {}

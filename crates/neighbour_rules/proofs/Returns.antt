@@ -199,7 +199,7 @@ module _ (c z : Configuration) (j : Joint c z) where
 
     -- whether or not what is known over its set is reset
     anew-fits : (again : Bool) → StaysFit c n (with_parts n (anew again c link step n.parts))
-    anew-fits again = (fit-steps c).both _ _ _ ((fit-steps c).stepped link input step n tt e) (anew-steps (rules-of (fit-steps c)) again link (with_parts n once))
+    anew-fits again = (fit-steps c).both _ _ _ ((fit-steps c).stepped link input step n tt e) (anew-steps (rules-of (fit-steps c)) again link (with_parts n once) tt)
 
     anew-down : (again : Bool) (other : ℕ) → down (anew again c link step n.parts) other ≡ down n.parts other
     anew-down again other = ap (λ (l : Link). is_down l.alignment) (anew-link again c link other once) ∙ step-down other

@@ -1,0 +1,192 @@
+-- T8 of a set and a destination runs until it runs out, or its set comes back.
+use Rattle.exchange_rules.proofs.Basics.{◌≡◌, ◌≢◌, ◌⊎◌, inl, inr, ℕ, List, Bool, true, false, ◌&&◌, not, Result, Ok, Err, refl, ap, sym, subst, ◌∙◌, ⊎_elim, cases_eq, if◌then◌else◌}
+use Rattle.exchange_rules.proofs.Definitions.{Configuration, Action, Alignment, Input, Expiry, Status, UserData, Transition, action_at, LinkStatus, LinkTimer, Running, FrameFault, FrameValue, EmptyFrame, MessageFrame, StatusFrame, read_frame, FrameCame, is_in_service, Parts, Node, with_parts, answer, refuse, Ignored, link_at, in_service, set_of, has_other, step_on, begun_anew_if, moved_on, enters, advance, timed_busy, timed_busy_ended, is_running, Carrying, empty_data, message_data, numbers, act_by_data, act_by_status, serve_status, read, WholeQueues, whole}
+use Rattle.signalling_types.specs.declared.cause.Cause.TheVariants as causes
+use Rattle.signalling_types.specs.declared.notice.FailureReason.TheVariants as reasons
+use Rattle.m2pa_codec.specs.declared.status.LinkStatus.TheVariants as says
+use Rattle.link.specs.declared.action.Action.TheVariants as act
+use Rattle.link.specs.declared.action.LinkTimer.TheVariants as timer
+use Rattle.link.specs.declared.alignment.Alignment.TheVariants.{Down, NotAligned, Aligned, Proving, AlignedReady, InService}
+use Rattle.timers.specs.declared.name.TimerName.TheVariants.{T8}
+use Rattle.exchange_rules.specs.Aligning.{Carries, Says, state_of}
+use Rattle.exchange_rules.proofs.Asked.{any}
+use Rattle.exchange_rules.proofs.ProvedFirst.{each-leads, frame-hears, kind_of, no-data, no-timer, timer-climbs}
+use Rattle.exchange_rules.proofs.ProvedEvents.{says-of}
+use Rattle.m2pa_codec.specs.Frames.{status_number}
+use Rattle.exchange_rules.proofs.Serving.{data-serves}
+use Rattle.exchange_rules.proofs.SettingTimers.{Sets, sets-rules}
+use Rattle.exchange_rules.proofs.SteppingEvents.{handle_by-steps, leave_aside-steps}
+use Rattle.exchange_rules.proofs.SteppingLinks.{advance-serves, advance-steps, entered-steps, stepping-there}
+use Rattle.exchange_rules.proofs.Steps.{IsOfRules, with_busy, without_busy}
+use Rattle.exchange_rules.proofs.TimerSettings.{AreSet, timed-set, timed_busy-set, timed_busy_ended-set}
+
+pub no-way : {A : Type 0} (b : Bool) → b ≡ true → b ≡ false → A
+no-way b e f = (let no : true ≡ false = sym e ∙ f in absurd cc)
+
+-- ---- what leads into service
+
+pub serving-is : (x : Alignment) → is_in_service x ≡ true → x ≡ InService
+serving-is InService e = refl
+serving-is Down e = absurd cc
+serving-is NotAligned e = absurd cc
+serving-is Aligned e = absurd cc
+serving-is (Proving ready) e = absurd cc
+serving-is AlignedReady e = absurd cc
+
+enters-serving : (a b : Bool) → (a && not b) ≡ true → (a ≡ true) × (b ≡ false)
+enters-serving true false e = (refl, refl)
+enters-serving true true e = absurd cc
+enters-serving false b e = absurd cc
+
+first-enters : (a b : Bool) → (a && not b) ≡ true → a ≡ true
+first-enters true b e = refl
+first-enters false b e = absurd cc
+
+-- of a state that isn't in service: a frame leads there from AlignedReady, L4 from Proving
+by-frame : (x : Alignment) (input : Input) (step : Transition) → (kind_of input ≡ 10 → ⊥) → action_at x input ≡ act.Go step → (is_in_service step.state && not (is_in_service x)) ≡ true
+    → ((kind_of input ≡ 4) ⊎ (kind_of input ≡ 0)) × (x ≡ AlignedReady)
+by-frame x input step frame e f =
+    let parts = enters-serving (is_in_service step.state) (is_in_service x) f in
+    ⊎_elim (λ (k : x ≡ InService). no-way (is_in_service x) (ap is_in_service k) parts.1) (λ (k : ((kind_of input ≡ 4) ⊎ (kind_of input ≡ 0)) × (x ≡ AlignedReady)). k)
+    ((frame-hears (kind_of input) x step.state frame (each-leads x input step e)).serves (serving-is step.state parts.0))
+
+pub by-timer : (x : Alignment) (its : LinkTimer) (step : Transition) → action_at x (Expiry its) ≡ act.Go step → (is_in_service step.state && not (is_in_service x)) ≡ true
+    → (its ≡ timer.L4) × (x ≡ Proving true)
+by-timer x its step e f =
+    let parts = enters-serving (is_in_service step.state) (is_in_service x) f in
+    ⊎_elim (λ (k : x ≡ InService). no-way (is_in_service x) (ap is_in_service k) parts.1) (λ (k : (its ≡ timer.L4) × (x ≡ Proving true)). k)
+    ((timer-climbs (its ≡ timer.L4) its x step.state (λ g. g) (each-leads x (Expiry its) step e)).serves (serving-is step.state parts.0))
+
+module _ (c : Configuration) (s d : ℕ) where
+  abbrev pub Runs : Node WholeQueues → Type 0
+  Runs n = is_running (T8 s d) n.parts.timers ≡ true
+
+  -- ---- where no link of the set takes a step
+
+  abbrev pub Other : ℕ → Type 0
+  Other link = set_of c link ≢ s
+
+  abbrev pub Apart : ℕ → Type 0
+  Apart set = set ≢ s
+
+  pub rules : IsOfRules c Other any (Sets c Apart)
+  rules = sets-rules c Apart Other (λ set m same. m.own (m.is ∙ same))
+
+  timers-run : (r t : Running) → AreSet c Apart r t → is_running (T8 s d) r ≡ true → is_running (T8 s d) t ≡ true
+  timers-run r t k e = ⊎_elim (λ (h : is_running (T8 s d) t ≡ true). h) (λ (no : s ≢ s). absurd (no refl)) (k.inhibits s d e)
+
+  pub runs-on : (n m : Node WholeQueues) → Sets c Apart n m → Runs n → Runs m
+  runs-on n m k e = timers-run n.parts.timers m.parts.timers k.timers e
+
+  either-runs : (b : Bool) (p q : Parts) → is_running (T8 s d) p.timers ≡ true → is_running (T8 s d) q.timers ≡ true → is_running (T8 s d) (if b then p else q).timers ≡ true
+  either-runs true p q e f = e
+  either-runs false p q e f = f
+
+  -- ---- a link takes a step
+
+  -- it is the first of the set to enter service
+  pub record Enters (link : ℕ) (step : Transition) (n : Node WholeQueues) : Type 0 where
+    pub of_set : set_of c link ≡ s
+    pub enters : (is_in_service step.state && not (in_service n.parts link)) ≡ true
+    pub first : has_other c link n.parts ≡ false
+
+  moved-runs : (first : Bool) (link : ℕ) (step : Transition) (n : Node WholeQueues) → (enters link step n.parts && not (has_other c link n.parts)) ≡ first → first ≡ false → Runs n
+      → Runs (with_parts n (moved_on c link step n.parts))
+  moved-runs first link step n e f r =
+      subst (λ (b : Bool). is_running (T8 s d) (begun_anew_if b c link (step_on c link step n.parts)).timers ≡ true) (sym (e ∙ f))
+      (runs-on n (with_parts n (step_on c link step n.parts)) (record { timers = timed-set c Apart link step n.parts.timers }) r)
+
+  pub advance-runs : (link : ℕ) (input : Input) (step : Transition) (n : Node WholeQueues) → action_at (link_at n.parts link).alignment input ≡ act.Go step → Runs n
+      → Runs (advance whole c link step n) ⊎ Enters link step n
+  advance-runs link input step n e r = by (cases_eq (set_of c link) s) (enters link step n.parts && not (has_other c link n.parts)) refl
+    where
+      moved : Node WholeQueues
+      moved = with_parts n (moved_on c link step n.parts)
+
+      by : (set_of c link ≡ s) ⊎ (set_of c link ≢ s) → (first : Bool) → (enters link step n.parts && not (has_other c link n.parts)) ≡ first
+          → Runs (advance whole c link step n) ⊎ Enters link step n
+      by (inr apart) first f = inl (runs-on n (advance whole c link step n) (advance-steps rules link input step n apart e) r)
+      by (inl same) false f =
+          inl (runs-on moved (advance whole c link step n) (entered-steps rules (enters link step n.parts) link step n (stepping-there n.parts link input step e) refl)
+          (moved-runs false link step n f refl r))
+      by (inl same) true f = inr (record {
+        of_set = same;
+        enters = (enters-serving (enters link step n.parts) (has_other c link n.parts) f).0;
+        first = (enters-serving (enters link step n.parts) (has_other c link n.parts) f).1;
+      })
+
+  -- ---- a frame
+
+  module _ (l : ℕ) (text : List ℕ) where
+    abbrev Said : Type 0
+    Said = Says l says.Ready (FrameCame l text) ⊎ Carries l (FrameCame l text)
+
+    -- the set comes back by a frame of the link
+    pub record Returns (n : Node WholeQueues) : Type 0 where
+      pub of_set : set_of c l ≡ s
+      pub said : Said
+      pub ready : state_of n.parts l ≡ AlignedReady
+      pub first : has_other c l n.parts ≡ false
+
+    returns : (input : Input) (step : Transition) (n : Node WholeQueues) → (kind_of input ≡ 10 → ⊥) → action_at (link_at n.parts l).alignment input ≡ act.Go step
+        → ((kind_of input ≡ 4) ⊎ (kind_of input ≡ 0) → Said) → Enters l step n → Returns n
+    returns input step n frame e said h =
+        let from = by-frame (state_of n.parts l) input step frame e h.enters in
+        record { of_set = h.of_set; said = said from.0; ready = from.1; first = h.first }
+
+    serve-runs : (status : LinkStatus) (n : Node WholeQueues) → Runs n → Runs (serve_status whole c l status n)
+    serve-runs says.Busy n r =
+        either-runs (link_at n.parts l).peer_busy n.parts (with_busy c l n.parts) r (timers-run n.parts.timers (timed_busy c l n.parts.timers) (timed_busy-set c Apart l n.parts.timers) r)
+    serve-runs says.BusyEnded n r =
+        let left : ℕ = whole.outstanding n.queues l in
+        either-runs (link_at n.parts l).peer_busy (without_busy c l left n.parts) n.parts
+        (timers-run n.parts.timers (timed_busy_ended c l left n.parts.timers) (timed_busy_ended-set c Apart l left n.parts.timers) r) r
+    serve-runs says.Alignment n r = r
+    serve-runs says.ProvingNormal n r = r
+    serve-runs says.ProvingEmergency n r = r
+    serve-runs says.Ready n r = r
+    serve-runs says.ProcessorOutage n r = r
+    serve-runs says.ProcessorRecovered n r = r
+    serve-runs says.OutOfService n r = r
+
+    served-runs : (serve : Bool) (status : LinkStatus) (n : Node WholeQueues) → Runs n → Runs (if serve then serve_status whole c l status n else n)
+    served-runs true status n r = serve-runs status n r
+    served-runs false status n r = r
+
+    status-runs : (a : Action) (bsn fsn : ℕ) (status : LinkStatus) (n : Node WholeQueues) → read_frame text ≡ Ok (StatusFrame bsn fsn status)
+        → action_at (link_at n.parts l).alignment (Status status) ≡ a → Runs n → Runs (act_by_status whole c a l status n).left ⊎ Returns n
+    status-runs act.Ignored bsn fsn status n is e r = inl r
+    status-runs act.Fail bsn fsn status n is e r = inl (runs-on n _ (rules.fails l reasons.Status n) r)
+    status-runs (act.Go step) bsn fsn status n is e r =
+        ⊎_elim (λ (h : Runs (advance whole c l step n)). inl (served-runs step.serve status (advance whole c l step n) h))
+        (λ (h : Enters l step n).
+        inr (returns (Status status) step n (no-timer status) e
+        (λ k. inl (⊎_elim (λ (f : status_number status ≡ 4). says-of l text bsn fsn status says.Ready is f) (λ (f : status_number status ≡ 0). absurd (no-data status f)) k)) h))
+        (advance-runs l (Status status) step n e r)
+
+    data-runs : (a : Action) (x : Carrying) (n : Node WholeQueues) → Carries l (FrameCame l text) → action_at (link_at n.parts l).alignment UserData ≡ a → Runs n
+        → Runs (act_by_data whole c a l x n).left ⊎ Returns n
+    data-runs act.Ignored x n is e r = inl r
+    data-runs act.Fail x n is e r = inl (runs-on n _ (rules.fails l reasons.Sequence n) r)
+    data-runs (act.Go step) x n is e r =
+        let next : Node WholeQueues = advance whole c l step n in
+        ⊎_elim
+        (λ (h : Runs next).
+        inl (runs-on next _ (handle_by-steps rules (numbers whole c l x next) l x next tt (advance-serves c l UserData step n e ∙ data-serves (link_at n.parts l).alignment step e) refl) h))
+        (λ (h : Enters l step n). inr (returns UserData step n (λ no. cc) e (λ k. inr is) h))
+        (advance-runs l UserData step n e r)
+
+    read-runs : (x : Result FrameValue FrameFault) (n : Node WholeQueues) → read_frame text ≡ x → Runs n → Runs (read whole c l x n).left ⊎ Returns n
+    read-runs (Ok (EmptyFrame bsn fsn)) n e r =
+        data-runs (action_at (link_at n.parts l).alignment UserData) (empty_data bsn fsn) n (record { text = text; frame = EmptyFrame bsn fsn; came = refl; reads = e; carries = refl }) refl r
+    read-runs (Ok (MessageFrame bsn fsn sio sif)) n e r =
+        data-runs (action_at (link_at n.parts l).alignment UserData) (message_data bsn fsn sio sif) n
+        (record { text = text; frame = MessageFrame bsn fsn sio sif; came = refl; reads = e; carries = refl }) refl r
+    read-runs (Ok (StatusFrame bsn fsn status)) n e r = status-runs (action_at (link_at n.parts l).alignment (Status status)) bsn fsn status n e refl r
+    read-runs (Err fault) n e r = inl (runs-on n _ (leave_aside-steps rules l fault n) r)
+
+    pub receive-runs : (is_there is_down : Bool) (x : Result FrameValue FrameFault) (n : Node WholeQueues) → read_frame text ≡ x → Runs n
+        → Runs (if is_there then (if is_down then answer Ignored n else read whole c l x n) else refuse causes.NoSuchName n).left ⊎ Returns n
+    receive-runs false is_down x n e r = inl r
+    receive-runs true true x n e r = inl r
+    receive-runs true false x n e r = read-runs x n e r
