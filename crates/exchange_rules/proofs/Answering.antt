@@ -1,6 +1,6 @@
 -- What answers a refused message leaves what waits in Held, and lets no adjacent point be owed more.
 use Rattle.exchange_rules.proofs.Basics.{◌≡◌, ◌+◌, ℕ, zero, suc, Bool, true, false, ◌||◌, not, cond, List, [], ◌∷◌, ◌++◌, Option, Some, None, sum_by, refl, sym, ap, ◌∙◌, arith, if◌then◌else◌, set, nat_tests, sum_by-append, sum_by-cons}
-use Rattle.exchange_rules.proofs.Definitions.{Message, dpc_of, flow_of, is_management, service_indicator, Cause, Configuration, destination_place, Discrimination, returned, Queue, first_queue, unconfirmed, owes_nothing, Node, refuse, WholeQueues, queue_at, whole, facts, link_of, no_room, queue_on, waits, all_wait, hold, is_destination, offer, sccp, whither_goes, own_of, in_place_of, send_udts, return_unitdata, told_below, is_all_told, answered_by, answered}
+use Rattle.exchange_rules.proofs.Definitions.{Message, dpc_of, flow_of, is_management, service_indicator, Cause, Configuration, destination_place, Discrimination, returned, Queue, first_queue, unconfirmed, owes_nothing, Node, refuse, WholeQueues, queue_at, whole, facts, link_of, no_room_for, queue_on, waits, all_wait, hold, is_destination, offer, sccp, whither_goes, own_of, in_place_of, send_udts, return_unitdata, told_below, is_all_told, answered_by, answered}
 use Rattle.std.proofs.Common.{drop}
 use Rattle.std.specs.Prelude.{nat_eq, nat_lt}
 use Rattle.signalling_types.specs.declared.cause.Cause.TheVariants as causes
@@ -28,8 +28,8 @@ module _ (c : Configuration) where
   offer-waits None false (Some link) m n e w = w
 
   transfer_by-waits : (b : Bool) (m : Message) (n : Node WholeQueues) → AllWait c n
-      → AllWait c (if b then offer whole c (no_room whole c m n.queues) (waits c n.parts.holds m) (link_of c n.parts (flow_of m)) None m n else refuse causes.UnknownDestination n).left
-  transfer_by-waits true m n w = offer-waits (no_room whole c m n.queues) (waits c n.parts.holds m) (link_of c n.parts (flow_of m)) m n refl w
+      → AllWait c (if b then offer whole c (no_room_for whole c m n) (waits c n.parts.holds m) (link_of c n.parts (flow_of m)) None m n else refuse causes.UnknownDestination n).left
+  transfer_by-waits true m n w = offer-waits (no_room_for whole c m n) (waits c n.parts.holds m) (link_of c n.parts (flow_of m)) m n refl w
   transfer_by-waits false m n w = w
 
   send_udts-waits : (udts : Option (List ℕ)) (m : Message) (n : Node WholeQueues) → AllWait c n → AllWait c (send_udts whole c udts m n)
@@ -91,9 +91,9 @@ module _ (c : Configuration) where
   offer-told None false (Some link) m n e = as_told (queue_on whole c link m n) n refl (managements-queued n.queues link m e)
 
   transfer_by-told : (b : Bool) (m : Message) (n : Node WholeQueues) → is_management m ≡ false
-      → is_all_told whole c (if b then offer whole c (no_room whole c m n.queues) (waits c n.parts.holds m) (link_of c n.parts (flow_of m)) None m n else refuse causes.UnknownDestination n).left
+      → is_all_told whole c (if b then offer whole c (no_room_for whole c m n) (waits c n.parts.holds m) (link_of c n.parts (flow_of m)) None m n else refuse causes.UnknownDestination n).left
       ≡ is_all_told whole c n
-  transfer_by-told true m n e = offer-told (no_room whole c m n.queues) (waits c n.parts.holds m) (link_of c n.parts (flow_of m)) m n e
+  transfer_by-told true m n e = offer-told (no_room_for whole c m n) (waits c n.parts.holds m) (link_of c n.parts (flow_of m)) m n e
   transfer_by-told false m n e = refl
 
   send_udts-told : (udts : Option (List ℕ)) (m : Message) (n : Node WholeQueues) → is_management m ≡ false → is_all_told whole c (send_udts whole c udts m n) ≡ is_all_told whole c n

@@ -6,7 +6,7 @@ use Rattle.exchange_rules.specs.declared.wants.Wants.TheVariants.{Nothing, Open,
 use Rattle.exchange_rules.specs.LawsOfAnswers.{wanted_links_open, queued_stands_last}
 use Rattle.exchange_rules.specs.Opening.{open_link}
 use Rattle.exchange_rules.proofs.Basics.{◌≡◌, ◌<◌, ℕ, Bool, true, false, not, ◌&&◌, cond, [], ◌∷◌, ◌++◌, length, Option, Some, None, refl, ap, get_or-set_same}
-use Rattle.exchange_rules.proofs.Definitions.{Message, dpc_of, flow_of, Configuration, Cause, Queued, is_down, Queue, first_queue, appended, Node, answer, refuse, is_link, link_at, link_of, no_room, WholeQueues, whole, queue_at, waits, apply, first_state, after_each, is_destination, offer, changeover_of, may_restart}
+use Rattle.exchange_rules.proofs.Definitions.{Message, dpc_of, flow_of, Configuration, Cause, Queued, is_down, Queue, first_queue, appended, Node, answer, refuse, is_link, link_at, link_of, no_room_for, WholeQueues, whole, queue_at, waits, apply, first_state, after_each, is_destination, offer, changeover_of, may_restart}
 use Rattle.exchange_rules.proofs.LastingLinks.{links-stay, links-first}
 use Rattle.exchange_rules.proofs.LastingPlaces.{places-first}
 
@@ -50,4 +50,4 @@ transferred false c refusal is_waiting its from m node link there e = absurd cc
 
 pub queued-last : queued_stands_last
 queued-last c from m node link there e =
-    transferred (is_destination c (dpc_of m)) c (no_room whole c m node.queues) (waits c node.parts.holds m) (link_of c node.parts (flow_of m)) from m node link there e
+    transferred (is_destination c (dpc_of m)) c (no_room_for whole c m node) (waits c node.parts.holds m) (link_of c node.parts (flow_of m)) from m node link there e

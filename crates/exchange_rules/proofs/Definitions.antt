@@ -1,7 +1,7 @@
 -- Definitions that the proofs here are about, and lemmas of the crates below.
 pub use Rattle.changeback.specs.Codes.{Codes, codes_of, free_code, is_outstanding, with_code, no_codes}
 pub use Rattle.changeover.specs.Changeover.{managements_of, accepted_count, behind, moved, in_doubt, lost, users_of, Standing, may_restart, completed, no_changeover, acknowledged, failed, begun_by_peer}
-pub use Rattle.exchange_rules.specs.Messages.{is_destination, offer, transfer, sccp, do_kind, do_test, test_answer, is_adjacent, local, manage, testing, do_acknowledgement, do_management, do_order, link_with_code, distribute, is_user, cause_of, link_in_set, whither_goes, deliver_to, submit, submit_to, deliver, own_of, in_place_of, send_udts, return_unitdata, add_title_unless, title_refusal, with_titles, on_unitdata, relay_by, return_outcome, return_refusal, add_title, remove_title}
+pub use Rattle.exchange_rules.specs.Messages.{is_destination, no_room_for, offer, transfer, sccp, do_kind, do_test, test_answer, is_adjacent, local, manage, testing, do_acknowledgement, do_management, do_order, link_with_code, distribute, is_user, cause_of, link_in_set, whither_goes, deliver_to, submit, submit_to, deliver, own_of, in_place_of, send_udts, return_unitdata, add_title_unless, title_refusal, with_titles, on_unitdata, relay_by, return_outcome, return_refusal, add_title, remove_title}
 pub use Rattle.exchange_rules.specs.ChangingBack.{loses_flows, code_for, declare_by, hold_flows, change_back, code_in_use, declaration, freed, on_changeback_acknowledgement, if_room, procedure_by, with_flows_held, usable, take_back, changeback_acknowledgement, late_time, late_code, is_taken_back}
 unfoldable pub use Rattle.exchange_rules.specs.ChangingBack.{take_back_each}
 pub use Rattle.exchange_rules.specs.ChangingOver.{fail_by_order, send_each, complete_if, concluded, on_changeover_order, on_changeover_timer, with_changeover_acknowledged, with_expiry, judged, lifted_parts, lose, lose_each, changeover_acknowledgement, conclude, complete_by_order, acknowledge_changeover, on_changeover_acknowledgement, has_other, begin, begin_by_peer, change_over, changing, fail, fail_by_peer, make_unavailable, changeover_of, with_changeover, changeover_order, fail_link, without_tests_if_last, timed_changeover, is_of_flow, is_failed, suspended}
@@ -11,7 +11,7 @@ unfoldable pub use Rattle.exchange_rules.specs.Exchange.{apply}
 pub use Rattle.exchange_rules.specs.First.{first_state, counts_in, first_parts, Abstract, AreQueues, IsSound}
 pub use Rattle.exchange_rules.specs.Frames.{Carrying, empty_data, message_data, numbers, leave_aside, accept, act_by_data, carries, carry, handle_by, read, receive_data, owing, timed_parts, handle, receive_frame, receive, data_of, enters, begun_anew_if, moved_on, return_if, advance, step_on, act_by_status, act_by_timer, on_link_status, run_out, serve_status, end_busy, step_by_status}
 pub use Rattle.exchange_rules.specs.State.{Asking, AsksWants, Happens, Takes, Happening, Activated, CameUp, Deactivated, FrameCame, Submitted, Ticked, TitleAdded, TitleRemoved, WentDown, in_service, link_at, is_link, down, links_with, with_link, noted, noted_all, note_refusal, note, flagged, flagged_late, note_outcome, Parts, Node, with_parts, refuse, Done, answer, QueueKind, keep, Noted, Found, lost_any, late_any, with_node}
-pub use Rattle.exchange_rules.specs.Routing.{is_held_at, is_flow_held, waits, all_wait, hold, set_of, adjacent_of, entry_of, peer_of, point_of, route_about, no_room, queue_on, facts, link_of, sets_in, goes_by, network_of}
+pub use Rattle.exchange_rules.specs.Routing.{is_held_at, is_flow_held, waits, all_wait, hold, set_of, adjacent_of, entry_of, peer_of, point_of, route_about, no_room, is_share_full, no_room_on, queue_on, facts, link_of, sets_in, goes_by, network_of}
 pub use Rattle.exchange_rules.specs.Lasting.{HasAllPlaces, after_asking, after_each, AreNoted, IsWithinLimits, new_notices_are_the_last, notices_made_are_counted, notices_keep_their_limits, losses_stay, lateness_stays, tells_of_loss, tells_of_lateness, AreFlagsRaised, notices_raise_flags, unreasonable_numbers_raise_it, HasTimersFor, places_at_first, places_stay}
 pub use Rattle.exchange_rules.specs.LastingLinks.{AreLinksSteady, IsSteady, is_l7_running, links_first_steady, links_stay_steady, l7_watches}
 pub use Rattle.exchange_rules.specs.Laws.{answered_by, answered, carried_message, accept_data, accept_frame, accept_text, GivesInService, declared_in_service, queued_anew_in_service, routed_in_service, settled_in_service, refusals_leave, queued_in_service, goes_on_by, completion_leaves_others, release_keeps_order, moved_before_held}

@@ -1,6 +1,6 @@
 -- Each user message that comes is queued, held, delivered or refused.
 use Rattle.exchange_rules.proofs.Basics.{Bool, Err, None, Ok, Option, Result, Some, ap, false, nat_eq, not, refl, true, ℕ, ◌&&◌, ◌∙◌, ◌≡◌, if◌then◌else◌}
-use Rattle.exchange_rules.proofs.Definitions.{action_at, Action, UserData, SeqFault, EmptyFrame, FrameValue, MessageFrame, StatusFrame, read_frame, Discrimination, RelayedValue, relay, Configuration, Message, dpc_of, flow_of, is_management, service_indicator, Cause, FrameFault, Ignored, Local, is_destination, offer, transfer, carried_messages_have_a_fate, has_fate, submissions_have_a_fate, apply, Carrying, accept, act_by_data, carry, empty_data, handle_by, message_data, numbers, read, waits, down, is_link, link_at, distribute, is_user, local, manage, sccp, deliver_to, submit_to, whither_goes, no_room, WholeQueues, whole, new_at, new_by, new_of, in_place_of, on_unitdata, own_of, relay_by, link_of, Done, Node, answer, refuse, advance}
+use Rattle.exchange_rules.proofs.Definitions.{action_at, Action, UserData, SeqFault, EmptyFrame, FrameValue, MessageFrame, StatusFrame, read_frame, Discrimination, RelayedValue, relay, Configuration, Message, dpc_of, flow_of, is_management, service_indicator, Cause, FrameFault, Ignored, Local, is_destination, offer, transfer, carried_messages_have_a_fate, has_fate, submissions_have_a_fate, apply, Carrying, accept, act_by_data, carry, empty_data, handle_by, message_data, numbers, read, waits, down, is_link, link_at, distribute, is_user, local, manage, sccp, deliver_to, submit_to, whither_goes, no_room_for, WholeQueues, whole, new_at, new_by, new_of, in_place_of, on_unitdata, own_of, relay_by, link_of, Done, Node, answer, refuse, advance}
 use Rattle.link.specs.declared.action.Action.TheVariants as act
 use Rattle.signalling_types.specs.declared.cause.Cause.TheVariants as causes
 use Rattle.sccp_relay.specs.Relay as relays
@@ -20,9 +20,9 @@ module _ (c : Configuration) (n : Node WholeQueues) where
   transfer-fate : (from : Option ℕ) (m : Message) → has_fate (transfer whole c from m n).outcome ≡ true
   transfer-fate from m =
       let link : Option ℕ = link_of c n.parts (flow_of m) in
-      let offered : Done WholeQueues = offer whole c (no_room whole c m n.queues) (waits c n.parts.holds m) link from m n in
+      let offered : Done WholeQueues = offer whole c (no_room_for whole c m n) (waits c n.parts.holds m) link from m n in
       either-fate (is_destination c (dpc_of m)) offered (refuse causes.UnknownDestination n)
-      (offer-fate (no_room whole c m n.queues) (waits c n.parts.holds m) link from m) refl
+      (offer-fate (no_room_for whole c m n) (waits c n.parts.holds m) link from m) refl
 
   relay-fate : (v : RelayedValue) (m : Message) → has_fate (relay_by whole c v m n).outcome ≡ true
   relay-fate relays.Delivered m = refl

@@ -2,8 +2,9 @@
 -- node that a rule leaves is what the rule leaves of what was kept, and it stays sound. Over any two kinds of queues P
 -- and Q of which h keeps one as the other.
 use Rattle.exchange_rules.proofs.Basics.{◌≡◌, ℕ, Bool, true, false, List, [], ◌∷◌, Option, Some, None, Result, Ok, Err, refl, ap, ◌∙◌}
-use Rattle.exchange_rules.proofs.Definitions.{Message, dpc_of, flow_of, Configuration, Cause, Outcome, Handled, Ignored, destination_place, RouteStatus, Allowed, Restricted, Prohibited, status_of, Heard, RouteTest, Owed, owed, Node, QueueKind, keep, with_parts, answer, refuse, waits, facts, link_of, set_of, no_room, is_destination, offer, transfer, told_below, route_message, told_parts, answered_parts, inhibited, is_inhibited, may_tell, tell_if, tell_each, tell_owed, prohibit, prohibit_if, answer_no_route, send_route_status, answer_route_test, on_route_test, with_status_heard, with_next_test, prohibited_test, restricted_test, apply_route_status, on_route_status, ask_by, ask_again, send, send_on, send_routed, send_anew, send_each}
+use Rattle.exchange_rules.proofs.Definitions.{Message, dpc_of, flow_of, Configuration, Cause, Outcome, Handled, Ignored, destination_place, RouteStatus, Allowed, Restricted, Prohibited, status_of, Heard, RouteTest, Owed, owed, Node, QueueKind, keep, with_parts, answer, refuse, waits, facts, link_of, set_of, no_room, no_room_on, no_room_for, is_destination, offer, transfer, told_below, route_message, told_parts, answered_parts, inhibited, is_inhibited, may_tell, tell_if, tell_each, tell_owed, prohibit, prohibit_if, answer_no_route, send_route_status, answer_route_test, on_route_test, with_status_heard, with_next_test, prohibited_test, restricted_test, apply_route_status, on_route_status, ask_by, ask_again, send, send_on, send_routed, send_anew, send_each}
 use Rattle.std.specs.Prelude.{nat_lt, length, ◌&&◌, not}
+use Rattle.std.specs.Option.{option_or}
 use Rattle.signalling_types.specs.declared.cause.Cause.TheVariants as causes
 use Rattle.route_management.specs.declared.heard.Heard.TheVariants as hears
 use Rattle.route_management.specs.Told as told
@@ -121,13 +122,21 @@ module _ {P Q : Type 0} (p : QueueKind P) (q : QueueKind Q) (h : P → Q) (IsFit
   offer-kept None false None from m n f = answered _ _ _ (answer_no_route-kept from (destination_place c (dpc_of m)) n f)
   offer-kept None false (Some link) from m n f = answered _ _ _ (changed _ _ n.parts (k.appended n.queues link m f))
 
+  -- the room that one needs is found by the same tests
+  no_room_for-kept : (m : Message) (n : Node P) → no_room_for q c m (keep h n) ≡ no_room_for p c m n
+  no_room_for-kept m n = rw (k.users n.queues, k.managements n.queues) (ap (option_or (no_room p c m n.queues)) (on (link_of c n.parts (flow_of m))))
+    where
+      on : (link : Option ℕ) → no_room_on q c link (waits c n.parts.holds m) m (h n.queues) ≡ no_room_on p c link (waits c n.parts.holds m) m n.queues
+      on None = refl
+      on (Some l) = rw (k.unconfirmed n.queues l)
+
   pub transfer-kept : (from : Option ℕ) (m : Message) (n : Node P) → IsFit n.queues → Keeps h IsFit (transfer q c from m (keep h n)) (transfer p c from m n)
   transfer-kept from m n f =
       let held : Bool = waits c n.parts.holds m in
       let link : Option ℕ = link_of c n.parts (flow_of m) in
-      let e : offer q c (no_room q c m (h n.queues)) held link from m (keep h n) ≡ offer q c (no_room p c m n.queues) held link from m (keep h n) =
-      ap (λ (r : Option Cause). offer q c r held link from m (keep h n)) (no_room-kept m n.queues) in
-      let o : Keeps h IsFit (offer q c (no_room p c m n.queues) held link from m (keep h n)) (offer p c (no_room p c m n.queues) held link from m n) =
-      offer-kept (no_room p c m n.queues) held link from m n f in
-      either (is_destination c (dpc_of m)) _ _ (offer p c (no_room p c m n.queues) held link from m n) (refuse causes.UnknownDestination n)
+      let e : offer q c (no_room_for q c m (keep h n)) held link from m (keep h n) ≡ offer q c (no_room_for p c m n) held link from m (keep h n) =
+      ap (λ (r : Option Cause). offer q c r held link from m (keep h n)) (no_room_for-kept m n) in
+      let o : Keeps h IsFit (offer q c (no_room_for p c m n) held link from m (keep h n)) (offer p c (no_room_for p c m n) held link from m n) =
+      offer-kept (no_room_for p c m n) held link from m n f in
+      either (is_destination c (dpc_of m)) _ _ (offer p c (no_room_for p c m n) held link from m n) (refuse causes.UnknownDestination n)
       (record { same = e ∙ o.same; fit = o.fit }) (parted _ n.parts n.queues f)

@@ -1,7 +1,7 @@
 -- What a rule leaves if it refuses, by the cause of the refusal, and which link it queues on: for plain answers, and
 -- for tests between two.
-use Rattle.exchange_rules.proofs.Basics.{◌≡◌, ℕ, Bool, true, false, Option, Some, None, refl, ap, ◌∙◌, if◌then◌else◌, nat_le}
-use Rattle.exchange_rules.proofs.Definitions.{Message, is_management, Configuration, Cause, MANAGEMENT_MESSAGES, Outcome, Queued, Held, Local, Handled, Ignored, Refused, MgmtFault, Node, Done, answer, refuse, in_service, no_room, cause_of, WholeQueues, whole}
+use Rattle.exchange_rules.proofs.Basics.{◌≡◌, ℕ, Bool, true, false, Option, Some, None, refl, ap, ◌∙◌, ◌&&◌, ◌||◌, not, if◌then◌else◌, nat_le, option_or}
+use Rattle.exchange_rules.proofs.Definitions.{Message, flow_of, is_management, Configuration, Cause, MANAGEMENT_MESSAGES, Outcome, Queued, Held, Local, Handled, Ignored, Refused, MgmtFault, Node, Done, answer, refuse, in_service, link_of, waits, no_room, is_share_full, no_room_on, no_room_for, cause_of, WholeQueues, whole}
 use Rattle.signalling_types.specs.declared.cause.Cause.TheVariants as causes
 use Rattle.mtp3_codec.specs.declared.fault.MgmtFault.TheVariants as mgmt
 
@@ -20,7 +20,7 @@ queued_on Ignored = None
 queued_on (Refused cause) = None
 
 -- and the cause
-abbrev cause_in : Cause → Outcome → Cause
+abbrev pub cause_in : Cause → Outcome → Cause
 cause_in other (Queued l) = other
 cause_in other Held = other
 cause_in other Local = other
@@ -44,13 +44,28 @@ either_so : {A : Type 0} (f : A → Bool) (b : Bool) (x y : A) → f x ≡ true 
 either_so f true x y e g = e
 either_so f false x y e g = g
 
-pub room_so : (c : Configuration) (m : Message) (qs : WholeQueues) → refuses_other (no_room whole c m qs) ≡ true
+room_so : (c : Configuration) (m : Message) (qs : WholeQueues) → refuses_other (no_room whole c m qs) ≡ true
 room_so c m qs =
     let management : Option Cause = if nat_le MANAGEMENT_MESSAGES (whole.managements qs) then Some causes.ManagementFull else None in
     let user : Option Cause = if nat_le c.pool (whole.users qs) then Some causes.PoolFull else None in
     either_so refuses_other (is_management m) management user
     (either_so refuses_other (nat_le MANAGEMENT_MESSAGES (whole.managements qs)) (Some causes.ManagementFull) None refl refl)
     (either_so refuses_other (nat_le c.pool (whole.users qs)) (Some causes.PoolFull) None refl refl)
+
+share_so : (c : Configuration) (link : Option ℕ) (is_waiting : Bool) (m : Message) (qs : WholeQueues) → refuses_other (no_room_on whole c link is_waiting m qs) ≡ true
+share_so c None is_waiting m qs = refl
+share_so c (Some link) is_waiting m qs =
+    either_so refuses_other (is_share_full whole c link qs && not (is_waiting || is_management m)) (Some causes.ShareFull) None refl refl
+
+first_so : (first second : Option Cause) → refuses_other first ≡ true → refuses_other second ≡ true → refuses_other (option_or first second) ≡ true
+first_so (Some cause) second e f = e
+first_so None second e f = f
+
+pub room_for_so : (c : Configuration) (m : Message) (n : Node WholeQueues) → refuses_other (no_room_for whole c m n) ≡ true
+room_for_so c m n =
+    let link : Option ℕ = link_of c n.parts (flow_of m) in
+    let is_waiting : Bool = waits c n.parts.holds m in
+    first_so (no_room whole c m n.queues) (no_room_on whole c link is_waiting m n.queues) (room_so c m n.queues) (share_so c link is_waiting m n.queues)
 
 pub fault_so : (fault : MgmtFault) → is_other (cause_of fault) ≡ true
 fault_so mgmt.Short = refl

@@ -1,7 +1,7 @@
 -- A message or a command that is refused leaves what its cause is to leave, and a message is queued on a link in
 -- service.
 use Rattle.exchange_rules.proofs.Basics.{◌≡◌, ℕ, Bool, true, false, List, Option, Some, None, Result, Ok, Err, refl, ap, sym, ◌∙◌, arith, if◌then◌else◌, nat_tests, option_and_then}
-use Rattle.exchange_rules.proofs.Definitions.{Message, dpc_of, opc_of, flow_of, is_management, service_indicator, Configuration, TitleEntry, Cause, Outcome, Local, Handled, Ignored, destination_place, set_place, RouteStatus, Allowed, Restricted, Prohibited, Heard, RouteTest, chosen_link, facts, MgmtFault, TestKind, Test, Acknowledgement, Management, TrafficRestartAllowed, TransferProhibited, TransferRestricted, TransferAllowed, RouteSetTestProhibited, RouteSetTestRestricted, ChangebackDeclaration, ChangebackAcknowledgement, ExtendedChangeoverOrder, ExtendedChangeoverAcknowledgement, EmergencyChangeoverOrder, EmergencyChangeoverAcknowledgement, LinkTestValue, read_link_test, read_management, label_at, Discrimination, Parts, Node, Done, with_parts, answer, refuse, is_link, link_at, in_service, network_of, link_of, no_room, is_destination, offer, transfer, send_on, send_routed, route_about, apply_route_status, on_route_status, answer_no_route, send_route_status, answer_route_test, on_route_test, changeback_acknowledgement, freed, on_changeback_acknowledgement, is_outstanding, sccp, is_user, is_adjacent, cause_of, test_answer, link_with_code, local, do_order, do_acknowledgement, do_management, do_kind, do_test, manage, distribute, deliver_to, submit_to, TitleKey, place_of, has_row, without_row, RelayedValue, relay, own_of, in_place_of, return_unitdata, return_outcome, relay_by, on_unitdata, with_titles, title_refusal, add_title_unless, add_title, remove_title, answered_by, may_open, open_link, association_up, fail_if_up, end_association, association_down, set_active, activate, deactivate, WholeQueues, whole, waits, on_changeover_acknowledgement, complete_if, with_changeover_acknowledged, fail_by_order, complete_by_order, acknowledge_changeover, changeover_of, may_restart}
+use Rattle.exchange_rules.proofs.Definitions.{Message, dpc_of, opc_of, flow_of, is_management, service_indicator, Configuration, TitleEntry, Cause, Outcome, Local, Handled, Ignored, destination_place, set_place, RouteStatus, Allowed, Restricted, Prohibited, Heard, RouteTest, chosen_link, facts, MgmtFault, TestKind, Test, Acknowledgement, Management, TrafficRestartAllowed, TransferProhibited, TransferRestricted, TransferAllowed, RouteSetTestProhibited, RouteSetTestRestricted, ChangebackDeclaration, ChangebackAcknowledgement, ExtendedChangeoverOrder, ExtendedChangeoverAcknowledgement, EmergencyChangeoverOrder, EmergencyChangeoverAcknowledgement, LinkTestValue, read_link_test, read_management, label_at, Discrimination, Parts, Node, Done, with_parts, answer, refuse, is_link, link_at, in_service, network_of, link_of, no_room_for, is_destination, offer, transfer, send_on, send_routed, route_about, apply_route_status, on_route_status, answer_no_route, send_route_status, answer_route_test, on_route_test, changeback_acknowledgement, freed, on_changeback_acknowledgement, is_outstanding, sccp, is_user, is_adjacent, cause_of, test_answer, link_with_code, local, do_order, do_acknowledgement, do_management, do_kind, do_test, manage, distribute, deliver_to, submit_to, TitleKey, place_of, has_row, without_row, RelayedValue, relay, own_of, in_place_of, return_unitdata, return_outcome, relay_by, on_unitdata, with_titles, title_refusal, add_title_unless, add_title, remove_title, answered_by, may_open, open_link, association_up, fail_if_up, end_association, association_down, set_active, activate, deactivate, WholeQueues, whole, waits, on_changeover_acknowledgement, complete_if, with_changeover_acknowledged, fail_by_order, complete_by_order, acknowledge_changeover, changeover_of, may_restart}
 use Rattle.std.specs.Prelude.{nat_eq, nat_lt}
 use Rattle.signalling_types.specs.declared.point.Flow.{Flow}
 use Rattle.signalling_types.specs.declared.cause.Cause.TheVariants as causes
@@ -12,7 +12,7 @@ use Rattle.node_links.proofs.Chosen.{chosen_serving}
 use Rattle.mtp3_codec.specs.declared.discrimination.Discrimination.TheVariants as whither
 use Rattle.signalling_types.specs.declared.notice.FailureReason.TheVariants as reasons
 use Rattle.sccp_relay.specs.Relay as relays
-use Rattle.exchange_rules.proofs.Leaves.{Leaves, queued_on, is_other, refuses_other, room_so, fault_so, Stays, left_by, left_as, stayed, waited, handled, ignored, either, either_by}
+use Rattle.exchange_rules.proofs.Leaves.{Leaves, queued_on, is_other, refuses_other, room_for_so, fault_so, Stays, left_by, left_as, stayed, waited, handled, ignored, either, either_by}
 
 -- ---- links
 
@@ -42,8 +42,8 @@ module _ (c : Configuration) (n : Node WholeQueues) (by : Cause → Node WholeQu
   transfer-leaves from m away =
       let held : Bool = waits c n.parts.holds m in
       let link : Option ℕ = link_of c n.parts (flow_of m) in
-      either (is_destination c (dpc_of m)) (offer whole c (no_room whole c m n.queues) held link from m n) (refuse causes.UnknownDestination n) by
-      (offer-leaves (no_room whole c m n.queues) held link from m (room_so c m n.queues) (λ l e. chosen_serves c n.parts (flow_of m) l e) away) (refused _ refl)
+      either (is_destination c (dpc_of m)) (offer whole c (no_room_for whole c m n) held link from m n) (refuse causes.UnknownDestination n) by
+      (offer-leaves (no_room_for whole c m n) held link from m (room_for_so c m n) (λ l e. chosen_serves c n.parts (flow_of m) l e) away) (refused _ refl)
 
   do_kind-leaves : (t : TestKind) (link z : ℕ) (v : LinkTestValue) → Leaves (do_kind whole c t link z v n) by
   do_kind-leaves Test link z v = handled (send_on whole c link (test_answer c z v) n) by

@@ -59,6 +59,8 @@ pub mod LastingNotices
 pub mod LastingPlaces
 pub mod LastingLinks
 pub mod Answers
+pub mod Shares
+pub mod WithoutShares
 pub mod LastingMessages
 pub mod LastingRoutes
 pub mod LoneRoutes

@@ -1,5 +1,6 @@
--- Lists of which one element changes.
-use Rattle.exchange_rules.proofs.Basics.{◌≡◌, ℕ, List, [], ◌∷◌, get_or, map, sum_by, refl, ap, sym, ◌∙◌, zero, suc, replicate, set, get_or-map, map-set, set-get_or, sum_by-cons}
+-- Lists of which one element changes, and lists of images.
+use Rattle.exchange_rules.proofs.Basics.{◌≡◌, ◌+◌, ℕ, Bool, not, cond, List, [], ◌∷◌, get_or, map, sum_by, refl, ap, sym, ◌∙◌, zero, suc, replicate, set, get_or-map, map-set, set-get_or, sum_by-cons, length-map, position}
+use Rattle.std.specs.List.{prefix_len}
 
 -- an element is replaced by one of which f is as of the old one
 pub map-set_alike : {A B : Type 0} (f : A → B) (xs : List A) (i : ℕ) (x d : A) → f x ≡ f (get_or xs i d) → map f xs ≡ map f (set xs i x)
@@ -29,3 +30,11 @@ map-replicate f (suc n) x = ap (λ ys. f x ∷ ys) (map-replicate f n x)
 pub sum_by-map : {A B : Type 0} (g : B → ℕ) (f : A → B) (xs : List A) → sum_by g (map f xs) ≡ sum_by (λ x. g (f x)) xs
 sum_by-map g f [] = refl
 sum_by-map g f (x ∷ xs) = rw (sum_by-cons g (f x) (map f xs), sum_by-cons (λ x. g (f x)) x xs, sum_by-map g f xs)
+
+prefix_len-map : {A B : Type 0} (p : B → Bool) (f : A → B) (xs : List A) → prefix_len p (map f xs) ≡ prefix_len (λ x. p (f x)) xs
+prefix_len-map p f [] = refl
+prefix_len-map p f (x ∷ xs) = ap (λ n. cond (p (f x)) (1 + n) 0) (prefix_len-map p f xs)
+
+-- a place among the images of a list is a place in the list
+pub position-map : {A B : Type 0} (p : B → Bool) (f : A → B) (xs : List A) → position p (map f xs) ≡ position (λ x. p (f x)) xs
+position-map p f xs = rw (prefix_len-map (λ y. not (p y)) f xs, length-map xs f) refl

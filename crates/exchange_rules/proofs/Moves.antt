@@ -1,6 +1,6 @@
 -- Rules that take user messages in, let them go for good, or move them: how many there are after each.
 use Rattle.exchange_rules.proofs.Basics.{Bool, List, None, Option, Some, [], ap, arith, cond, false, length, nat_eq, nat_lt, refl, sum_by, sym, true, ℕ, ◌++◌, ◌+◌, ◌-◌, ◌<◌, ◌∙◌, ◌∷◌, ◌≡◌, ◌≤◌, ⊎_elim, cases_lt, nat_tests, get_or_past, sum_by-append, count_by, if◌then◌else◌, slice_set, take}
-use Rattle.exchange_rules.proofs.Definitions.{accepted_count, behind, in_doubt, lost, moved, users_of, unconfirmed-appended, IsQueue, Queue, appended, emptied, first_queue, unconfirmed, Link, down_link, is_in_service, Discrimination, RelayedValue, relay, returned, Configuration, Message, dpc_of, flow_of, is_management, service_indicator, Cause, Outcome, Handled, Held, Ignored, Local, Queued, Refused, destination_place, is_destination, offer, transfer, answered_in, brought_here, brought_to, gone_by_completion, gone_that, relayed_in, returned_in, standing, taken_in, unitdata_in, users_that, waits, in_service, is_user, local, sccp, submit, submit_to, whither_goes, no_room, queue_on, WholeQueues, queue_at, whole, in_place_of, on_unitdata, own_of, relay_by, return_outcome, return_unitdata, send_udts, link_of, Done, Node, Parts, answer, refuse}
+use Rattle.exchange_rules.proofs.Definitions.{accepted_count, behind, in_doubt, lost, moved, users_of, unconfirmed-appended, IsQueue, Queue, appended, emptied, first_queue, unconfirmed, Link, down_link, is_in_service, Discrimination, RelayedValue, relay, returned, Configuration, Message, dpc_of, flow_of, is_management, service_indicator, Cause, Outcome, Handled, Held, Ignored, Local, Queued, Refused, destination_place, is_destination, offer, transfer, answered_in, brought_here, brought_to, gone_by_completion, gone_that, relayed_in, returned_in, standing, taken_in, unitdata_in, users_that, waits, in_service, is_user, local, sccp, submit, submit_to, whither_goes, no_room_for, queue_on, WholeQueues, queue_at, whole, in_place_of, on_unitdata, own_of, relay_by, return_outcome, return_unitdata, send_udts, link_of, Done, Node, Parts, answer, refuse}
 use Rattle.changeover.proofs.Completing.{once}
 use Rattle.changeover.specs.Laws.{count_in_the_end}
 use Rattle.exchange_rules.proofs.Changes.{answer_no_route-stand, stands}
@@ -54,9 +54,9 @@ module _ (of : Message → Bool) (c : Configuration) where
       → stands of (transfer whole c from m n).left ≡ stands of n + users_that of (taken_in (transfer whole c from m n).outcome m)
   transfer-brings from m n f =
       let link : Option ℕ = link_of c n.parts (flow_of m) in
-      let offered : Done WholeQueues = offer whole c (no_room whole c m n.queues) (waits c n.parts.holds m) link from m n in
+      let offered : Done WholeQueues = offer whole c (no_room_for whole c m n) (waits c n.parts.holds m) link from m n in
       either-brings (is_destination c (dpc_of m)) offered (refuse causes.UnknownDestination n) (λ o. taken_in o m) (stands of n)
-      (offer-brings (no_room whole c m n.queues) (waits c n.parts.holds m) link from m n f refl) (none-more (stands of n))
+      (offer-brings (no_room_for whole c m n) (waits c n.parts.holds m) link from m n f refl) (none-more (stands of n))
 
   -- ---- SCCP messages for this point
 

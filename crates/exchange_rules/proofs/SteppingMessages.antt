@@ -1,7 +1,7 @@
 -- Messages that are made here or go to other points, and what adjacent points are told and say: each rule is made of
 -- steps.
 use Rattle.exchange_rules.proofs.Basics.{◌≡◌, ◌⊎◌, inl, inr, sym, subst, ◌∙◌, ℕ, Bool, true, false, List, [], ◌∷◌, Option, Some, None, Result, Ok, Err, refl, if◌then◌else◌}
-use Rattle.exchange_rules.proofs.Definitions.{with_status_heard, Message, dpc_of, flow_of, Configuration, Cause, Outcome, Handled, Ignored, destination_place, Running, RouteStatus, Allowed, Restricted, Prohibited, status_of, told_shape, Heard, RouteTest, Owed, owed, Parts, Node, with_parts, answer, refuse, waits, facts, link_of, set_of, no_room, is_destination, offer, transfer, timed_telling, route_message, told_parts, answered_parts, inhibited, is_inhibited, may_tell, tell, tell_if, tell_each, tell_owed, prohibit, answer_no_route, send_route_status, on_route_test, timed_status, forced, with_next_test, prohibited_test, restricted_test, apply_route_status, on_route_status, ask, ask_by, ask_again, send, send_routed, send_anew, send_each, WholeQueues, whole}
+use Rattle.exchange_rules.proofs.Definitions.{with_status_heard, Message, dpc_of, flow_of, Configuration, Cause, Outcome, Handled, Ignored, destination_place, Running, RouteStatus, Allowed, Restricted, Prohibited, status_of, told_shape, Heard, RouteTest, Owed, owed, Parts, Node, with_parts, answer, refuse, waits, facts, link_of, set_of, no_room, no_room_for, is_destination, offer, transfer, timed_telling, route_message, told_parts, answered_parts, inhibited, is_inhibited, may_tell, tell, tell_if, tell_each, tell_owed, prohibit, answer_no_route, send_route_status, on_route_test, timed_status, forced, with_next_test, prohibited_test, restricted_test, apply_route_status, on_route_status, ask, ask_by, ask_again, send, send_routed, send_anew, send_each, WholeQueues, whole}
 use Rattle.std.specs.Prelude.{nat_lt, length, ◌&&◌, not}
 use Rattle.signalling_types.specs.declared.notice.Notice.TheVariants as notices
 use Rattle.signalling_types.specs.declared.cause.Cause.TheVariants as causes
@@ -212,5 +212,5 @@ module _ {c : Configuration} {Own Counts : ℕ → Type 0} {R : Node WholeQueues
   transfer-steps from m n =
       let waiting : Bool = waits c n.parts.holds m in
       let link : Option ℕ = link_of c n.parts (flow_of m) in
-      either_done-steps s.sends (is_destination c (dpc_of m)) n (offer whole c (no_room whole c m n.queues) waiting link from m n) (refuse causes.UnknownDestination n)
-      (offer-steps (no_room whole c m n.queues) waiting link from m n refl refl) (s.sends.none n)
+      either_done-steps s.sends (is_destination c (dpc_of m)) n (offer whole c (no_room_for whole c m n) waiting link from m n) (refuse causes.UnknownDestination n)
+      (offer-steps (no_room_for whole c m n) waiting link from m n refl refl) (s.sends.none n)

@@ -1,6 +1,6 @@
 -- Within T8 a point is told at most once that messages find no route.
 use Rattle.exchange_rules.proofs.Basics.{◌≡◌, ◌<◌, inl, inr, ℕ, Bool, true, false, ◌&&◌, ◌||◌, not, nat_lt, length, Option, Some, None, refl, ap, sym, subst, ◌∙◌, arith, max, if◌then◌else◌, nat_tests, and_from}
-use Rattle.exchange_rules.proofs.Definitions.{Configuration, Message, dpc_of, flow_of, Cause, Refused, NoRoute, destination_place, Running, is_running, left-set, Prohibited, Node, with_parts, refuse, set_of, link_of, no_room, waits, is_destination, offer, may_tell, inhibited, prohibit, answer_no_route, send, route_message, HasAllPlaces, WholeQueues, whole}
+use Rattle.exchange_rules.proofs.Definitions.{Configuration, Message, dpc_of, flow_of, Cause, Refused, NoRoute, destination_place, Running, is_running, left-set, Prohibited, Node, with_parts, refuse, set_of, link_of, no_room, no_room_for, waits, is_destination, offer, may_tell, inhibited, prohibit, answer_no_route, send, route_message, HasAllPlaces, WholeQueues, whole}
 use Rattle.signalling_types.specs.declared.cause.Cause.TheVariants as causes
 use Rattle.timers.specs.declared.name.TimerName.TheVariants.{T8}
 use Rattle.route_management.specs.Told.{is_own_point}
@@ -56,9 +56,9 @@ told-once-within c link destination m n h e f place outcome = by (is_destination
     offered None false (Some its) g = absurd cc
 
     by : (known : Bool)
-        → (if known then offer whole c (no_room whole c m n.queues) (waits c n.parts.holds m) (link_of c n.parts (flow_of m)) (Some link) m n else refuse causes.UnknownDestination n).outcome
+        → (if known then offer whole c (no_room_for whole c m n) (waits c n.parts.holds m) (link_of c n.parts (flow_of m)) (Some link) m n else refuse causes.UnknownDestination n).outcome
         ≡ Refused NoRoute
         → IsToldOnce c (set_of c link) destination n
-        (if known then offer whole c (no_room whole c m n.queues) (waits c n.parts.holds m) (link_of c n.parts (flow_of m)) (Some link) m n else refuse causes.UnknownDestination n).left
-    by true g = offered (no_room whole c m n.queues) (waits c n.parts.holds m) (link_of c n.parts (flow_of m)) g
+        (if known then offer whole c (no_room_for whole c m n) (waits c n.parts.holds m) (link_of c n.parts (flow_of m)) (Some link) m n else refuse causes.UnknownDestination n).left
+    by true g = offered (no_room_for whole c m n) (waits c n.parts.holds m) (link_of c n.parts (flow_of m)) g
     by false g = untold c (set_of c link) destination n

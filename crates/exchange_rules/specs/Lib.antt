@@ -18,6 +18,7 @@ pub mod LawsOfFailures
 pub mod Lasting
 pub mod LawsOfReturns
 pub mod LawsOfAnswers
+pub mod LawsOfShares
 pub mod LastingLinks
 pub mod LastingHolds
 pub mod TickingAlone

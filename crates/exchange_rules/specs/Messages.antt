@@ -7,7 +7,7 @@ use Rattle.signalling_types.specs.declared.cause.Cause.{Cause}
 use Rattle.signalling_types.specs.declared.cause.Cause.TheVariants.{UnknownDestination, NoRoute, NoSuchName, NoMemory, NotInProfile, NoUserPart, BadManagement, NotFromAdjacent, TooLong}
 use Rattle.signalling_types.specs.declared.outcome.Outcome.TheVariants.{Queued, Held, Local, Handled, Ignored, Refused}
 use Rattle.exchange_rules.specs.State.{unless◌then◌else◌, QueueKind, Node, Done, refuse, Parts, with_parts, answer, note_refusal}
-use Rattle.exchange_rules.specs.Routing.{link_of, waits, hold, no_room, queue_on, route_about}
+use Rattle.exchange_rules.specs.Routing.{link_of, waits, hold, no_room, no_room_on, queue_on, route_about}
 use Rattle.exchange_rules.specs.Telling.{answer_no_route, own_sio, send_on, on_route_test}
 use Rattle.std.specs.Option.{option_or, option_and_then}
 use Rattle.signalling_types.specs.declared.outcome.Outcome.{Outcome}
@@ -47,12 +47,18 @@ module _ {Q : Type 0} (q : QueueKind Q) (c : Configuration) where
       refuse NoRoute (answer_no_route q c from (destination_place c (dpc_of m)) node)
   offer None false (Some link) from m node = record { outcome = Queued link; left = queue_on q c link m node }
 
+  -- why a message for another point finds no room, if it finds none: in the pool, then in its link's share
+  abbrev pub no_room_for : Message → Node Q → Option Cause
+  no_room_for m node =
+      option_or (no_room q c m node.queues)
+      (no_room_on q c (link_of c node.parts (flow_of m)) (waits c node.parts.holds m) m node.queues)
+
   -- a message for another point, with the link that it came by, if any: a known destination, then room, then no hold,
   -- then a route
   abbrev pub transfer : (from : Option ℕ) → Message → Node Q → Done Q
   transfer from m node =
       unless is_destination c (dpc_of m) then refuse UnknownDestination node
-      else offer (no_room q c m node.queues) (waits c node.parts.holds m) (link_of c node.parts (flow_of m)) from m node
+      else offer (no_room_for m node) (waits c node.parts.holds m) (link_of c node.parts (flow_of m)) from m node
 
 -- ---- SCRC, SCCP routing control (Q.714 §2.3, §4.2): SCCP messages for this point, and the rows that lead them on.
 

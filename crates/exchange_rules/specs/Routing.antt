@@ -1,11 +1,11 @@
 -- TSRC, signalling routing control (Q.704 §2.3, §4.2): the links, sets and destinations of the settings, which link a
 -- flow takes, and which flows are held.
-use Rattle.std.specs.Prelude.{ℕ, false, [], slice_index_or, Option, Some, None, Result, Ok, Err, Bool, nat_eq, List, length, nat_le, if◌then◌else◌, ◌&&◌, not}
-use Rattle.signalling_types.specs.declared.cause.Cause.TheVariants.{UnknownDestination, PoolFull, ManagementFull}
+use Rattle.std.specs.Prelude.{ℕ, false, [], slice_index_or, Option, Some, None, Result, Ok, Err, Bool, nat_eq, List, length, nat_le, if◌then◌else◌, ◌&&◌, ◌||◌, not}
+use Rattle.signalling_types.specs.declared.cause.Cause.TheVariants.{UnknownDestination, PoolFull, ManagementFull, ShareFull}
 use Rattle.signalling_types.specs.declared.outcome.Outcome.{Outcome}
 use Rattle.signalling_types.specs.declared.outcome.Outcome.TheVariants.{Refused, Ignored}
 use Rattle.settings_rows.specs.Configuration.{Configuration, LinkEntry}
-use Rattle.std.specs.Option.{option_and_then}
+use Rattle.std.specs.Option.{option_and_then, option_map_or}
 use Rattle.signalling_types.specs.declared.point.Flow.{Flow}
 use Rattle.settings.specs.Readings.{destination_place}
 use Rattle.routes.specs.Routes.{Facts, first_sets, chosen_link}
@@ -80,6 +80,18 @@ module _ {Q : Type 0} (q : QueueKind Q) (c : Configuration) where
       if is_management m
       then (if nat_le MANAGEMENT_MESSAGES (q.managements queues) then Some ManagementFull else None)
       else (if nat_le c.pool (q.users queues) then Some PoolFull else None)
+
+  -- whether a link has as many unconfirmed messages as its share of the pool, if the settings give it one
+  abbrev pub is_share_full : (link : ℕ) → Q → Bool
+  is_share_full link queues =
+      option_map_or (λ share. nat_le share (length (q.unconfirmed queues link))) (entry_of c link).share false
+
+  -- why a message finds no room in its link's share, if it finds none; a message that waits needs none there, nor does
+  -- management
+  abbrev pub no_room_on : (link : Option ℕ) → (is_waiting : Bool) → Message → Q → Option Cause
+  no_room_on (Some link) is_waiting m queues =
+      if is_share_full link queues && not (is_waiting || is_management m) then Some ShareFull else None
+  no_room_on None is_waiting m queues = None
 
   -- a message at the end of the queue of a link
   abbrev pub queue_on : ℕ → Message → Node Q → Node Q

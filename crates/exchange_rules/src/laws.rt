@@ -31,6 +31,7 @@ ghost use Rattle.exchange_rules.specs.LawsOfAnswers.{wanted_links_open, queued_s
 ghost use Rattle.exchange_rules.specs.LawsOfAnswers.{one_answer_within_t8, t8_runs_its_time, takes_leave_t8};
 ghost use Rattle.exchange_rules.specs.LawsOfReturns.{returns_keep_holds};
 ghost use Rattle.exchange_rules.specs.LawsOfReturns.{flows_return_by_their_procedures, entries_are_returns};
+ghost use Rattle.exchange_rules.specs.LawsOfShares.{full_shares_refuse, others_know_no_shares};
 
 /// A refused event changes nothing, but that a refused message may be answered: a UDT for this point is returned, and
 /// where a message in a frame found no route the point at the other end of its link is told. Of a message in a frame
@@ -66,6 +67,14 @@ pub fn only_links_in_service_are_given_messages()
 /// A link wants to open exactly where its association, if it came up, would be taken.
 pub fn links_open_where_they_want_to()
     ensures { wanted_links_open }
+{}
+
+/// A message for another point is refused ShareFull exactly if it is a user message that has a known destination, finds
+/// room in the pool and doesn't wait, and its link has a share of the pool and at least as many unconfirmed messages.
+/// All other messages go as if no link had a share.
+pub fn only_a_full_share_refuses()
+    ensures refused { full_shares_refuse }
+    ensures others { others_know_no_shares }
 {}
 
 /// An answer Queued names the link that the flow of the message had before it came, and the message goes behind all

@@ -2,7 +2,7 @@
 -- moves.
 use Rattle.pair_rules.proofs.Basics.{◌≡◌, ◌≢◌, ◌⊎◌, inl, inr, ◌≤◌, ◌<◌, ℕ, Bool, true, false, not, ◌&&◌, ◌||◌, List, [], ◌∷◌, ◌++◌, length, Option, Some, None, refl, ap, sym, subst, ◌∙◌, nat_eq, nat_lt, arith, if◌then◌else◌, is_some, nat_tests, append-nil, ⊎_elim, cases_eq, eq-eqb, slice_index_or}
 use Rattle.std.proofs.lemmas.List.Quantifiers.{position-Some}
-use Rattle.pair_rules.proofs.Definitions.{Message, flow_of, is_management, dpc_of, service_indicator, network_indicator, SIF_OCTETS, Cause, Outcome, Handled, Held, Ignored, Local, Queued, Refused, Configuration, DestinationEntry, TitleEntry, IsWell, IsDestination, Discrimination, Label, Saying, UserMessage, is_user_message, destination_place, is_user, local, on_unitdata, sccp, Node, Done, answer, refuse, WholeQueues, whole, no_room, all_wait, waits, submit_to, whither_goes, link_of, comes-here}
+use Rattle.pair_rules.proofs.Definitions.{Message, flow_of, is_management, dpc_of, service_indicator, network_indicator, SIF_OCTETS, Cause, Outcome, Handled, Held, Ignored, Local, Queued, Refused, Configuration, DestinationEntry, TitleEntry, IsWell, IsDestination, Discrimination, Label, Saying, UserMessage, is_user_message, destination_place, is_user, local, on_unitdata, sccp, Node, Done, answer, refuse, WholeQueues, whole, no_room_for, all_wait, waits, submit_to, whither_goes, link_of, comes-here}
 use Rattle.signalling_types.specs.declared.cause.Cause.TheVariants as causes
 use Rattle.mtp3_codec.specs.Headings.{label_at}
 use Rattle.mtp3_codec.specs.declared.discrimination.Discrimination.TheVariants as whither
@@ -144,11 +144,11 @@ module _ (c z : Configuration) (j : Joint c z) where
   transferred from w n m is wait = by (is_destination c (dpc_of m)) refl
     where
       into : Done WholeQueues
-      into = offer whole c (no_room whole c m n.queues) (waits c n.parts.holds m) (link_of c n.parts (flow_of m)) from m n
+      into = offer whole c (no_room_for whole c m n) (waits c n.parts.holds m) (link_of c n.parts (flow_of m)) from m n
 
       by : (b : Bool) → is_destination c (dpc_of m) ≡ b → Passes c z j (at c z j w n [] [])
           (at c z j (accepting w (taken_in (if b then into else refuse causes.UnknownDestination n).outcome m)) (if b then into else refuse causes.UnknownDestination n).left [] [])
-      by true e = offered (no_room whole c m n.queues) (waits c n.parts.holds m) (link_of c n.parts (flow_of m)) from w n m (is e) refl refl wait
+      by true e = offered (no_room_for whole c m n) (waits c n.parts.holds m) (link_of c n.parts (flow_of m)) from w n m (is e) refl refl wait
       by false e = none-accepted w n
 
   -- a user message on its way to a destination

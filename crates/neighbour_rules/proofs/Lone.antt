@@ -2,7 +2,7 @@
 use Rattle.pair_rules.proofs.Basics.{◌≡◌, ◌≢◌, ◌⊎◌, inl, inr, ◌<◌, ◌&&◌, suc, ℕ, Bool, true, false, not, List, [], ◌∷◌, length, Option, Some, None, is_some, nat_eq, refl, ap, sym, subst, ◌∙◌, arith, All, if◌then◌else◌, slice_index_or, eq-eqb}
 use Rattle.std.proofs.lemmas.List.Elements.{All-append, All-cons, All-nil}
 use Rattle.std.proofs.lemmas.List.Quantifiers.{position-Some}
-use Rattle.pair_rules.proofs.Definitions.{DestinationEntry, Message, dpc_of, flow_of, is_management, service_indicator, Outcome, Handled, Held, Ignored, Local, Queued, Refused, Configuration, destination_place, read_frame, Discrimination, Node, Done, answer, refuse, WholeQueues, whole, no_room, waits, link_of, accept_text, answered_in, brought_by, brought_here, brought_in, brought_to, taken_in, unitdata_in, is_user, local, manage, sccp, on_unitdata, deliver_to, submit_to, whither_goes, new_message, FrameCame, Submitted, outcome_of}
+use Rattle.pair_rules.proofs.Definitions.{DestinationEntry, Message, dpc_of, flow_of, is_management, service_indicator, Outcome, Handled, Held, Ignored, Local, Queued, Refused, Configuration, destination_place, read_frame, Discrimination, Node, Done, answer, refuse, WholeQueues, whole, no_room_for, waits, link_of, accept_text, answered_in, brought_by, brought_here, brought_in, brought_to, taken_in, unitdata_in, is_user, local, manage, sccp, on_unitdata, deliver_to, submit_to, whither_goes, new_message, FrameCame, Submitted, outcome_of}
 use Rattle.signalling_types.specs.declared.cause.Cause.TheVariants as causes
 use Rattle.mtp3_codec.specs.declared.discrimination.Discrimination.TheVariants as whither
 use Rattle.sccp_relay.specs.Relay.{RelayedValue, relay, returned}
@@ -73,7 +73,7 @@ module _ (c : Configuration) (far : ℕ) (only : HasOnly c far) where
   transferred from m n user = by (is_destination c (dpc_of m)) refl
     where
       into : Done WholeQueues
-      into = offer whole c (no_room whole c m n.queues) (waits c n.parts.holds m) (link_of c n.parts (flow_of m)) from m n
+      into = offer whole c (no_room_for whole c m n) (waits c n.parts.holds m) (link_of c n.parts (flow_of m)) from m n
 
       by : (b : Bool) → is_destination c (dpc_of m) ≡ b → Are (taken_in (if b then into else refuse causes.UnknownDestination n).outcome m)
       by true e = taken-in into.outcome m (record { destination = only-far (destination_place c (dpc_of m)) (dpc_of m) refl e; user = user })
@@ -142,7 +142,7 @@ module _ (c : Configuration) (far : ℕ) (only : HasOnly c far) where
   turned-away link m n d = by (is_destination c (dpc_of m)) refl
     where
       into : Done WholeQueues
-      into = offer whole c (no_room whole c m n.queues) (waits c n.parts.holds m) (link_of c n.parts (flow_of m)) (Some link) m n
+      into = offer whole c (no_room_for whole c m n) (waits c n.parts.holds m) (link_of c n.parts (flow_of m)) (Some link) m n
 
       by : (b : Bool) → is_destination c (dpc_of m) ≡ b → Are (taken_in (if b then into else refuse causes.UnknownDestination n).outcome m)
       by true e = absurd (d (only-far (destination_place c (dpc_of m)) (dpc_of m) refl e))

@@ -22,10 +22,10 @@ use Rattle.route_management.specs.declared.heard.RouteTest.{RouteTest}
 use Rattle.route_management.specs.declared.heard.RouteTest.TheVariants as tests
 use Rattle.route_management.specs.Told.{heard, is_own_point}
 use Rattle.routes.specs.declared.route.RouteStatus.{RouteStatus}
-use Rattle.exchange_rules.specs.Routing.{facts, link_of, no_room, route_about, waits}
+use Rattle.exchange_rules.specs.Routing.{facts, link_of, route_about, waits}
 use Rattle.exchange_rules.specs.Rerouting.{apply_route_status, on_route_status}
 use Rattle.exchange_rules.specs.Telling.{on_route_test}
-use Rattle.exchange_rules.specs.Messages.{cause_of, do_kind, do_management, do_test, is_adjacent, is_destination, offer, testing}
+use Rattle.exchange_rules.specs.Messages.{cause_of, do_kind, do_management, do_test, is_adjacent, is_destination, no_room_for, offer, testing}
 use Rattle.settings.specs.Readings.{destination_place}
 use Rattle.mtp3_codec.specs.declared.discrimination.Discrimination.TheVariants as whither
 use Rattle.mtp3_codec.specs.declared.fault.MgmtFault.{MgmtFault}
@@ -248,7 +248,7 @@ module _ (c : Configuration) (link : ℕ) where
   transfer-tells : (m : Message) (n : Node WholeQueues) → is_management m ≡ true → is_destination c (dpc_of m) ≡ false
       → ComesTo c n.parts.titles (users_of (m ∷ [])) (taken_in (transfer whole c (Some link) m n).outcome m) (transfer whole c (Some link) m n).outcome
   transfer-tells m n e away =
-      let into : Done WholeQueues = offer whole c (no_room whole c m n.queues) (waits c n.parts.holds m) (link_of c n.parts (flow_of m)) (Some link) m n in
+      let into : Done WholeQueues = offer whole c (no_room_for whole c m n) (waits c n.parts.holds m) (link_of c n.parts (flow_of m)) (Some link) m n in
       let gone : (transfer whole c (Some link) m n).outcome ≡ Refused causes.UnknownDestination =
       ap (λ (b : Bool). (if b then into else refuse causes.UnknownDestination n).outcome) away in
       subst (λ (o : Outcome). ComesTo c n.parts.titles (users_of (m ∷ [])) (taken_in o m) o) (sym gone)

@@ -1,6 +1,6 @@
 -- The run in which a message comes from a third node, by computation, except whether it waits, which is looked at once.
 use Rattle.pair_rules.proofs.Basics.{◌≡◌, ◌≤◌, ◌<◌, ℕ, zero, suc, Bool, true, false, List, [], ◌∷◌, ◌++◌, Some, refl, ap, sym, subst, ◌∙◌, arith, nat_eq, IsTrue, slice_get, IsDistinct, list_any, true≢false, All-from_recursion}
-use Rattle.pair_rules.proofs.Definitions.{Message, flow_of, Configuration, SetEntry, LinkEntry, LINKS, SETS, DESTINATIONS, POOL, WINDOW, TICKS, IsLink, IsSet, IsDestination, IsTitle, IsWell, IsWithin, all_ticks, is_led_first, set_timer, start_unless_running, clear_timer, clear_set, due_name, after_due, due_count, first_sets, choice_among, link_by, Procedure, any_flow, flows, HoldSet, holds, is_held, held_by, none_at_first, Done, Node, lost_any, late_any, WholeQueues, whole, no_room, waits, link_of, Outcome, FrameCame, accept_text, read_frame, receive, deliver, outcome_of, new_message, brought_by, brought_in, apply, settled, take_back_each, PairState, taken_in}
+use Rattle.pair_rules.proofs.Definitions.{Message, flow_of, Configuration, SetEntry, LinkEntry, LINKS, SETS, DESTINATIONS, POOL, WINDOW, TICKS, IsLink, IsSet, IsDestination, IsTitle, IsWell, IsWithin, all_ticks, is_led_first, set_timer, start_unless_running, clear_timer, clear_set, due_name, after_due, due_count, first_sets, choice_among, link_by, Procedure, any_flow, flows, HoldSet, holds, is_held, held_by, none_at_first, Done, Node, lost_any, late_any, WholeQueues, whole, no_room_for, waits, link_of, Outcome, FrameCame, accept_text, read_frame, receive, deliver, outcome_of, new_message, brought_by, brought_in, apply, settled, take_back_each, PairState, taken_in}
 use Rattle.timers.specs.Timers.{names_of}
 use Rattle.routes.specs.Routes.{links_below}
 use Rattle.route_management.specs.Told.{owes_nothing}
@@ -129,7 +129,7 @@ node = accept_text 0 (read_frame its_text) exchange
 
 -- it is offered at a node, where it waits or not
 abbrev offered : Node WholeQueues → Bool → Done WholeQueues
-offered n waiting = note_refusal 0 (offer whole near_settings (no_room whole near_settings the_message n.queues) waiting (link_of near_settings n.parts (flow_of the_message)) (Some 0) the_message n)
+offered n waiting = note_refusal 0 (offer whole near_settings (no_room_for whole near_settings the_message n) waiting (link_of near_settings n.parts (flow_of the_message)) (Some 0) the_message n)
 
 -- and this is left, and brought in
 abbrev leaving : Node WholeQueues → List Message → PairState

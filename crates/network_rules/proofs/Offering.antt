@@ -1,7 +1,7 @@
 -- What becomes of the message of the run at one node, where nothing holds its flow: as it is submitted, as it comes for
 -- another point, and as a changeover that held it completes.
 use Rattle.pair_rules.proofs.Basics.{◌≡◌, ℕ, Bool, true, false, List, [], ◌∷◌, ◌++◌, Option, Some, None, map, refl, ap, ◌∙◌, slice_get, slice_index_or, option_to_list, is_some}
-use Rattle.pair_rules.proofs.Definitions.{Message, flow_of, Configuration, Done, Node, WholeQueues, whole, no_room, waits, link_of, go_by, go_each, deliver, receive, read_frame, FrameCame, Submitted, new_message, handle_event, outcome_of, settled, in_flight, without_data, brought_in, brought_by, taken_in, accept_text}
+use Rattle.pair_rules.proofs.Definitions.{Message, flow_of, Configuration, Done, Node, WholeQueues, whole, no_room_for, waits, link_of, go_by, go_each, deliver, receive, read_frame, FrameCame, Submitted, new_message, handle_event, outcome_of, settled, in_flight, without_data, brought_in, brought_by, taken_in, accept_text}
 unfoldable use Rattle.exchange_rules.specs.Exchange.{apply}
 use Rattle.exchange_rules.specs.Messages.{offer}
 use Rattle.exchange_rules.specs.State.{note_refusal}
@@ -14,7 +14,7 @@ use Rattle.network_rules.proofs.LaidOut.{Three, changed_at, network_of, node_at,
 
 -- it is offered at a node, where it waits or not
 abbrev pub offered : Configuration → (from : Option ℕ) → (waiting : Bool) → Node WholeQueues → Done WholeQueues
-offered c from waiting n = offer whole c (no_room whole c the_message n.queues) waiting (link_of c n.parts (flow_of the_message)) from the_message n
+offered c from waiting n = offer whole c (no_room_for whole c the_message n) waiting (link_of c n.parts (flow_of the_message)) from the_message n
 
 -- ---- at point 3 it is submitted
 

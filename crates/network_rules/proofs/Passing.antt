@@ -2,7 +2,7 @@
 -- is fine of all these is fine of all that stands there.
 use Rattle.exchange_rules.proofs.Basics.{◌<◌, ◌^◌, ◌≡◌, ◌&&◌, ℕ, zero, suc, Bool, true, false, not, List, [], ◌∷◌, ◌++◌, Option, Some, None, Result, Ok, Err, refl, ◌∙◌, if◌then◌else◌, nat_eq, nat_lt, length, list_all, and_from as pair}
 use Rattle.std.proofs.lemmas.List.Folds.{list_all-append}
-use Rattle.exchange_rules.proofs.Definitions.{Message, is_management, dpc_of, flow_of, service_indicator, Configuration, Cause, Management, ExtendedChangeoverOrder, ChangebackDeclaration, RouteSetTestProhibited, RouteSetTestRestricted, LinkTestValue, RelayedValue, relay, returned, FailureReason, LinkStatus, LinkTimer, Transition, Expiry, Facts, RouteStatus, Allowed, Restricted, Prohibited, RouteTest, Heard, Owed, Node, Done, Parts, with_parts, answer, refuse, WholeQueues, whole, queue_on, hold, declaration, test_answer, link_of, no_room, waits, is_destination, destination_place, link_at, down, in_service, set_of, peer_of, point_of, adjacent_of, telling, entry_of, facts, owed}
+use Rattle.exchange_rules.proofs.Definitions.{Message, is_management, dpc_of, flow_of, service_indicator, Configuration, Cause, Management, ExtendedChangeoverOrder, ChangebackDeclaration, RouteSetTestProhibited, RouteSetTestRestricted, LinkTestValue, RelayedValue, relay, returned, FailureReason, LinkStatus, LinkTimer, Transition, Expiry, Facts, RouteStatus, Allowed, Restricted, Prohibited, RouteTest, Heard, Owed, Node, Done, Parts, with_parts, answer, refuse, WholeQueues, whole, queue_on, hold, declaration, test_answer, link_of, no_room, no_room_for, waits, is_destination, destination_place, link_at, down, in_service, set_of, peer_of, point_of, adjacent_of, telling, entry_of, facts, owed}
 use Rattle.exchange_rules.proofs.Definitions.{send, send_routed, send_anew, send_each, transfer, offer, route_message, told_parts, tell, tell_if, tell_each, tell_owed, may_tell, inhibited, is_inhibited, prohibit, answer_no_route, answered_parts, send_route_status, on_route_test, on_route_status, apply_route_status, ask_by, ask_again, with_next_test, prohibited_test, restricted_test, status_of, management_to, own_of, in_place_of, send_udts, return_outcome, relay_by, on_unitdata}
 use Rattle.exchange_rules.proofs.Definitions.{is_user, sccp, local, make_unavailable, begin, change_over, fail, begin_by_peer, fail_by_peer, fail_by_order, changeover_order, changing, has_other}
 use Rattle.exchange_rules.proofs.Definitions.{hold_flows, code_in_use, code_for, take_back_each, loses_flows, advance, moved_on, return_if, enters, serve_status, act_by_status, act_by_timer, run_out, action_at}
@@ -144,8 +144,8 @@ module _ (c : Configuration) (fine : Message → Bool) (f : IsFine c fine) {R : 
   transfer-keeps from m n e =
       let waiting : Bool = waits c n.parts.holds m in
       let link : Option ℕ = link_of c n.parts (flow_of m) in
-      either_done (is_destination c (dpc_of m)) n (offer whole c (no_room whole c m n.queues) waiting link from m n) (refuse causes.UnknownDestination n)
-      (offer-keeps (no_room whole c m n.queues) waiting link from m n e) (stays n)
+      either_done (is_destination c (dpc_of m)) n (offer whole c (no_room_for whole c m n) waiting link from m n) (refuse causes.UnknownDestination n)
+      (offer-keeps (no_room_for whole c m n) waiting link from m n e) (stays n)
 
   udts-keeps : (udts : Option (List ℕ)) (m : Message) (n : Node WholeQueues) → is_management m ≡ false → R n (send_udts whole c udts m n)
   udts-keeps (Some sif) m n e = transfer-keeps None (in_place_of m sif) n (f.users (in_place_of m sif) e)

@@ -1,7 +1,7 @@
 -- A message for another point is queued, held or refused by the node to which it comes.
 use Rattle.exchange_rules.proofs.Basics.{◌≡◌, ◌&&◌, ℕ, Bool, true, false, not, List, [], ◌∷◌, ◌++◌, Option, Some, None, Result, Ok, Err, refl, ap, sym, subst, ◌∙◌, if◌then◌else◌, option_to_list, append-nil}
 use Rattle.std.proofs.Common.{map}
-use Rattle.exchange_rules.proofs.Definitions.{action_at, Action, UserData, SeqFault, EmptyFrame, FrameValue, MessageFrame, StatusFrame, read_frame, Discrimination, Configuration, Message, dpc_of, flow_of, Cause, FrameFault, is_destination, offer, transfer, apply, Carrying, accept, act_by_data, carry, empty_data, handle_by, message_data, numbers, read, waits, down, is_link, link_at, deliver_to, whither_goes, no_room, WholeQueues, whole, new_at, new_by, new_of, new_message, link_of, Done, Node, answer, refuse, advance, FrameCame, brought_in, brought_by, brought_to, taken_in, accept_text}
+use Rattle.exchange_rules.proofs.Definitions.{action_at, Action, UserData, SeqFault, EmptyFrame, FrameValue, MessageFrame, StatusFrame, read_frame, Discrimination, Configuration, Message, dpc_of, flow_of, Cause, FrameFault, is_destination, offer, transfer, apply, Carrying, accept, act_by_data, carry, empty_data, handle_by, message_data, numbers, read, waits, down, is_link, link_at, deliver_to, whither_goes, no_room_for, WholeQueues, whole, new_at, new_by, new_of, new_message, link_of, Done, Node, answer, refuse, advance, FrameCame, brought_in, brought_by, brought_to, taken_in, accept_text}
 use Rattle.changeover.specs.Changeover.{users_of}
 use Rattle.link.specs.declared.action.Action.TheVariants as act
 use Rattle.signalling_types.specs.declared.cause.Cause.TheVariants as causes
@@ -39,9 +39,9 @@ module _ (c : Configuration) (n : Node WholeQueues) where
   transfer-goes : (from : Option ℕ) (m : Message) → goes_on (transfer whole c from m n).outcome ≡ true
   transfer-goes from m =
       let link : Option ℕ = link_of c n.parts (flow_of m) in
-      let offered : Done WholeQueues = offer whole c (no_room whole c m n.queues) (waits c n.parts.holds m) link from m n in
+      let offered : Done WholeQueues = offer whole c (no_room_for whole c m n) (waits c n.parts.holds m) link from m n in
       either-goes (is_destination c (dpc_of m)) offered (refuse causes.UnknownDestination n)
-      (offer-goes (no_room whole c m n.queues) (waits c n.parts.holds m) link from m) refl
+      (offer-goes (no_room_for whole c m n) (waits c n.parts.holds m) link from m) refl
 
 -- ---- a frame that newly carries it
 

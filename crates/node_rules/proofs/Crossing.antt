@@ -27,11 +27,11 @@ use Rattle.pair_rules.proofs.RunSettings.{joined}
 use Rattle.neighbour_rules.proofs.Special.{sharing}
 use Rattle.flow_hold.specs.Holds.{HoldSet, holds, is_held, no_holds}
 use Rattle.flow_hold.specs.declared.procedure.Procedure.{Procedure}
-use Rattle.exchange_rules.specs.Routing.{no_room, waits, link_of}
+use Rattle.exchange_rules.specs.Routing.{waits, link_of}
 use Rattle.exchange_rules.specs.State as exchange
 use Rattle.exchange_rules.specs.State.{Done, lost_any, late_any}
 use Rattle.exchange_rules.specs.Exchange as rules
-use Rattle.exchange_rules.specs.Messages.{offer}
+use Rattle.exchange_rules.specs.Messages.{no_room_for, offer}
 use Rattle.exchange_rules.specs.Conserving.{taken_in}
 use Rattle.exchange_rules.specs.Queues.{WholeQueues}
 use Rattle.signalling_types.specs.Message.{flow_of}
@@ -67,7 +67,7 @@ free-none procedure = none_at_first 2 1 1 procedure 0 0
 abbrev submitted_by : Bool → World
 submitted_by waiting =
     let n : exchange.Node WholeQueues = served.near.books.exchange.node in
-    let d : Done WholeQueues = rules.settled whole near_settings (offer whole near_settings (no_room whole near_settings the_message n.queues) waiting (link_of near_settings n.parts (flow_of the_message)) None the_message n) in
+    let d : Done WholeQueues = rules.settled whole near_settings (offer whole near_settings (no_room_for whole near_settings the_message n) waiting (link_of near_settings n.parts (flow_of the_message)) None the_message n) in
     record served {
       near = record served.near {
         books = record {

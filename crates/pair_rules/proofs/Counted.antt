@@ -1,7 +1,7 @@
 -- A message that SCCP refuses adds to the user messages after a number: one, if the UDTS that returns it is in a queue
 -- or in Held.
 use Rattle.pair_rules.proofs.Basics.{◌≡◌, ◌≤◌, ◌<◌, ◌+◌, ◌-◌, ◌&&◌, ℕ, Bool, true, false, not, List, [], ◌∷◌, ◌++◌, length, drop, Option, Some, None, Result, Ok, Err, refl, ap, sym, subst, ◌∙◌, nat_eq, arith, if◌then◌else◌, get_or-set_other, get_or-set_same}
-use Rattle.pair_rules.proofs.Definitions.{Message, dpc_of, flow_of, service_indicator, Cause, Refused, Configuration, FrameValue, EmptyFrame, MessageFrame, StatusFrame, read_frame, Action, UserData, action_at, SeqFault, Queue, IsQueue, after_answer, appended, count_confirmed, first_queue, named_count, Discrimination, Node, FrameCame, Submitted, WholeQueues, whole, queue_at, queue_on, no_room, link_of, waits, Carrying, Fits, accept, accept_data, accept_text, carries, empty_data, message_data, numbers, is_link, down, link_at, new_at, new_by, new_message, new_of, advance, outcome_of, after, sccp, whither_goes, taken_in, Done, refuse, fit-steps, in_service, confirming, owing-steps, advance-serves, data-serves}
+use Rattle.pair_rules.proofs.Definitions.{Message, dpc_of, flow_of, service_indicator, Cause, Refused, Configuration, FrameValue, EmptyFrame, MessageFrame, StatusFrame, read_frame, Action, UserData, action_at, SeqFault, Queue, IsQueue, after_answer, appended, count_confirmed, first_queue, named_count, Discrimination, Node, FrameCame, Submitted, WholeQueues, whole, queue_at, queue_on, no_room_for, link_of, waits, Carrying, Fits, accept, accept_data, accept_text, carries, empty_data, message_data, numbers, is_link, down, link_at, new_at, new_by, new_message, new_of, advance, outcome_of, after, sccp, whither_goes, taken_in, Done, refuse, fit-steps, in_service, confirming, owing-steps, advance-serves, data-serves}
 use Rattle.std.specs.Option.{option_map}
 use Rattle.std.specs.Prelude.{unwrap_or}
 use Rattle.signalling_types.specs.declared.cause.Cause.TheVariants as causes
@@ -73,10 +73,10 @@ module _ (number : ℕ) (c : Configuration) where
   transfer-more m n f = by (is_destination c (dpc_of m))
     where
       into : Done WholeQueues
-      into = offer whole c (no_room whole c m n.queues) (waits c n.parts.holds m) (link_of c n.parts (flow_of m)) None m n
+      into = offer whole c (no_room_for whole c m n) (waits c n.parts.holds m) (link_of c n.parts (flow_of m)) None m n
 
       by : (b : Bool) → T number c (if b then into else refuse causes.UnknownDestination n).left ≡ T number c n + users (taken_in (if b then into else refuse causes.UnknownDestination n).outcome m)
-      by true = offer-more (no_room whole c m n.queues) (waits c n.parts.holds m) (link_of c n.parts (flow_of m)) m n f refl
+      by true = offer-more (no_room_for whole c m n) (waits c n.parts.holds m) (link_of c n.parts (flow_of m)) m n f refl
       by false = none-more (T number c n)
 
   udts-more : (udts : Option (List ℕ)) (m : Message) (n : Node WholeQueues) → Fits c n → T number c (send_udts whole c udts m n) ≡ T number c n + users (returned_in udts c m n)

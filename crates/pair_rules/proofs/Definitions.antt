@@ -20,9 +20,9 @@ pub use Rattle.exchange_rules.specs.Exchange.{settled, handle_event, wants_of, o
 unfoldable pub use Rattle.exchange_rules.specs.Exchange.{apply}
 pub use Rattle.exchange_rules.specs.Frames.{Carrying, accept, act_by_data, empty_data, handle_by, message_data, numbers, owing, data_of, receive, receive_frame, read, carries, carry, advance, begun_anew_if, enters, return_if, step_on, act_by_status, act_by_timer, on_link_status, run_out, serve_status}
 pub use Rattle.exchange_rules.specs.State.{CameUp, Happening, FrameCame, Submitted, down, is_link, in_service, link_at, links_with, flagged, flagged_late, note_outcome, Node, Done, answer, Parts, with_parts, Found, refuse, lost_any, Noted, late_any}
-pub use Rattle.exchange_rules.specs.Routing.{all_wait, waits, is_held_at, is_flow_held, entry_of, peer_of, set_of, no_room, queue_on, link_of, facts, network_of, goes_by, sets_in}
+pub use Rattle.exchange_rules.specs.Routing.{all_wait, waits, is_held_at, is_flow_held, entry_of, peer_of, set_of, no_room, is_share_full, no_room_on, queue_on, link_of, facts, network_of, goes_by, sets_in}
 pub use Rattle.exchange_rules.specs.Laws.{accept_data, accept_frame, accept_text}
-pub use Rattle.exchange_rules.specs.Messages.{is_user, local, do_test, distribute, do_management, do_order, do_acknowledgement, is_adjacent, manage, on_management, sccp, testing, link_with_code, submit_to, whither_goes, deliver, deliver_to, on_unitdata, with_titles, add_title, add_title_unless, remove_title, title_refusal}
+pub use Rattle.exchange_rules.specs.Messages.{no_room_for, is_user, local, do_test, distribute, do_management, do_order, do_acknowledgement, is_adjacent, manage, on_management, sccp, testing, link_with_code, submit_to, whither_goes, deliver, deliver_to, on_unitdata, with_titles, add_title, add_title_unless, remove_title, title_refusal}
 pub use Rattle.exchange_rules.specs.Telling.{send, management_to, send_anew, send_routed}
 pub use Rattle.exchange_rules.specs.Opening.{open_link, wanted, association_up, may_open, wanted_down, activate, association_down, deactivate, end_association, fail_if_up, set_active}
 pub use Rattle.exchange_rules.specs.Queues.{WholeQueues, whole, queue_at, with_queue}

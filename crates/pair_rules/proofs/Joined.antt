@@ -2,7 +2,7 @@
 use Rattle.pair_rules.proofs.Basics.{◌≡◌, ◌<◌, ◌^◌, ℕ, Bool, true, false, ◌&&◌, suc, List, [], ◌∷◌, Option, None, Some, length, map, get_or, nat_eq, position, refl, ap, sym, ◌∙◌, arith, nat_tests}
 use Rattle.pair_rules.proofs.Definitions.{Configuration, LinkEntry, IsFacing, destination_place, IsWell, IsManagement, read_management, Management, entry_of, set_of, management_to, made-indicator, made-dpc, made-opc, made-says, code-fits, UserMessage}
 use Rattle.std.proofs.Common.{if◌then◌else◌}
-use Rattle.pair_rules.proofs.Places.{position-map}
+use Rattle.exchange_rules.proofs.Lists.{position-map}
 use Rattle.mtp3_codec.specs.declared.management.Management.TheVariants as says
 use Rattle.mtp3_codec.proofs.Reading.{label_of}
 use Rattle.exchange_rules.proofs.FacingNodes.{facing-turned, sets-one, destinations-one, destination-found, set-sole, peer-sole, set-found, links-alike, codes-alike, code-means}

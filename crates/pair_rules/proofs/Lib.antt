@@ -1,5 +1,4 @@
 pub mod Definitions
-pub mod Places
 pub mod Basics
 pub mod World
 pub mod Going

@@ -1,6 +1,6 @@
 -- The run of two exchanges, by computation, except whether its message waits, which is looked at twice.
 use Rattle.pair_rules.proofs.Basics.{◌≡◌, ◌≢◌, ℕ, Bool, true, false, not, ◌&&◌, ◌||◌, List, [], ◌∷◌, ◌++◌, refl, sym, ap, ◌∙◌, subst, None, Some, slice_get, slice_index_or, option_to_list, true≢false, and_left as and-first}
-use Rattle.pair_rules.proofs.Definitions.{Message, flow_of, Configuration, set_timer, start_unless_running, clear_timer, clear_set, due_name, after_due, due_count, first_sets, choice_among, link_by, Procedure, any_flow, flows, with_flows, HoldSet, holds, is_held, is_same, lifted, may_hold, no_holds, flows_add, flows_leave, contains-lifted, held_by, none_at_first, Done, Node, lost_any, late_any, WholeQueues, whole, no_room, waits, link_of, go_by, go_each, FrameCame, new_message, apply, handle_event, settled, take_back_each, PairState, AtNear, Delivers, Loses, OpensFirst, taken_in, after_steps, deliver_frame, users_of, in_flight, may_follow, without_data, is_down_at, waiting_on, brought_in}
+use Rattle.pair_rules.proofs.Definitions.{Message, flow_of, Configuration, set_timer, start_unless_running, clear_timer, clear_set, due_name, after_due, due_count, first_sets, choice_among, link_by, Procedure, any_flow, flows, with_flows, HoldSet, holds, is_held, is_same, lifted, may_hold, no_holds, flows_add, flows_leave, contains-lifted, held_by, none_at_first, Done, Node, lost_any, late_any, WholeQueues, whole, no_room_for, waits, link_of, go_by, go_each, FrameCame, new_message, apply, handle_event, settled, take_back_each, PairState, AtNear, Delivers, Loses, OpensFirst, taken_in, after_steps, deliver_frame, users_of, in_flight, may_follow, without_data, is_down_at, waiting_on, brought_in}
 use Rattle.std.specs.Prelude.{Option}
 use Rattle.timers.specs.Timers.{names_of}
 use Rattle.routes.specs.Routes.{links_below}
@@ -76,7 +76,7 @@ free-lifted h procedure test f = λ one.
 abbrev queued_by : Bool → PairState
 queued_by waiting =
     let n : Node WholeQueues = served.near.exchange.node in
-    let d : Done WholeQueues = settled whole near_settings (offer whole near_settings (no_room whole near_settings the_message n.queues) waiting (link_of near_settings n.parts (flow_of the_message)) None the_message n) in
+    let d : Done WholeQueues = settled whole near_settings (offer whole near_settings (no_room_for whole near_settings the_message n) waiting (link_of near_settings n.parts (flow_of the_message)) None the_message n) in
     record served { near = record served.near { exchange = record { settings = near_settings; node = d.left }; accepted = served.near.accepted ++ taken_in d.outcome the_message } }
 
 goes-first : submitted ≡ queued_by (waits near_settings served.near.exchange.node.parts.holds the_message)

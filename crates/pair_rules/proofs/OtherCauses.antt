@@ -1,6 +1,6 @@
 -- The causes for which SCCP, and a message for another point, are refused aren't that of user parts.
-use Rattle.pair_rules.proofs.Basics.{◌≡◌, ◌≢◌, ℕ, Bool, true, false, List, [], ◌∷◌, Option, Some, None, Result, Ok, Err, refl, ap, sym, ◌∙◌, nat_eq, ◌%◌, list_any, if◌then◌else◌, drop}
-use Rattle.pair_rules.proofs.Definitions.{Message, dpc_of, flow_of, is_management, Cause, Outcome, Refused, Queued, Held, Configuration, TitleEntry, Node, Done, refuse, WholeQueues, whole, link_of, no_room, waits}
+use Rattle.pair_rules.proofs.Basics.{◌≡◌, ◌≢◌, ℕ, Bool, true, false, List, [], ◌∷◌, Option, Some, None, Result, Ok, Err, refl, ap, sym, ◌∙◌, ◌&&◌, ◌||◌, not, option_or, nat_eq, ◌%◌, list_any, if◌then◌else◌, drop}
+use Rattle.pair_rules.proofs.Definitions.{Message, dpc_of, flow_of, is_management, Cause, Outcome, Refused, Queued, Held, Configuration, TitleEntry, Node, Done, refuse, WholeQueues, whole, link_of, is_share_full, no_room_on, no_room_for, waits}
 use Rattle.signalling_types.specs.declared.cause.Cause.TheVariants as causes
 use Rattle.sccp_codec.specs.Messages.{UnitdataValue, parts_of, read_unitdata}
 use Rattle.sccp_codec.specs.Titles.{TitleValue, read_octets, read_title}
@@ -105,17 +105,31 @@ is_way_on Held = true
 is_way_on (Refused cause) = is_other cause
 is_way_on outcome = false
 
+abbrev is_room_other : Option Cause → Bool
+is_room_other (Some cause) = is_other cause
+is_room_other None = true
+
 module _ (c : Configuration) (m : Message) (n : Node WholeQueues) where
-  room-other : (managing few many : Bool) (waiting : Bool) (link : Option ℕ)
-      → is_way_on (offer whole c (if managing then (if few then Some causes.ManagementFull else None) else (if many then Some causes.PoolFull else None)) waiting link None m n).outcome ≡ true
-  room-other true true many waiting link = refl
-  room-other true false many true link = refl
-  room-other true false many false (Some link) = refl
-  room-other true false many false None = refl
-  room-other false few true waiting link = refl
-  room-other false few false true link = refl
-  room-other false few false false (Some link) = refl
-  room-other false few false false None = refl
+  offer-other : (room : Option Cause) (waiting : Bool) (link : Option ℕ) → is_room_other room ≡ true → is_way_on (offer whole c room waiting link None m n).outcome ≡ true
+  offer-other (Some cause) waiting link e = e
+  offer-other None true link e = refl
+  offer-other None false (Some link) e = refl
+  offer-other None false None e = refl
+
+  full-other : (full : Bool) → is_room_other (if full then Some causes.ShareFull else None) ≡ true
+  full-other true = refl
+  full-other false = refl
+
+  share-other : (link : Option ℕ) (waiting : Bool) → is_room_other (no_room_on whole c link waiting m n.queues) ≡ true
+  share-other None waiting = refl
+  share-other (Some link) waiting = full-other (is_share_full whole c link n.queues && not (waiting || is_management m))
+
+  room-other : (managing few many : Bool) (share : Option Cause) → is_room_other share ≡ true
+      → is_room_other (option_or (if managing then (if few then Some causes.ManagementFull else None) else (if many then Some causes.PoolFull else None)) share) ≡ true
+  room-other true true many share e = refl
+  room-other true false many share e = e
+  room-other false few true share e = refl
+  room-other false few false share e = e
 
   known-other : (b : Bool) (d : Done WholeQueues) → is_way_on d.outcome ≡ true → is_way_on (if b then d else refuse causes.UnknownDestination n).outcome ≡ true
   known-other true d e = e
@@ -123,5 +137,7 @@ module _ (c : Configuration) (m : Message) (n : Node WholeQueues) where
 
   pub transfer-other : is_way_on (transfer whole c None m n).outcome ≡ true
   transfer-other =
-      known-other (is_destination c (dpc_of m)) (offer whole c (no_room whole c m n.queues) (waits c n.parts.holds m) (link_of c n.parts (flow_of m)) None m n)
-      (room-other (is_management m) _ _ (waits c n.parts.holds m) (link_of c n.parts (flow_of m)))
+      let waiting : Bool = waits c n.parts.holds m in
+      let link : Option ℕ = link_of c n.parts (flow_of m) in
+      known-other (is_destination c (dpc_of m)) (offer whole c (no_room_for whole c m n) waiting link None m n)
+      (offer-other (no_room_for whole c m n) waiting link (room-other (is_management m) _ _ (no_room_on whole c link waiting m n.queues) (share-other link waiting)))

@@ -10,7 +10,7 @@ ghost use Rattle.exchange_rules.specs.Routing as holding;
 ghost use Rattle.routes.specs.Routes.{chosen_link};
 ghost use Rattle.exchange.specs.KeptQueues.{kept};
 ghost use Rattle.exchange_rules.specs.Exchange.{Ends};
-ghost use Rattle.exchange_rules.specs.Routing.{facts, no_room};
+ghost use Rattle.exchange_rules.specs.Routing.{facts, no_room, no_room_on};
 ghost use Rattle.exchange_rules.specs.Messages as rule;
 
 use super::Exchange;
@@ -20,7 +20,7 @@ use settings::{Cause, Limits, LinkId, MsuRef, Outcome, Sls};
 
 impl Exchange {
     /// A message of this label for another point, with the link that it arrived on, if any: a known destination, then
-    /// room, then no hold, then a route.
+    /// room in the pool, then no hold, then a route, then room in the link's share.
     #[inline(always)]
     pub(super) fn transfer(
         &mut self,
@@ -72,8 +72,9 @@ impl Exchange {
         }
     }
 
-    /// Puts a message to the destination of this number, for which there is room, at the end of its link's queue. One
-    /// that arrived on a link and has no route is answered.
+    /// Puts a message to the destination of this number, for which the pool has room, at the end of its link's queue. A
+    /// user message is refused if the link's share is full. A message that arrived on a link and has no route is
+    /// answered.
     #[inline(always)]
     fn offer_on(
         &mut self,
@@ -88,12 +89,16 @@ impl Exchange {
         requires room { no_room kept self.old.settings (lent message) self.old.node.queues ≡ None }
         requires fits { length message.sif.now ≤ Limits.SIF_OCTETS }
         ensures { Ends self.old result self.new
-            (rule.offer kept self.old.settings None false link from (lent message.entry) self.old.node) }
+            (rule.offer kept self.old.settings (no_room_on kept self.old.settings link false (lent message.entry)
+            self.old.node.queues) false link from (lent message.entry) self.old.node) }
     {
         let Some(link) = link else {
             self.answer_no_route(from, destination);
             return Outcome::Refused(Cause::NoRoute);
         };
+        if self.is_share_full(link) && !message.is_management() {
+            return Outcome::Refused(Cause::ShareFull);
+        }
         self.queue_within_room(link, message);
         Outcome::Queued(link)
     }

@@ -3,7 +3,7 @@
 ghost use Rattle.std.specs.Prelude.{◌≡◌, ◌<◌, ◌≤◌, length, None, Some, true, IfErr, OnOk, is_ok, if◌then◌else◌};
 ghost use Rattle.signalling_types.specs.Message.{lent};
 ghost use Rattle.exchange_rules.specs.State.{with_node};
-ghost use Rattle.exchange_rules.specs.Routing.{no_room, queue_on};
+ghost use Rattle.exchange_rules.specs.Routing.{is_share_full, no_room, queue_on};
 ghost use Rattle.exchange_rules.specs.Routing as holding;
 ghost use Rattle.exchange.specs.KeptQueues as queues;
 ghost use Rattle.exchange.specs.KeptQueues.{kept, link_lane, without_lane};
@@ -100,6 +100,17 @@ impl Exchange {
         ensures { result ≡ length (link_lane self.now.node.queues link) }
     {
         self.lanes.count(lane_of(link))
+    }
+
+    /// Whether a link has as many unconfirmed messages as its share of the pool, if the settings give it one.
+    pub(super) fn is_share_full(&self, link: LinkId) -> bool
+        requires { link < length self.now.settings.links }
+        ensures { result ≡ is_share_full kept self.now.settings link self.now.node.queues }
+    {
+        match self.row_of(link).share() {
+            Some(share) => self.count_on(link) >= usize::from(share),
+            None => false,
+        }
     }
 
     /// Notes an index of a link's list: the message there, and the next one, are then found at once.
