@@ -13,7 +13,8 @@
 //!   of these kinds; `number`, calls with the numbers of messages.
 //! - `sccp.rows`: `address` with its title, `unitdata`.
 //! - `titles.rows`, `full_table.rows`, `relaying.rows`: `title`, calls of a table of translation rows; `relay`, a SIF
-//!   that comes to point 1, which has subsystem 8, by that table.
+//!   that comes to point 1, which has subsystem 8, by that table; `extended`, the same where that point relays extended
+//!   messages and answers tests of its subsystem.
 //! - `tries.rows`: `trie`, calls of a trie of digits.
 //! - `sctp.rows`: `packet`.
 //! - `cookies.rows`: `mac KEY MESSAGE`, the code of a message; `tags KEY TIMES`, the first tags under a key; `sign KEY
@@ -101,7 +102,8 @@ fn say(said: &mut Said, stores: &mut Stores, row: &str) {
         "sign" => cookies::sign(said, row),
         "open" => cookies::open(said, row, octets),
         "title" => tables::titles(said, &mut stores.titles, row),
-        "relay" => tables::relayed(said, &stores.titles, octets),
+        "relay" => tables::relayed(said, &stores.titles, octets, false),
+        "extended" => tables::relayed(said, &stores.titles, octets, true),
         _ => tables::digits_of(said, &mut stores.trie, row),
     }
 }

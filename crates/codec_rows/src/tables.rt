@@ -95,12 +95,15 @@ fn fill(said: &mut Said, table: &mut Translations, key: TitleKey) {
     }
 }
 
-/// Relays a field at point 1, which has subsystem 8, and says what goes on, or is returned.
-pub fn relayed(said: &mut Said, table: &Translations, sif: &[u8]) {
+/// Relays a field at point 1, which has subsystem 8, and says what goes on, or is returned. It relays extended messages
+/// and answers tests, or does neither.
+pub fn relayed(said: &mut Said, table: &Translations, sif: &[u8], extended: bool) {
     let mut field = [0xee; Limits::SIF_OCTETS];
     let own = Own {
         point: PointCode::of_low_bits(1),
         subsystems: &[8],
+        extended,
+        tested: extended,
     };
     if sif.len() < 4 {
         return;

@@ -62,9 +62,14 @@ module _ {Q : Type 0} (q : QueueKind Q) (c : Configuration) where
 
 -- ---- SCRC, SCCP routing control (Q.714 §2.3, §4.2): SCCP messages for this point, and the rows that lead them on.
 
--- the point that this node is, and its subsystems
+-- the point that this node is, its subsystems, and what it does for SCCP
 abbrev pub own_of : Configuration → OwnValue
-own_of c = record { point = c.own; subsystems = c.subsystems }
+own_of c = record {
+  point = c.own;
+  subsystems = c.subsystems;
+  extended = c.extended_unitdata;
+  tested = c.subsystem_tests;
+}
 
 -- a message in the place of another, with the same service information octet
 abbrev pub in_place_of : Message → (sif : List ℕ) → Message

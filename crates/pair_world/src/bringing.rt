@@ -155,13 +155,15 @@ fn udts(cause: Cause, settings: &Settings, rows: &Translations, message: &Msu) -
     in_place_of(message, &field[..count])
 }
 
-/// The point that a node is, and its subsystems.
+/// The point that a node is, its subsystems, and what it does for SCCP.
 fn own_of(settings: &Settings) -> Own<'_>
     ensures { own_value result ≡ own_of settings.now }
 {
     Own {
         point: settings.own(),
         subsystems: settings.subsystems(),
+        extended: settings.extended_unitdata(),
+        tested: settings.subsystem_tests(),
     }
 }
 

@@ -1,4 +1,5 @@
--- Words and lemmas of std and of the crates below that the proofs here use, and the definitions that they are about.
+-- Words and lemmas of std and of the crates below that the proofs here use, the definitions that they are about, and two
+-- lemmas of tests.
 pub use Rattle.std.proofs.Common.{Bool, List, None, Ok, Option, Some, [], ap, arith, cond, drop, drop-cons, false, get_or, inl, inr, length, not, refl, replicate, rules, subst, suc, sym, take, true, zero, ℕ, ◌%◌, ◌*◌, ◌++◌, ◌+◌, ◌-◌, ◌/◌, ◌<◌, ◌^◌, ◌∙◌, ◌∷◌, ◌≡◌, ◌≢◌, ◌≤◌, ◌⊎◌}
 pub use Rattle.std.proofs.lemmas.Bool.{both_ways, false_from_ne_true, and_parts, cases_eq, cases_lt, eq-eqb, eqb-false, eqb-true, le-ltb, lt-ltb, ne_eqb}
 pub use Rattle.std.proofs.lemmas.Cmp.{nat_list_cmp_total, tied_itself}
@@ -27,7 +28,7 @@ pub use Rattle.sccp_relay.specs.Nodes.{IsTree, KeepsWays, bare, child, if_there,
 pub use Rattle.sccp_relay.specs.Places.{FitsAt, StandsAt}
 unfoldable pub use Rattle.sccp_relay.specs.Relay.{relay, returned}
 pub use Rattle.sccp_relay.specs.Rows.{IsOrdered, has_row, is_at, is_before, is_behind, is_same_place, key_of, place_of, place_order, row_place, table_of, with_row, without_row}
-pub use Rattle.sccp_relay.specs.Relay.{IsTranslation, has_key, leads, longer, longest_from, or_refusal, translation, translation_refusal}
+pub use Rattle.sccp_relay.specs.Translation.{IsTranslation, has_key, leads, longer, longest_from, or_refusal, translation, translation_refusal}
 pub use Rattle.sccp_relay.specs.Ways.{IsRoute, IsRow, IsSsn, key_digits, lead_of, leads_of, route_number, route_of, row_led, way_of}
 pub use Rattle.sccp_relay.specs.declared.node.Node.{Node}
 pub use Rattle.sccp_relay.specs.declared.node.NodeId.{NodeId}
@@ -38,3 +39,13 @@ pub use Rattle.settings_rows.specs.declared.title_row.TitleRoute.TheVariants.{Ss
 pub use Rattle.signalling_types.specs.declared.cause.Cause.{Cause}
 pub use Rattle.signalling_types.specs.declared.cause.Cause.TheVariants.{NoDigits, NoNature}
 pub use Rattle.signalling_types.specs.declared.limits.TheConstants.Limits.{TITLES}
+use Rattle.std.specs.Prelude.{◌&&◌}
+
+-- both parts of a test
+pub and-left : (a b : Bool) → (a && b) ≡ true → a ≡ true
+and-left true b e = refl
+and-left false b e = absurd cc
+
+pub and-right : (a b : Bool) → (a && b) ≡ true → b ≡ true
+and-right true b e = e
+and-right false b e = absurd cc

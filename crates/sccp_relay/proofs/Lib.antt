@@ -15,4 +15,9 @@ pub mod RowWays
 pub mod Translating
 pub mod KeyRows
 pub mod TitleExamples
-pub mod Led
+pub mod KeptParameters
+pub mod LedAddresses
+pub mod SaidMessages
+pub mod GoingOn
+pub mod GoingBack
+pub mod Hops

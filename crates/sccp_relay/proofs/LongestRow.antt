@@ -1,6 +1,6 @@
 -- The longest row that leads the digits is a row that leads them, and none of these is longer.
 use Rattle.sccp_relay.proofs.Basics.{◌≡◌, ℕ, zero, suc, ◌<◌, ◌≤◌, Bool, true, false, cond, List, [], ◌∷◌, length, get_or, Option, Some, None, refl, subst, ◌⊎◌, inl, inr, arith, cases_lt, lt-ltb, le-ltb, All-from_recursion, AllByRecursion, filter, IfSome, TitleEntry, TitleKey, longer, longest_from, leads, IsTranslation}
-use Rattle.sccp_relay.specs.Relay.{longest}
+use Rattle.sccp_relay.specs.Translation.{longest}
 
 abbrev pub AtMost : ℕ → TitleEntry → Type 0
 AtMost n row = length row.digits ≤ n

@@ -1,7 +1,7 @@
 -- A sorted table has at most one translation of an address, and translating returns it.
 use Rattle.sccp_relay.proofs.Basics.{◌≡◌, ℕ, zero, suc, ◌<◌, ◌≤◌, Bool, true, false, cond, List, [], ◌∷◌, length, get_or, take, Option, Some, Ok, refl, sym, ap, subst, ◌∙◌, arith, and_parts, eqb-true, tied_itself, nat_list_cmp_total, bytes_decides, AllByRecursion, filter, starts_with, nat_eq, TitleEntry, TitleKey, IsOrdered, row_place, place_order, longest_from, leads, has_key, IsTranslation, translation, translation_refusal, or_refusal}
 use Rattle.std.proofs.Common.{Less}
-use Rattle.sccp_relay.specs.Relay.{longest}
+use Rattle.sccp_relay.specs.Translation.{longest}
 use Rattle.sccp_relay.proofs.LongestRow.{is_translation-longest}
 use Rattle.sccp_relay.proofs.RowOrder.{each-at}
 

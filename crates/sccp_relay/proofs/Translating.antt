@@ -2,7 +2,7 @@
 use Rattle.sccp_relay.proofs.Basics.{◌≡◌, ℕ, ◌+◌, ◌*◌, ◌<◌, ◌≤◌, ◌^◌, ◌/◌, ◌%◌, Bool, true, cond, List, ◌++◌, length, get_or, take, Option, Some, None, refl, sym, ap, subst, ◌∙◌, inl, inr, arith, and_parts, cases_lt, eq-eqb, eqb-true, ne_eqb, lt-ltb, le-ltb, get_or_default, length-take, length-take-le, All-get_or, bytes_decides, filter, list_any, starts_with, NoNature, NoDigits, All, Err, nat_eq, DigitMap, behind, Cause, TitleKey, TitleEntry, HasTitleRanges, TitleRoute, Title, Ssn, key_of, leads, has_key, IsTranslation, translation, translation_refusal, or_refusal, IsRow, IsRoute, IsSsn, key_digits, way_of, lead_of, leads_of, route_number, route_of, row_led}
 use Rattle.sccp_relay.specs.Digits.{longest as longest_digits}
 use Rattle.sccp_relay.proofs.Longest.{is-longest, is-none-longest}
-use Rattle.sccp_relay.specs.Relay.{longest}
+use Rattle.sccp_relay.specs.Translation.{longest}
 use Rattle.sccp_relay.proofs.LongestRow.{is_translation-longest}
 use Rattle.sccp_relay.proofs.RowWays.{SameWay, same-way, FoundRow, found-row, way-leads}
 

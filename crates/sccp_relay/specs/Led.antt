@@ -1,13 +1,38 @@
--- What goes on, and what is returned, as it reads where it arrives: laws (Q.714 §2.3, §2.4, §4.2).
-use Rattle.std.specs.Prelude.{◌≡◌, ◌≢◌, ℕ, ◌/◌, ◌<◌, ◌^◌, All, List, drop, Some, None, Ok, unwrap_or}
+-- What goes on, and what is returned, as it reads where it arrives: laws (Q.714 §2.3, §2.4, §4.2, §5.3.4).
+use Rattle.std.specs.Prelude.{◌≡◌, ◌≢◌, ℕ, ◌+◌, ◌-◌, ◌/◌, ◌<◌, ◌≤◌, ◌^◌, ◌⊎◌, true, All, List, [], ◌∷◌, length, drop, Option, Some, None, IfSome, Ok, unwrap_or}
 use Rattle.signalling_types.specs.declared.cause.Cause.{Cause}
 use Rattle.settings_rows.specs.Configuration.{TitleEntry}
 use Rattle.settings_rows.specs.declared.title_row.TitleRoute.TheVariants as route
 use Rattle.mtp3_codec.specs.Headings.{label_at}
 use Rattle.sccp_codec.specs.declared.address.Routing.TheVariants.{Title, Ssn}
-use Rattle.sccp_codec.specs.Messages.{AddressValue, AreOctets, PartsValue, UnitdataValue, UdtValue, UdtsValue, kind_of, second_of, parts_of, read_unitdata}
-use Rattle.sccp_relay.specs.Relay.{OwnValue, Onward, relay, row_of, return_cause, returned}
+use Rattle.sccp_codec.specs.declared.management.ManagementKind.TheVariants.{SubsystemAllowed, SubsystemStatusTest}
+use Rattle.sccp_codec.specs.Messages.{AddressValue, AreOctets, PartsValue, UdtValue, kind_of, second_of, read_unitdata}
+use Rattle.sccp_codec.specs.Extended.{ParameterValue, type_of, after_type}
+use Rattle.sccp_codec.specs.Management.{ManagementValue, read_management}
+use Rattle.sccp_relay.specs.Sccp.{SccpValue, Plain, Extended, sccp_parts, is_extended, read_sccp}
+use Rattle.sccp_relay.specs.Relay.{OwnValue, Onward, relay, row_of, ssn_by, is_equipped, management_address, return_cause, returned_parameters, returned}
 use Rattle.sccp_relay.specs.Ways.{IsRow}
+
+-- ---- the fields of a message
+
+abbrev pub type_octet : SccpValue → ℕ
+type_octet (Plain unitdata) = kind_of unitdata
+type_octet (Extended extended) = type_of extended.kind
+
+-- the class or the return cause
+abbrev pub second_octet : SccpValue → ℕ
+second_octet (Plain unitdata) = second_of unitdata
+second_octet (Extended extended) = after_type extended.kind
+
+abbrev pub hops_of : SccpValue → Option ℕ
+hops_of (Plain unitdata) = None
+hops_of (Extended extended) = Some extended.hop_counter
+
+abbrev pub optional_of : SccpValue → List ParameterValue
+optional_of (Plain unitdata) = []
+optional_of (Extended extended) = extended.optional
+
+-- ---- addresses and labels
 
 -- the title, what it is made of and the bit for national use are the same
 pub record SameTitle (a b : AddressValue) : Type 0 where
@@ -38,21 +63,59 @@ pub record IsSent (own : OwnValue) (sif field : List ℕ) : Type 0 where
   pub origin : (label_at field).opc ≡ own.point
   pub selection : (label_at field).sls ≡ (label_at sif).sls
 
--- a message goes on to the point of the row that its title finds: of its kind, with its class or return cause, and data
+-- ---- what goes on
+
+-- the hop counter, if there is one, was 2 to 15, and is one lower
+abbrev pub IsLowered : Option ℕ → Option ℕ → Type 0
+IsLowered None after = after ≡ None
+IsLowered (Some hops) after = (2 ≤ hops) × (hops ≤ 15) × (after ≡ Some (hops - 1))
+
+-- a message goes on to the point of the row that its title finds: of its type, with its class or return cause, its data
+-- and its optional parameters
 pub record GoesOn (own : OwnValue) (rows : List TitleEntry) (sif field : List ℕ) : Type 0 where
-  pub came : UnitdataValue
-  pub reads : read_unitdata (drop 4 sif) ≡ Ok came
+  pub came : SccpValue
+  pub reads : read_sccp own.extended (drop 4 sif) ≡ Ok came
   pub row : TitleEntry
-  pub finds : row_of rows (parts_of came).called ≡ Ok row
+  pub finds : row_of rows (sccp_parts came).called ≡ Ok row
   pub label : IsSent own sif field
   pub to_row : (label_at field).dpc ≡ row.point
-  pub goes : UnitdataValue
-  pub reads_back : read_unitdata (drop 4 field) ≡ Ok goes
-  pub kind : kind_of goes ≡ kind_of came
-  pub second : second_of goes ≡ second_of came
-  pub called : IsLed row (parts_of came).called (parts_of goes).called
-  pub calling : IsSeenFrom (label_at sif).opc (parts_of came).calling (parts_of goes).calling
-  pub carried : (parts_of goes).data ≡ (parts_of came).data
+  pub goes : SccpValue
+  pub reads_back : read_sccp own.extended (drop 4 field) ≡ Ok goes
+  pub type : type_octet goes ≡ type_octet came
+  pub second : second_octet goes ≡ second_octet came
+  pub hops : IsLowered (hops_of came) (hops_of goes)
+  pub called : IsLed row (sccp_parts came).called (sccp_parts goes).called
+  pub calling : IsSeenFrom (label_at sif).opc (sccp_parts came).calling (sccp_parts goes).calling
+  pub carried : (sccp_parts goes).data ≡ (sccp_parts came).data
+  pub optional : optional_of goes ≡ optional_of came
+
+-- a message to this address is for SCCP management here: by its subsystem number, or where the row of its title leads
+pub record IsForManagement (own : OwnValue) (rows : List TitleEntry) (called : AddressValue) : Type 0 where
+  pub by_number : called.routing ≡ Ssn → called.ssn ≡ Some 1
+  pub by_title : called.routing ≡ Title →
+      (row : TitleEntry) × (row_of rows called ≡ Ok row) × (row.point ≡ own.point) × (ssn_by row.route called.ssn ≡ Some 1)
+
+-- an SSA goes back in the place of an SST about a subsystem that is here
+pub record IsTestAnswer (own : OwnValue) (rows : List TitleEntry) (sif field : List ℕ) : Type 0 where
+  pub answers : own.tested ≡ true
+  pub class_octet : ℕ
+  pub came : PartsValue
+  pub reads : read_unitdata (drop 4 sif) ≡ Ok (UdtValue class_octet came)
+  pub for_management : IsForManagement own rows came.called
+  pub test : ManagementValue
+  pub says : read_management came.data ≡ Ok test
+  pub kind : test.kind ≡ SubsystemStatusTest
+  pub point : test.point ≡ own.point
+  pub here : is_equipped own (Some test.ssn) ≡ true
+  pub label : IsSent own sif field
+  pub to_sender : (label_at field).dpc ≡ (label_at sif).opc
+  pub goes : PartsValue
+  pub reads_back : read_unitdata (drop 4 field) ≡ Ok (UdtValue 0 goes)
+  pub called : goes.called ≡ management_address
+  pub calling : goes.calling ≡ management_address
+  pub answer : read_management goes.data ≡ Ok (record test { kind = SubsystemAllowed })
+
+-- ---- what is returned
 
 -- The point that a message goes back to, and how its called address reads there. By subsystem number it is the point
 -- that the address names, or if there is none the point that the message came from; by title, where its row leads.
@@ -62,22 +125,29 @@ pub record GoesBack (rows : List TitleEntry) (origin : ℕ) (to : AddressValue) 
   pub by_title : to.routing ≡ Title →
       (row : TitleEntry) × (row_of rows to ≡ Ok row) × (point ≡ row.point) × IsLed row to called
 
--- a UDT that asks for it is returned: a UDTS with the return cause, the addresses exchanged, and the data
+-- A message that asks for it is returned: a UDT by a UDTS, an XUDT by an XUDTS, with the return cause, the addresses
+-- exchanged, and the data. The hop counter of an XUDTS is 15
 pub record IsReturned (own : OwnValue) (rows : List TitleEntry) (sif : List ℕ) (cause : Cause) (field : List ℕ)
     : Type 0 where
-  pub class_octet : ℕ
-  pub came : PartsValue
-  pub reads : read_unitdata (drop 4 sif) ≡ Ok (UdtValue class_octet came)
-  pub asks : class_octet / 16 ≡ 8
+  pub came : SccpValue
+  pub reads : read_sccp own.extended (drop 4 sif) ≡ Ok came
+  pub kind : (type_octet came ≡ 9) ⊎ (type_octet came ≡ 17)
+  pub asks : second_octet came / 16 ≡ 8
   pub label : IsSent own sif field
   pub number : ℕ
   pub caused : return_cause cause ≡ Some number
-  pub goes : PartsValue
-  pub reads_back : read_unitdata (drop 4 field) ≡ Ok (UdtsValue number goes)
-  pub calling : goes.calling ≡ came.called
-  pub called : SameTitle came.calling goes.called
-  pub back : GoesBack rows (label_at sif).opc came.calling (label_at field).dpc goes.called
-  pub carried : goes.data ≡ came.data
+  pub goes : SccpValue
+  pub reads_back : read_sccp own.extended (drop 4 field) ≡ Ok goes
+  pub type : type_octet goes ≡ type_octet came + 1
+  pub second : second_octet goes ≡ number
+  pub hops : IfSome (hops_of goes) (λ hops. hops ≡ 15)
+  pub calling : (sccp_parts goes).calling ≡ (sccp_parts came).called
+  pub called : SameTitle (sccp_parts came).calling (sccp_parts goes).called
+  pub back : GoesBack rows (label_at sif).opc (sccp_parts came).calling (label_at field).dpc (sccp_parts goes).called
+  pub carried : (sccp_parts goes).data ≡ (sccp_parts came).data
+  pub optional : optional_of goes ≡ returned_parameters (optional_of came)
+
+-- ---- the laws
 
 -- a node whose point has 14 bits, and rows in their ranges
 pub record AreInRange (own : OwnValue) (rows : List TitleEntry) : Type 0 where
@@ -87,9 +157,26 @@ pub record AreInRange (own : OwnValue) (rows : List TitleEntry) : Type 0 where
 abbrev pub what_goes_on_reads_back : Type 0
 what_goes_on_reads_back =
     (own : OwnValue) (rows : List TitleEntry) (sif field : List ℕ) → AreInRange own rows → AreOctets sif
-    → relay own rows sif ≡ Onward field → GoesOn own rows sif field
+    → relay own rows sif ≡ Onward field → GoesOn own rows sif field ⊎ IsTestAnswer own rows sif field
 
 abbrev pub a_udts_returns_a_udt : Type 0
 a_udts_returns_a_udt =
     (own : OwnValue) (rows : List TitleEntry) (sif : List ℕ) (cause : Cause) (field : List ℕ) → AreInRange own rows
     → AreOctets sif → returned own rows sif cause ≡ Some field → IsReturned own rows sif cause field
+
+-- a node that relays: its point, and its rows
+pub record RelayingNode : Type 0 where
+  pub own : OwnValue
+  pub rows : List TitleEntry
+
+-- each of these nodes in turn relays what the one before sent on, from this field to that
+abbrev pub GoesThrough : List RelayingNode → List ℕ → List ℕ → Type 0
+GoesThrough [] sif field = sif ≡ field
+GoesThrough (node ∷ nodes) sif field =
+    (next : List ℕ) × (relay node.own node.rows sif ≡ Onward next) × GoesThrough nodes next field
+
+-- an extended message goes through 14 nodes at most, whatever rows they have
+abbrev pub loops_of_titles_end : Type 0
+loops_of_titles_end =
+    (nodes : List RelayingNode) (sif field : List ℕ) → is_extended (drop 4 sif) ≡ true → GoesThrough nodes sif field
+    → length nodes ≤ 14

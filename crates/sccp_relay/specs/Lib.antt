@@ -1,3 +1,5 @@
+pub mod Translation
+pub mod Sccp
 pub mod Relay
 pub mod Values
 pub mod Faults

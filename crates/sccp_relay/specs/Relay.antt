@@ -1,12 +1,11 @@
--- SCRC, SCCP routing control (Q.714 §2.3, §2.4): what an address is translated to, and what becomes of a message. Among
--- all rows of its key whose digits begin those of the address, the longest wins; that choice is this node's.
-use Rattle.std.specs.Prelude.{ℕ, ◌≤◌, Bool, IsTrue, ◌&&◌, ◌==◌, if◌then◌else◌, nat_eq, nat_lt, List, [], ◌∷◌, length, filter, All, Contains, Option, Some, None, Result, Ok, Err, ◌+◌, ◌%◌, ◌^◌, true, false, nat_le, ◌++◌, take, drop, is_none, ◌/◌, unwrap_or}
-use Rattle.std.specs.List.{starts_with, list_any}
+-- SCRC and SCLC, SCCP routing control and connectionless control: what becomes of an SCCP message for this point, and
+-- what returns one that is refused (Q.714 §2.3, §4.2).
+use Rattle.std.specs.Prelude.{ℕ, Bool, true, false, not, ◌&&◌, if◌then◌else◌, nat_eq, List, [], ◌∷◌, ◌++◌, take, drop, Option, Some, None, is_none, unwrap_or, Result, Ok, Err}
+use Rattle.std.specs.List.{list_any}
 use Rattle.settings_rows.specs.Configuration.{TitleEntry}
 use Rattle.signalling_types.specs.declared.cause.Cause.{Cause}
-use Rattle.signalling_types.specs.declared.cause.Cause.TheVariants.{NoNature, NoDigits, NotInProfile, BadSccp, Unequipped, TooLong, UnknownDestination, NoRoute}
-use Rattle.sccp_codec.specs.declared.title.TitleKey.{TitleKey}
-use Rattle.signalling_types.specs.declared.limits.TheConstants.Limits.{SIF_OCTETS, TITLE_DIGITS}
+use Rattle.signalling_types.specs.declared.cause.Cause.TheVariants.{NoNature, NoDigits, NotInProfile, BadSccp, Unequipped, HopCounter, TooLong, UnknownDestination, NoRoute}
+use Rattle.signalling_types.specs.declared.limits.TheConstants.Limits.{TITLE_DIGITS}
 use Rattle.settings_rows.specs.declared.title_row.TitleRoute.{TitleRoute}
 use Rattle.settings_rows.specs.declared.title_row.TitleRoute.TheVariants as route
 use Rattle.mtp3_codec.specs.declared.label.Label.{Label}
@@ -15,57 +14,27 @@ use Rattle.sccp_codec.specs.declared.fault.SccpFault.{SccpFault}
 use Rattle.sccp_codec.specs.declared.fault.SccpFault.TheVariants.{Short, Pointer, Kind}
 use Rattle.sccp_codec.specs.declared.address.Routing.{Routing}
 use Rattle.sccp_codec.specs.declared.address.Routing.TheVariants as routing
-use Rattle.sccp_codec.specs.Messages.{AddressValue, address_octets, is_by_ssn, PartsValue, UnitdataValue, UdtValue, UdtsValue, parts_of, pointed, spelled, read_unitdata}
-use Rattle.sccp_codec.specs.Titles.{TitleValue, read_title, digits_in}
 use Rattle.sccp_codec.specs.declared.address.Routing.TheVariants.{Title, Ssn}
+use Rattle.sccp_codec.specs.declared.extended.ExtendedKind.TheVariants.{Xudts}
+use Rattle.sccp_codec.specs.declared.management.ManagementKind.{ManagementKind}
+use Rattle.sccp_codec.specs.declared.management.ManagementKind.TheVariants.{SubsystemAllowed, SubsystemProhibited, SubsystemStatusTest}
+use Rattle.sccp_codec.specs.Messages.{AddressValue, is_by_ssn, PartsValue, UdtValue, UdtsValue}
+use Rattle.sccp_codec.specs.Management.{ManagementValue, management_octets, read_management}
+use Rattle.sccp_codec.specs.Extended.{ExtendedValue, ParameterValue, first_named}
+use Rattle.sccp_codec.specs.Titles.{TitleValue, read_title, digits_in}
+use Rattle.sccp_relay.specs.Translation.{translation}
+use Rattle.sccp_relay.specs.Sccp.{SccpValue, Plain, Extended, sccp_parts, with_new_parts, read_sccp, is_connectionless, asks_for_return, has_hops, lowered, is_spent, is_sccp_writable, sccp_octets}
 
--- the row is of this translation type, plan and nature
-abbrev pub has_key : TitleKey → TitleEntry → Bool
-has_key key row = row.translation == key.translation && row.plan == key.plan && row.nature == key.nature
+-- ---- What becomes of a message: by its called address it is for a subsystem here, or goes on, written again (Q.714
+-- §2.3, §2.4).
 
--- the row is of this key, and its digits begin these
-abbrev pub leads : TitleKey → List ℕ → TitleEntry → Bool
-leads key digits row = has_key key row && starts_with nat_eq digits row.digits
-
--- the row that has more digits; of two that have as many, the first
-abbrev pub longer : Option TitleEntry → TitleEntry → Option TitleEntry
-longer None row = Some row
-longer (Some best) row = if nat_lt (length best.digits) (length row.digits) then Some row else Some best
-
--- the row that has the most digits
-abbrev pub longest_from : Option TitleEntry → List TitleEntry → Option TitleEntry
-longest_from best [] = best
-longest_from best (row ∷ rows) = longest_from (longer best row) rows
-
-abbrev pub longest : List TitleEntry → Option TitleEntry
-longest rows = longest_from None rows
-
--- why an address leads nowhere: no row is of its key, or none of these begins its digits
-abbrev pub translation_refusal : List TitleEntry → TitleKey → Cause
-translation_refusal rows key = if list_any (has_key key) rows then NoDigits else NoNature
-
-abbrev pub or_refusal : Option TitleEntry → Cause → Result TitleEntry Cause
-or_refusal (Some row) cause = Ok row
-or_refusal None cause = Err cause
-
--- the longest of the rows that lead these digits
-abbrev pub translation : List TitleEntry → TitleKey → List ℕ → Result TitleEntry Cause
-translation rows key digits = or_refusal (longest (filter (leads key digits) rows)) (translation_refusal rows key)
-
--- what makes a row that one
-pub record IsTranslation (rows : List TitleEntry) (key : TitleKey) (digits : List ℕ) (row : TitleEntry) : Type 0 where
-  pub among : Contains rows row
-  pub leading : IsTrue (leads key digits row)
-  pub longest : All (λ other. IsTrue (leads key digits other) → length other.digits ≤ length row.digits) rows
-
--- ---- What becomes of an SCCP message for this point: by its called address it is for a subsystem here, or goes on,
--- written
--- again (Q.714 §2.3, §2.4).
-
--- the point that a node is, and the numbers of the subsystems that are there
+-- the point that a node is, and the numbers of the subsystems that are there; whether extended messages are relayed, and
+-- whether tests of these subsystems are answered
 pub record OwnValue : Type 0 where
   pub point : ℕ
   pub subsystems : List ℕ
+  pub extended : Bool
+  pub tested : Bool
 
 -- what becomes of a message: a subsystem here gets it, one with this signalling information field goes on in its place,
 -- or it is refused
@@ -73,17 +42,6 @@ pub data RelayedValue : Type 0 where
   Delivered : RelayedValue
   Onward : (sif : List ℕ) → RelayedValue
   Refused : (cause : Cause) → RelayedValue
-
--- ---- for this point
-
--- whether a subsystem of this number is here; without a number none is
-abbrev pub is_equipped : OwnValue → Option ℕ → Bool
-is_equipped own None = false
-is_equipped own (Some ssn) = list_any (λ subsystem. nat_eq subsystem ssn) own.subsystems
-
--- a message for a subsystem of this point
-abbrev pub to_subsystem : OwnValue → Option ℕ → RelayedValue
-to_subsystem own ssn = if is_equipped own ssn then Delivered else Refused Unequipped
 
 -- ---- for another point
 
@@ -124,57 +82,113 @@ abbrev pub from_point : ℕ → AddressValue → AddressValue
 from_point sender address =
     if is_by_ssn address.routing && is_none address.point then record address { point = Some sender } else address
 
--- whether such parts can be written: the pointers and the length of the data take an octet each, and the field isn't
--- too long
-abbrev pub is_writable : PartsValue → Bool
-is_writable parts =
-    nat_lt (3 + length (address_octets 0 parts.called) + length (address_octets 0 parts.calling)) (2 ^ 8)
-    && nat_lt (length parts.data) (2 ^ 8)
-    && nat_le (4 + 2 + length (pointed parts)) SIF_OCTETS
-
 -- the label of a message for another point: from this one, by the same link selection
 abbrev pub label_to : (point own : ℕ) → Label → Label
 label_to point own label = record { dpc = point; opc = own; sls = label.sls }
 
 -- the field of a message for another point, if it can be written
-abbrev pub written : (point own : ℕ) → Label → UnitdataValue → Option (List ℕ)
-written point own label unitdata =
-    if is_writable (parts_of unitdata) then Some (label_octets (label_to point own label) ++ spelled unitdata) else None
+abbrev pub written : (point own : ℕ) → Label → SccpValue → Option (List ℕ)
+written point own label message =
+    if is_sccp_writable message then Some (label_octets (label_to point own label) ++ sccp_octets message) else None
 
 abbrev pub onward : Option (List ℕ) → RelayedValue
 onward (Some sif) = Onward sif
 onward None = Refused TooLong
-
--- ---- a message
-
--- the same message with other parts
-abbrev pub with_new_parts : UnitdataValue → PartsValue → UnitdataValue
-with_new_parts (UdtValue class_octet parts) others = UdtValue class_octet others
-with_new_parts (UdtsValue return_cause parts) others = UdtsValue return_cause others
 
 -- the parts, as a row leads them on
 abbrev pub led_on : TitleEntry → (sender : ℕ) → PartsValue → PartsValue
 led_on row sender parts =
     record parts { called = translated row parts.called; calling = from_point sender parts.calling }
 
+-- ---- for this point
+
+-- whether a subsystem of this number is here; without a number none is
+abbrev pub is_equipped : OwnValue → Option ℕ → Bool
+is_equipped own None = false
+is_equipped own (Some ssn) = list_any (λ subsystem. nat_eq subsystem ssn) own.subsystems
+
+-- a message for a subsystem of this point
+abbrev pub to_subsystem : OwnValue → Option ℕ → RelayedValue
+to_subsystem own ssn = if is_equipped own ssn then Delivered else Refused Unequipped
+
+-- ---- tests of the subsystems here: what SCCP management, subsystem 1, is asked (Q.714 §5.3.4)
+
+abbrev pub is_management : Option ℕ → Bool
+is_management None = false
+is_management (Some ssn) = nat_eq ssn 1
+
+abbrev pub is_test : ManagementKind → Bool
+is_test SubsystemAllowed = false
+is_test SubsystemProhibited = false
+is_test SubsystemStatusTest = true
+
+-- an SST is answered if it is about this point and a subsystem that is here, and another point sent it
+abbrev pub is_answered : OwnValue → (sender : ℕ) → ManagementValue → Bool
+is_answered own sender test =
+    is_test test.kind && nat_eq test.point own.point && is_equipped own (Some test.ssn) && not (nat_eq sender own.point)
+
+-- the address of SCCP management (Q.713 §3.4.2.2)
+abbrev pub management_address : AddressValue
+management_address = record {
+  national = false;
+  routing = routing.Ssn;
+  point = None;
+  ssn = Some 1;
+  title_indicator = 0;
+  title = [];
+}
+
+-- the answer: an SSA about the same subsystem, from SCCP management here to that of the sender, in a UDT of class 0
+abbrev pub allowed : ManagementValue → SccpValue
+allowed test = Plain (UdtValue 0 (record {
+  called = management_address;
+  calling = management_address;
+  «data» = management_octets 0 (record test { kind = SubsystemAllowed });
+}))
+
+-- the field of the answer to what was read, if it is answered
+abbrev pub answer_to : OwnValue → Label → Result ManagementValue SccpFault → Option (List ℕ)
+answer_to own label (Err fault) = None
+answer_to own label (Ok test) =
+    if is_answered own label.opc test then written label.opc own.point label (allowed test) else None
+
+-- the same, of a message for this subsystem: only the data of a UDT are looked at
+abbrev pub answer : OwnValue → Label → SccpValue → Option ℕ → Option (List ℕ)
+answer own label (Plain (UdtValue class_octet parts)) ssn =
+    if own.tested && is_management ssn then answer_to own label (read_management parts.data) else None
+answer own label (Plain (UdtsValue return_cause parts)) ssn = None
+answer own label (Extended extended) ssn = None
+
+-- the answer goes in the place of what it answers
+abbrev pub answered_or : Option (List ℕ) → RelayedValue → RelayedValue
+answered_or (Some sif) other = Onward sif
+answered_or None other = other
+
+-- a message for SCCP management or another subsystem of this point
+abbrev pub for_subsystem : OwnValue → Label → SccpValue → Option ℕ → RelayedValue
+for_subsystem own label message ssn = answered_or (answer own label message ssn) (to_subsystem own ssn)
+
+-- ---- a message
+
 -- a message whose called address is by title, by the row of that title
-abbrev pub relay_by_row : OwnValue → Label → UnitdataValue → Result TitleEntry Cause → RelayedValue
-relay_by_row own label unitdata (Err cause) = Refused cause
-relay_by_row own label unitdata (Ok row) =
+abbrev pub relay_by_row : OwnValue → Label → SccpValue → Result TitleEntry Cause → RelayedValue
+relay_by_row own label message (Err cause) = Refused cause
+relay_by_row own label message (Ok row) =
     if nat_eq row.point own.point
-    then to_subsystem own (ssn_by row.route (parts_of unitdata).called.ssn)
-    else onward (written row.point own.point label (with_new_parts unitdata (led_on row label.opc (parts_of unitdata))))
+    then for_subsystem own label message (ssn_by row.route (sccp_parts message).called.ssn)
+    else onward (written row.point own.point label
+    (with_new_parts (lowered message) (led_on row label.opc (sccp_parts message))))
+
+-- before it is translated its hop counter is lowered, and it is refused if this comes to 0 (Q.714 §2.3.1)
+abbrev pub relay_by_title : OwnValue → List TitleEntry → Label → SccpValue → RelayedValue
+relay_by_title own rows label message =
+    if is_spent (lowered message) then Refused HopCounter
+    else relay_by_row own label message (row_of rows (sccp_parts message).called)
 
 -- by subsystem number a message is for this point, whatever point the address names; by title a row leads it
-abbrev pub relay_by_routing : Routing → OwnValue → List TitleEntry → Label → UnitdataValue → RelayedValue
-relay_by_routing routing.Ssn own rows label unitdata = to_subsystem own (parts_of unitdata).called.ssn
-relay_by_routing routing.Title own rows label unitdata =
-    relay_by_row own label unitdata (row_of rows (parts_of unitdata).called)
-
--- a UDT of a class above 1 asks for more than a connectionless service (Q.713 §3.6)
-abbrev pub is_connectionless : UnitdataValue → Bool
-is_connectionless (UdtValue class_octet parts) = nat_le (class_octet % 16) 1
-is_connectionless (UdtsValue return_cause parts) = true
+abbrev pub relay_by_routing : Routing → OwnValue → List TitleEntry → Label → SccpValue → RelayedValue
+relay_by_routing routing.Ssn own rows label message = for_subsystem own label message (sccp_parts message).called.ssn
+relay_by_routing routing.Title own rows label message = relay_by_title own rows label message
 
 -- why a message that can't be read is refused
 abbrev pub sccp_cause : SccpFault → Cause
@@ -182,18 +196,18 @@ sccp_cause Short = BadSccp
 sccp_cause Pointer = BadSccp
 sccp_cause Kind = NotInProfile
 
-abbrev pub relay_read : OwnValue → List TitleEntry → Label → Result UnitdataValue SccpFault → RelayedValue
+abbrev pub relay_read : OwnValue → List TitleEntry → Label → Result SccpValue SccpFault → RelayedValue
 relay_read own rows label (Err fault) = Refused (sccp_cause fault)
-relay_read own rows label (Ok unitdata) =
-    if is_connectionless unitdata
-    then relay_by_routing (parts_of unitdata).called.routing own rows label unitdata
-    else Refused NotInProfile
+relay_read own rows label (Ok message) =
+    if not (is_connectionless message) then Refused NotInProfile
+    else if not (has_hops message) then Refused HopCounter
+    else relay_by_routing (sccp_parts message).called.routing own rows label message
 
 -- what becomes of a message with this signalling information field
 unfoldable pub relay : OwnValue → List TitleEntry → List ℕ → RelayedValue
-relay own rows sif = relay_read own rows (label_at sif) (read_unitdata (drop 4 sif))
+relay own rows sif = relay_read own rows (label_at sif) (read_sccp own.extended (drop 4 sif))
 
--- ---- The message that returns one that was refused: a UDTS (Q.714 §4.2).
+-- ---- The message that returns one that was refused: a UDTS, or an XUDTS (Q.714 §4.2).
 
 -- the return cause (Q.713 §3.12); nothing is returned for any other refusal
 abbrev pub return_cause : Cause → Option ℕ
@@ -203,11 +217,35 @@ return_cause Unequipped = Some 4
 return_cause UnknownDestination = Some 5
 return_cause NoRoute = Some 5
 return_cause TooLong = Some 7
+return_cause HopCounter = Some 12
 return_cause _ = None
 
--- a UDTS goes to another point, if it can be written
-abbrev pub return_to : (own : ℕ) → Label → ℕ → UnitdataValue → Option (List ℕ)
-return_to own label point udts = if nat_eq point own then None else written point own label udts
+-- the first parameter of this name, if there is one
+abbrev pub parameter_of : (name : ℕ) → Option (List ℕ) → List ParameterValue
+parameter_of name None = []
+parameter_of name (Some octets) = record { name = name; octets = octets } ∷ []
+
+-- the first segmentation and the first importance of optional parameters
+abbrev pub returned_parameters : List ParameterValue → List ParameterValue
+returned_parameters ps = parameter_of 16 (first_named 16 ps) ++ parameter_of 18 (first_named 18 ps)
+
+-- an XUDTS, with a hop counter of 15
+abbrev pub xudts : (return_cause : ℕ) → PartsValue → List ParameterValue → ExtendedValue
+xudts number parts optional = record {
+  kind = Xudts number;
+  hop_counter = 15;
+  parts = parts;
+  optional = optional;
+}
+
+-- the message that returns one, with these parts
+abbrev pub service : (return_cause : ℕ) → SccpValue → PartsValue → SccpValue
+service number (Plain unitdata) parts = Plain (UdtsValue number parts)
+service number (Extended extended) parts = Extended (xudts number parts (returned_parameters extended.optional))
+
+-- it goes to another point, if it can be written
+abbrev pub return_to : (own : ℕ) → Label → ℕ → SccpValue → Option (List ℕ)
+return_to own label point message = if nat_eq point own then None else written point own label message
 
 -- the parts, sent back: to the address that called, from the one that was called
 abbrev pub sent_back : PartsValue → PartsValue
@@ -217,28 +255,30 @@ sent_back parts = record parts { called = parts.calling; calling = parts.called 
 abbrev pub led_back : TitleEntry → PartsValue → PartsValue
 led_back row parts = record parts { called = translated row parts.calling; calling = parts.called }
 
-abbrev pub return_by_row : OwnValue → Label → ℕ → PartsValue → Result TitleEntry Cause → Option (List ℕ)
-return_by_row own label number parts (Err cause) = None
-return_by_row own label number parts (Ok row) =
-    return_to own.point label row.point (UdtsValue number (led_back row parts))
+abbrev pub return_by_row : OwnValue → Label → ℕ → SccpValue → Result TitleEntry Cause → Option (List ℕ)
+return_by_row own label number message (Err cause) = None
+return_by_row own label number message (Ok row) =
+    return_to own.point label row.point (service number message (led_back row (sccp_parts message)))
 
--- a UDTS goes to the address that called. By subsystem number that is the point that it names, else the point that the
+-- It goes to the address that called. By subsystem number that is the point that it names, else the point that the
 -- message came from; by title it is where a row leads
-abbrev pub return_by : Routing → OwnValue → List TitleEntry → Label → ℕ → PartsValue → Option (List ℕ)
-return_by Ssn own rows label number parts =
-    return_to own.point label (unwrap_or parts.calling.point label.opc) (UdtsValue number (sent_back parts))
-return_by Title own rows label number parts = return_by_row own label number parts (row_of rows parts.calling)
+abbrev pub return_by : Routing → OwnValue → List TitleEntry → Label → ℕ → SccpValue → Option (List ℕ)
+return_by Ssn own rows label number message =
+    return_to own.point label (unwrap_or (sccp_parts message).calling.point label.opc)
+    (service number message (sent_back (sccp_parts message)))
+return_by Title own rows label number message =
+    return_by_row own label number message (row_of rows (sccp_parts message).calling)
 
--- a UDT is returned if it asks for a return on error and there is a return cause; a UDTS never is
-abbrev pub return_read : OwnValue → List TitleEntry → Label → Option ℕ → Result UnitdataValue SccpFault
-    → Option (List ℕ)
-return_read own rows label (Some number) (Ok (UdtValue class_octet parts)) =
-    if nat_eq (class_octet / 16) 8
-    then return_by parts.calling.routing own rows label number parts
+-- a message is returned if it asks for that and there is a return cause
+abbrev pub return_read : OwnValue → List TitleEntry → Label → Option ℕ → Result SccpValue SccpFault → Option (List ℕ)
+return_read own rows label (Some number) (Ok message) =
+    if asks_for_return message
+    then return_by (sccp_parts message).calling.routing own rows label number message
     else None
 return_read own rows label _ _ = None
 
 -- the signalling information field of the message that returns one with this field, which was refused for a cause, if
 -- one does
 unfoldable pub returned : OwnValue → List TitleEntry → List ℕ → Cause → Option (List ℕ)
-returned own rows sif cause = return_read own rows (label_at sif) (return_cause cause) (read_unitdata (drop 4 sif))
+returned own rows sif cause =
+    return_read own rows (label_at sif) (return_cause cause) (read_sccp own.extended (drop 4 sif))

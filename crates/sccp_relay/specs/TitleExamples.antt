@@ -5,7 +5,7 @@ use Rattle.settings_rows.specs.Configuration.{TitleEntry}
 use Rattle.settings_rows.specs.declared.title_row.TitleRoute.TheVariants.{Title}
 use Rattle.sccp_codec.specs.declared.title.TitleKey.{TitleKey}
 use Rattle.sccp_relay.specs.Rows.{IsOrdered}
-use Rattle.sccp_relay.specs.Relay.{IsTranslation, translation}
+use Rattle.sccp_relay.specs.Translation.{IsTranslation, translation}
 
 abbrev pub key : TitleKey
 key = record { translation = 0; plan = 1; nature = 4 }

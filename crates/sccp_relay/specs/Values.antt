@@ -1,12 +1,26 @@
 -- What the relay's types say, without where their octets lie.
-use Rattle.std.specs.Prelude.{ℕ, List, take, Option, Some, None, ⊤}
+use Rattle.std.specs.Prelude.{ℕ, List, [], ◌∷◌, take, Option, Some, None, ⊤}
+use Rattle.sccp_codec.specs.Values.{unitdata_of}
+use Rattle.sccp_codec.specs.ExtendedValues.{extended_of}
 use Rattle.sccp_relay.specs.declared.own.Own.{Own}
+use Rattle.sccp_relay.specs.declared.message.Message.{Message}
+use Rattle.sccp_relay.specs.declared.message.Message.TheVariants as message
 use Rattle.sccp_relay.specs.declared.relayed.Relayed.{Relayed}
 use Rattle.sccp_relay.specs.declared.relayed.Relayed.TheVariants as said
+use Rattle.sccp_relay.specs.Sccp.{SccpValue, Plain, Extended}
 use Rattle.sccp_relay.specs.Relay.{OwnValue, RelayedValue, Delivered, Onward, Refused}
 
 abbrev pub own_value : Own → OwnValue
-own_value own = record { point = own.point; subsystems = own.subsystems.now }
+own_value own = record {
+  point = own.point;
+  subsystems = own.subsystems.now;
+  extended = own.extended;
+  tested = own.tested;
+}
+
+abbrev pub sccp_of : Message → SccpValue
+sccp_of (message.Plain unitdata) = Plain (unitdata_of unitdata)
+sccp_of (message.Extended extended) = Extended (extended_of extended)
 
 -- what became of a message, with what was written at the front of a field
 abbrev pub relayed_of : Relayed → List ℕ → RelayedValue
@@ -24,3 +38,12 @@ IfOnward (said.Refused cause) P = ⊤
 abbrev pub written_in : Option ℕ → List ℕ → Option (List ℕ)
 written_in None field = None
 written_in (Some count) field = Some (take count field)
+
+-- the octets of a segmentation, and of an importance, if there is one
+abbrev pub four_octets : Option (ℕ × ℕ × ℕ × ℕ) → Option (List ℕ)
+four_octets None = None
+four_octets (Some octets) = Some (octets.0 ∷ octets.1 ∷ octets.2 ∷ octets.3 ∷ [])
+
+abbrev pub one_octet : Option ℕ → Option (List ℕ)
+one_octet None = None
+one_octet (Some octet) = Some (octet ∷ [])

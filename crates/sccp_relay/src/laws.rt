@@ -4,7 +4,7 @@ ghost use Rattle.std.specs.Prelude.{◌≡◌, ℕ, List, Ok};
 ghost use Rattle.settings_rows.specs.Configuration.{TitleEntry};
 ghost use Rattle.sccp_codec.specs.declared.title.TitleKey.{TitleKey};
 ghost use Rattle.sccp_relay.specs.Rows.{IsOrdered};
-ghost use Rattle.sccp_relay.specs.Relay.{IsTranslation, translation};
+ghost use Rattle.sccp_relay.specs.Translation.{IsTranslation, translation};
 ghost use Rattle.sccp_relay.specs.Laws.{added_stands, added_leaves, removed_is_gone, removed_leaves};
 ghost use Rattle.sccp_relay.specs.Led as led;
 
@@ -26,15 +26,21 @@ pub fn removing_a_row_leaves_the_others()
     ensures others { removed_leaves }
 {}
 
-/// A message that goes on keeps the class or the return cause, the data, the selection and the title of the one that
-/// came. Its addresses read at the point of its row as they should (Q.714 §2.3, §2.4, §2.7).
+/// A message that goes on keeps the class or the return cause, the data, the optional parameters, the selection and the
+/// title of the one that came. Its addresses read at the point of its row as they should (Q.714 §2.3, §2.4, §2.7).
+/// Besides, only an SSA goes on, in the place of an SST about a subsystem that is here (Q.714 §5.3.4).
 pub fn what_goes_on_reads_back()
     ensures { led.what_goes_on_reads_back }
 {}
 
-/// A UDTS returns a UDT that asked for it, and nothing else: with the addresses exchanged and the same data. To an
-/// address by subsystem number it goes to the point that this names, or where the UDT came from; to one by title, where
-/// the row of the title leads (Q.714 §4.2).
+/// A UDTS returns a UDT that asked for it, an XUDTS an XUDT, and nothing else is returned: with the addresses exchanged
+/// and the same data. To an address by subsystem number it goes to the point that this names, or where the message came
+/// from; to one by title, where the row of the title leads (Q.714 §4.2).
 pub fn a_udts_returns_a_udt()
     ensures { led.a_udts_returns_a_udt }
+{}
+
+/// However the rows of nodes lead to each other, an extended message goes on 14 times at most (Q.714 §2.3.1).
+pub fn loops_of_titles_end()
+    ensures { led.loops_of_titles_end }
 {}

@@ -6,13 +6,17 @@ ghost use Rattle.sccp_relay.specs.Values.{own_value};
 
 use signalling_types::PointCode;
 
-/// The point that a node is, and the subsystems that are there.
+/// The point that a node is, the subsystems that are there, and what it does for SCCP.
 #[derive(Clone, Copy)]
 pub struct Own<'a> {
     /// Its point code.
     pub point: PointCode,
     /// The numbers of its subsystems.
     pub subsystems: &'a [u8],
+    /// Whether extended unitdata, XUDT and XUDTS, are relayed (Q.713 §4.18, §4.19).
+    pub extended: bool,
+    /// Whether tests of its subsystems are answered (Q.714 §5.3.4).
+    pub tested: bool,
 }
 
 impl Own<'_> {

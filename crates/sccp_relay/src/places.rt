@@ -5,7 +5,7 @@ ghost use Rattle.std.specs.List.{list_any, IsDistinct};
 ghost use Rattle.std.specs.List.Sorted.{IsPartitionPoint};
 ghost use Rattle.sccp_relay.specs.Rows.{IsOrdered, place_of, row_place, place_order, is_before, key_of, is_same_place, table_of};
 ghost use Rattle.sccp_relay.specs.Places.{StandsAt, FitsAt};
-ghost use Rattle.sccp_relay.specs.Relay.{has_key};
+ghost use Rattle.sccp_relay.specs.Translation.{has_key};
 
 use sccp_codec::TitleKey;
 use settings_rows::TitleRow;

@@ -1,35 +1,37 @@
-//! A unitdata message for this point.
+//! A message for this point.
 
 ghost use Rattle.std.specs.Prelude.{◌≡◌, ◌≤◌, length, drop, List, ℕ, Ok};
 ghost use Rattle.mtp3_codec.specs.Headings.{label_at};
-ghost use Rattle.sccp_codec.specs.Messages.{parts_of};
-ghost use Rattle.sccp_codec.specs.Values.{address_of, parts_value, udt_of, udts_of, unitdata_of};
+ghost use Rattle.sccp_codec.specs.Values.{address_of, parts_value};
 ghost use Rattle.sccp_relay.specs.Relay as rule;
-ghost use Rattle.sccp_relay.specs.Values.{own_value, relayed_of, IfOnward};
+ghost use Rattle.sccp_relay.specs.Sccp.{sccp_parts, with_new_parts, lowered};
+ghost use Rattle.sccp_relay.specs.Values.{own_value, relayed_of, sccp_of, IfOnward};
 
 use crate::Translations;
+use crate::answering::answer;
+use crate::message::{Message, lowered_hops};
 use crate::own::Own;
 use crate::relayed::Relayed;
-use crate::writing::{ssn_by, translated, write_udt, write_udts};
+use crate::writing::{ssn_by, translated, write_extended, write_udt, write_udts};
 use mtp3_codec::Label;
-use sccp_codec::{Address, Field, Parts, Routing, SccpFault, Udt, Udts, Unitdata};
+use sccp_codec::{
+    Address, ExtendedUnitdata, Field, Parts, Routing, SccpFault, Udt, Udts, Unitdata,
+};
 use settings_rows::TitleRow;
 use signalling_types::{Cause, Limits, PointCode};
-
-/// The highest protocol class without a connection (Q.713 §3.6).
-const LAST_CONNECTIONLESS_CLASS: u8 = 1;
 
 /// Octets of the routing label, which comes before the message (Q.704 §2.2).
 const LABEL_OCTETS: usize = 4;
 
 /// What becomes of the message of a signalling information field that came for this point. If it goes on, it is
-/// rewritten at the front of the field that is lent, each octet once. What follows it there may change, and so may all
-/// of that field if it doesn't go on (Q.714 §2.3).
+/// rewritten at the front of the field that is lent, each octet once; the answer to a test of a subsystem goes in its
+/// place. What follows it there may change, and so may all of that field if it doesn't go on (Q.714 §2.3, §5.3.4).
 ///
-/// Refused, in this order: NotInProfile if it is neither a UDT nor a UDTS, and BadSccp if it can't be read;
-/// NotInProfile if it is a UDT of a class above 1; if it is routed by title, as `Address::global_title` and then
-/// `Translations::translate` refuse the title of its called address; Unequipped if it is for a subsystem that isn't
-/// here; TooLong if it goes on and a pointer is over 255, or the field over 272 octets.
+/// Refused, in this order: NotInProfile if it is neither a UDT nor a UDTS, nor an XUDT nor an XUDTS where these are
+/// relayed, and BadSccp if it can't be read; NotInProfile if it is a UDT or an XUDT of a class above 1; HopCounter if it
+/// has a hop counter of 0 or above 15, or of 1 if it is routed by title; if it is routed by title, as
+/// `Address::global_title` and then `Translations::translate` refuse the title of its called address; Unequipped if it
+/// is for a subsystem that isn't here; TooLong if it goes on and a pointer is over 255, or the field over 272 octets.
 #[tactic(auto, unfolding(crate::specs::Relay::relay))]
 pub fn relay(sif: &[u8], rows: &Translations, own: &Own<'_>, field: &mut Field) -> Relayed
     requires label { 4 ≤ length sif.now }
@@ -38,9 +40,9 @@ pub fn relay(sif: &[u8], rows: &Translations, own: &Own<'_>, field: &mut Field) 
     ensures fits { IfOnward result (λ count. count ≤ Limits.SIF_OCTETS) }
 {
     let label = Label::at(sif);
-    match Unitdata::read(behind_label(sif)) {
+    match Message::read(own.extended, behind_label(sif)) {
         Err(fault) => Relayed::Refused(sccp_cause(fault)),
-        Ok(unitdata) => relay_read(&unitdata, label, rows, own, field),
+        Ok(message) => relay_read(&message, label, rows, own, field),
     }
 }
 
@@ -64,31 +66,46 @@ fn sccp_cause(fault: SccpFault) -> Cause
 
 /// A message that was read.
 fn relay_read(
-    unitdata: &Unitdata<'_>,
+    message: &Message<'_>,
     label: Label,
     rows: &Translations,
     own: &Own<'_>,
     field: &mut Field,
 ) -> Relayed
     ensures exact { relayed_of result field.new
-        ≡ rule.relay_read (own_value own.now) rows.now label (Ok (unitdata_of unitdata.now)) }
+        ≡ rule.relay_read (own_value own.now) rows.now label (Ok (sccp_of message.now)) }
     ensures label { IfOnward result (λ count. 4 ≤ count) }
     ensures fits { IfOnward result (λ count. count ≤ Limits.SIF_OCTETS) }
 {
-    let called = match unitdata {
-        Unitdata::Udt(udt) if udt.class() > LAST_CONNECTIONLESS_CLASS => {
-            return Relayed::Refused(Cause::NotInProfile);
-        }
-        Unitdata::Udt(udt) => &udt.parts.called,
-        Unitdata::Udts(udts) => &udts.parts.called,
-    };
-    if called.routing == Routing::Ssn {
-        return to_subsystem(own, called.ssn);
+    if !message.is_connectionless() {
+        return Relayed::Refused(Cause::NotInProfile);
     }
-    match row_of(rows, called) {
-        Err(cause) => Relayed::Refused(cause),
-        Ok(row) if row.point() == own.point => to_subsystem(own, ssn_by(row.route(), called.ssn)),
-        Ok(row) => lead_on(unitdata, &row, label, own, field),
+    if !message.has_hops() {
+        return Relayed::Refused(Cause::HopCounter);
+    }
+    let called = &message.parts().called;
+    match called.routing {
+        Routing::Ssn => for_subsystem(message, called.ssn, label, own, field),
+        Routing::Title => relay_by_title(message, label, rows, own, field),
+    }
+}
+
+/// A message for SCCP management or another subsystem of this point.
+fn for_subsystem(
+    message: &Message<'_>,
+    ssn: Option<u8>,
+    label: Label,
+    own: &Own<'_>,
+    field: &mut Field,
+) -> Relayed
+    ensures exact { relayed_of result field.new
+        ≡ rule.for_subsystem (own_value own.now) label (sccp_of message.now) ssn }
+    ensures label { IfOnward result (λ count. 4 ≤ count) }
+    ensures fits { IfOnward result (λ count. count ≤ Limits.SIF_OCTETS) }
+{
+    match answer(message, ssn, label, own, field) {
+        Some(count) => Relayed::Onward(count),
+        None => to_subsystem(own, ssn),
     }
 }
 
@@ -105,6 +122,32 @@ fn to_subsystem(own: &Own<'_>, ssn: Option<u8>) -> Relayed
     }
 }
 
+/// A message whose called address is by title.
+fn relay_by_title(
+    message: &Message<'_>,
+    label: Label,
+    rows: &Translations,
+    own: &Own<'_>,
+    field: &mut Field,
+) -> Relayed
+    ensures exact { relayed_of result field.new
+        ≡ rule.relay_by_title (own_value own.now) rows.now label (sccp_of message.now) }
+    ensures label { IfOnward result (λ count. 4 ≤ count) }
+    ensures fits { IfOnward result (λ count. count ≤ Limits.SIF_OCTETS) }
+{
+    if message.is_at_last_hop() {
+        return Relayed::Refused(Cause::HopCounter);
+    }
+    let called = &message.parts().called;
+    match row_of(rows, called) {
+        Err(cause) => Relayed::Refused(cause),
+        Ok(row) if row.point() == own.point => {
+            for_subsystem(message, ssn_by(row.route(), called.ssn), label, own, field)
+        }
+        Ok(row) => lead_on(message, &row, label, own, field),
+    }
+}
+
 /// The row that the title of an address is translated by.
 pub(crate) fn row_of(rows: &Translations, address: &Address<'_>) -> Result<TitleRow, Cause>
     ensures { result ≡ rule.row_of rows.now (address_of address.now) }
@@ -117,32 +160,41 @@ pub(crate) fn row_of(rows: &Translations, address: &Address<'_>) -> Result<Title
 
 /// A message goes on to the point that a row leads to.
 fn lead_on(
-    unitdata: &Unitdata<'_>,
+    message: &Message<'_>,
     row: &TitleRow,
     label: Label,
     own: &Own<'_>,
     field: &mut Field,
 ) -> Relayed
     ensures exact { relayed_of result field.new ≡ rule.onward (rule.written row.now.point own.now.point label
-        (rule.with_new_parts (unitdata_of unitdata.now)
-        (rule.led_on row.now label.opc (parts_of (unitdata_of unitdata.now))))) }
+        (with_new_parts (lowered (sccp_of message.now))
+        (rule.led_on row.now label.opc (sccp_parts (sccp_of message.now))))) }
     ensures label { IfOnward result (λ count. 4 ≤ count) }
     ensures fits { IfOnward result (λ count. count ≤ Limits.SIF_OCTETS) }
 {
-    let written = match unitdata {
-        Unitdata::Udt(udt) => {
+    let point = row.point();
+    let written = match message {
+        Message::Plain(Unitdata::Udt(udt)) => {
             let udt = Udt {
                 class_octet: udt.class_octet,
                 parts: led_on(row, label.opc, &udt.parts),
             };
-            write_udt(row.point(), own.point, label, &udt, field)
+            write_udt(point, own.point, label, &udt, field)
         }
-        Unitdata::Udts(udts) => {
+        Message::Plain(Unitdata::Udts(udts)) => {
             let udts = Udts {
                 return_cause: udts.return_cause,
                 parts: led_on(row, label.opc, &udts.parts),
             };
-            write_udts(row.point(), own.point, label, &udts, field)
+            write_udts(point, own.point, label, &udts, field)
+        }
+        Message::Extended(extended) => {
+            let extended = ExtendedUnitdata {
+                hop_counter: lowered_hops(extended),
+                parts: led_on(row, label.opc, &extended.parts),
+                ..*extended
+            };
+            write_extended(point, own.point, label, &extended, field)
         }
     };
     match written {

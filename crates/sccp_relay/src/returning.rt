@@ -1,27 +1,47 @@
-//! A UDTS that returns a UDT.
+//! The message that returns another: a UDTS, or an XUDTS.
 
-ghost use Rattle.std.specs.Prelude.{◌≡◌, ◌≤◌, length, IfSome, Some, Ok};
-ghost use Rattle.sccp_codec.specs.Values.{parts_value, udts_of, unitdata_of};
+ghost use Rattle.std.specs.Prelude.{◌≡◌, ◌≤◌, ◌++◌, [], length, IsSome, IfSome, Some, unwrap_or, Ok};
+ghost use Rattle.sccp_codec.specs.Extended.{first_named, read_parameters};
+ghost use Rattle.sccp_codec.specs.ExtendedValues.{extended_of, parameters_of};
+ghost use Rattle.sccp_codec.specs.Values.{address_of, parts_value};
 ghost use Rattle.sccp_relay.specs.Relay as rule;
-ghost use Rattle.sccp_relay.specs.Values.{own_value, written_in};
+ghost use Rattle.sccp_relay.specs.Sccp.{sccp_parts};
+ghost use Rattle.sccp_relay.specs.Values.{four_octets, one_octet, own_value, sccp_of, written_in};
 
 use crate::Translations;
+use crate::message::{MAX_HOPS, Message};
 use crate::own::Own;
 use crate::relaying::{behind_label, row_of};
-use crate::writing::{same, translated, write_udts};
+use crate::writing::{same, translated, write_extended, write_udts};
 use mtp3_codec::Label;
-use sccp_codec::{Field, Parts, Routing, Udt, Udts, Unitdata};
+use sccp_codec::{
+    Address, ExtendedKind, ExtendedUnitdata, Field, OptionalPart, Parts, Routing, Udts,
+};
 use settings_rows::TitleRow;
 use signalling_types::{Cause, Limits, PointCode};
 
-/// Writes the UDTS that returns the message of this signalling information field, which came for this point and was
-/// refused for this cause. It is written at the front of the field that is lent, each octet once. Returns how many
-/// octets it has. Its addresses are those of the message, exchanged; a called address by title is translated as in a
-/// relayed message. If there is no UDTS, the field that is lent may hold anything (Q.714 §4.2).
+/// The name of segmentation, which has four octets (Q.713 §3.17).
+const SEGMENTATION: u8 = 0x10;
+
+/// The name of importance, which has one octet (Q.713 §3.19).
+const IMPORTANCE: u8 = 0x12;
+
+/// The name that ends optional parameters (Q.713 §3.1).
+const END: u8 = 0;
+
+/// Octets of segmentation and importance, each after its name and its length, and of the end.
+const KEPT_OCTETS: usize = 2 + 4 + 2 + 1 + 1;
+
+/// Writes the message that returns that of this signalling information field, which came for this point and was refused
+/// for this cause: a UDTS for a UDT, an XUDTS for an XUDT where these are relayed. It is written at the front of the
+/// field that is lent, each octet once. Returns how many octets it has. Its addresses are those of the message,
+/// exchanged; a called address by title is translated as in a relayed message. An XUDTS has hop counter 15, and of the
+/// optional parameters the first segmentation and the first importance. If nothing is returned, the field that is lent
+/// may hold anything (Q.714 §4.2).
 ///
-/// None if the message isn't a UDT, or doesn't ask for a return on error; if the cause is none of NoNature, NoDigits,
-/// Unequipped, UnknownDestination, NoRoute and TooLong; and if the UDTS would go to this point, finds no translation,
-/// or would be too long.
+/// None if the message is neither a UDT nor an XUDT, or doesn't ask for a return on error; if the cause is none of
+/// NoNature, NoDigits, Unequipped, HopCounter, UnknownDestination, NoRoute and TooLong; and if what returns it would go
+/// to this point, finds no translation, or would be too long.
 #[tactic(auto, unfolding(crate::specs::Relay::returned))]
 pub fn returned(
     sif: &[u8],
@@ -37,8 +57,8 @@ pub fn returned(
 {
     let label = Label::at(sif);
     let number = return_cause(cause)?;
-    match Unitdata::read(behind_label(sif)) {
-        Ok(unitdata) => return_read(&unitdata, number, label, rows, own, field),
+    match Message::read(own.extended, behind_label(sif)) {
+        Ok(message) => return_read(&message, number, label, rows, own, field),
         Err(_) => None,
     }
 }
@@ -53,13 +73,14 @@ fn return_cause(cause: Cause) -> Option<u8>
         Cause::Unequipped => Some(4),
         Cause::UnknownDestination | Cause::NoRoute => Some(5),
         Cause::TooLong => Some(7),
+        Cause::HopCounter => Some(12),
         _ => None,
     }
 }
 
-/// A UDT that asks for it is returned with this return cause.
+/// A message that asks for it is returned with this return cause.
 fn return_read(
-    unitdata: &Unitdata<'_>,
+    message: &Message<'_>,
     number: u8,
     label: Label,
     rows: &Translations,
@@ -67,54 +88,51 @@ fn return_read(
     field: &mut Field,
 ) -> Option<usize>
     ensures text { written_in result field.new
-        ≡ rule.return_read (own_value own.now) rows.now label (Some number) (Ok (unitdata_of unitdata.now)) }
+        ≡ rule.return_read (own_value own.now) rows.now label (Some number) (Ok (sccp_of message.now)) }
     ensures label { IfSome result (λ count. 4 ≤ count) }
     ensures fits { IfSome result (λ count. count ≤ Limits.SIF_OCTETS) }
 {
-    match unitdata {
-        Unitdata::Udt(udt) if udt.returns_on_error() => {
-            return_by(number, &udt.parts, label, rows, own, field)
-        }
-        _ => None,
+    if message.asks_for_return() {
+        return_by(number, message, label, rows, own, field)
+    } else {
+        None
     }
 }
 
-/// The UDTS goes to the address that called. By subsystem number that is the point that it names, else the point that
-/// the message came from; by title it is where a row leads.
+/// It goes to the address that called. By subsystem number that is the point that it names, else the point that the
+/// message came from; by title it is where a row leads.
 fn return_by(
     number: u8,
-    parts: &Parts<'_>,
+    message: &Message<'_>,
     label: Label,
     rows: &Translations,
     own: &Own<'_>,
     field: &mut Field,
 ) -> Option<usize>
-    ensures text { written_in result field.new ≡ rule.return_by (parts_value parts.now).calling.routing
-        (own_value own.now) rows.now label number (parts_value parts.now) }
+    ensures text { written_in result field.new ≡ rule.return_by (sccp_parts (sccp_of message.now)).calling.routing
+        (own_value own.now) rows.now label number (sccp_of message.now) }
     ensures label { IfSome result (λ count. 4 ≤ count) }
     ensures fits { IfSome result (λ count. count ≤ Limits.SIF_OCTETS) }
 {
+    let parts = message.parts();
     let caller = &parts.calling;
     if caller.routing == Routing::Ssn {
-        let udts = Udts {
-            return_cause: number,
-            parts: sent_back(parts),
-        };
-        return return_to(
-            caller.point.unwrap_or(label.opc),
-            own.point,
-            label,
-            &udts,
-            field,
-        );
+        let point = caller.point.unwrap_or(label.opc);
+        let parts = sent_back(parts);
+        return return_to(point, own.point, label, number, message, &parts, field);
     }
     match row_of(rows, caller) {
         Ok(row) => {
-            let udts = Udts {
-                return_cause: number,
-                parts: led_back(&row, parts),
-            };
-            return_to(row.point(), own.point, label, &udts, field)
+            let parts = led_back(&row, parts);
+            return_to(
+                row.point(),
+                own.point,
+                label,
+                number,
+                message,
+                &parts,
+                field,
+            )
         }
         Err(_) => None,
     }
@@ -142,20 +160,124 @@ fn led_back<'a>(row: &TitleRow, parts: &Parts<'a>) -> Parts<'a>
     }
 }
 
-/// A UDTS is written to another point.
+/// What returns a message, with these parts, is written to another point.
 fn return_to(
     point: PointCode,
     own: PointCode,
     label: Label,
-    udts: &Udts<'_>,
+    number: u8,
+    message: &Message<'_>,
+    parts: &Parts<'_>,
     field: &mut Field,
 ) -> Option<usize>
-    ensures text { written_in result field.new ≡ rule.return_to own label point (udts_of udts.now) }
+    ensures text { written_in result field.new ≡ rule.return_to own label point
+        (rule.service number (sccp_of message.now) (parts_value parts.now)) }
     ensures label { IfSome result (λ count. 4 ≤ count) }
     ensures fits { IfSome result (λ count. count ≤ Limits.SIF_OCTETS) }
 {
     if point == own {
         return None;
     }
-    write_udts(point, own, label, udts, field)
+    match message {
+        Message::Plain(_) => {
+            let udts = Udts {
+                return_cause: number,
+                parts: same_parts(parts),
+            };
+            write_udts(point, own, label, &udts, field)
+        }
+        Message::Extended(extended) => {
+            let octets = kept_octets(&extended.optional);
+            let xudts = xudts(number, parts, &octets);
+            write_extended(point, own, label, &xudts, field)
+        }
+    }
+}
+
+fn same_parts<'a>(parts: &Parts<'a>) -> Parts<'a>
+    ensures { parts_value result ≡ parts_value parts.now }
+{
+    Parts {
+        called: same(&parts.called),
+        calling: same(&parts.calling),
+        data: parts.data,
+    }
+}
+
+/// An XUDTS with these parts, and the optional parameters at the front of these octets.
+fn xudts<'a>(number: u8, parts: &'a Parts<'_>, octets: &'a [u8]) -> ExtendedUnitdata<'a>
+    requires { IsSome (read_parameters octets.now) }
+    ensures { extended_of result
+        ≡ rule.xudts number (parts_value parts.now) (unwrap_or (read_parameters octets.now) []) }
+{
+    ExtendedUnitdata {
+        kind: ExtendedKind::Xudts(number),
+        hop_counter: MAX_HOPS,
+        parts: Parts {
+            called: anew(&parts.called),
+            calling: anew(&parts.calling),
+            data: parts.data,
+        },
+        optional: OptionalPart::read(octets).unwrap(),
+    }
+}
+
+/// The same address, for as long as it is lent.
+fn anew<'a>(address: &'a Address<'_>) -> Address<'a>
+    ensures { address_of result ≡ address_of address.now }
+{
+    Address {
+        national: address.national,
+        routing: address.routing,
+        point: address.point,
+        ssn: address.ssn,
+        title_indicator: address.title_indicator,
+        title: address.title,
+    }
+}
+
+/// The octets of the optional parameters that a returned message keeps, and their end.
+fn kept_octets(optional: &OptionalPart<'_>) -> [u8; KEPT_OCTETS]
+    ensures { read_parameters result ≡ Some (rule.returned_parameters (parameters_of optional.now)) }
+{
+    both_octets(segmentation(optional), importance(optional))
+}
+
+/// The four octets of the first segmentation.
+fn segmentation(optional: &OptionalPart<'_>) -> Option<(u8, u8, u8, u8)>
+    ensures { four_octets result ≡ first_named 16 (parameters_of optional.now) }
+{
+    if optional.octets().is_empty() {
+        return None;
+    }
+    match optional.parameter(SEGMENTATION)? {
+        [first, second, third, fourth] => Some((*first, *second, *third, *fourth)),
+        _ => None,
+    }
+}
+
+/// The octet of the first importance.
+fn importance(optional: &OptionalPart<'_>) -> Option<u8>
+    ensures { one_octet result ≡ first_named 18 (parameters_of optional.now) }
+{
+    if optional.octets().is_empty() {
+        return None;
+    }
+    match optional.parameter(IMPORTANCE)? {
+        [octet] => Some(*octet),
+        _ => None,
+    }
+}
+
+/// The octets of a segmentation and an importance, if there are these, and their end.
+fn both_octets(segmentation: Option<(u8, u8, u8, u8)>, importance: Option<u8>) -> [u8; KEPT_OCTETS]
+    ensures { read_parameters result
+        ≡ Some (rule.parameter_of 16 (four_octets segmentation) ++ rule.parameter_of 18 (one_octet importance)) }
+{
+    match (segmentation, importance) {
+        (Some((a, b, c, d)), Some(e)) => [SEGMENTATION, 4, a, b, c, d, IMPORTANCE, 1, e, END],
+        (Some((a, b, c, d)), None) => [SEGMENTATION, 4, a, b, c, d, END, END, END, END],
+        (None, Some(e)) => [IMPORTANCE, 1, e, END, END, END, END, END, END, END],
+        (None, None) => [END; KEPT_OCTETS],
+    }
 }

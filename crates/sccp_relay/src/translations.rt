@@ -6,7 +6,7 @@ ghost use Rattle.std.specs.Result.{is_ok};
 ghost use Rattle.sccp_relay.specs.Digits.{with_value};
 ghost use Rattle.sccp_relay.specs.Nodes.{stored};
 ghost use Rattle.sccp_relay.specs.Rows.{IsOrdered, place_of, has_row, with_row, without_row, add_refusal, is_same_place, table_of};
-ghost use Rattle.sccp_relay.specs.Relay.{translation, IsTranslation};
+ghost use Rattle.sccp_relay.specs.Translation.{translation, IsTranslation};
 ghost use Rattle.sccp_relay.specs.Ways.{IsRow, way_of, lead_of};
 
 use crate::Trie;

@@ -2,11 +2,13 @@
 
 ghost use Rattle.std.specs.Prelude.{◌≡◌, ◌≤◌, Some, None, IfSome, if◌then◌else◌};
 ghost use Rattle.sccp_codec.specs.Values.{address_of, parts_value, udt_of, udts_of};
+ghost use Rattle.sccp_codec.specs.ExtendedValues.{extended_of};
 ghost use Rattle.sccp_relay.specs.Relay as rule;
+ghost use Rattle.sccp_relay.specs.Sccp.{Plain, Extended};
 ghost use Rattle.sccp_relay.specs.Values.{written_in};
 
 use mtp3_codec::Label;
-use sccp_codec::{Address, Field, Routing, Udt, Udts};
+use sccp_codec::{Address, ExtendedUnitdata, Field, Routing, Udt, Udts};
 use settings_rows::{TitleRoute, TitleRow};
 use signalling_types::{Limits, PointCode, Ssn};
 
@@ -19,7 +21,7 @@ pub(crate) fn write_udt(
     udt: &Udt<'_>,
     field: &mut Field,
 ) -> Option<usize>
-    ensures text { written_in result field.new ≡ rule.written point own label (udt_of udt.now) }
+    ensures text { written_in result field.new ≡ rule.written point own label (Plain (udt_of udt.now)) }
     ensures label { IfSome result (λ count. 4 ≤ count) }
     ensures fits { IfSome result (λ count. count ≤ Limits.SIF_OCTETS) }
 {
@@ -37,11 +39,29 @@ pub(crate) fn write_udts(
     udts: &Udts<'_>,
     field: &mut Field,
 ) -> Option<usize>
-    ensures text { written_in result field.new ≡ rule.written point own label (udts_of udts.now) }
+    ensures text { written_in result field.new ≡ rule.written point own label (Plain (udts_of udts.now)) }
     ensures label { IfSome result (λ count. 4 ≤ count) }
     ensures fits { IfSome result (λ count. count ≤ Limits.SIF_OCTETS) }
 {
     match udts.write(label_to(point, own, label).write(), field) {
+        Ok(count) => Some(count),
+        Err(_) => None,
+    }
+}
+
+/// Writes an XUDT or an XUDTS for another point, as `write_udt` does a UDT.
+pub(crate) fn write_extended(
+    point: PointCode,
+    own: PointCode,
+    label: Label,
+    extended: &ExtendedUnitdata<'_>,
+    field: &mut Field,
+) -> Option<usize>
+    ensures text { written_in result field.new ≡ rule.written point own label (Extended (extended_of extended.now)) }
+    ensures label { IfSome result (λ count. 4 ≤ count) }
+    ensures fits { IfSome result (λ count. count ≤ Limits.SIF_OCTETS) }
+{
+    match extended.write(label_to(point, own, label).write(), field) {
         Ok(count) => Some(count),
         Err(_) => None,
     }

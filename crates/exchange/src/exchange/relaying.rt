@@ -83,13 +83,15 @@ impl Exchange {
         self.transfer(None, Label::at(message.sif), message)
     }
 
-    /// The point that this node is, and its subsystems.
+    /// The point that this node is, its subsystems, and what it does for SCCP.
     fn own(&self) -> Own<'_>
         ensures { own_value result ≡ rule.own_of self.now.settings }
     {
         Own {
             point: self.settings.own(),
             subsystems: self.settings.subsystems(),
+            extended: self.settings.extended_unitdata(),
+            tested: self.settings.subsystem_tests(),
         }
     }
 

@@ -1,4 +1,4 @@
-use Rattle.sccp_relay.proofs.Led.{returned-udt}
+use Rattle.sccp_relay.proofs.GoingBack.{returned-udt}
 use Rattle.sccp_relay.proofs.laws.a_udts_returns_a_udt.Goals as goal
 
 pub returns : goal.returns

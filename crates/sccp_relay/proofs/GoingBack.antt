@@ -1,0 +1,193 @@
+-- What is returned, as it is read where it arrives.
+use Rattle.std.proofs.Common.{◌≡◌, ◌≢◌, ℕ, ◌+◌, ◌/◌, ◌^◌, ◌<◌, ◌⊎◌, Bool, true, false, cond, List, ◌++◌, length, drop, Option, Some, None, Result, Ok, Err, refl, sym, ap, subst, inl, inr}
+use Rattle.std.proofs.lemmas.Bool.{eq-eqb, eqb-true}
+use Rattle.std.specs.List.{list_all}
+use Rattle.std.specs.Prelude.{All, IfSome, nat_eq, unwrap_or}
+use Rattle.signalling_types.specs.declared.cause.Cause.{Cause}
+use Rattle.settings_rows.specs.Configuration.{TitleEntry}
+use Rattle.mtp3_codec.specs.declared.label.Label.{Label}
+use Rattle.mtp3_codec.specs.Headings.{label_at}
+use Rattle.sccp_codec.specs.declared.fault.SccpFault.{SccpFault}
+use Rattle.sccp_codec.specs.declared.address.Routing.{Routing}
+use Rattle.sccp_codec.specs.declared.address.Routing.TheVariants.{Title, Ssn}
+use Rattle.sccp_codec.specs.declared.extended.ExtendedKind.{ExtendedKind}
+use Rattle.sccp_codec.specs.declared.extended.ExtendedKind.TheVariants.{Xudt, Xudts}
+use Rattle.sccp_codec.specs.Messages.{AreOctets, PartsValue, UdtValue, UdtsValue, IsPartsValue}
+use Rattle.sccp_codec.specs.Extended.{first_named, has_its_length, is_parameter, type_of, after_type}
+use Rattle.sccp_codec.specs.Titles.{read_title}
+use Rattle.sccp_relay.specs.Sccp.{SccpValue, Plain, Extended, sccp_parts, read_sccp, asks_for_return, is_kind_returned}
+use Rattle.sccp_relay.specs.Relay.{OwnValue, row_of, written, return_cause, parameter_of, returned_parameters, service, return_to, return_by, return_by_row, return_read, returned, sent_back, led_back}
+use Rattle.sccp_relay.specs.Led.{SameTitle, GoesBack, IsReturned, AreInRange, type_octet, second_octet, hops_of, optional_of, a_udts_returns_a_udt}
+use Rattle.sccp_relay.specs.Ways.{IsRow}
+use Rattle.sccp_relay.proofs.KeptParameters.{named-length}
+use Rattle.sccp_relay.proofs.LedAddresses.{translated-led, translated-fits, title-row, label-fits}
+use Rattle.sccp_relay.proofs.SaidMessages.{IsSccpValue, IsReadHere, fits-read, here-read, written-reads, sent}
+use Rattle.sccp_relay.proofs.GoingOn.{drop-octets, in-case, parts-fit}
+
+-- ---- where it goes
+
+record Returns (own : OwnValue) (rows : List TitleEntry) (label : Label) (number : ℕ) (came : SccpValue) (field : List ℕ) : Type 0 where
+  pub point : ℕ
+  pub point_fits : point < 2 ^ 14
+  pub elsewhere : point ≢ own.point
+  pub goes : PartsValue
+  pub fits : IsPartsValue goes
+  pub writes : written point own.point label (service number came goes) ≡ Some field
+  pub calling : goes.calling ≡ (sccp_parts came).called
+  pub called : SameTitle (sccp_parts came).calling goes.called
+  pub back : GoesBack rows label.opc (sccp_parts came).calling point goes.called
+  pub carried : goes.data ≡ (sccp_parts came).data
+
+otherwise : (b : Bool) (text : Option (List ℕ)) (field : List ℕ) → cond b None text ≡ Some field → (b ≡ false) × (text ≡ Some field)
+otherwise true text field e = absurd cc
+otherwise false text field e = (refl, e)
+
+record IsWritten (own : ℕ) (label : Label) (point : ℕ) (message : SccpValue) (field : List ℕ) : Type 0 where
+  pub elsewhere : point ≢ own
+  pub writes : written point own label message ≡ Some field
+
+goes-back : (own : ℕ) (label : Label) (point : ℕ) (message : SccpValue) (field : List ℕ) → return_to own label point message ≡ Some field → IsWritten own label point message field
+goes-back own label point message field e =
+    let r = otherwise (nat_eq point own) (written point own label message) field e in
+    record { elsewhere = λ same. absurd (let yes = eq-eqb point own same in let no = r.0 in cc); writes = r.1 }
+
+or-fits : (point : Option ℕ) (other : ℕ) → IfSome point (λ p. p < 2 ^ 14) → other < 2 ^ 14 → unwrap_or point other < 2 ^ 14
+or-fits None other h k = k
+or-fits (Some point) other h k = h
+
+row-returns : (own : OwnValue) (rows : List TitleEntry) (label : Label) (number : ℕ) (came : SccpValue) (found : Result TitleEntry Cause) (field : List ℕ) → (sccp_parts came).calling.routing ≡ Title
+    → All IsRow rows → IsPartsValue (sccp_parts came) → row_of rows (sccp_parts came).calling ≡ found → return_by_row own label number came found ≡ Some field → Returns own rows label number came field
+row-returns own rows label number came (Err cause) field t all h f e = absurd cc
+row-returns own rows label number came (Ok row) field t all h f e =
+    let caller = (sccp_parts came).calling in
+    let is = title-row rows (read_title caller.title_indicator caller.title) row all f in
+    let b = goes-back own.point label row.point (service number came (led_back row (sccp_parts came))) field e in
+    record {
+      point = row.point;
+      point_fits = is.point;
+      elsewhere = b.elsewhere;
+      goes = led_back row (sccp_parts came);
+      fits = record { called = translated-fits row caller is h.calling; calling = h.called };
+      writes = b.writes;
+      calling = refl;
+      called = (translated-led row caller).kept;
+      back = record { by_number = λ s. absurd (let no = t in cc); by_title = λ s. (row, f, refl, translated-led row caller) };
+      carried = refl;
+    }
+
+routing-returns : (routing : Routing) (own : OwnValue) (rows : List TitleEntry) (label : Label) (number : ℕ) (came : SccpValue) (field : List ℕ) → (sccp_parts came).calling.routing ≡ routing
+    → label.opc < 2 ^ 14 → All IsRow rows → IsPartsValue (sccp_parts came) → return_by routing own rows label number came ≡ Some field → Returns own rows label number came field
+routing-returns Title own rows label number came field r l all h e = row-returns own rows label number came (row_of rows (sccp_parts came).calling) field r all h refl e
+routing-returns Ssn own rows label number came field r l all h e =
+    let caller = (sccp_parts came).calling in
+    let b = goes-back own.point label (unwrap_or caller.point label.opc) (service number came (sent_back (sccp_parts came))) field e in
+    record {
+      point = unwrap_or caller.point label.opc;
+      point_fits = or-fits caller.point label.opc h.calling.point l;
+      elsewhere = b.elsewhere;
+      goes = sent_back (sccp_parts came);
+      fits = record { called = h.calling; calling = h.called };
+      writes = b.writes;
+      calling = refl;
+      called = record { national = refl; title_indicator = refl; title = refl };
+      back = record { by_number = λ s. (refl, refl); by_title = λ s. absurd (let no = r in cc) };
+      carried = refl;
+    }
+
+record ReadsAndReturns (own : OwnValue) (rows : List TitleEntry) (label : Label) (caused : Option ℕ) (read : Result SccpValue SccpFault) (field : List ℕ) : Type 0 where
+  pub came : SccpValue
+  pub number : ℕ
+  pub reads : read ≡ Ok came
+  pub asks : asks_for_return came ≡ true
+  pub has : caused ≡ Some number
+  pub returns : return_by (sccp_parts came).calling.routing own rows label number came ≡ Some field
+
+read-returns : (own : OwnValue) (rows : List TitleEntry) (label : Label) (caused : Option ℕ) (read : Result SccpValue SccpFault) (field : List ℕ)
+    → return_read own rows label caused read ≡ Some field → ReadsAndReturns own rows label caused read field
+read-returns own rows label None (Ok came) field e = absurd cc
+read-returns own rows label None (Err fault) field e = absurd cc
+read-returns own rows label (Some number) (Err fault) field e = absurd cc
+read-returns own rows label (Some number) (Ok came) field e =
+    let r = in-case (asks_for_return came) _ field e in
+    record { came = came; number = number; reads = refl; asks = r.0; has = refl; returns = r.1 }
+
+-- ---- the message that returns one
+
+record Serves (number : ℕ) (came : SccpValue) (goes : PartsValue) : Type 0 where
+  pub kind : (type_octet came ≡ 9) ⊎ (type_octet came ≡ 17)
+  pub asks : second_octet came / 16 ≡ 8
+  pub type : type_octet (service number came goes) ≡ type_octet came + 1
+  pub second : second_octet (service number came goes) ≡ number
+  pub hops : IfSome (hops_of (service number came goes)) (λ hops. hops ≡ 15)
+  pub same : sccp_parts (service number came goes) ≡ goes
+  pub optional : optional_of (service number came goes) ≡ returned_parameters (optional_of came)
+
+record IsXudt (kind : ExtendedKind) : Type 0 where
+  pub type : type_of kind ≡ 17
+  pub asks : after_type kind / 16 ≡ 8
+
+is-xudt : (kind : ExtendedKind) → is_kind_returned kind ≡ true → IsXudt kind
+is-xudt (Xudt class_octet) e = record { type = refl; asks = eqb-true (class_octet / 16) 8 e }
+is-xudt (Xudts return_cause) e = absurd cc
+
+serves : (number : ℕ) (came : SccpValue) (goes : PartsValue) → asks_for_return came ≡ true → Serves number came goes
+serves number (Plain (UdtValue class_octet parts)) goes e =
+    record { kind = inl refl; asks = eqb-true (class_octet / 16) 8 e; type = refl; second = refl; hops = tt; same = refl; optional = refl }
+serves number (Plain (UdtsValue cause parts)) goes e = absurd cc
+serves number (Extended v) goes e =
+    let x = is-xudt v.kind e in
+    record { kind = inr x.type; asks = x.asks; type = rw x.type refl; second = refl; hops = refl; same = refl; optional = refl }
+
+-- the parameters that it keeps are legal
+kept-legal : (a b : Option (List ℕ)) → ((octets : List ℕ) → a ≡ Some octets → has_its_length 16 (length octets) ≡ true)
+    → ((octets : List ℕ) → b ≡ Some octets → has_its_length 18 (length octets) ≡ true) → list_all is_parameter (parameter_of 16 a ++ parameter_of 18 b) ≡ true
+kept-legal None None h k = refl
+kept-legal None (Some b) h k = rw (k b refl) refl
+kept-legal (Some a) None h k = rw (h a refl) refl
+kept-legal (Some a) (Some b) h k = rw (h a refl, k b refl) refl
+
+service-fits : (number : ℕ) (came : SccpValue) (goes : PartsValue) → IsSccpValue came → IsPartsValue goes → IsSccpValue (service number came goes)
+service-fits number (Plain u) goes h p = p
+service-fits number (Extended v) goes h p = record {
+  parts = p;
+  optional = kept-legal (first_named 16 v.optional) (first_named 18 v.optional) (λ octets e. named-length 16 octets v.optional h.optional e)
+      (λ octets e. named-length 18 octets v.optional h.optional e);
+}
+
+service-here : (extended : Bool) (number : ℕ) (came : SccpValue) (goes : PartsValue) → IsReadHere extended came → IsReadHere extended (service number came goes)
+service-here extended number (Plain u) goes r = tt
+service-here extended number (Extended v) goes r = r
+
+is-returned : (own : OwnValue) (rows : List TitleEntry) (sif : List ℕ) (cause : Cause) (field : List ℕ) → AreInRange own rows → AreOctets (drop 4 sif)
+    → ReadsAndReturns own rows (label_at sif) (return_cause cause) (read_sccp own.extended (drop 4 sif)) field → IsReturned own rows sif cause field
+is-returned own rows sif cause field range octets r =
+    let fits = fits-read own.extended (drop 4 sif) r.came octets r.reads in
+    let b = routing-returns (sccp_parts r.came).calling.routing own rows (label_at sif) r.number r.came field refl (label-fits sif).opc range.each (parts-fit r.came fits) r.returns in
+    let goes = service r.number r.came b.goes in
+    let s = serves r.number r.came b.goes r.asks in
+    let w = written-reads own.extended b.point own.point (label_at sif) goes field b.point_fits range.point (label-fits sif)
+    (service-here own.extended r.number r.came b.goes (here-read own.extended (drop 4 sif) r.came r.reads)) (service-fits r.number r.came b.goes fits b.fits) b.writes in
+    record {
+      came = r.came;
+      reads = r.reads;
+      kind = s.kind;
+      asks = s.asks;
+      label = sent own b.point goes sif field b.elsewhere w;
+      number = r.number;
+      caused = r.has;
+      goes = goes;
+      reads_back = w.back;
+      type = s.type;
+      second = s.second;
+      hops = s.hops;
+      calling = rw s.same b.calling;
+      called = rw s.same b.called;
+      back = rw s.same (subst (λ (point : ℕ). GoesBack rows (label_at sif).opc (sccp_parts r.came).calling point b.goes.called) (sym (ap (λ (label : Label). label.dpc) w.labelled)) b.back);
+      carried = rw s.same b.carried;
+      optional = s.optional;
+    }
+
+pub returned-udt : a_udts_returns_a_udt
+unfolding returned
+returned-udt own rows sif cause field range octets e =
+    is-returned own rows sif cause field range (drop-octets 4 sif octets) (read-returns own rows (label_at sif) (return_cause cause) (read_sccp own.extended (drop 4 sif)) field e)

@@ -1,0 +1,14 @@
+use Rattle.sccp_relay.proofs.KeptParameters.{both, first-alone, second-alone, neither}
+use Rattle.sccp_relay.proofs.returning.both_octets.Goals as goal
+
+pub returns-in-Some-Some : goal.returns-in-Some-Some
+returns-in-Some-Some c = rw (c.in-Some-Some.is-0, c.in-Some-Some.is-1) (both _ _ _ _ _)
+
+pub returns-in-Some-None : goal.returns-in-Some-None
+returns-in-Some-None c = rw (c.in-Some-None.is-0, c.in-Some-None.is-1) (first-alone _ _ _ _)
+
+pub returns-in-None-Some : goal.returns-in-None-Some
+returns-in-None-Some c = rw (c.in-None-Some.is-0, c.in-None-Some.is-1) (second-alone _)
+
+pub returns-in-None-None : goal.returns-in-None-None
+returns-in-None-None c = rw (c.in-None-None.is-0, c.in-None-None.is-1) neither
