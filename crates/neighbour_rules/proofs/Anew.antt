@@ -8,8 +8,9 @@ use Rattle.pair_rules.specs.Accepting.{IsUserMessageTo}
 use Rattle.pair_rules.proofs.Going.{goes-none}
 use Rattle.pair_rules.proofs.Standing.{world_of}
 use Rattle.neighbour_rules.specs.Neighbours.{Step, after_steps}
-use Rattle.neighbour_rules.specs.Promises.{EachOnce, InOrder}
-use Rattle.neighbour_rules.specs.Anew.{BothKeep, HoldAnew, IsQuietEnd, IsQuietPair, LostNothingSince, Stays, after_all, begun_anew, most, pairs_begin_quietly, promises_begin_anew, times_late, times_lost}
+use Rattle.neighbour_rules.specs.Promises.{AreBooked, EachOnce, InOrder}
+use Rattle.neighbour_rules.specs.Laws.{AreFinal, IsCarried, MovesLacked, NoneIsLeft}
+use Rattle.neighbour_rules.specs.Anew.{BothKeep, HoldAnew, IsQuietEnd, IsQuietPair, KeepsPromises, LostNothingSince, Stays, after_all, begun_anew, most, pairs_begin_quietly, promises_begin_anew, times_late, times_lost}
 use Rattle.neighbour_rules.proofs.Counted.{Base, CanGrow, IsBase, counts_of}
 use Rattle.neighbour_rules.proofs.World.{says_of, shown}
 use Rattle.neighbour_rules.proofs.Good.{Good}
@@ -19,6 +20,7 @@ use Rattle.neighbour_rules.proofs.Sharing.{AreFacing, are-facing, facing_back, f
 use Rattle.neighbour_rules.proofs.Standing.{Since, Stands, since-back}
 use Rattle.neighbour_rules.proofs.AllSteps.{stands-turned, steps-stand}
 use Rattle.neighbour_rules.proofs.Promised.{once-there, order-there}
+use Rattle.neighbour_rules.proofs.FourLaws.{carried-there, final-there, lacked-there, left-there}
 use Rattle.neighbour_rules.proofs.Restarted.{Works, all-changes-end, all-work, begun}
 use Rattle.neighbour_rules.proofs.Quieted.{quiet-shown}
 
@@ -40,15 +42,29 @@ module _ (c z : Configuration) (a : AreFacing c z) (q : PairState) (s : Stands c
   since-written : Since c z a r
   since-written = record { quiet = since.quiet; near = since.near; far = since.far }
 
-  keeps-once : EachOnce q
-  keeps-once =
-      subst EachOnce (sym is-written)
-      (once-there c z a q stands-written since-written (are-booked c z r ends-written) (are-booked z c (turned r) (ends-turned c z r ends-written)))
+  -- as the settings are written out
+  so : (Statement : PairState → Type 0) → Statement r → Statement q
+  so Statement h = subst Statement (sym is-written) h
 
-  keeps-order : nat_lt a.base.near.late (times_late q) ≡ false → InOrder q
-  keeps-order punctual =
-      subst InOrder (sym is-written)
-      (order-there c z a q stands-written since-written (are-booked c z r ends-written) (are-booked z c (turned r) (ends-turned c z r ends-written)) punctual)
+  near-booked : AreBooked r
+  near-booked = are-booked c z r ends-written
+
+  far-booked : AreBooked (turned r)
+  far-booked = are-booked z c (turned r) (ends-turned c z r ends-written)
+
+  in-order : nat_lt a.base.near.late (times_late q) ≡ false → InOrder q
+  in-order punctual = so InOrder (order-there c z a q stands-written since-written near-booked far-booked punctual)
+
+  -- order is kept from where the late ones were counted on
+  keeps : (p : PairState) → (Stays (times_late p) (times_late q) → InOrder q) → KeepsPromises p q
+  keeps p order = record {
+    once = so EachOnce (once-there c z a q stands-written since-written near-booked far-booked);
+    order = order;
+    carried = so IsCarried (carried-there c z a q stands-written since-written);
+    left = so NoneIsLeft (left-there c z a q stands-written since-written);
+    final = so AreFinal (final-there c z a q stands-written since-written);
+    moved = so MovesLacked (lacked-there c z a q stands-written since-written);
+  }
 
 -- ---- the moves begin anew
 
@@ -177,29 +193,23 @@ module _ (c z : Configuration) (a : AreFacing c z) (q : PairState) (w : Works c 
       back-since : Since z c (facing_back c z (anew b)) (turned later)
       back-since = since-back c z (anew b) later later-since
 
-      once-on : EachOnce later
-      once-on = keeps-once c z (anew b) later later-stands later-since later-ends
-
-      once-back : EachOnce (turned later)
-      once-back = keeps-once z c (facing_back c z (anew b)) (turned later) back-stands back-since (ends-turned c z later later-ends)
-
       order-on : nat_lt near_late (times_late later) ≡ false → InOrder later
-      order-on punctual = keeps-order c z (anew b) later later-stands later-since later-ends punctual
+      order-on punctual = in-order c z (anew b) later later-stands later-since later-ends punctual
 
       order-back : nat_lt far_late (times_late (turned later)) ≡ false → InOrder (turned later)
-      order-back punctual = keeps-order z c (facing_back c z (anew b)) (turned later) back-stands back-since (ends-turned c z later later-ends) punctual
+      order-back punctual = in-order z c (facing_back c z (anew b)) (turned later) back-stands back-since (ends-turned c z later later-ends) punctual
+
+      both-with : (Stays (times_late p) (times_late later) → InOrder later) → (Stays (times_late (turned p)) (times_late (turned later)) → InOrder (turned later)) → BothKeep p later
+      both-with there back = record {
+        there = keeps c z (anew b) later later-stands later-since later-ends p there;
+        back = keeps z c (facing_back c z (anew b)) (turned later) back-stands back-since (ends-turned c z later later-ends) (turned p) back;
+      }
 
     both-keep : BothKeep p later
-    both-keep = record {
-      there = record {
-        once = once-on 0 0 (omega arith) (omega arith) (omega arith) (omega arith);
-        order = λ late. order-on (times_late p) 0 late.countable (omega arith) (omega arith) (omega arith) (not-since _ _ late);
-      };
-      back = record {
-        once = once-back 0 0 (omega arith) (omega arith) (omega arith) (omega arith);
-        order = λ late. order-back 0 (times_late (turned p)) (omega arith) late.countable (omega arith) (omega arith) (not-since _ _ late);
-      };
-    }
+    both-keep =
+        both-with 0 0 (omega arith) (omega arith) (omega arith) (omega arith)
+        (λ late. order-on (times_late p) 0 late.countable (omega arith) (omega arith) (omega arith) (not-since _ _ late))
+        (λ late. order-back 0 (times_late (turned p)) (omega arith) late.countable (omega arith) (omega arith) (not-since _ _ late))
 
 pub begins-anew : promises_begin_anew
 begins-anew near far changes g quiet steps since =

@@ -10,7 +10,7 @@ use Rattle.pair_rules.specs.Promises.{BothWays}
 use Rattle.pair_rules.specs.Sharing.{AreSharing}
 use Rattle.neighbour_rules.specs.Neighbours.{Step, after_steps, is_management_between, turn}
 use Rattle.neighbour_rules.specs.Promises.{EachOnce, InOrder}
-use Rattle.neighbour_rules.specs.Laws.{OfEachLink}
+use Rattle.neighbour_rules.specs.Laws.{AreFinal, IsCarried, MovesLacked, NoneIsLeft, OfEachLink}
 
 -- ---- nodes that start again
 
@@ -97,10 +97,14 @@ pub record LostNothingSince (p q : PairState) : Type 0 where
   pub far : Stays (times_lost (turned p)) (times_lost (turned q))
 
 -- what the near end accepted since then, the far end received once, or it waits; and each flow in order, if furthermore
--- no timer of the near end ended a hold since
+-- no timer of the near end ended a hold since. Laws (i) to (iv) hold, too
 pub record KeepsPromises (p q : PairState) : Type 0 where
   pub once : EachOnce q
   pub order : Stays (times_late p) (times_late q) → InOrder q
+  pub carried : IsCarried q
+  pub left : NoneIsLeft q
+  pub final : AreFinal q
+  pub moved : MovesLacked q
 
 pub record BothKeep (p q : PairState) : Type 0 where
   pub there : KeepsPromises p q

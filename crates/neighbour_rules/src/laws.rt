@@ -27,11 +27,11 @@ pub fn each_flow_keeps_its_order()
     ensures { each_flow_in_order }
 {}
 
-/// Both promises begin anew whenever nothing is left between the two, whatever was lost before, and however often either
-/// node has started again: while each link between them may open at both ends, neither of which may follow the other,
-/// and no message between the two is in Held. Of what is accepted from then on "Exactly once" holds until either node
-/// counts one loss more, and "Order" until the accepting one ends a hold by a timer besides. Two newly booted exchanges
-/// are such a pair.
+/// Both promises begin anew whenever nothing is left between the two, whatever was lost before, and however often
+/// either node has started again: while each link between them may open at both ends, neither of which may follow the
+/// other, and no message between the two is in Held. Of what is accepted from then on "Exactly once" holds until either
+/// node counts one loss more, and laws (i) to (iv) with it; and "Order" until the accepting one ends a hold by a timer
+/// besides. Two newly booted exchanges are such a pair.
 pub fn promises_begin_anew()
     ensures anew { promises_begin_anew }
     ensures first { pairs_begin_quietly }
@@ -94,8 +94,9 @@ pub fn a_message_comes_from_a_third_node()
     ensures { GoesOn }
 {}
 
-/// Nor is what begins anew. In a run of 46 steps a node starts again while a link to it is in service, and the other gives
-/// up what it may have lost. Nothing is left between them then; the link returns, and a message crosses it, once.
+/// Nor is what begins anew. In a run of 46 steps a node starts again while a link to it is in service, and T1 of the
+/// other runs out, which counts as a loss. Nothing is left between them then; the link returns, and a message crosses
+/// it, once.
 pub fn a_message_comes_after_a_restart()
     ensures { ComesAfterRestart }
 {}

@@ -1,7 +1,7 @@
 //! What holds after every list of moves from every quiet pair on, as the first is, in both directions, while neither
-//! node lost anything. A pair is quiet (`specs/Quiet.antt`) while all its links are closed at both ends and neither node
-//! has a message for the other. The moves are those of `specs/Passing.antt` (Q.704 §2), `specs/Carrying.antt`
-//! (RFC 4165 §2), `specs/Failing.antt` (Q.704 §5) and `specs/Returning.antt` (Q.704 §6).
+//! node lost anything. A pair is quiet (`specs/Quiet.antt`) while all its links are closed at both ends and neither
+//! node has a message for the other. The moves are those of `specs/Passing.antt` (Q.704 §2), `specs/Carrying.antt` (RFC
+//! 4165 §2), `specs/Failing.antt` (Q.704 §5) and `specs/Returning.antt` (Q.704 §6).
 
 ghost use Rattle.pair_moves.specs.Theorems.{lines_flow, first_ends_are_alone, ends_are_sound};
 ghost use Rattle.pair_moves.specs.Theorems.{messages_come_in_order};
