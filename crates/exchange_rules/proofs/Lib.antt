@@ -112,3 +112,4 @@ pub mod ProvedAll
 pub mod ProvedEvents
 pub mod Inhibited
 pub mod InhibitedTicks
+pub mod InhibitedRuns
