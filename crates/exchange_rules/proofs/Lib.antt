@@ -114,3 +114,4 @@ pub mod ProvedAll
 pub mod ProvedEvents
 pub mod Inhibited
 pub mod InhibitedTicks
+pub mod InhibitedRuns

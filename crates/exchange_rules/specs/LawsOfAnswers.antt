@@ -1,5 +1,5 @@
 -- What answers mean: laws.
-use Rattle.std.specs.Prelude.{◌≡◌, ◌≤◌, ◌<◌, ◌⊎◌, ◌++◌, ◌↔◌, ℕ, true, false, max, length, List, [], ◌∷◌, Option, Some}
+use Rattle.std.specs.Prelude.{◌≡◌, ◌≤◌, ◌<◌, ◌⊎◌, ◌+◌, ◌++◌, ◌↔◌, ℕ, true, false, max, length, List, [], ◌∷◌, Option, Some}
 use Rattle.settings_rows.specs.Configuration.{Configuration}
 use Rattle.signalling_types.specs.Message.{Message, dpc_of, flow_of}
 use Rattle.signalling_types.specs.declared.limits.TheConstants.Limits.{LINKS, WINDOW}
@@ -9,13 +9,13 @@ use Rattle.settings.specs.Readings.{destination_place}
 use Rattle.timers.specs.declared.name.TimerName.TheVariants.{T8}
 use Rattle.timers.specs.Timers.{is_running}
 use Rattle.exchange_rules.specs.declared.wants.Wants.TheVariants.{Open}
-use Rattle.exchange_rules.specs.State.{Asking, CameUp, Happening, Node, Parts}
+use Rattle.exchange_rules.specs.State.{Activated, Asking, AsksWants, CameUp, Deactivated, FrameCame, Happening, Happens, Node, Parts, Submitted, Takes, Ticked, TitleAdded, TitleRemoved, WentDown}
 use Rattle.exchange_rules.specs.Routing.{link_of, set_of}
 use Rattle.exchange_rules.specs.Messages.{transfer}
 use Rattle.exchange_rules.specs.Queues.{WholeQueues, queue_at, whole}
 use Rattle.exchange_rules.specs.Exchange.{after, outcome_of, taken, wants_of}
 use Rattle.exchange_rules.specs.First.{Abstract, first_state}
-use Rattle.exchange_rules.specs.Lasting.{HasAllPlaces, after_each}
+use Rattle.exchange_rules.specs.Lasting.{HasAllPlaces, after_asking, after_each}
 use Rattle.exchange_rules.specs.Aligning.{MayEnter, RunsOut}
 use Rattle.exchange_rules.specs.Testing.{serves_set}
 
@@ -71,3 +71,42 @@ takes_leave_t8 =
     (a : Abstract) (link set destination : ℕ) →
     (taken whole a link).node.parts.timers.left (T8 set destination)
     ≡ a.node.parts.timers.left (T8 set destination)
+
+-- how many of these are ticks
+abbrev pub ticks_by : Happening → ℕ
+ticks_by Ticked = 1
+ticks_by (CameUp link) = 0
+ticks_by (WentDown link) = 0
+ticks_by (FrameCame link text) = 0
+ticks_by (Submitted message) = 0
+ticks_by (Activated link) = 0
+ticks_by (Deactivated link) = 0
+ticks_by (TitleAdded row is_memory_refused) = 0
+ticks_by (TitleRemoved key digits) = 0
+
+abbrev pub ticks_in : Asking → ℕ
+ticks_in (Happens what) = ticks_by what
+ticks_in (Takes link) = 0
+ticks_in (AsksWants link) = 0
+
+abbrev pub ticks_among : List Asking → ℕ
+ticks_among [] = 0
+ticks_among (asking ∷ others) = ticks_in asking + ticks_among others
+
+-- a set comes back by none of these
+abbrev pub StaysAway : Asking → (set : ℕ) → Abstract → Type 0
+StaysAway (Happens what) set a = ComesBack a.settings what set a.node.parts → ⊥
+StaysAway (Takes link) set a = Unit {0}
+StaysAway (AsksWants link) set a = Unit {0}
+
+abbrev pub AllStayAway : List Asking → (set : ℕ) → Abstract → Type 0
+AllStayAway [] set a = Unit {0}
+AllStayAway (asking ∷ others) set a = StaysAway asking set a × AllStayAway others set (after_asking asking a)
+
+-- So whatever is asked, T8 that was started runs on for fewer ticks than it is set to, unless the set comes back.
+abbrev pub t8_lasts : Type 0
+t8_lasts =
+    (asked : List Asking) (a : Abstract) (set destination : ℕ) →
+    a.node.parts.timers.left (T8 set destination) ≡ Some (max 1 a.settings.timers.t8) →
+    ticks_among asked < max 1 a.settings.timers.t8 → AllStayAway asked set a →
+    is_running (T8 set destination) (after_each asked a).node.parts.timers ≡ true

@@ -115,8 +115,8 @@ takes_flag_nothing =
 
 -- ---- management that is given up
 
--- a message made here is given up: that is named, with why and the point that it was for, and counts as a possible loss;
--- nothing else changes
+-- a message made here is given up: that is named, with why and the point that it was for, and counts as a possible
+-- loss; nothing else changes
 pub record IsGivenUp (cause : Cause) (m : Message) (old new : Node WholeQueues) : Type 0 where
   pub queues : new.queues ≡ old.queues
   pub parts : new.parts ≡ record old.parts {

@@ -27,7 +27,7 @@ ghost use Rattle.exchange_rules.specs.Testing.{unsure_routes_are_tested, tests_a
 ghost use Rattle.exchange_rules.specs.LawsOfFailures.{failures_hold_their_flows, failures_by_peer_hold_their_flows};
 ghost use Rattle.exchange_rules.specs.LawsOfFailures.{idle_failures_hold_nothing, idle_failures_by_peer_hold_nothing};
 ghost use Rattle.exchange_rules.specs.LawsOfReturns.{entries_hold_changed_flows, changed_flows_are_held};
-ghost use Rattle.exchange_rules.specs.LawsOfAnswers.{wanted_links_open, queued_stands_last};
+ghost use Rattle.exchange_rules.specs.LawsOfAnswers.{wanted_links_open, queued_stands_last, t8_lasts};
 ghost use Rattle.exchange_rules.specs.LawsOfAnswers.{one_answer_within_t8, t8_runs_its_time, takes_leave_t8};
 ghost use Rattle.exchange_rules.specs.LawsOfReturns.{returns_keep_holds};
 ghost use Rattle.exchange_rules.specs.LawsOfReturns.{flows_return_by_their_procedures, entries_are_returns};
@@ -84,12 +84,13 @@ pub fn queued_messages_stand_last()
 {}
 
 /// While T8 of a set and a destination runs, no message from the set that finds no route to the destination is answered
-/// with TFP; and where one is, T8 runs from then on, as long as it is set to (Q.704 §13.2). It stops only at a tick, as
-/// it runs out, or as the set comes back: as one of its links enters service, and none of them was in service.
+/// with TFP; where one is, T8 runs from then on (Q.704 §13.2). It stops only at a tick, as it runs out, or as one of
+/// the links of the set enters service, and none of them was; else it lasts as long as it is set to.
 pub fn no_message_is_answered_while_t8_runs()
     ensures answered { one_answer_within_t8 }
     ensures event { t8_runs_its_time }
     ensures take { takes_leave_t8 }
+    ensures always { t8_lasts }
 {}
 
 /// The move of a completed changeover touches the queue of no other link. In Held the messages that it moves stand
@@ -185,10 +186,9 @@ pub fn links_have_the_timers_of_their_states()
     ensures { links_have_their_timers }
 {}
 
-/// A link is proved before it enters service (Q.703 §7). It begins to align as its association comes up, and is aligned
-/// by its peer's Alignment. Its peer's Proving begins its proving, and its peer's Ready is remembered meanwhile. Its
-/// proving ends only as L4 runs out; then it enters service if its peer was ready, or else by its peer's Ready or User
-/// Data. Nothing else leads it on.
+/// A link is proved before it enters service (Q.703 §7). It begins to align only as its association comes up, and is
+/// aligned only by its peer's Alignment. Only its peer's Proving begins its proving, and only L4 ends it. It enters
+/// service then, if its peer was ready, or later by its peer's Ready or User Data, and never else.
 pub fn links_are_proved_before_they_enter_service()
     ensures { links_are_proved_first }
 {}

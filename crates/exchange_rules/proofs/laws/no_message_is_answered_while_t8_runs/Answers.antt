@@ -1,3 +1,4 @@
+use Rattle.exchange_rules.proofs.InhibitedRuns.{t8-lasts}
 use Rattle.exchange_rules.proofs.InhibitedTicks.{t8-runs, takes-leave}
 use Rattle.exchange_rules.proofs.TellingOnce.{told-once-within}
 use Rattle.exchange_rules.proofs.laws.no_message_is_answered_while_t8_runs.Goals as goal
@@ -10,3 +11,6 @@ returns-clause-event c = t8-runs
 
 pub returns-clause-take : goal.returns-clause-take
 returns-clause-take c = takes-leave
+
+pub returns-clause-always : goal.returns-clause-always
+returns-clause-always c = t8-lasts
