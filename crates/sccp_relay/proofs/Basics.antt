@@ -1,5 +1,4 @@
--- Words and lemmas of std and of the crates below that the proofs here use, the definitions that they are about, and two
--- lemmas of tests.
+-- Words and lemmas of std and of the crates below that the proofs here use, and the definitions that they are about.
 pub use Rattle.std.proofs.Common.{Bool, List, None, Ok, Option, Some, [], ap, arith, cond, drop, drop-cons, false, get_or, inl, inr, length, not, refl, replicate, rules, subst, suc, sym, take, true, zero, ℕ, ◌%◌, ◌*◌, ◌++◌, ◌+◌, ◌-◌, ◌/◌, ◌<◌, ◌^◌, ◌∙◌, ◌∷◌, ◌≡◌, ◌≢◌, ◌≤◌, ◌⊎◌}
 pub use Rattle.std.proofs.lemmas.Bool.{both_ways, false_from_ne_true, and_parts, cases_eq, cases_lt, eq-eqb, eqb-false, eqb-true, le-ltb, lt-ltb, ne_eqb}
 pub use Rattle.std.proofs.lemmas.Cmp.{nat_list_cmp_total, tied_itself}
@@ -39,13 +38,3 @@ pub use Rattle.settings_rows.specs.declared.title_row.TitleRoute.TheVariants.{Ss
 pub use Rattle.signalling_types.specs.declared.cause.Cause.{Cause}
 pub use Rattle.signalling_types.specs.declared.cause.Cause.TheVariants.{NoDigits, NoNature}
 pub use Rattle.signalling_types.specs.declared.limits.TheConstants.Limits.{TITLES}
-use Rattle.std.specs.Prelude.{◌&&◌}
-
--- both parts of a test
-pub and-left : (a b : Bool) → (a && b) ≡ true → a ≡ true
-and-left true b e = refl
-and-left false b e = absurd cc
-
-pub and-right : (a b : Bool) → (a && b) ≡ true → b ≡ true
-and-right true b e = e
-and-right false b e = absurd cc

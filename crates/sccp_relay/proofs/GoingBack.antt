@@ -42,11 +42,11 @@ otherwise : (b : Bool) (text : Option (List ℕ)) (field : List ℕ) → cond b 
 otherwise true text field e = absurd cc
 otherwise false text field e = (refl, e)
 
-record IsWritten (own : ℕ) (label : Label) (point : ℕ) (message : SccpValue) (field : List ℕ) : Type 0 where
+pub record IsWritten (own : ℕ) (label : Label) (point : ℕ) (message : SccpValue) (field : List ℕ) : Type 0 where
   pub elsewhere : point ≢ own
   pub writes : written point own label message ≡ Some field
 
-goes-back : (own : ℕ) (label : Label) (point : ℕ) (message : SccpValue) (field : List ℕ) → return_to own label point message ≡ Some field → IsWritten own label point message field
+pub goes-back : (own : ℕ) (label : Label) (point : ℕ) (message : SccpValue) (field : List ℕ) → return_to own label point message ≡ Some field → IsWritten own label point message field
 goes-back own label point message field e =
     let r = otherwise (nat_eq point own) (written point own label message) field e in
     record { elsewhere = λ same. absurd (let yes = eq-eqb point own same in let no = r.0 in cc); writes = r.1 }
@@ -94,7 +94,7 @@ routing-returns Ssn own rows label number came field r l all h e =
       carried = refl;
     }
 
-record ReadsAndReturns (own : OwnValue) (rows : List TitleEntry) (label : Label) (caused : Option ℕ) (read : Result SccpValue SccpFault) (field : List ℕ) : Type 0 where
+pub record ReadsAndReturns (own : OwnValue) (rows : List TitleEntry) (label : Label) (caused : Option ℕ) (read : Result SccpValue SccpFault) (field : List ℕ) : Type 0 where
   pub came : SccpValue
   pub number : ℕ
   pub reads : read ≡ Ok came
@@ -102,7 +102,7 @@ record ReadsAndReturns (own : OwnValue) (rows : List TitleEntry) (label : Label)
   pub has : caused ≡ Some number
   pub returns : return_by (sccp_parts came).calling.routing own rows label number came ≡ Some field
 
-read-returns : (own : OwnValue) (rows : List TitleEntry) (label : Label) (caused : Option ℕ) (read : Result SccpValue SccpFault) (field : List ℕ)
+pub read-returns : (own : OwnValue) (rows : List TitleEntry) (label : Label) (caused : Option ℕ) (read : Result SccpValue SccpFault) (field : List ℕ)
     → return_read own rows label caused read ≡ Some field → ReadsAndReturns own rows label caused read field
 read-returns own rows label None (Ok came) field e = absurd cc
 read-returns own rows label None (Err fault) field e = absurd cc

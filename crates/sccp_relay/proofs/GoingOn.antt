@@ -1,6 +1,6 @@
 -- What goes on, as it is read where it arrives.
 use Rattle.std.proofs.Common.{◌≡◌, ◌≢◌, ℕ, ◌+◌, ◌-◌, ◌^◌, ◌<◌, ◌≤◌, ◌⊎◌, Bool, true, false, cond, List, drop, Option, Some, None, Result, Ok, Err, refl, sym, ap, subst, ◌∙◌, inl, inr, arith, not}
-use Rattle.std.proofs.lemmas.Bool.{cases_eq, eq-eqb, eqb-true, ne_eqb}
+use Rattle.std.proofs.lemmas.Bool.{and_parts, cases_eq, eq-eqb, eqb-true, ne_eqb}
 use Rattle.std.proofs.lemmas.Bool.Decides.{nat_tests}
 use Rattle.std.proofs.lemmas.List.{get_or-drop}
 use Rattle.std.specs.Prelude.{◌&&◌, if◌then◌else◌, nat_eq, nat_le}
@@ -23,7 +23,6 @@ use Rattle.sccp_relay.specs.Led.{IsLed, IsSeenFrom, IsLowered, GoesOn, IsForMana
 use Rattle.sccp_relay.specs.Ways.{IsRow}
 use Rattle.sccp_relay.proofs.LedAddresses.{translated-led, seen_from-of, translated-fits, cond-fits, title-row, label-fits}
 use Rattle.sccp_relay.proofs.SaidMessages.{IsSccpValue, IsReadHere, fits-read, here-read, plain-read, written-reads, sent}
-use Rattle.sccp_relay.proofs.Basics.{and-left, and-right}
 
 -- ---- to a row's point
 
@@ -90,8 +89,8 @@ answer-answers own label ssn (Plain (UdtValue class_octet parts)) field e =
       class_octet = class_octet;
       parts = parts;
       plain = refl;
-      tested = and-left own.tested (is_management ssn) r.0;
-      number = management-number ssn (and-right own.tested (is_management ssn) r.0);
+      tested = (and_parts own.tested (is_management ssn) r.0).0;
+      number = management-number ssn (and_parts own.tested (is_management ssn) r.0).1;
       test = a.test;
       says = a.says;
       answered = a.answered;

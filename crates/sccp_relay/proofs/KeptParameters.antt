@@ -1,13 +1,12 @@
 -- The optional parameters that a returned message keeps.
 use Rattle.std.proofs.Common.{◌≡◌, ℕ, true, List, [], ◌∷◌, ◌++◌, length, Option, Some, None, refl, sym, ap, inl, inr, arith, ◌∙◌, not}
-use Rattle.std.proofs.lemmas.Bool.{cases_eq, eq-eqb, ne_eqb}
+use Rattle.std.proofs.lemmas.Bool.{and_parts, cases_eq, eq-eqb, ne_eqb}
 use Rattle.std.specs.List.{list_all}
 use Rattle.std.specs.Prelude.{◌==◌}
 use Rattle.sccp_codec.specs.Extended.{ParameterValue, first_named, has_its_length, is_parameter, parameters_octets, read_parameters}
 use Rattle.sccp_codec.specs.Optional.{OptionallyGives}
 use Rattle.sccp_codec.proofs.OptionalTexts.{read-back}
 use Rattle.sccp_relay.specs.Relay.{parameter_of}
-use Rattle.sccp_relay.proofs.Basics.{and-left, and-right}
 
 -- ---- their octets read as them
 
@@ -38,9 +37,9 @@ named-length name octets (p ∷ ps) legal e =
     elim (cases_eq p.name name) [
       | inl same ↦
           let these : p.octets ≡ octets = let found : Some p.octets ≡ Some octets = sym (rw (eq-eqb p.name name same) refl) ∙ e in cc in
-          let here : has_its_length p.name (length p.octets) ≡ true = and-right (not (p.name == 0)) _ (and-left (is_parameter p) _ legal) in
+          let here : has_its_length p.name (length p.octets) ≡ true = (and_parts (not (p.name == 0)) _ (and_parts (is_parameter p) _ legal).0).1 in
           rw (← same, ← these) here
-      | inr other ↦ named-length name octets ps (and-right (is_parameter p) _ legal) (sym (rw (ne_eqb p.name name other) refl) ∙ e)
+      | inr other ↦ named-length name octets ps (and_parts (is_parameter p) _ legal).1 (sym (rw (ne_eqb p.name name other) refl) ∙ e)
     ]
 
 pub gives-some : {X V : Type 0} (view : X → V) (answer : Option X) (x : X) (read : Option V) → OptionallyGives view answer read → answer ≡ Some x → read ≡ Some (view x)

@@ -21,3 +21,5 @@ pub mod SaidMessages
 pub mod GoingOn
 pub mod GoingBack
 pub mod Hops
+pub mod WrittenFields
+pub mod RefusedCauses

@@ -1,5 +1,6 @@
 -- What a message says is in its ranges, and reads back where it is written.
 use Rattle.std.proofs.Common.{◌≡◌, ◌≢◌, ℕ, ◌^◌, ◌<◌, Bool, true, false, cond, List, ◌++◌, drop, Some, None, Result, Ok, Err, refl, sym, ap, subst, ◌∙◌, inl, inr}
+use Rattle.std.proofs.lemmas.Bool.{and_parts}
 use Rattle.std.specs.List.{list_all}
 use Rattle.std.specs.Prelude.{⊤, ◌==◌, ◌&&◌, ◌||◌, if◌then◌else◌}
 use Rattle.mtp3_codec.specs.declared.label.Label.{Label}
@@ -15,7 +16,6 @@ use Rattle.sccp_codec.proofs.ExtendedTexts.{is_extended-read, read_extended-writ
 use Rattle.sccp_relay.specs.Sccp.{SccpValue, Plain, Extended, as_plain, as_extended, is_extended, read_sccp, sccp_octets, is_sccp_writable}
 use Rattle.sccp_relay.specs.Relay.{OwnValue, label_to, written}
 use Rattle.sccp_relay.specs.Led.{IsSent}
-use Rattle.sccp_relay.proofs.Basics.{and-left, and-right}
 
 -- ---- how a message was read
 
@@ -44,7 +44,7 @@ pub record ReadsExtended (extended : Bool) (text : List ℕ) (v : ExtendedValue)
 pub extended-read : (extended : Bool) (text : List ℕ) (v : ExtendedValue) → read_sccp extended text ≡ Ok (Extended v) → ReadsExtended extended text v
 extended-read extended text v e =
     let r = extended-either (extended && is_extended text) (read_extended text) (read_unitdata text) v e in
-    record { relayed = and-left extended (is_extended text) r.0; type = and-right extended (is_extended text) r.0; read = r.1 }
+    record { relayed = (and_parts extended (is_extended text) r.0).0; type = (and_parts extended (is_extended text) r.0).1; read = r.1 }
 
 -- ---- in its ranges
 

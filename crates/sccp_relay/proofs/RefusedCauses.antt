@@ -1,0 +1,105 @@
+-- The causes for which SCCP messages are refused.
+use Rattle.std.proofs.Common.{◌≡◌, ℕ, Bool, true, false, List, [], ◌∷◌, drop, Option, Some, None, Result, Ok, Err, refl, not}
+use Rattle.std.specs.List.{list_any}
+use Rattle.std.specs.Prelude.{◌%◌, nat_eq, if◌then◌else◌}
+use Rattle.signalling_types.specs.declared.cause.Cause.{Cause}
+use Rattle.signalling_types.specs.declared.cause.Cause.TheVariants.{NoNature, NoDigits, NotInProfile, BadSccp, Unequipped, HopCounter, TooLong}
+use Rattle.settings_rows.specs.Configuration.{TitleEntry}
+use Rattle.mtp3_codec.specs.declared.label.Label.{Label}
+use Rattle.mtp3_codec.specs.Headings.{label_at}
+use Rattle.sccp_codec.specs.Titles.{TitleValue, read_octets, read_title}
+use Rattle.sccp_codec.specs.declared.address.Routing.{Routing}
+use Rattle.sccp_codec.specs.declared.address.Routing.TheVariants.{Title, Ssn}
+use Rattle.sccp_codec.specs.declared.fault.SccpFault.{SccpFault}
+use Rattle.sccp_codec.specs.declared.fault.SccpFault.TheVariants.{Short, Pointer, Kind}
+use Rattle.sccp_relay.specs.Translation.{has_key, or_refusal}
+use Rattle.sccp_relay.specs.Sccp.{SccpValue, sccp_parts, with_new_parts, read_sccp, is_connectionless, has_hops, lowered, is_spent}
+use Rattle.sccp_relay.specs.Relay.{OwnValue, RelayedValue, Delivered, Onward, Refused, relay, relay_read, relay_by_routing, relay_by_row, row_of, row_of_title, ssn_by, written, onward, led_on, is_equipped, answered_or, answer}
+
+abbrev pub is_relay_cause : Cause → Bool
+is_relay_cause NoNature = true
+is_relay_cause NoDigits = true
+is_relay_cause NotInProfile = true
+is_relay_cause BadSccp = true
+is_relay_cause Unequipped = true
+is_relay_cause HopCounter = true
+is_relay_cause TooLong = true
+is_relay_cause cause = false
+
+abbrev pub is_refused_so : RelayedValue → Bool
+is_refused_so Delivered = true
+is_refused_so (Onward sif) = true
+is_refused_so (Refused cause) = is_relay_cause cause
+
+either-so : (b : Bool) (v w : RelayedValue) → is_refused_so v ≡ true → is_refused_so w ≡ true → is_refused_so (if b then v else w) ≡ true
+either-so true v w h k = h
+either-so false v w h k = k
+
+-- of a row, or of a title
+abbrev is_row_so : Result TitleEntry Cause → Bool
+is_row_so (Ok row) = true
+is_row_so (Err cause) = is_relay_cause cause
+
+abbrev is_title_so : Result TitleValue Cause → Bool
+is_title_so (Ok title) = true
+is_title_so (Err cause) = is_relay_cause cause
+
+octets-so : (octets : List ℕ) → is_title_so (read_octets octets) ≡ true
+octets-so [] = refl
+octets-so (a ∷ []) = refl
+octets-so (a ∷ b ∷ []) = refl
+octets-so (a ∷ b ∷ d ∷ rest) = by (nat_eq (b % 16) 1) (nat_eq (b % 16) 2) _ _
+  where
+    by : (odd even : Bool) (s t : TitleValue) → is_title_so (if odd then Ok s else (if even then Ok t else Err NoNature)) ≡ true
+    by true even s t = refl
+    by false true s t = refl
+    by false false s t = refl
+
+title-so : (b : Bool) (octets : List ℕ) → is_title_so (if b then read_octets octets else Err NoNature) ≡ true
+title-so true octets = octets-so octets
+title-so false octets = refl
+
+translated-so : (row : Option TitleEntry) (b : Bool) → is_row_so (or_refusal row (if b then NoDigits else NoNature)) ≡ true
+translated-so (Some row) b = refl
+translated-so None true = refl
+translated-so None false = refl
+
+row-so : (rows : List TitleEntry) (title : Result TitleValue Cause) → is_title_so title ≡ true → is_row_so (row_of_title rows title) ≡ true
+row-so rows (Err cause) h = h
+row-so rows (Ok title) h = translated-so _ (list_any (has_key title.key) rows)
+
+onward-so : (sif : Option (List ℕ)) → is_refused_so (onward sif) ≡ true
+onward-so (Some sif) = refl
+onward-so None = refl
+
+answered-so : (answer : Option (List ℕ)) (b : Bool) → is_refused_so (answered_or answer (if b then Delivered else Refused Unequipped)) ≡ true
+answered-so (Some sif) b = refl
+answered-so None true = refl
+answered-so None false = refl
+
+module _ (own : OwnValue) (label : Label) where
+  by_row-so : (m : SccpValue) (row : Result TitleEntry Cause) → is_row_so row ≡ true → is_refused_so (relay_by_row own label m row) ≡ true
+  by_row-so m (Err cause) h = h
+  by_row-so m (Ok row) h =
+      either-so (nat_eq row.point own.point) _ _ (answered-so (answer own label m (ssn_by row.route (sccp_parts m).called.ssn)) (is_equipped own (ssn_by row.route (sccp_parts m).called.ssn)))
+      (onward-so (written row.point own.point label (with_new_parts (lowered m) (led_on row label.opc (sccp_parts m)))))
+
+  routing-so : (routing : Routing) (rows : List TitleEntry) (m : SccpValue) → is_refused_so (relay_by_routing routing own rows label m) ≡ true
+  routing-so Ssn rows m = answered-so (answer own label m (sccp_parts m).called.ssn) (is_equipped own (sccp_parts m).called.ssn)
+  routing-so Title rows m =
+      either-so (is_spent (lowered m)) (Refused HopCounter) _ refl
+      (by_row-so m (row_of rows (sccp_parts m).called)
+      (row-so rows (read_title (sccp_parts m).called.title_indicator (sccp_parts m).called.title)
+      (title-so (nat_eq (sccp_parts m).called.title_indicator 4) (sccp_parts m).called.title)))
+
+  read-so : (rows : List TitleEntry) (r : Result SccpValue SccpFault) → is_refused_so (relay_read own rows label r) ≡ true
+  read-so rows (Err Short) = refl
+  read-so rows (Err Pointer) = refl
+  read-so rows (Err Kind) = refl
+  read-so rows (Ok m) =
+      either-so (not (is_connectionless m)) (Refused NotInProfile) _ refl
+      (either-so (not (has_hops m)) (Refused HopCounter) _ refl (routing-so (sccp_parts m).called.routing rows m))
+
+pub refused-so : (own : OwnValue) (rows : List TitleEntry) (sif : List ℕ) → is_refused_so (relay own rows sif) ≡ true
+unfolding relay
+refused-so own rows sif = read-so own (label_at sif) rows (read_sccp own.extended (drop 4 sif))
