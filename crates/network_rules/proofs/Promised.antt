@@ -33,7 +33,7 @@ end-written near far one other h =
     ∙ ap (λ (ms : List Message). record other { exchange = one.exchange; accepted = ms }) h.accepted
     ∙ ap (λ (ms : List Message). record other { exchange = one.exchange; accepted = one.accepted; received = ms }) h.received
 
-is-written : (one other : PairState) → ArePairsAlike one other → other ≡ written one other
+pub is-written : (one other : PairState) → ArePairsAlike one other → other ≡ written one other
 is-written one other h =
     ap (λ (e : End). record other { near = e }) (end-written one.near.exchange.settings one.far.exchange.settings one.near other.near h.near_alike)
     ∙ ap (λ (e : End). record { near = written_end one.near other.near; far = e }) (end-written one.far.exchange.settings one.near.exchange.settings one.far other.far h.far_alike)

@@ -2,6 +2,7 @@
 //! steps from newly booted exchanges on. The steps are those of `specs/Networks.antt`. Each function says its law by
 //! its contract, and does nothing.
 
+ghost use Rattle.network_rules.specs.Anew.{neighbours_begin_anew};
 ghost use Rattle.network_rules.specs.Pairs.{books_are_of_the_two, each_flow_in_order, each_message_once};
 ghost use Rattle.network_rules.specs.Pairs.{flows_stay_between, nothing_is_awaited_in_vain, nothing_is_held_in_vain};
 ghost use Rattle.network_rules.specs.Pairs.{nobody_speaks_for_another, runs_are_runs_of_neighbours};
@@ -60,6 +61,15 @@ pub fn flows_stay_between_the_two()
 /// been lost.
 pub fn nothing_is_held_in_vain()
     ensures { nothing_is_held_in_vain }
+{}
+
+/// Both promises begin anew between any two nodes whenever nothing is left between them, whatever was lost before,
+/// however often any node has started again, and whatever the others do: while each link between the two may open at
+/// both ends, neither may follow, nothing is in Held, and no changeback code of their set awaits its answer. Of what
+/// is accepted from then on "Exactly once" holds until either node counts one loss more, and "Order" until the
+/// accepting one ends a hold by a timer.
+pub fn neighbours_begin_anew()
+    ensures { neighbours_begin_anew }
 {}
 
 /// A message that comes to a node for another point, whatever happened before, is queued, held or refused. The node
