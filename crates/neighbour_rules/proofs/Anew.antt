@@ -1,4 +1,4 @@
--- From every quiet pair on both promises hold anew.
+-- From every quiet pair on both promises hold anew, and so do the laws of links.
 use Rattle.pair_rules.proofs.Basics.{◌≡◌, ◌<◌, ◌≤◌, ◌&&◌, ℕ, Bool, true, false, List, length, Option, Some, None, nat_lt, refl, ap, sym, subst, ◌∙◌, arith, nat_tests}
 use Rattle.std.proofs.lemmas.List.Elements.{All-nil}
 use Rattle.pair_rules.proofs.Definitions.{Configuration, set_place, Link, down_link, is_down, Standing, no_changeover, may_restart, changeover_of, Pair, PairState, first_pair, may_open_at, turned, each-replicate}
@@ -10,8 +10,10 @@ use Rattle.pair_rules.proofs.Going.{goes-none}
 use Rattle.pair_rules.proofs.Standing.{world_of}
 use Rattle.neighbour_rules.specs.Neighbours.{Step, after_steps}
 use Rattle.neighbour_rules.specs.Promises.{EachOnce, InOrder}
-use Rattle.neighbour_rules.specs.Anew.{BothKeep, Change, HoldAnew, IsQuietEnd, IsQuietPair, KeepsPromises, LostNothingSince, Stays, after_all, begun_anew, most, pairs_begin_quietly, promises_begin_anew, times_late, times_lost}
-use Rattle.neighbour_rules.specs.Awaiting.{is_awaited}
+use Rattle.neighbour_rules.specs.Anew.{BothKeep, HoldAnew, HoldsAnew, IsQuietEnd, IsQuietPair, LawsBeginAnew, LostNothingSince, Stays, WhileNothingIsLostSince, after_all, begun_anew, most, pairs_begin_quietly, promises_begin_anew, times_late, times_lost}
+use Rattle.neighbour_rules.specs.Awaiting.{AwaitsNothingInVain, is_awaited}
+use Rattle.neighbour_rules.specs.Laws.{AreFinal, IsCarried, MovesLacked, NoneIsLeft}
+use Rattle.pair_rules.specs.Promises.{BothWays}
 use Rattle.neighbour_rules.proofs.Counted.{Base, CanGrow, IsBase, counts_of}
 use Rattle.neighbour_rules.proofs.World.{says_of, shown}
 use Rattle.neighbour_rules.proofs.Good.{Good}
@@ -22,10 +24,17 @@ use Rattle.neighbour_rules.proofs.First.{code-none}
 use Rattle.neighbour_rules.proofs.Standing.{Since, Stands}
 use Rattle.neighbour_rules.proofs.AllSteps.{stands-turned, steps-stand}
 use Rattle.neighbour_rules.proofs.Promised.{once-there, order-there}
+use Rattle.neighbour_rules.proofs.FourLaws.{carried-there, final-there, lacked-there, left-there}
+use Rattle.neighbour_rules.proofs.Awaited.{awaits-there}
 use Rattle.neighbour_rules.proofs.Restarted.{Works, all-changes-end, all-work, begun}
 use Rattle.neighbour_rules.proofs.Quieted.{quiet-shown}
 
 -- ---- what stands keeps its promises
+
+-- a statement holds of each pair that stands
+abbrev Law : (PairState → Type 0) → Type 0
+Law Statement =
+    (c z : Configuration) (a : AreFacing c z) (q : PairState) → Stands c z a (with_settings c z q) → Since c z a (with_settings c z q) → Statement (with_settings c z q)
 
 module _ (c z : Configuration) (a : AreFacing c z) (q : PairState) (s : Stands c z a q) (since : Since c z a q) (t : AreEnds c z q) where
   abbrev r : PairState
@@ -42,6 +51,9 @@ module _ (c z : Configuration) (a : AreFacing c z) (q : PairState) (s : Stands c
 
   since-written : Since c z a r
   since-written = record { quiet = since.quiet; near = since.near; far = since.far }
+
+  keeps-law : (Statement : PairState → Type 0) → Law Statement → Statement q
+  keeps-law Statement law = subst Statement (sym is-written) (law c z a q stands-written since-written)
 
   keeps-once : EachOnce q
   keeps-once =
@@ -171,6 +183,12 @@ module _ (c z : Configuration) (a : AreFacing c z) (q : PairState) (w : Works c 
       back-since : Since z c (facing_back c z (anew b)) (turned later)
       back-since = record { quiet = quiet-turned (view b) (quietly b); near = later-since.far; far = later-since.near }
 
+      law-on : (Statement : PairState → Type 0) → Law Statement → Statement later
+      law-on = keeps-law c z (anew b) later later-stands later-since later-ends
+
+      law-back : (Statement : PairState → Type 0) → Law Statement → Statement (turned later)
+      law-back = keeps-law z c (facing_back c z (anew b)) (turned later) back-stands back-since (ends-turned c z later later-ends)
+
       once-on : EachOnce later
       once-on = keeps-once c z (anew b) later later-stands later-since later-ends
 
@@ -195,6 +213,12 @@ module _ (c z : Configuration) (a : AreFacing c z) (q : PairState) (w : Works c 
       };
     }
 
+    laws-hold : (Statement : PairState → Type 0) → Law Statement → BothWays Statement later
+    laws-hold Statement law = record {
+      there = law-on 0 0 (omega arith) (omega arith) (omega arith) (omega arith) Statement law;
+      back = law-back 0 0 (omega arith) (omega arith) (omega arith) (omega arith) Statement law;
+    }
+
 pub begins-anew : promises_begin_anew
 begins-anew near far changes g quiet steps since =
     let p : PairState = after_all changes (first_pair near far) in
@@ -207,9 +231,31 @@ begins-anew near far changes g quiet steps since =
         let e : p ≡ with_settings c z p = written c z p w.stands.near_settings w.stands.far_settings in
         subst HoldAnew (sym e) (both-keep c z a p (subst (Works c z a) e w) (subst (AreEnds c z) e t) (subst IsQuietPair e quiet))
 
+law-anew : (Statement : PairState → Type 0) → Law Statement → WhileNothingIsLostSince Statement
+law-anew Statement law near far changes g quiet =
+    let p : PairState = after_all changes (first_pair near far) in
+    let a : AreFacing near far = are-facing near far g in
+    let t : AreEnds near far p = all-changes-end near far changes (first_pair near far) (begin-ends near far) in
+    by near far a p (all-work near far a changes) t quiet
+  where
+    by : (c z : Configuration) (a : AreFacing c z) (p : PairState) → Works c z a p → AreEnds c z p → IsQuietPair p → HoldsAnew Statement p
+    by c z a p w t quiet =
+        let e : p ≡ with_settings c z p = written c z p w.stands.near_settings w.stands.far_settings in
+        subst (HoldsAnew Statement) (sym e)
+        (λ steps since. laws-hold c z a p (subst (Works c z a) e w) (subst (AreEnds c z) e t) (subst IsQuietPair e quiet) steps since Statement law)
+
+pub laws-anew : LawsBeginAnew
+laws-anew = record {
+  frames_carry = law-anew IsCarried carried-there;
+  none_is_left = law-anew NoneIsLeft left-there;
+  words_are_final = law-anew AreFinal final-there;
+  moves_are_lacked = law-anew MovesLacked lacked-there;
+  nothing_is_awaited_in_vain = law-anew AwaitsNothingInVain awaits-there;
+}
+
 -- ---- at first
 
-first-may : (c z : Configuration) (link : ℕ) → may_open_at (first_pair c z).near link ≡ true
+pub first-may : (c z : Configuration) (link : ℕ) → may_open_at (first_pair c z).near link ≡ true
 first-may c z link =
     ap (λ (x : Link). is_down x.alignment && may_restart (changeover_of (first_parts c) link))
     (each-replicate (λ (x : Link). x ≡ down_link) (length c.links) link down_link refl)

@@ -2,18 +2,18 @@
 -- somewhere on; and that its ends were asked some things since they were booted.
 use Rattle.pair_rules.proofs.Basics.{◌≡◌, ℕ, zero, suc, Bool, false, List, [], ◌∷◌, length, refl, ap, sym, subst, ◌∙◌, slice_index_or, slice_set, length-set}
 use Rattle.std.proofs.lemmas.List.{length-replicate}
-use Rattle.pair_rules.proofs.Definitions.{Configuration, Pair, PairState, turned, first_pair, may_follow, each-replicate}
+use Rattle.pair_rules.proofs.Definitions.{Configuration, Pair, PairState, turned, first_pair, each-replicate}
 use Rattle.exchange_rules.specs.First.{Abstract, first_state}
 use Rattle.pair_moves.specs.Ends as ends
 use Rattle.pair_rules.proofs.World.{Flying, World}
 use Rattle.pair_rules.proofs.Going.{goes-none}
-use Rattle.pair_rules.proofs.First.{first_mid, nothing_flies}
+use Rattle.pair_rules.proofs.First.{nothing_flies}
 use Rattle.pair_rules.proofs.Standing.{rests, world_of}
 use Rattle.neighbour_rules.specs.Anew.{Change, Steps, NearRestarts, FarRestarts, NearGivesUp, FarGivesUp, after_all, after_change, begun_anew, given_up, restarted}
-use Rattle.neighbour_rules.specs.Neighbours.{Step, after_steps, turn}
+use Rattle.neighbour_rules.specs.Neighbours.{Step, after_steps}
 use Rattle.neighbour_rules.proofs.Counted.{base-same, no_base, no_counts}
 use Rattle.neighbour_rules.proofs.World.{says_of, shown}
-use Rattle.neighbour_rules.proofs.Good.{Good, Joint}
+use Rattle.neighbour_rules.proofs.Good.{Good}
 use Rattle.neighbour_rules.proofs.Adjacents.{first-knows}
 use Rattle.neighbour_rules.proofs.Asked.{AreEnds, IsAsked, aside, ends-turned, step-ends}
 use Rattle.neighbour_rules.proofs.Staying.{with_settings, written}

@@ -1,6 +1,6 @@
 -- What two nodes that share a link set promise anew: from each state on in which nothing is left between them, whatever
 -- was lost before, and however often either of them has started again.
-use Rattle.std.specs.Prelude.{◌≡◌, ◌<◌, ◌-◌, ◌^◌, ℕ, Bool, true, false, List, [], ◌∷◌, slice_set}
+use Rattle.std.specs.Prelude.{◌≡◌, ◌<◌, ◌-◌, ◌^◌, ℕ, true, false, List, [], ◌∷◌, slice_set}
 use Rattle.settings_rows.specs.Configuration.{Configuration}
 use Rattle.settings.specs.Readings.{set_place}
 use Rattle.pair_rules.specs.Pairs.{PairState, turned, may_follow, may_open_at, first_end, first_pair}
@@ -8,8 +8,8 @@ use Rattle.pair_rules.specs.Promises.{BothWays}
 use Rattle.pair_rules.specs.Sharing.{AreSharing}
 use Rattle.neighbour_rules.specs.Neighbours.{Step, after_steps, turn}
 use Rattle.neighbour_rules.specs.Promises.{EachOnce, InOrder}
-use Rattle.neighbour_rules.specs.Laws.{OfEachLink}
-use Rattle.neighbour_rules.specs.Awaiting.{is_awaited}
+use Rattle.neighbour_rules.specs.Laws.{AreFinal, IsCarried, MovesLacked, NoneIsLeft, OfEachLink}
+use Rattle.neighbour_rules.specs.Awaiting.{AwaitsNothingInVain, is_awaited}
 
 -- ---- nodes that start again
 
@@ -113,3 +113,25 @@ promises_begin_anew =
 -- at first the pair is quiet
 abbrev pub pairs_begin_quietly : Type 0
 pairs_begin_quietly = (near far : Configuration) → IsQuietPair (first_pair near far)
+
+-- ---- the laws of links, from then on
+
+-- after every list of steps from such a pair on, in both directions, while nothing may have been lost since
+abbrev pub HoldsAnew : (PairState → Type 0) → PairState → Type 0
+HoldsAnew Statement p =
+    (steps : List Step) → LostNothingSince p (after_steps steps (begun_anew p)) →
+    BothWays Statement (after_steps steps (begun_anew p))
+
+abbrev pub WhileNothingIsLostSince : (PairState → Type 0) → Type 0
+WhileNothingIsLostSince Statement =
+    (near far : Configuration) (changes : List Change) → AreSharing near far →
+    IsQuietPair (after_all changes (first_pair near far)) →
+    HoldsAnew Statement (after_all changes (first_pair near far))
+
+-- laws (i) to (iv), and that nothing is awaited in vain
+pub record LawsBeginAnew : Type 0 where
+  pub frames_carry : WhileNothingIsLostSince IsCarried
+  pub none_is_left : WhileNothingIsLostSince NoneIsLeft
+  pub words_are_final : WhileNothingIsLostSince AreFinal
+  pub moves_are_lacked : WhileNothingIsLostSince MovesLacked
+  pub nothing_is_awaited_in_vain : WhileNothingIsLostSince AwaitsNothingInVain

@@ -16,7 +16,7 @@ use Rattle.network_rules.proofs.Runs.{NextOf, alike-turned, near-next, next-turn
 
 -- ---- settings stay
 
-changed-keeps : (point : ℕ) (change : NetworkNode → NetworkNode) (w : NetworkState) → ((x : NetworkNode) → (change x).exchange.settings ≡ x.exchange.settings)
+pub changed-keeps : (point : ℕ) (change : NetworkNode → NetworkNode) (w : NetworkState) → ((x : NetworkNode) → (change x).exchange.settings ≡ x.exchange.settings)
     → (other : ℕ) → ((changed point change w).node other).exchange.settings ≡ (w.node other).exchange.settings
 changed-keeps point change w keeps other = by (nat_eq other point)
   where

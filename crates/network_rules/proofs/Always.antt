@@ -9,7 +9,7 @@ use Rattle.pair_rules.specs.Promises.{BothWays}
 use Rattle.pair_rules.specs.Pairs.{nothing_in_flight}
 use Rattle.pair_rules.proofs.Good.{Each, each-get}
 use Rattle.neighbour_rules.specs.Neighbours as neighbours
-use Rattle.neighbour_rules.specs.Neighbours.{leads_elsewhere, speaks_for_either}
+use Rattle.neighbour_rules.specs.Neighbours.{speaks_for_either}
 use Rattle.neighbour_rules.proofs.World.{says_of}
 use Rattle.neighbour_rules.specs.Anew as pairs
 use Rattle.neighbour_rules.proofs.Sharing.{AreFacing, are-facing, far_joint, near_joint}

@@ -1,11 +1,16 @@
--- What two nodes of a network promise anew: from each state on in which nothing is left between them, whatever was lost
--- before, and however often nodes have started again.
-use Rattle.std.specs.Prelude.{ℕ, false, List, [], ◌∷◌, slice_set}
+-- What a network promises anew: from each state on in which nothing is left between two of its nodes, or in all of it,
+-- whatever was lost before, and however often nodes have started again.
+use Rattle.std.specs.Prelude.{◌≡◌, ◌<◌, ℕ, true, false, List, [], ◌∷◌, length, slice_set}
 use Rattle.settings_rows.specs.Configuration.{Configuration}
+use Rattle.changeback.specs.Codes.{is_outstanding}
+use Rattle.pair_rules.specs.Pairs.{PairState, may_follow, may_open_at}
+use Rattle.pair_rules.specs.Promises.{BothWays}
 use Rattle.pair_rules.specs.Sharing.{AreSharing}
-use Rattle.neighbour_rules.specs.Anew.{BothKeep, IsQuietPair, LostNothingSince}
-use Rattle.network_rules.specs.Networks.{NetworkNode, NetworkState, Step, after_step, after_steps, changed, first_network, first_node}
-use Rattle.network_rules.specs.Pairs.{AreTheirPoints, AreWellOrAlone, pair_of}
+use Rattle.neighbour_rules.specs.Awaiting.{AwaitsNothingInVain}
+use Rattle.neighbour_rules.specs.Anew.{BothKeep, IsQuietPair, LostNothingSince, Stays}
+use Rattle.network_rules.specs.Networks.{NetworkNode, NetworkState, Step, after_step, after_steps, changed, end_of, first_network, first_node}
+use Rattle.network_rules.specs.Pairs.{AreTheirPoints, AreWellOrAlone, HearsNothingElsewhere, pair_of}
+use Rattle.network_rules.specs.Totals.{ComeToPoint, IsAccounted, IsJoined, is_listed}
 
 -- ---- nodes that start again
 
@@ -47,17 +52,75 @@ begun_anew w =
 
 -- ---- between two nodes
 
--- after every list of steps of the network, while neither of the two may have lost a message since
-abbrev pub HoldBetween : (near far : ℕ) → NetworkState → Type 0
-HoldBetween near far w =
-    (steps : List Step) →
-    LostNothingSince (pair_of w near far) (pair_of (after_steps steps (begun_anew w)) near far) →
-    BothKeep (pair_of w near far) (pair_of (after_steps steps (begun_anew w)) near far)
-
--- from each state on in which nothing is left between two nodes that share a set, whatever the others do
-abbrev pub neighbours_begin_anew : Type 0
-neighbours_begin_anew =
+-- after every list of changes of a network, of each two nodes in it that share a set
+abbrev pub AfterChanges : ((near far : ℕ) → NetworkState → Type 0) → Type 0
+AfterChanges Statement =
     (settings : (point : ℕ) → Configuration) (changes : List Change) (near far : ℕ) → AreTheirPoints settings →
     AreWellOrAlone settings → AreSharing (settings near) (settings far) →
-    IsQuietPair (pair_of (after_all changes (first_network settings)) near far) →
-    HoldBetween near far (after_all changes (first_network settings))
+    Statement near far (after_all changes (first_network settings))
+
+-- if nothing is left between the two, whatever may be in the others: after every list of steps of the network from then
+-- on, while neither of the two may have lost a message since
+abbrev pub HoldsBetween : ((p q : PairState) → Type 0) → (near far : ℕ) → NetworkState → Type 0
+HoldsBetween Statement near far w =
+    IsQuietPair (pair_of w near far) → (steps : List Step) →
+    LostNothingSince (pair_of w near far) (pair_of (after_steps steps (begun_anew w)) near far) →
+    Statement (pair_of w near far) (pair_of (after_steps steps (begun_anew w)) near far)
+
+-- both promises begin anew
+abbrev pub neighbours_begin_anew : Type 0
+neighbours_begin_anew = AfterChanges (HoldsBetween BothKeep)
+
+-- nothing is awaited in vain
+abbrev pub answers_come_anew : Type 0
+answers_come_anew = AfterChanges (HoldsBetween (λ p q. BothWays AwaitsNothingInVain q))
+
+-- and whatever was done or lost, nobody speaks for another
+abbrev pub nobody_ever_speaks_for_another : Type 0
+nobody_ever_speaks_for_another = AfterChanges (λ near far w. BothWays HearsNothingElsewhere (pair_of w near far))
+
+-- ---- from end to end
+
+-- each link of a node may open, and the node may follow on none; nothing is in its Held; and no changeback code of a
+-- set awaits its answer there
+pub record IsQuietNode (x : NetworkNode) : Type 0 where
+  pub links : (link : ℕ) → link < length x.exchange.settings.links →
+      (may_open_at (end_of x) link ≡ true) × (may_follow (end_of x) link ≡ false)
+  pub held : x.exchange.node.queues.held ≡ []
+  pub codes : (set code : ℕ) → is_outstanding x.exchange.node.parts.codes set code ≡ false
+
+-- so it is at all of these nodes
+abbrev pub IsQuietNetwork : (points : List ℕ) → NetworkState → Type 0
+IsQuietNetwork points w = (point : ℕ) → is_listed points point ≡ true → IsQuietNode (w.node point)
+
+-- none of them may have lost a message since the network was w
+abbrev pub HaveLostNothingSince : (points : List ℕ) → (w v : NetworkState) → Type 0
+HaveLostNothingSince points w v =
+    (point : ℕ) → is_listed points point ≡ true →
+    Stays (w.node point).exchange.node.parts.times_lost (v.node point).exchange.node.parts.times_lost
+
+-- after every list of steps from a quiet network on, while nothing may have been lost since
+abbrev pub HoldThroughout : (points : List ℕ) → (NetworkState → Type 0) → NetworkState → Type 0
+HoldThroughout points Statement w =
+    (steps : List Step) → HaveLostNothingSince points w (after_steps steps (begun_anew w)) →
+    Statement (after_steps steps (begun_anew w))
+
+abbrev pub networks_begin_anew : Type 0
+networks_begin_anew =
+    (settings : (point : ℕ) → Configuration) (points : List ℕ) (changes : List Change) → IsJoined settings points →
+    IsQuietNetwork points (after_all changes (first_network settings)) →
+    HoldThroughout points (IsAccounted points) (after_all changes (first_network settings))
+
+-- and of the messages for one point, where all nodes have one network indicator
+abbrev pub destinations_begin_anew : Type 0
+destinations_begin_anew =
+    (settings : (point : ℕ) → Configuration) (points : List ℕ) (changes : List Change) (point : ℕ) →
+    IsJoined settings points → is_listed points point ≡ true →
+    ((other : ℕ) → is_listed points other ≡ true → (settings other).network ≡ (settings point).network) →
+    IsQuietNetwork points (after_all changes (first_network settings)) →
+    HoldThroughout points (λ w. ComeToPoint points w (settings point)) (after_all changes (first_network settings))
+
+-- at first the network is quiet
+abbrev pub networks_begin_quietly : Type 0
+networks_begin_quietly =
+    (settings : (point : ℕ) → Configuration) (points : List ℕ) → IsQuietNetwork points (first_network settings)
