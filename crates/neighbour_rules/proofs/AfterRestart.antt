@@ -1,6 +1,6 @@
 -- The run in which a message comes after a restart, by computation, except whether it waits, which is looked at once.
-use Rattle.pair_rules.proofs.Basics.{◌≡◌, ◌<◌, ℕ, zero, suc, Bool, true, false, [], ◌∷◌, ◌++◌, Option, None, Some, refl, ap, sym, subst, ◌∙◌, arith}
-use Rattle.pair_rules.proofs.Definitions.{flow_of, set_place, set_timer, start_unless_running, clear_timer, clear_set, due_name, after_due, due_count, first_sets, choice_among, link_by, any_flow, flows, HoldSet, no_holds, none_at_first, Done, Node, WholeQueues, whole, no_room, waits, link_of, apply, settled, take_back_each, PairState, taken_in, may_follow, may_open_at, turned}
+use Rattle.pair_rules.proofs.Basics.{◌≡◌, ◌<◌, ℕ, zero, suc, Bool, true, false, [], ◌∷◌, ◌++◌, None, Some, refl, ap, sym, subst, ◌∙◌, arith}
+use Rattle.pair_rules.proofs.Definitions.{flow_of, set_timer, start_unless_running, clear_timer, clear_set, due_name, after_due, due_count, first_sets, choice_among, link_by, any_flow, flows, no_holds, none_at_first, Done, Node, WholeQueues, whole, no_room, waits, link_of, apply, settled, take_back_each, PairState, taken_in, may_follow, may_open_at, turned}
 use Rattle.timers.specs.Timers.{names_of}
 use Rattle.routes.specs.Routes.{links_below}
 use Rattle.route_management.specs.Told.{owes_nothing}
@@ -14,12 +14,9 @@ use Rattle.pair_rules.proofs.OneEndFirst.{free-lifted, none-held}
 use Rattle.pair_rules.proofs.RunSettings.{joined}
 use Rattle.neighbour_rules.specs.Neighbours.{Does, AtNear, AtFar, after_steps, far_end, users_to}
 use Rattle.neighbour_rules.specs.Promises.{waiting}
-use Rattle.neighbour_rules.specs.Awaiting.{is_awaited}
 use Rattle.neighbour_rules.specs.Anew.{IsQuietEnd, Stays, most, times_late, times_lost}
 use Rattle.neighbour_rules.specs.AfterRestart.{ComesAfterRestart, broken, returned, submitted}
-use Rattle.neighbour_rules.specs.AfterRestart as run
-use Rattle.pair_rules.specs.Pairs.{Submits, Takes, Delivers}
-use Rattle.neighbour_rules.proofs.First.{code-none}
+use Rattle.pair_rules.specs.Pairs.{Takes, Delivers}
 use Rattle.neighbour_rules.proofs.Special.{sharing}
 
 -- ---- the message is queued
@@ -60,7 +57,7 @@ come_from p = after_steps (AtNear (Does (Takes 0)) ∷ AtFar (Does (Delivers 0))
 
 broken-quiet : IsQuietEnd broken
 unfolding apply tell_owed first_sets links_below status_of set_timer clear_timer start_unless_running clear_set due_name after_due due_count names_of choice_among link_by changes_of changes take_back_each owes_nothing any_flow flows
-broken-quiet = record { links = links; held = refl; codes = code-none near_settings far_settings 0 }
+broken-quiet = record { links = links; held = refl }
   where
     links : (link other : ℕ) → far_end broken link ≡ Some other → (may_open_at broken.near link ≡ true) × (may_follow broken.near link ≡ false)
     links zero other e = (refl, refl)
@@ -93,4 +90,4 @@ comes-after = record {
     links (suc (suc link)) other e = absurd cc
 
     back : IsQuietEnd (turned broken)
-    back = record { links = links; held = refl; codes = code-none far_settings near_settings 0 }
+    back = record { links = links; held = refl }

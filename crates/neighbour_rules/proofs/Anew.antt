@@ -1,40 +1,30 @@
--- From every quiet pair on both promises hold anew, and so do the laws of links.
-use Rattle.pair_rules.proofs.Basics.{◌≡◌, ◌<◌, ◌≤◌, ◌&&◌, ℕ, Bool, true, false, List, length, Option, Some, None, nat_lt, refl, ap, sym, subst, ◌∙◌, arith, nat_tests}
+-- From every quiet pair on both promises hold anew.
+use Rattle.pair_rules.proofs.Basics.{◌≡◌, ◌<◌, ◌≤◌, ◌&&◌, ℕ, Bool, true, false, List, length, nat_lt, refl, ap, sym, subst, ◌∙◌, arith, nat_tests}
 use Rattle.std.proofs.lemmas.List.Elements.{All-nil}
-use Rattle.pair_rules.proofs.Definitions.{Configuration, set_place, Link, down_link, is_down, Standing, no_changeover, may_restart, changeover_of, Pair, PairState, first_pair, may_open_at, turned, each-replicate}
+use Rattle.pair_rules.proofs.Definitions.{Configuration, is_outstanding, Link, down_link, is_down, Standing, no_changeover, may_restart, changeover_of, Pair, PairState, first_pair, may_open_at, turned, each-replicate}
 use Rattle.exchange_rules.specs.First.{first_parts}
 use Rattle.pair_moves.specs.Quiet.{IsQuiet}
-use Rattle.pair_moves.proofs.First.{quiet-turned}
 use Rattle.pair_rules.specs.Accepting.{IsUserMessageTo}
 use Rattle.pair_rules.proofs.Going.{goes-none}
 use Rattle.pair_rules.proofs.Standing.{world_of}
 use Rattle.neighbour_rules.specs.Neighbours.{Step, after_steps}
-use Rattle.neighbour_rules.specs.Promises.{EachOnce, InOrder}
-use Rattle.neighbour_rules.specs.Anew.{BothKeep, HoldAnew, HoldsAnew, IsQuietEnd, IsQuietPair, LawsBeginAnew, LostNothingSince, Stays, WhileNothingIsLostSince, after_all, begun_anew, most, pairs_begin_quietly, promises_begin_anew, times_late, times_lost}
-use Rattle.neighbour_rules.specs.Awaiting.{AwaitsNothingInVain, is_awaited}
+use Rattle.neighbour_rules.specs.Promises.{AreBooked, EachOnce, InOrder}
 use Rattle.neighbour_rules.specs.Laws.{AreFinal, IsCarried, MovesLacked, NoneIsLeft}
-use Rattle.pair_rules.specs.Promises.{BothWays}
+use Rattle.neighbour_rules.specs.Anew.{BothKeep, HoldAnew, IsQuietEnd, IsQuietPair, KeepsPromises, LostNothingSince, Stays, after_all, begun_anew, most, pairs_begin_quietly, promises_begin_anew, times_late, times_lost}
 use Rattle.neighbour_rules.proofs.Counted.{Base, CanGrow, IsBase, counts_of}
 use Rattle.neighbour_rules.proofs.World.{says_of, shown}
 use Rattle.neighbour_rules.proofs.Good.{Good}
 use Rattle.neighbour_rules.proofs.Asked.{AreEnds, begin-ends, ends-turned, steps-ends}
 use Rattle.neighbour_rules.proofs.Staying.{are-booked, with_settings, written}
 use Rattle.neighbour_rules.proofs.Sharing.{AreFacing, are-facing, facing_back, far_joint, near_joint}
-use Rattle.neighbour_rules.proofs.First.{code-none}
-use Rattle.neighbour_rules.proofs.Standing.{Since, Stands}
+use Rattle.neighbour_rules.proofs.Standing.{Since, Stands, since-back}
 use Rattle.neighbour_rules.proofs.AllSteps.{stands-turned, steps-stand}
 use Rattle.neighbour_rules.proofs.Promised.{once-there, order-there}
 use Rattle.neighbour_rules.proofs.FourLaws.{carried-there, final-there, lacked-there, left-there}
-use Rattle.neighbour_rules.proofs.Awaited.{awaits-there}
 use Rattle.neighbour_rules.proofs.Restarted.{Works, all-changes-end, all-work, begun}
 use Rattle.neighbour_rules.proofs.Quieted.{quiet-shown}
 
 -- ---- what stands keeps its promises
-
--- a statement holds of each pair that stands
-abbrev Law : (PairState → Type 0) → Type 0
-Law Statement =
-    (c z : Configuration) (a : AreFacing c z) (q : PairState) → Stands c z a (with_settings c z q) → Since c z a (with_settings c z q) → Statement (with_settings c z q)
 
 module _ (c z : Configuration) (a : AreFacing c z) (q : PairState) (s : Stands c z a q) (since : Since c z a q) (t : AreEnds c z q) where
   abbrev r : PairState
@@ -52,18 +42,29 @@ module _ (c z : Configuration) (a : AreFacing c z) (q : PairState) (s : Stands c
   since-written : Since c z a r
   since-written = record { quiet = since.quiet; near = since.near; far = since.far }
 
-  keeps-law : (Statement : PairState → Type 0) → Law Statement → Statement q
-  keeps-law Statement law = subst Statement (sym is-written) (law c z a q stands-written since-written)
+  -- as the settings are written out
+  so : (Statement : PairState → Type 0) → Statement r → Statement q
+  so Statement h = subst Statement (sym is-written) h
 
-  keeps-once : EachOnce q
-  keeps-once =
-      subst EachOnce (sym is-written)
-      (once-there c z a q stands-written since-written (are-booked c z r ends-written) (are-booked z c (turned r) (ends-turned c z r ends-written)))
+  near-booked : AreBooked r
+  near-booked = are-booked c z r ends-written
 
-  keeps-order : nat_lt a.base.near.late (times_late q) ≡ false → InOrder q
-  keeps-order punctual =
-      subst InOrder (sym is-written)
-      (order-there c z a q stands-written since-written (are-booked c z r ends-written) (are-booked z c (turned r) (ends-turned c z r ends-written)) punctual)
+  far-booked : AreBooked (turned r)
+  far-booked = are-booked z c (turned r) (ends-turned c z r ends-written)
+
+  in-order : nat_lt a.base.near.late (times_late q) ≡ false → InOrder q
+  in-order punctual = so InOrder (order-there c z a q stands-written since-written near-booked far-booked punctual)
+
+  -- order is kept from where the late ones were counted on
+  keeps : (p : PairState) → (Stays (times_late p) (times_late q) → InOrder q) → KeepsPromises p q
+  keeps p order = record {
+    once = so EachOnce (once-there c z a q stands-written since-written near-booked far-booked);
+    order = order;
+    carried = so IsCarried (carried-there c z a q stands-written since-written);
+    left = so NoneIsLeft (left-there c z a q stands-written since-written);
+    final = so AreFinal (final-there c z a q stands-written since-written);
+    moved = so MovesLacked (lacked-there c z a q stands-written since-written);
+  }
 
 -- ---- the moves begin anew
 
@@ -87,6 +88,8 @@ module _ (c z : Configuration) (a : AreFacing c z) (q : PairState) (w : Works c 
     far_grows : CanGrow base.far
     near : IsBase base.near (counts_of p.near.exchange.node.parts)
     far : IsBase base.far (counts_of p.far.exchange.node.parts)
+    near_given : (code : ℕ) → is_outstanding p.near.exchange.node.parts.codes a.near_set code ≡ base.near_given_up code
+    far_given : (code : ℕ) → is_outstanding p.far.exchange.node.parts.codes a.far_set code ≡ base.far_given_up code
 
   module _ (b : Bases) where
     abbrev view : Pair
@@ -95,9 +98,9 @@ module _ (c z : Configuration) (a : AreFacing c z) (q : PairState) (w : Works c 
     abbrev anew : AreFacing c z
     anew = record a { base = b.base; near_grows = b.near_grows; far_grows = b.far_grows; start = view }
 
-    quietly : IsQuiet view
+    quietly : IsQuiet (says_of c.own z.own) view
     quietly =
-        quiet-shown c z a q s.near_good.fits s.far_good.fits t.near_is.exchange t.far_is.exchange s.near_flags s.far_flags quiet b.base s.to_near s.to_far
+        quiet-shown c z a q s.near_good.fits s.far_good.fits t.near_is.exchange t.far_is.exchange s.near_flags s.far_flags quiet b.base b.near_given b.far_given s.to_near s.to_far
 
     begins : Stands c z anew (begun_anew p)
     begins = record {
@@ -160,11 +163,18 @@ module _ (c z : Configuration) (a : AreFacing c z) (q : PairState) (w : Works c 
     -- losses are counted on, and what is late from these counts
     abbrev counted : (near_late far_late : ℕ) → near_late < most → far_late < most → (near_late ≤ times_late p) → (far_late ≤ times_late (turned p)) → Bases
     counted near_late far_late near_grows far_grows near far = record {
-      base = record { near = record { lost = times_lost p; late = near_late }; far = record { lost = times_lost (turned p); late = far_late } };
+      base = record {
+        near = record { lost = times_lost p; late = near_late };
+        far = record { lost = times_lost (turned p); late = far_late };
+        near_given_up = λ code. is_outstanding p.near.exchange.node.parts.codes a.near_set code;
+        far_given_up = λ code. is_outstanding p.far.exchange.node.parts.codes a.far_set code;
+      };
       near_grows = record { lost = since.near.countable; late = near_grows };
       far_grows = record { lost = since.far.countable; late = far_grows };
       near = record { lost = omega arith; late = near };
       far = record { lost = omega arith; late = far };
+      near_given = λ code. refl;
+      far_given = λ code. refl;
     }
 
     module _ (near_late far_late : ℕ) (near_grows : near_late < most) (far_grows : far_late < most) (near : near_late ≤ times_late p) (far : far_late ≤ times_late (turned p)) where
@@ -181,43 +191,25 @@ module _ (c z : Configuration) (a : AreFacing c z) (q : PairState) (w : Works c 
       back-stands = stands-turned c z (anew b) later later-stands
 
       back-since : Since z c (facing_back c z (anew b)) (turned later)
-      back-since = record { quiet = quiet-turned (view b) (quietly b); near = later-since.far; far = later-since.near }
-
-      law-on : (Statement : PairState → Type 0) → Law Statement → Statement later
-      law-on = keeps-law c z (anew b) later later-stands later-since later-ends
-
-      law-back : (Statement : PairState → Type 0) → Law Statement → Statement (turned later)
-      law-back = keeps-law z c (facing_back c z (anew b)) (turned later) back-stands back-since (ends-turned c z later later-ends)
-
-      once-on : EachOnce later
-      once-on = keeps-once c z (anew b) later later-stands later-since later-ends
-
-      once-back : EachOnce (turned later)
-      once-back = keeps-once z c (facing_back c z (anew b)) (turned later) back-stands back-since (ends-turned c z later later-ends)
+      back-since = since-back c z (anew b) later later-since
 
       order-on : nat_lt near_late (times_late later) ≡ false → InOrder later
-      order-on punctual = keeps-order c z (anew b) later later-stands later-since later-ends punctual
+      order-on punctual = in-order c z (anew b) later later-stands later-since later-ends punctual
 
       order-back : nat_lt far_late (times_late (turned later)) ≡ false → InOrder (turned later)
-      order-back punctual = keeps-order z c (facing_back c z (anew b)) (turned later) back-stands back-since (ends-turned c z later later-ends) punctual
+      order-back punctual = in-order z c (facing_back c z (anew b)) (turned later) back-stands back-since (ends-turned c z later later-ends) punctual
+
+      both-with : (Stays (times_late p) (times_late later) → InOrder later) → (Stays (times_late (turned p)) (times_late (turned later)) → InOrder (turned later)) → BothKeep p later
+      both-with there back = record {
+        there = keeps c z (anew b) later later-stands later-since later-ends p there;
+        back = keeps z c (facing_back c z (anew b)) (turned later) back-stands back-since (ends-turned c z later later-ends) (turned p) back;
+      }
 
     both-keep : BothKeep p later
-    both-keep = record {
-      there = record {
-        once = once-on 0 0 (omega arith) (omega arith) (omega arith) (omega arith);
-        order = λ late. order-on (times_late p) 0 late.countable (omega arith) (omega arith) (omega arith) (not-since _ _ late);
-      };
-      back = record {
-        once = once-back 0 0 (omega arith) (omega arith) (omega arith) (omega arith);
-        order = λ late. order-back 0 (times_late (turned p)) (omega arith) late.countable (omega arith) (omega arith) (not-since _ _ late);
-      };
-    }
-
-    laws-hold : (Statement : PairState → Type 0) → Law Statement → BothWays Statement later
-    laws-hold Statement law = record {
-      there = law-on 0 0 (omega arith) (omega arith) (omega arith) (omega arith) Statement law;
-      back = law-back 0 0 (omega arith) (omega arith) (omega arith) (omega arith) Statement law;
-    }
+    both-keep =
+        both-with 0 0 (omega arith) (omega arith) (omega arith) (omega arith)
+        (λ late. order-on (times_late p) 0 late.countable (omega arith) (omega arith) (omega arith) (not-since _ _ late))
+        (λ late. order-back 0 (times_late (turned p)) (omega arith) late.countable (omega arith) (omega arith) (not-since _ _ late))
 
 pub begins-anew : promises_begin_anew
 begins-anew near far changes g quiet steps since =
@@ -231,28 +223,6 @@ begins-anew near far changes g quiet steps since =
         let e : p ≡ with_settings c z p = written c z p w.stands.near_settings w.stands.far_settings in
         subst HoldAnew (sym e) (both-keep c z a p (subst (Works c z a) e w) (subst (AreEnds c z) e t) (subst IsQuietPair e quiet))
 
-law-anew : (Statement : PairState → Type 0) → Law Statement → WhileNothingIsLostSince Statement
-law-anew Statement law near far changes g quiet =
-    let p : PairState = after_all changes (first_pair near far) in
-    let a : AreFacing near far = are-facing near far g in
-    let t : AreEnds near far p = all-changes-end near far changes (first_pair near far) (begin-ends near far) in
-    by near far a p (all-work near far a changes) t quiet
-  where
-    by : (c z : Configuration) (a : AreFacing c z) (p : PairState) → Works c z a p → AreEnds c z p → IsQuietPair p → HoldsAnew Statement p
-    by c z a p w t quiet =
-        let e : p ≡ with_settings c z p = written c z p w.stands.near_settings w.stands.far_settings in
-        subst (HoldsAnew Statement) (sym e)
-        (λ steps since. laws-hold c z a p (subst (Works c z a) e w) (subst (AreEnds c z) e t) (subst IsQuietPair e quiet) steps since Statement law)
-
-pub laws-anew : LawsBeginAnew
-laws-anew = record {
-  frames_carry = law-anew IsCarried carried-there;
-  none_is_left = law-anew NoneIsLeft left-there;
-  words_are_final = law-anew AreFinal final-there;
-  moves_are_lacked = law-anew MovesLacked lacked-there;
-  nothing_is_awaited_in_vain = law-anew AwaitsNothingInVain awaits-there;
-}
-
 -- ---- at first
 
 pub first-may : (c z : Configuration) (link : ℕ) → may_open_at (first_pair c z).near link ≡ true
@@ -262,15 +232,10 @@ first-may c z link =
     ∙ ap (λ (x : Standing). true && may_restart x)
     (each-replicate (λ (x : Standing). x ≡ no_changeover) (length c.links) link no_changeover refl)
 
-first-code : (c z : Configuration) (set : Option ℕ) (code : ℕ) → is_awaited (first_pair c z) set code ≡ false
-first-code c z (Some set) code = code-none c z set code
-first-code c z None code = code-none c z 0 code
-
 first-quiet : (c z : Configuration) → IsQuietEnd (first_pair c z)
 first-quiet c z = record {
   links = λ link other e. (first-may c z link, each-replicate (λ (b : Bool). b ≡ false) (length c.links) link false refl);
   held = refl;
-  codes = first-code c z (set_place c z.own);
 }
 
 pub begin-quietly : pairs_begin_quietly

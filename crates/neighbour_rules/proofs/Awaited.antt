@@ -63,8 +63,9 @@ module _ (c z : Configuration) (a : AreFacing c z) (q : PairState) (s : Stands c
         (of-shown c z a q s kept OrdersAreAwaited orders_are_awaited-always).there (code_of c link)
         ∙ ap (λ (l : ends.Line). one_if l.near.awaited) (line-known c z (near_joint c z a) w link other e)
 
-  pub awaits-there : AwaitsNothingInVain p
-  awaits-there = record {
+  -- no code was given up
+  pub awaits-there : ((code : ℕ) → a.base.near_given_up code ≡ false) → AwaitsNothingInVain p
+  awaits-there none = record {
     answers = λ link other f.
         let e : IsLine c z (near_joint c z a) link other = is-line c z (near_joint c z a) link other f in
         omega (
@@ -80,8 +81,9 @@ module _ (c z : Configuration) (a : AreFacing c z) (q : PairState) (s : Stands c
           back confirmed code (is_confirmation code) refl (λ m is. (codes-alike z c (far_joint c z a) m is).confirmations code),
           (of-shown c z a q s kept CodesAreOutstanding codes_are_outstanding-always).there code,
           ap (λ (o : Option ℕ). one_if (is_awaited p o code)) a.near_leads.adjacent,
+          ap one_if (none code),
         );
   }
 
 pub nothing-in-vain : nothing_is_awaited_in_vain
-nothing-in-vain = always AwaitsNothingInVain (λ c z a q s kept near far. awaits-there c z (from_first c z a) q s kept)
+nothing-in-vain = always AwaitsNothingInVain (λ c z a q s kept near far. awaits-there c z (from_first c z a) q s kept (λ code. refl))

@@ -1,10 +1,9 @@
 -- Whatever an exchange is asked, the queue of each link is numbered from 0, and a link that is down with its changeover
 -- complete has an empty one.
-use Rattle.pair_rules.proofs.Basics.{◌≡◌, ◌≤◌, ℕ, Bool, true, false, List, [], length, Option, Some, None, Result, Ok, Err, refl, ap, sym, subst, ◌∙◌}
-use Rattle.pair_rules.proofs.Definitions.{Message, Configuration, IsWell, Queue, Sending, first_queue, appended, emptied, after_answer, accept_answer, to_send, SeqFault, Node, carries, WholeQueues, queue_at, with_queue, link_at, changeover_of, down, each-set, each-replicate, IsOfSteps}
+use Rattle.pair_rules.proofs.Basics.{◌≡◌, ℕ, Bool, true, false, List, [], length, Option, Some, None, Result, Ok, Err, refl, ap, sym, subst, ◌∙◌}
+use Rattle.pair_rules.proofs.Definitions.{Configuration, IsWell, Queue, Sending, first_queue, appended, emptied, after_answer, accept_answer, to_send, SeqFault, Node, carries, WholeQueues, queue_at, with_queue, link_at, changeover_of, down, each-set, each-replicate, IsOfSteps}
 use Rattle.link.specs.Queue.{accepted, after_sending, sent_one}
 use Rattle.exchange_rules.specs.First.{Abstract, first_state}
-use Rattle.exchange_rules.specs.Lasting.{after_each}
 use Rattle.exchange_rules.specs.LastingLinks.{AreLinksSteady}
 use Rattle.exchange_rules.proofs.Asked.{any, all-of, asked-all, IsOfAll}
 use Rattle.exchange_rules.proofs.LastingLinks.{links-first, links-stay}

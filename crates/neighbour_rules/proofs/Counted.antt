@@ -1,6 +1,6 @@
 -- How often a node has counted, beyond a base, that a message may be lost or out of order. The base is what the two
 -- nodes had counted when the promise between them began.
-use Rattle.pair_rules.proofs.Basics.{◌≡◌, ◌<◌, ◌≤◌, ◌-◌, ◌^◌, ℕ, zero, suc, true, false, nat_lt, refl, ap, sym, subst, ◌∙◌, arith, nat_tests}
+use Rattle.pair_rules.proofs.Basics.{◌≡◌, ◌<◌, ◌≤◌, ◌-◌, ◌^◌, ℕ, zero, suc, Bool, true, false, nat_lt, refl, ap, sym, subst, ◌∙◌, arith, nat_tests}
 use Rattle.pair_rules.proofs.Definitions.{Parts}
 use Rattle.exchange_rules.specs.State.{is_raised, once_more}
 
@@ -23,16 +23,19 @@ with_lateness n = record n { late = once_more n.late }
 pub record Base : Type 0 where
   pub near : Counts
   pub far : Counts
+  -- the codes of the set between the two that awaited their answers then, and do so for good
+  pub near_given_up : ℕ → Bool
+  pub far_given_up : ℕ → Bool
 
 -- as the far node sees it
 abbrev pub turned_base : Base → Base
-turned_base b = record { near = b.far; far = b.near }
+turned_base b = record { near = b.far; far = b.near; near_given_up = b.far_given_up; far_given_up = b.near_given_up }
 
 abbrev pub no_counts : Counts
 no_counts = record { lost = 0; late = 0 }
 
 abbrev pub no_base : Base
-no_base = record { near = no_counts; far = no_counts }
+no_base = record { near = no_counts; far = no_counts; near_given_up = λ code. false; far_given_up = λ code. false }
 
 -- ---- what goes beyond a base
 

@@ -79,7 +79,7 @@ module _ (c z : Configuration) (its : ℕ) where
       by (Some destination) = contains-empty by_numbers (record { procedure = procedure_of c z its procedure; destination = destination; sls = flow.sls })
       by None = refl
 
-  pub code-none : (code : ℕ) → is_outstanding p.codes its code ≡ false
+  code-none : (code : ℕ) → is_outstanding p.codes its code ≡ false
   code-none code = by (length c.sets) its
     where
       by : (sets one : ℕ) → is_outstanding (no_codes sets) one code ≡ false
@@ -87,7 +87,7 @@ module _ (c z : Configuration) (its : ℕ) where
       by (suc sets) zero = each-replicate (λ (b : Bool). b ≡ false) CHANGEBACK_CODES code false refl
       by (suc sets) (suc one) = by sets one
 
-  side-first : side_by c z its no_counts (route_of c z its p) (first_mid c) ≡ first_side
+  side-first : side_by c z its no_counts (λ code. false) (route_of c z its p) (first_mid c) ≡ first_side
   side-first = λ i. record first_side {
     route = λ flow. route-none flow i;
     holds = λ procedure flow. holds-none procedure flow i;

@@ -1,6 +1,7 @@
 -- Two exchanges after some steps, as the machine of moves shows them; and what each step at the near end does to that.
-use Rattle.pair_rules.proofs.Basics.{◌≡◌, ℕ, Bool, false, List, [], length, nat_lt, None, refl, slice_get, ◌∙◌}
-use Rattle.pair_rules.proofs.Definitions.{Message, Configuration, Node, Happening, WholeQueues, whole, apply, handle_event, done-waits, PairState, LostNothing, Streams, happens, may_follow, turned}
+use Rattle.pair_rules.proofs.Basics.{◌≡◌, ℕ, Bool, false, List, [], length, nat_lt, None, refl, slice_get, subst, ◌∙◌}
+use Rattle.pair_rules.proofs.Definitions.{Message, Configuration, Saying, Node, Happening, WholeQueues, whole, apply, handle_event, done-waits, PairState, LostNothing, Streams, happens, may_follow, turned}
+use Rattle.pair_moves.specs.Ends as ends
 use Rattle.pair_moves.specs.Quiet as moves
 use Rattle.pair_moves.proofs.First.{quiet-first, quiet-turned}
 use Rattle.pair_rules.proofs.World.{Flying, Mid, World, turned_world}
@@ -8,7 +9,7 @@ use Rattle.pair_rules.proofs.Going.{Goes, goes-both}
 use Rattle.pair_rules.proofs.Standing.{AreStreams, Waits, end_with, rests, world_of}
 use Rattle.neighbour_rules.specs.Neighbours.{end_there}
 use Rattle.neighbour_rules.proofs.Counted.{beyond-none}
-use Rattle.neighbour_rules.proofs.World.{codes, says_of, shown}
+use Rattle.neighbour_rules.proofs.World.{codes, says-alike, says_of, shown}
 use Rattle.neighbour_rules.proofs.Good.{Good, Joint, Passes, at}
 use Rattle.neighbour_rules.proofs.Sharing.{AreFacing, facing_back, far_joint, from_first, near_joint}
 use Rattle.neighbour_rules.proofs.Events.{event-passes}
@@ -46,17 +47,21 @@ pub record Stands (c z : Configuration) (a : AreFacing c z) (p : PairState) : Ty
 
 -- the moves began with a quiet pair, and since then neither node has counted a loss
 pub record Since (c z : Configuration) (a : AreFacing c z) (p : PairState) : Type 0 where
-  pub quiet : moves.IsQuiet a.start
+  pub quiet : moves.IsQuiet (says_of c.own z.own) a.start
   pub near : nat_lt a.base.near.lost p.near.exchange.node.parts.times_lost ≡ false
   pub far : nat_lt a.base.far.lost p.far.exchange.node.parts.times_lost ≡ false
 
 pub since-back : (c z : Configuration) (a : AreFacing c z) (p : PairState) → Since c z a p → Since z c (facing_back c z a) (turned p)
-since-back c z a p h = record { quiet = quiet-turned a.start h.quiet; near = h.far; far = h.near }
+since-back c z a p h = record {
+  quiet = subst (λ (read : Message → Saying). moves.IsQuiet read (ends.turned a.start)) (says-alike c.own z.own) (quiet-turned (says_of c.own z.own) a.start h.quiet);
+  near = h.far;
+  far = h.near;
+}
 
 -- so it is since both were booted, while no flag is raised
 pub since-first : (c z : Configuration) (a : AreFacing c z) (p : PairState) → LostNothing p → Since c z (from_first c z a) p
 since-first c z a p kept = record {
-  quiet = quiet-first codes;
+  quiet = quiet-first (says_of c.own z.own) codes;
   near = beyond-none p.near.exchange.node.parts.times_lost ∙ kept.near;
   far = beyond-none p.far.exchange.node.parts.times_lost ∙ kept.far;
 }

@@ -99,8 +99,8 @@ module _ (c z : Configuration) (set : ℕ) where
   route_of p flow = if nat_eq flow.point z.own && nat_lt flow.sls SELECTIONS then option_map (code_of c) (link_of c p flow) else None
 
   -- what it lost, and what went late, counts from a base on
-  abbrev pub side_by : Counts → (Flow → Option ℕ) → Mid → Side
-  side_by base route m = record {
+  abbrev pub side_by : Counts → (given_up : ℕ → Bool) → (Flow → Option ℕ) → Mid → Side
+  side_by base given_up route m = record {
     accepted = m.accepted;
     received = m.received;
     arrived = m.arrived;
@@ -109,6 +109,7 @@ module _ (c z : Configuration) (set : ℕ) where
     route = route;
     holds = holds_of m.node.parts;
     outstanding = λ code. is_outstanding m.node.parts.codes set code;
+    given_up = given_up;
     lost = nat_lt base.lost m.node.parts.times_lost;
     late = nat_lt base.late m.node.parts.times_late;
   }
@@ -139,8 +140,8 @@ module _ (c z : Configuration) (near_set far_set : ℕ) where
   shown_by base route w = record {
     links = codes;
     line = line_of w;
-    near = side_by c z near_set base.near route w.near;
-    far = side_by z c far_set base.far (route_of z c far_set w.far.node.parts) w.far;
+    near = side_by c z near_set base.near base.near_given_up route w.near;
+    far = side_by z c far_set base.far base.far_given_up (route_of z c far_set w.far.node.parts) w.far;
   }
 
   abbrev pub shown : Base → World → Pair

@@ -1,5 +1,5 @@
 -- A run of two nodes with two links between them, of which one is used. The far node starts again while that is in
--- service, and the near one gives up what it may have had there; then nothing is left between the two. The link
+-- service, and T1 of the near one runs out, which counts as a loss; then nothing is left between the two. The link
 -- returns, and a message comes by it, once.
 use Rattle.std.specs.Prelude.{◌≡◌, true, map, replicate, List, [], ◌∷◌, ◌++◌}
 use Rattle.exchange_rules.specs.State.{lost_any}

@@ -1,15 +1,16 @@
 -- What two nodes that share a link set promise anew: from each state on in which nothing is left between them, whatever
 -- was lost before, and however often either of them has started again.
-use Rattle.std.specs.Prelude.{◌≡◌, ◌<◌, ◌-◌, ◌^◌, ℕ, true, false, List, [], ◌∷◌, slice_set}
+use Rattle.std.specs.Prelude.{◌≡◌, ◌<◌, ◌-◌, ◌^◌, ◌||◌, ℕ, Bool, true, false, List, [], ◌∷◌, slice_set}
+use Rattle.std.specs.List.{list_any}
+use Rattle.signalling_types.specs.Message.{Message}
 use Rattle.settings_rows.specs.Configuration.{Configuration}
-use Rattle.settings.specs.Readings.{set_place}
+use Rattle.exchange_rules.specs.LoneRoutes.{is_user_to}
 use Rattle.pair_rules.specs.Pairs.{PairState, turned, may_follow, may_open_at, first_end, first_pair}
 use Rattle.pair_rules.specs.Promises.{BothWays}
 use Rattle.pair_rules.specs.Sharing.{AreSharing}
-use Rattle.neighbour_rules.specs.Neighbours.{Step, after_steps, turn}
+use Rattle.neighbour_rules.specs.Neighbours.{Step, after_steps, is_management_between, turn}
 use Rattle.neighbour_rules.specs.Promises.{EachOnce, InOrder}
 use Rattle.neighbour_rules.specs.Laws.{AreFinal, IsCarried, MovesLacked, NoneIsLeft, OfEachLink}
-use Rattle.neighbour_rules.specs.Awaiting.{AwaitsNothingInVain, is_awaited}
 
 -- ---- nodes that start again
 
@@ -47,13 +48,20 @@ after_all (change ∷ changes) p = after_all changes (after_change change p)
 
 -- ---- nothing is left between them
 
--- each link between the two may open at the near end, which may not follow the far one there; nothing is in its Held;
--- and no changeback code of their set awaits its answer there
+-- whether a message is between two points: a user message for either, or management in the name of one for the other
+abbrev pub is_between : (one two : ℕ) → Message → Bool
+is_between one two m =
+    is_user_to one m || is_user_to two m || is_management_between one two m || is_management_between two one m
+
+-- each link between the two may open at the near end, which may not follow the far one there; and no message between
+-- them is in its Held
 pub record IsQuietEnd (p : PairState) : Type 0 where
   pub links : OfEachLink p (λ link other. (may_open_at p.near link ≡ true) × (may_follow p.near link ≡ false))
-  pub held : p.near.exchange.node.queues.held ≡ []
-  pub codes : (code : ℕ) →
-      is_awaited p (set_place p.near.exchange.settings p.far.exchange.settings.own) code ≡ false
+  pub held :
+      list_any
+      (is_between p.near.exchange.settings.own p.far.exchange.settings.own)
+      p.near.exchange.node.queues.held
+      ≡ false
 
 abbrev pub IsQuietPair : PairState → Type 0
 IsQuietPair p = BothWays IsQuietEnd p
@@ -89,10 +97,14 @@ pub record LostNothingSince (p q : PairState) : Type 0 where
   pub far : Stays (times_lost (turned p)) (times_lost (turned q))
 
 -- what the near end accepted since then, the far end received once, or it waits; and each flow in order, if furthermore
--- no timer of the near end ended a hold since
+-- no timer of the near end ended a hold since. Laws (i) to (iv) hold, too
 pub record KeepsPromises (p q : PairState) : Type 0 where
   pub once : EachOnce q
   pub order : Stays (times_late p) (times_late q) → InOrder q
+  pub carried : IsCarried q
+  pub left : NoneIsLeft q
+  pub final : AreFinal q
+  pub moved : MovesLacked q
 
 pub record BothKeep (p q : PairState) : Type 0 where
   pub there : KeepsPromises p q
@@ -113,25 +125,3 @@ promises_begin_anew =
 -- at first the pair is quiet
 abbrev pub pairs_begin_quietly : Type 0
 pairs_begin_quietly = (near far : Configuration) → IsQuietPair (first_pair near far)
-
--- ---- the laws of links, from then on
-
--- after every list of steps from such a pair on, in both directions, while nothing may have been lost since
-abbrev pub HoldsAnew : (PairState → Type 0) → PairState → Type 0
-HoldsAnew Statement p =
-    (steps : List Step) → LostNothingSince p (after_steps steps (begun_anew p)) →
-    BothWays Statement (after_steps steps (begun_anew p))
-
-abbrev pub WhileNothingIsLostSince : (PairState → Type 0) → Type 0
-WhileNothingIsLostSince Statement =
-    (near far : Configuration) (changes : List Change) → AreSharing near far →
-    IsQuietPair (after_all changes (first_pair near far)) →
-    HoldsAnew Statement (after_all changes (first_pair near far))
-
--- laws (i) to (iv), and that nothing is awaited in vain
-pub record LawsBeginAnew : Type 0 where
-  pub frames_carry : WhileNothingIsLostSince IsCarried
-  pub none_is_left : WhileNothingIsLostSince NoneIsLeft
-  pub words_are_final : WhileNothingIsLostSince AreFinal
-  pub moves_are_lacked : WhileNothingIsLostSince MovesLacked
-  pub nothing_is_awaited_in_vain : WhileNothingIsLostSince AwaitsNothingInVain

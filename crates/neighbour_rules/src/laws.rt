@@ -5,7 +5,7 @@
 ghost use Rattle.pair_rules.specs.Deliveries.{deliveries_tell};
 ghost use Rattle.neighbour_rules.specs.AfterRestart.{ComesAfterRestart};
 ghost use Rattle.neighbour_rules.specs.Alone.{alone_is_special};
-ghost use Rattle.neighbour_rules.specs.Anew.{LawsBeginAnew, pairs_begin_quietly, promises_begin_anew};
+ghost use Rattle.neighbour_rules.specs.Anew.{pairs_begin_quietly, promises_begin_anew};
 ghost use Rattle.neighbour_rules.specs.Awaiting.{nothing_is_awaited_in_vain, nothing_is_held_in_vain};
 ghost use Rattle.neighbour_rules.specs.Laws.{frames_carry, none_is_left, words_are_final};
 ghost use Rattle.neighbour_rules.specs.Laws.{moves_are_lacked};
@@ -28,13 +28,12 @@ pub fn each_flow_keeps_its_order()
 {}
 
 /// Both promises begin anew whenever nothing is left between the two, whatever was lost before, and however often
-/// either node has started again: while each link between them may open at both ends, neither may follow, nothing is in
-/// Held, and no changeback code awaits its answer. Of what is accepted from then on "Exactly once" holds until either
-/// node counts one loss more, and "Order" until the accepting one ends a hold by a timer. Laws (i) to (iv), and that
-/// nothing is awaited in vain, hold as long as "Exactly once". Two newly booted exchanges are such a pair.
+/// either node has started again: while each link between them may open at both ends, neither of which may follow the
+/// other, and no message between the two is in Held. Of what is accepted from then on "Exactly once" holds until either
+/// node counts one loss more, and laws (i) to (iv) with it; and "Order" until the accepting one ends a hold by a timer
+/// besides. Two newly booted exchanges are such a pair.
 pub fn promises_begin_anew()
     ensures anew { promises_begin_anew }
-    ensures laws { LawsBeginAnew }
     ensures first { pairs_begin_quietly }
 {}
 
@@ -95,8 +94,9 @@ pub fn a_message_comes_from_a_third_node()
     ensures { GoesOn }
 {}
 
-/// Nor is what begins anew. In a run of 46 steps a node starts again while a link to it is in service, and the other gives
-/// up what it may have lost. Nothing is left between them then; the link returns, and a message crosses it, once.
+/// Nor is what begins anew. In a run of 46 steps a node starts again while a link to it is in service, and T1 of the
+/// other runs out, which counts as a loss. Nothing is left between them then; the link returns, and a message crosses
+/// it, once.
 pub fn a_message_comes_after_a_restart()
     ensures { ComesAfterRestart }
 {}

@@ -6,7 +6,6 @@ use Rattle.exchange_rules.specs.Conserving.{users_that}
 use Rattle.exchange_rules.specs.State.{is_raised}
 use Rattle.exchange_rules.proofs.Tallies.{append}
 use Rattle.neighbour_rules.proofs.Anew.{first-may}
-use Rattle.neighbour_rules.proofs.First.{code-none}
 use Rattle.pair_moves.specs.Laws.{sum_to}
 use Rattle.pair_moves.specs.Order.{join_to}
 use Rattle.pair_moves.proofs.Counts.{sum-alike}
@@ -210,7 +209,6 @@ pub quiet-first : networks_begin_quietly
 quiet-first settings points point listed = record {
   links = λ link less. (first-may (settings point) (settings point) link, each-replicate (λ (b : Bool). b ≡ false) (length (settings point).links) link false refl);
   held = refl;
-  codes = λ set code. code-none (settings point) (settings point) set code;
 }
 
 -- while no flag is raised, nothing was lost since

@@ -1,4 +1,4 @@
--- Lists of steps of a network, as each two of its nodes that share a set see them; and nobody speaks for another meanwhile.
+-- Lists of steps of a network, and of other changes, as each two of its nodes that share a set see them; and nobody speaks for another meanwhile.
 use Rattle.pair_rules.proofs.Basics.{◌≡◌, ◌≢◌, ℕ, true, false, List, [], ◌∷◌, ◌++◌, refl, ap, sym, subst, ◌∙◌, length, map}
 use Rattle.pair_rules.proofs.Definitions.{Message, Configuration, Queue, first_queue, queue_at, PairState, first_pair, in_flight, each-replicate, read_frame}
 use Rattle.std.specs.List.{list_all}
@@ -174,7 +174,7 @@ module _ (settings : (point : ℕ) → Configuration) (near far : ℕ) (points :
     pub pair : ArePairsAlike (pair_of w near far) (pairs.after_all changes p)
     pub calm : IsCalm w
 
-  -- a node starts again, or gives up following
+  -- a node starts again
   again-ok : (w : NetworkState) → IsCalm w → (point : ℕ) → IsCalm (changed point restarted w)
   again-ok w h point =
       quiet-changed settings near far points well a w point restarted h

@@ -1,21 +1,20 @@
 -- Between two nodes both promises begin anew, since they do between two neighbours; and so do the laws of links.
-use Rattle.pair_rules.proofs.Basics.{◌≡◌, ◌<◌, ℕ, zero, suc, true, false, List, [], ◌∷◌, length, Option, Some, None, refl, sym, subst, ◌∙◌, arith, slice_get}
-use Rattle.pair_rules.proofs.Definitions.{Configuration, LinkEntry, PairState, first_pair, set_place, turned}
+use Rattle.pair_rules.proofs.Basics.{◌≡◌, ◌<◌, ℕ, zero, suc, true, List, [], ◌∷◌, length, Option, Some, None, refl, ap, sym, subst, ◌∙◌, arith, list_any, slice_get}
+use Rattle.pair_rules.proofs.Definitions.{Configuration, LinkEntry, PairState, first_pair, turned}
 use Rattle.pair_rules.specs.Promises.{BothWays}
 use Rattle.pair_rules.specs.Sharing.{AreSharing}
 use Rattle.neighbour_rules.specs.Neighbours as neighbours
 use Rattle.neighbour_rules.specs.Neighbours.{end_there}
 use Rattle.neighbour_rules.specs.Laws.{AreFinal, IsCarried, MovesLacked}
-use Rattle.neighbour_rules.specs.Awaiting.{AwaitsNothingInVain, is_awaited}
 use Rattle.neighbour_rules.specs.Anew as pairs
-use Rattle.neighbour_rules.specs.Anew.{BothKeep, IsQuietEnd, IsQuietPair, LostNothingSince, WhileNothingIsLostSince}
-use Rattle.neighbour_rules.proofs.Anew.{begins-anew, laws-anew}
+use Rattle.neighbour_rules.specs.Anew.{IsQuietEnd, IsQuietPair, LostNothingSince, is_between}
+use Rattle.neighbour_rules.proofs.Anew.{begins-anew}
 use Rattle.neighbour_rules.proofs.Restarted.{Works, all-work, anew-works}
 use Rattle.neighbour_rules.proofs.Sharing.{AreFacing, are-facing}
 use Rattle.network_rules.specs.Networks.{NetworkNode, NetworkState, Step, after_steps, first_network}
 use Rattle.network_rules.specs.Pairs.{ArePairsAlike, AreTheirPoints, AreWellOrAlone, pair_between, pair_of}
 use Rattle.network_rules.specs.Totals.{is_listed}
-use Rattle.network_rules.specs.Anew.{Change, IsQuietNetwork, IsQuietNode, after_all, answers_come_anew, begun_anew, neighbours_begin_anew, nobody_ever_speaks_for_another}
+use Rattle.network_rules.specs.Anew.{BothKeep, Change, IsQuietNetwork, IsQuietNode, after_all, begun_anew, neighbours_begin_anew, nobody_ever_speaks_for_another}
 use Rattle.network_rules.proofs.Always.{Goes, GoesBy, IsCalm, all-go, goes, nobody}
 use Rattle.network_rules.proofs.Facts.{HasLaws, not-elsewhere}
 use Rattle.network_rules.proofs.Quiet.{are-kept}
@@ -36,7 +35,6 @@ module _ (p q : PairState) (h : ArePairsAlike p q) where
       (record {
         links = λ link other e. ((s.links link other e).0, h.near_alike.following link (not-elsewhere p.near.exchange.settings p.far.exchange.settings _ other e) ∙ (s.links link other e).1);
         held = s.held;
-        codes = s.codes;
       })
 
 quiet-pair : (p q : PairState) → ArePairsAlike p q → IsQuietPair p → IsQuietPair q
@@ -70,15 +68,15 @@ module _ (p q r s : PairState) (h : ArePairsAlike p q) (i : ArePairsAlike r s) w
       subst (λ (x : PairState). LostNothingSince x s) (sym (is-written p q h))
       (subst (λ (y : PairState). LostNothingSince (written p q) y) (sym (is-written r s i)) (record { near = l.near; far = l.far }))
 
-  keep-as : BothKeep (written p q) (written r s) → BothKeep p r
+  keep-as : pairs.BothKeep (written p q) (written r s) → BothKeep p r
   keep-as k = record {
     there = record { once = k.there.once; order = k.there.order };
     back = record { once = k.back.once; order = k.back.order };
   }
 
-  keep-alike : BothKeep q s → BothKeep p r
+  keep-alike : pairs.BothKeep q s → BothKeep p r
   keep-alike k =
-      keep-as (subst (λ (x : PairState). BothKeep x (written r s)) (is-written p q h) (subst (λ (y : PairState). BothKeep q y) (is-written r s i) k))
+      keep-as (subst (λ (x : PairState). pairs.BothKeep x (written r s)) (is-written p q h) (subst (λ (y : PairState). pairs.BothKeep q y) (is-written r s i) k))
 
 -- ---- quiet nodes
 
@@ -97,13 +95,8 @@ end-inside near far link other = by (slice_get near.links link) refl
 quiet-end : (x y : NetworkNode) → IsQuietNode x → IsQuietEnd (pair_between x y)
 quiet-end x y s = record {
   links = λ link other e. s.links link (end-inside x.exchange.settings y.exchange.settings link other e);
-  held = s.held;
-  codes = λ code. by code (set_place x.exchange.settings y.exchange.settings.own);
+  held = ap (list_any (is_between x.exchange.settings.own y.exchange.settings.own)) s.held;
 }
-  where
-    by : (code : ℕ) (set : Option ℕ) → is_awaited (pair_between x y) set code ≡ false
-    by code (Some set) = s.codes set code
-    by code None = s.codes 0 code
 
 pub quiet-between : (points : List ℕ) (w : NetworkState) (near far : ℕ) → IsQuietNetwork points w → is_listed points near ≡ true → is_listed points far ≡ true → IsQuietPair (pair_of w near far)
 quiet-between points w near far quiet here there = record {
@@ -158,12 +151,15 @@ module _ (settings : (point : ℕ) → Configuration) (changes : List Change) (n
     q-since : LostNothingSince q later
     q-since = since-alike (pair_of w near far) q (pair_of v near far) later go.pair g.pair since
 
+    kept : pairs.BothKeep q later
+    kept = begins-anew c z go.changes sharing q-quiet g.steps q-since
+
     holds-between : BothKeep (pair_of w near far) (pair_of v near far)
-    holds-between = keep-alike (pair_of w near far) q (pair_of v near far) later go.pair g.pair (begins-anew c z go.changes sharing q-quiet g.steps q-since)
+    holds-between = keep-alike (pair_of w near far) q (pair_of v near far) later go.pair g.pair kept
 
     -- a law of links
-    law-of : (Statement : PairState → Type 0) → WhileNothingIsLostSince Statement → BothWays Statement (written (pair_of v near far) later)
-    law-of Statement law = subst (BothWays Statement) (is-written (pair_of v near far) later g.pair) (law c z go.changes sharing q-quiet g.steps q-since)
+    law-of : (Statement : PairState → Type 0) → BothWays Statement later → BothWays Statement (written (pair_of v near far) later)
+    law-of Statement law = subst (BothWays Statement) (is-written (pair_of v near far) later g.pair) law
 
     pub has-laws : HasLaws (pair_of v near far)
     has-laws = record {
@@ -172,22 +168,14 @@ module _ (settings : (point : ℕ) → Configuration) (changes : List Change) (n
       sharing =
           subst (λ (s : Configuration). AreSharing s (v.node far).exchange.settings) (sym (are-kept settings near far points well a v g.calm near))
           (subst (AreSharing c) (sym (are-kept settings near far points well a v g.calm far)) sharing);
-      carried = law-of IsCarried laws-anew.frames_carry;
-      lacked = law-of MovesLacked laws-anew.moves_are_lacked;
-      final = law-of AreFinal laws-anew.words_are_final;
+      carried = law-of IsCarried (record { there = kept.there.carried; back = kept.back.carried });
+      lacked = law-of MovesLacked (record { there = kept.there.moved; back = kept.back.moved });
+      final = law-of AreFinal (record { there = kept.there.final; back = kept.back.final });
       silent = nobody settings near far points well a v g.calm;
     }
 
-    awaited-between : BothWays AwaitsNothingInVain (pair_of v near far)
-    awaited-between =
-        let both : BothWays AwaitsNothingInVain (written (pair_of v near far) later) = law-of AwaitsNothingInVain laws-anew.nothing_is_awaited_in_vain in
-        record { there = record { answers = both.there.answers; codes = both.there.codes }; back = record { answers = both.back.answers; codes = both.back.codes } }
-
 pub neighbours-anew : neighbours_begin_anew
 neighbours-anew settings changes near far points well sharing quiet steps since = holds-between settings changes near far points well sharing quiet steps since
-
-pub answers-anew : answers_come_anew
-answers-anew settings changes near far points well sharing quiet steps since = awaited-between settings changes near far points well sharing quiet steps since
 
 pub never-spoken : nobody_ever_speaks_for_another
 never-spoken settings changes near far points well sharing =

@@ -2,12 +2,11 @@
 -- whatever was lost before, and however often nodes have started again.
 use Rattle.std.specs.Prelude.{◌≡◌, ◌<◌, ℕ, true, false, List, [], ◌∷◌, length, slice_set}
 use Rattle.settings_rows.specs.Configuration.{Configuration}
-use Rattle.changeback.specs.Codes.{is_outstanding}
-use Rattle.pair_rules.specs.Pairs.{PairState, may_follow, may_open_at}
+use Rattle.pair_rules.specs.Pairs.{PairState, turned, may_follow, may_open_at}
 use Rattle.pair_rules.specs.Promises.{BothWays}
 use Rattle.pair_rules.specs.Sharing.{AreSharing}
-use Rattle.neighbour_rules.specs.Awaiting.{AwaitsNothingInVain}
-use Rattle.neighbour_rules.specs.Anew.{BothKeep, IsQuietPair, LostNothingSince, Stays}
+use Rattle.neighbour_rules.specs.Promises.{EachOnce, InOrder}
+use Rattle.neighbour_rules.specs.Anew.{IsQuietPair, LostNothingSince, Stays, times_late}
 use Rattle.network_rules.specs.Networks.{NetworkNode, NetworkState, Step, after_step, after_steps, changed, end_of, first_network, first_node}
 use Rattle.network_rules.specs.Pairs.{AreTheirPoints, AreWellOrAlone, HearsNothingElsewhere, pair_of}
 use Rattle.network_rules.specs.Totals.{ComeToPoint, IsAccounted, IsJoined, is_listed}
@@ -59,21 +58,26 @@ AfterChanges Statement =
     AreWellOrAlone settings → AreSharing (settings near) (settings far) →
     Statement near far (after_all changes (first_network settings))
 
--- if nothing is left between the two, whatever may be in the others: after every list of steps of the network from then
--- on, while neither of the two may have lost a message since
-abbrev pub HoldsBetween : ((p q : PairState) → Type 0) → (near far : ℕ) → NetworkState → Type 0
-HoldsBetween Statement near far w =
-    IsQuietPair (pair_of w near far) → (steps : List Step) →
+-- what the near node accepted for the far one since the two were p, that received once, or it waits; and each flow in
+-- order, if furthermore no timer of the near one ended a hold since
+pub record KeepsPromises (p q : PairState) : Type 0 where
+  pub once : EachOnce q
+  pub order : Stays (times_late p) (times_late q) → InOrder q
+
+pub record BothKeep (p q : PairState) : Type 0 where
+  pub there : KeepsPromises p q
+  pub back : KeepsPromises (turned p) (turned q)
+
+-- after every list of steps of the network, while neither of the two may have lost a message since
+abbrev pub HoldBetween : (near far : ℕ) → NetworkState → Type 0
+HoldBetween near far w =
+    (steps : List Step) →
     LostNothingSince (pair_of w near far) (pair_of (after_steps steps (begun_anew w)) near far) →
-    Statement (pair_of w near far) (pair_of (after_steps steps (begun_anew w)) near far)
+    BothKeep (pair_of w near far) (pair_of (after_steps steps (begun_anew w)) near far)
 
--- both promises begin anew
+-- if nothing is left between the two, whatever may be in the others
 abbrev pub neighbours_begin_anew : Type 0
-neighbours_begin_anew = AfterChanges (HoldsBetween BothKeep)
-
--- nothing is awaited in vain
-abbrev pub answers_come_anew : Type 0
-answers_come_anew = AfterChanges (HoldsBetween (λ p q. BothWays AwaitsNothingInVain q))
+neighbours_begin_anew = AfterChanges (λ near far w. IsQuietPair (pair_of w near far) → HoldBetween near far w)
 
 -- and whatever was done or lost, nobody speaks for another
 abbrev pub nobody_ever_speaks_for_another : Type 0
@@ -81,13 +85,11 @@ nobody_ever_speaks_for_another = AfterChanges (λ near far w. BothWays HearsNoth
 
 -- ---- from end to end
 
--- each link of a node may open, and the node may follow on none; nothing is in its Held; and no changeback code of a
--- set awaits its answer there
+-- each link of a node may open, and the node may follow on none; and nothing is in its Held
 pub record IsQuietNode (x : NetworkNode) : Type 0 where
   pub links : (link : ℕ) → link < length x.exchange.settings.links →
       (may_open_at (end_of x) link ≡ true) × (may_follow (end_of x) link ≡ false)
   pub held : x.exchange.node.queues.held ≡ []
-  pub codes : (set code : ℕ) → is_outstanding x.exchange.node.parts.codes set code ≡ false
 
 -- so it is at all of these nodes
 abbrev pub IsQuietNetwork : (points : List ℕ) → NetworkState → Type 0

@@ -2,8 +2,7 @@
 //! steps from newly booted exchanges on. The steps are those of `specs/Networks.antt`. Each function says its law by
 //! its contract, and does nothing.
 
-ghost use Rattle.network_rules.specs.Anew.{answers_come_anew, neighbours_begin_anew};
-ghost use Rattle.network_rules.specs.Anew.{nobody_ever_speaks_for_another};
+ghost use Rattle.network_rules.specs.Anew.{neighbours_begin_anew, nobody_ever_speaks_for_another};
 ghost use Rattle.network_rules.specs.Anew.{destinations_begin_anew, networks_begin_anew, networks_begin_quietly};
 ghost use Rattle.network_rules.specs.Pairs.{books_are_of_the_two, each_flow_in_order, each_message_once};
 ghost use Rattle.network_rules.specs.Pairs.{flows_stay_between, nothing_is_awaited_in_vain, nothing_is_held_in_vain};
@@ -67,12 +66,11 @@ pub fn nothing_is_held_in_vain()
 
 /// Both promises begin anew between any two nodes whenever nothing is left between them, whatever was lost before,
 /// however often any node has started again, and whatever the others do: while each link between the two may open at
-/// both ends, neither may follow, nothing is in Held, and no changeback code of their set awaits its answer. Of what
-/// is accepted from then on "Exactly once" holds until either node counts one loss more, and "Order" until the
-/// accepting one ends a hold by a timer. So long nothing is awaited in vain, too; and nobody ever speaks for another.
+/// both ends, neither of which may follow the other, and no message between the two is in Held. Of what is accepted
+/// from then on "Exactly once" holds until either node counts one loss more, and "Order" until the accepting one ends a
+/// hold by a timer besides. And whatever was done or lost, nobody speaks for another.
 pub fn neighbours_begin_anew()
     ensures promises { neighbours_begin_anew }
-    ensures awaited { answers_come_anew }
     ensures silent { nobody_ever_speaks_for_another }
 {}
 
@@ -101,10 +99,9 @@ pub fn messages_come_from_end_to_end()
 {}
 
 /// Both laws from end to end begin anew from every quiet network on, whatever was lost before, and however often nodes
-/// have started again: one in which each link of each node may open, no node may follow, nothing is in Held, and no
-/// changeback code awaits its answer. Of what enters from then on each message is accounted for, and those for one
-/// point came there, wait, or were refused, until a node counts one loss more. A network of newly booted exchanges is
-/// quiet.
+/// have started again: one in which each link of each node may open, no node may follow, and nothing is in Held. Of
+/// what enters from then on each message is accounted for, and those for one point came there, wait, or were refused,
+/// until a node counts one loss more. A network of newly booted exchanges is quiet.
 pub fn networks_begin_anew()
     ensures all { networks_begin_anew }
     ensures destinations { destinations_begin_anew }

@@ -54,6 +54,7 @@ module _ (read : Message → Saying) where
   -- what a move makes and looks at agrees with the flags that it leaves
   pub record Agrees (p q : Pair) (made looked : List Message) : Type 0 where
     pub far : q.far ≡ p.far
+    pub given_up : q.near.given_up ≡ p.near.given_up
     pub orders : (link : ℕ) →
         count_by (saying read (is_order link)) made + one_if (p.line link).near.awaited
         ≡ one_if (q.line link).near.awaited + count_by (saying read (is_answer link)) looked
@@ -77,7 +78,9 @@ module _ (read : Message → Saying) where
   tallies-there p q made looked b a t = record {
     orders = λ link. omega (arith, b.sends (saying read (is_order link)), b.hears (saying read (is_answer link)), a.orders link, t.orders link);
     words = λ link. omega (arith, b.sends (untrue_of link (q.line link).near), a.truth link);
-    codes = λ code. omega (arith, b.sends (saying read (is_declaration code)), b.hears (saying read (is_confirmation code)), a.declarations code, t.codes code);
+    codes = λ code.
+        let left : one_if (q.near.given_up code) ≡ one_if (p.near.given_up code) = ap (λ (f : ℕ → Bool). one_if (f code)) a.given_up in
+        omega (arith, b.sends (saying read (is_declaration code)), b.hears (saying read (is_confirmation code)), a.declarations code, t.codes code, left);
     once = λ test.
         let same : count_by (user read test) q.far.received ≡ count_by (user read test) p.far.received = ap (λ (s : Side). count_by (user read test) s.received) a.far in
         omega (arith, b.sends (user read test), a.accepted test, t.once test, same);
@@ -90,7 +93,8 @@ module _ (read : Message → Saying) where
     words = λ link. omega (arith, b.hears (untrue_of link (q.line link).far), a.far_truth link);
     codes = λ code.
         let same : one_if (q.far.outstanding code) ≡ one_if (p.far.outstanding code) = ap (λ (s : Side). one_if (s.outstanding code)) a.far in
-        omega (arith, b.sends (saying read (is_confirmation code)), b.hears (saying read (is_declaration code)), a.confirmations code, t.codes code, same);
+        let left : one_if (q.far.given_up code) ≡ one_if (p.far.given_up code) = ap (λ (s : Side). one_if (s.given_up code)) a.far in
+        omega (arith, b.sends (saying read (is_confirmation code)), b.hears (saying read (is_declaration code)), a.confirmations code, t.codes code, same, left);
     once = λ test.
         let same : count_by (user read test) q.far.accepted ≡ count_by (user read test) p.far.accepted = ap (λ (s : Side). count_by (user read test) s.accepted) a.far in
         omega (arith, b.hears (user read test), a.received test, t.once test, same);

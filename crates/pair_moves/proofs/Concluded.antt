@@ -4,24 +4,34 @@ use Rattle.pair_moves.proofs.Definitions.{Message, Flow, Saying, Pair, turned, l
 use Rattle.pair_moves.specs.Theorems.{Always, lines_flow, first_ends_are_alone, ends_are_sound, messages_come_in_order, orders_are_awaited, opens_with_nothing_under_way, follows_with_nothing_under_way}
 use Rattle.pair_moves.specs.Theorems.{words_are_true, numbers_name_what_was_received, what_waits_is_lacked}
 use Rattle.pair_moves.specs.Theorems.{orders_move_what_is_lacked, answers_move_what_is_lacked}
-use Rattle.pair_moves.specs.Theorems.{codes_are_outstanding, each_message_once, each_flow_in_order}
+use Rattle.pair_moves.specs.Theorems.{codes_are_outstanding, none_is_given_up, each_message_once, each_flow_in_order}
 use Rattle.pair_moves.proofs.Lines.{both}
-use Rattle.pair_moves.proofs.Keeping.{AllLaws, IsKept, near_lost, far_lost, all_kept, all-kept, turned-laws, Ordered}
+use Rattle.pair_moves.proofs.Keeping.{AllLaws, GivenUp, IsKept, near_lost, far_lost, all_kept, all-kept, turned-laws, Ordered}
 use Rattle.pair_moves.proofs.LinesTaken.{taken_message-is}
 use Rattle.pair_moves.proofs.LinesChanged.{line-names, line-waits}
 use Rattle.pair_moves.proofs.Tells.{order-tells, answer-tells, names-received, none-said}
 
-laws-of : (read : Message → Saying) (p : Pair) → p.near.lost ≡ false → p.far.lost ≡ false → IsKept read p → AllLaws read p
-laws-of read p near far (near_lost e) = both e near
-laws-of read p near far (far_lost e) = both e far
-laws-of read p near far (all_kept h) = h
+record Concludes (read : Message → Saying) (start p : Pair) : Type 0 where
+  laws : AllLaws read p
+  given_up : GivenUp read start.near.given_up start.far.given_up p
+
+concludes : (read : Message → Saying) (start p : Pair) → p.near.lost ≡ false → p.far.lost ≡ false → IsKept read start.near.given_up start.far.given_up p → Concludes read start p
+concludes read start p near far (near_lost e) = both e near
+concludes read start p near far (far_lost e) = both e far
+concludes read start p near far (all_kept h g) = record { laws = h; given_up = g }
 
 -- what follows from all laws holds always
 always : (Statement : (Message → Saying) → Pair → Type 0) → ((read : Message → Saying) (p : Pair) → AllLaws read p → Statement read p) → Always Statement
 always Statement follows read start pairs quiet moves near far =
     let p : Pair = last_of start pairs in
-    let h : AllLaws read p = laws-of read p near far (all-kept read start pairs quiet moves) in
+    let h : AllLaws read p = (concludes read start p near far (all-kept read start pairs quiet moves)).laws in
     record { there = follows read p h; back = follows read (turned p) (turned-laws read p h) }
+
+pub none_given_up-always : none_is_given_up
+none_given_up-always read start pairs quiet moves near far =
+    let g : GivenUp read start.near.given_up start.far.given_up (last_of start pairs) =
+    (concludes read start (last_of start pairs) near far (all-kept read start pairs quiet moves)).given_up in
+    (g.there, g.back)
 
 pub lines_flow-always : lines_flow
 lines_flow-always = always _ (λ read p h link. (h.sound.lines link).there)

@@ -16,7 +16,7 @@ module _ (read : Message → Saying) (p q : Pair) where
       let z : Line = p.line m.link in
       subst (Sound read) (sym m.after)
       (quiet-line read p m.link (with_failure z z.near.awaited) m.lines m.set (record p.near { route = m.route; holds = m.holds })
-      (record { accepted = refl; received = refl; outstanding = refl })
+      (record { accepted = refl; received = refl; outstanding = refl; given_up = refl })
       (record {
         awaited = omega arith;
         far_awaited = omega arith;
@@ -42,6 +42,7 @@ module _ (read : Message → Saying) (p q : Pair) where
       (λ test. omega (arith, count-append test p.near.loose (m.order ∷ []))) (λ test. omega arith))
       (record {
         far = refl;
+        given_up = refl;
         orders = each-line p m.link y m.lines m.set
             (λ k x. count_by (saying read (is_order k)) (m.order ∷ []) + one_if (p.line k).near.awaited ≡ one_if x.near.awaited + 0)
             (λ k d. omega (arith, of (is_order k), none-said (nat_eq m.link k) (other-link m.link k d)))
@@ -88,6 +89,7 @@ module _ (read : Message → Saying) (p q : Pair) where
       (λ test. omega (arith, count-first test p.near.arrived m.heard.message m.heard.rest m.heard.first, count-one test m.heard.message)))
       (record {
         far = refl;
+        given_up = refl;
         orders = each-line p m.link y m.lines m.set
             (λ k x. count_by (saying read (is_order k)) (m.answer ∷ []) + one_if (p.line k).near.awaited ≡ one_if x.near.awaited + count_by (saying read (is_answer k)) (m.heard.message ∷ []))
             (λ k d. omega (arith, made (is_order k))) (omega (arith, made (is_order m.link)));
@@ -125,6 +127,7 @@ module _ (read : Message → Saying) (p q : Pair) where
       (λ test. omega (arith, count-first test p.near.arrived m.heard.message m.heard.rest m.heard.first, count-one test m.heard.message)))
       (record {
         far = refl;
+        given_up = refl;
         orders = λ k. omega (arith, made (is_order k));
         answers = λ k. omega (arith, made (is_answer k), looked (is_order k));
         truth = λ k. ⊎_elim
@@ -173,6 +176,7 @@ module _ (read : Message → Saying) (p q : Pair) where
       (λ test. omega (arith, count-first test p.near.arrived m.heard.message m.heard.rest m.heard.first, count-one test m.heard.message)))
       (record {
         far = refl;
+        given_up = refl;
         orders = each-line p m.link y m.lines m.set
             (λ k x. 0 + one_if (p.line k).near.awaited ≡ one_if x.near.awaited + count_by (saying read (is_answer k)) (m.heard.message ∷ []))
             (λ k d. omega (arith, looked (is_answer k), none-said (nat_eq m.link k) (other-link m.link k d))) (omega (arith, looked (is_answer m.link), one-said (nat_eq m.link m.link) (same-link m.link), one-said z.near.awaited m.awaited));
@@ -202,6 +206,7 @@ module _ (read : Message → Saying) (p q : Pair) where
       (λ test. omega (arith, count-first test p.near.arrived m.heard.message m.heard.rest m.heard.first, count-one test m.heard.message)))
       (record {
         far = refl;
+        given_up = refl;
         orders = each-line p m.link y m.lines m.set
             (λ k x. 0 + one_if (p.line k).near.awaited ≡ one_if x.near.awaited + count_by (saying read (is_answer k)) (m.heard.message ∷ []))
             (λ k d. omega (arith, looked (is_answer k), none-said (nat_eq m.link k) (other-link m.link k d))) (omega (arith, looked (is_answer m.link), one-said (nat_eq m.link m.link) (same-link m.link), one-said z.near.awaited m.awaited));

@@ -1,5 +1,5 @@
 -- Every list of moves keeps all laws.
-use Rattle.pair_moves.proofs.Basics.{◌≡◌, ◌⊎◌, inl, inr, true, List, [], ◌∷◌, refl, ap, ◌∙◌}
+use Rattle.pair_moves.proofs.Basics.{◌≡◌, ◌⊎◌, inl, inr, ℕ, Bool, true, List, [], ◌∷◌, refl, ap, ◌∙◌}
 use Rattle.pair_moves.proofs.Definitions.{Message, Flow, Saying, Pair, turned, NearMove, Move, Moves, last_of, IsInOrder, IsQuiet}
 use Rattle.pair_moves.specs.Moves as moves
 use Rattle.pair_moves.proofs.Lines.{line-turned}
@@ -24,11 +24,16 @@ module _ (read : Message → Saying) where
     pub there : Ordered p
     pub back : Ordered (turned p)
 
+  -- the codes that the near and the far node had given up at first, which are those that they have given up
+  pub record GivenUp (near far : ℕ → Bool) (p : Pair) : Type 0 where
+    pub there : p.near.given_up ≡ near
+    pub back : p.far.given_up ≡ far
+
   -- a node lost something, or all laws hold
-  pub data IsKept (p : Pair) : Type 0 where
-    near_lost : p.near.lost ≡ true → IsKept p
-    far_lost : p.far.lost ≡ true → IsKept p
-    all_kept : AllLaws p → IsKept p
+  pub data IsKept (near far : ℕ → Bool) (p : Pair) : Type 0 where
+    near_lost : p.near.lost ≡ true → IsKept near far p
+    far_lost : p.far.lost ≡ true → IsKept near far p
+    all_kept : AllLaws p → GivenUp near far p → IsKept near far p
 
   pub turned-laws : (p : Pair) → AllLaws p → AllLaws (turned p)
   turned-laws p h = record {
@@ -37,10 +42,10 @@ module _ (read : Message → Saying) where
     back = h.there;
   }
 
-  turned-kept : (p : Pair) → IsKept p → IsKept (turned p)
-  turned-kept p (near_lost e) = far_lost e
-  turned-kept p (far_lost e) = near_lost e
-  turned-kept p (all_kept h) = all_kept (turned-laws p h)
+  turned-kept : (near far : ℕ → Bool) (p : Pair) → IsKept near far p → IsKept far near (turned p)
+  turned-kept near far p (near_lost e) = far_lost e
+  turned-kept near far p (far_lost e) = near_lost e
+  turned-kept near far p (all_kept h g) = all_kept (turned-laws p h) (record { there = g.back; back = g.there })
 
   -- ---- one move
 
@@ -48,108 +53,123 @@ module _ (read : Message → Saying) where
   order-on p q late step (inl e) = inl (late ∙ e)
   order-on p q late step (inr h) = inr (λ flow. step flow (h flow))
 
-  -- a move that raises no flag
-  step : (p q x : Pair) → q ≡ x → x.near.lost ≡ p.near.lost → x.far.lost ≡ p.far.lost → x.near.late ≡ p.near.late → x.far.late ≡ p.far.late →
+  -- a move that raises no flag, and gives no code up
+  step : (near far : ℕ → Bool) (p q x : Pair) → q ≡ x → x.near.lost ≡ p.near.lost → x.far.lost ≡ p.far.lost → x.near.late ≡ p.near.late → x.far.late ≡ p.far.late →
+      x.near.given_up ≡ p.near.given_up → x.far.given_up ≡ p.far.given_up →
       (Sound read p → Sound read q) →
       ((flow : Flow) → Sound read p → IsInOrder read flow p → IsInOrder read flow q) →
       ((flow : Flow) → Sound read p → IsInOrder read flow (turned p) → IsInOrder read flow (turned q)) →
-      IsKept p → IsKept q
-  step p q x after lost far_lost' late far_late sound there back (near_lost e) = near_lost (ap (λ (y : Pair). y.near.lost) after ∙ lost ∙ e)
-  step p q x after lost far_lost' late far_late sound there back (far_lost e) = far_lost (ap (λ (y : Pair). y.far.lost) after ∙ far_lost' ∙ e)
-  step p q x after lost far_lost' late far_late sound there back (all_kept h) = all_kept (record {
-    sound = sound h.sound;
-    there = order-on p q (ap (λ (y : Pair). y.near.late) after ∙ late) (λ flow. there flow h.sound) h.there;
-    back = order-on (turned p) (turned q) (ap (λ (y : Pair). y.far.late) after ∙ far_late) (λ flow. back flow h.sound) h.back;
-  })
+      IsKept near far p → IsKept near far q
+  step near far p q x after lost far_lost' late far_late given far_given sound there back (near_lost e) = near_lost (ap (λ (y : Pair). y.near.lost) after ∙ lost ∙ e)
+  step near far p q x after lost far_lost' late far_late given far_given sound there back (far_lost e) = far_lost (ap (λ (y : Pair). y.far.lost) after ∙ far_lost' ∙ e)
+  step near far p q x after lost far_lost' late far_late given far_given sound there back (all_kept h g) =
+      all_kept
+      (record {
+        sound = sound h.sound;
+        there = order-on p q (ap (λ (y : Pair). y.near.late) after ∙ late) (λ flow. there flow h.sound) h.there;
+        back = order-on (turned p) (turned q) (ap (λ (y : Pair). y.far.late) after ∙ far_late) (λ flow. back flow h.sound) h.back;
+      })
+      (record {
+        there = ap (λ (y : Pair). y.near.given_up) after ∙ given ∙ g.there;
+        back = ap (λ (y : Pair). y.far.given_up) after ∙ far_given ∙ g.back;
+      })
 
-  late-step : (p q : Pair) → moves.RunsLate p q → IsKept p → IsKept q
-  late-step p q m (near_lost e) = near_lost (ap (λ (y : Pair). y.near.lost) m.after ∙ e)
-  late-step p q m (far_lost e) = far_lost (ap (λ (y : Pair). y.far.lost) m.after ∙ e)
-  late-step p q m (all_kept h) = all_kept (record {
-    sound = sound-runs_late read p q m h.sound;
-    there = inl (ap (λ (y : Pair). y.near.late) m.after);
-    back = order-on (turned p) (turned q) (ap (λ (y : Pair). y.far.late) m.after) (λ flow. returned.back-runs_late read flow p q m) h.back;
-  })
+  late-step : (near far : ℕ → Bool) (p q : Pair) → moves.RunsLate p q → IsKept near far p → IsKept near far q
+  late-step near far p q m (near_lost e) = near_lost (ap (λ (y : Pair). y.near.lost) m.after ∙ e)
+  late-step near far p q m (far_lost e) = far_lost (ap (λ (y : Pair). y.far.lost) m.after ∙ e)
+  late-step near far p q m (all_kept h g) =
+      all_kept
+      (record {
+        sound = sound-runs_late read p q m h.sound;
+        there = inl (ap (λ (y : Pair). y.near.late) m.after);
+        back = order-on (turned p) (turned q) (ap (λ (y : Pair). y.far.late) m.after) (λ flow. returned.back-runs_late read flow p q m) h.back;
+      })
+      (record {
+        there = ap (λ (y : Pair). y.near.given_up) m.after ∙ g.there;
+        back = ap (λ (y : Pair). y.far.given_up) m.after ∙ g.back;
+      })
 
-  near-kept : (p q : Pair) → NearMove read p q → IsKept p → IsKept q
-  near-kept p q (moves.accepts m) =
-      step p q _ m.after refl refl refl refl (sound-accepts read p q m) (λ f s. passed.order-accepts read f p q m) (λ f s. passed.back-accepts read f p q m)
-  near-kept p q (moves.takes_out m) =
-      step p q _ m.after refl refl refl refl (sound-takes_out read p q m) (λ f s. passed.order-takes_out read f p q m) (λ f s. passed.back-takes_out read f p q m)
-  near-kept p q (moves.keeps m) =
-      step p q _ m.after refl refl refl refl (sound-keeps read p q m) (λ f s. passed.order-keeps read f p q m) (λ f s. passed.back-keeps read f p q m)
-  near-kept p q (moves.places m) =
-      step p q _ m.after refl refl refl refl (sound-places read p q m) (λ f s. placed.order-places read f p q m s) (λ f s. placed.back-places read f p q m)
-  near-kept p q (moves.hands_over m) =
-      step p q _ m.after refl refl refl refl (sound-hands_over read p q m) (λ f s. passed.order-hands_over read f p q m) (λ f s. passed.back-hands_over read f p q m)
-  near-kept p q (moves.mixes_others m) =
-      step p q _ m.after refl refl refl refl (sound-mixes_others read p q m) (λ f s. order-mixes_others read p q m f) (λ f s. back-mixes_others read p q m f)
-  near-kept p q (moves.sends_status m) =
-      step p q _ m.after refl refl refl refl (sound-sends_status read p q m) (λ f s. passed.order-sends_status read f p q m) (λ f s. passed.back-sends_status read f p q m)
-  near-kept p q (moves.sends_message m) =
-      step p q _ m.after refl refl refl refl (sound-sends_message read p q m) (λ f s. passed.order-sends_message read f p q m) (λ f s. passed.back-sends_message read f p q m)
-  near-kept p q (moves.sends_empty m) =
-      step p q _ m.after refl refl refl refl (sound-sends_empty read p q m) (λ f s. passed.order-sends_empty read f p q m) (λ f s. passed.back-sends_empty read f p q m)
-  near-kept p q (moves.hears_status m) =
-      step p q _ m.after refl refl refl refl (sound-hears_status read p q m) (λ f s. passed.order-hears_status read f p q m) (λ f s. passed.back-hears_status read f p q m)
-  near-kept p q (moves.takes_status m) =
-      step p q _ m.after refl refl refl refl (sound-takes_status read p q m) (λ f s. passed.order-takes_status read f p q m) (λ f s. passed.back-takes_status read f p q m)
-  near-kept p q (moves.doubles_status m) =
-      step p q _ m.after refl refl refl refl (sound-doubles_status read p q m) (λ f s. passed.order-doubles_status read f p q m) (λ f s. passed.back-doubles_status read f p q m)
-  near-kept p q (moves.drops m) =
-      step p q _ m.after refl refl refl refl (sound-drops read p q m) (λ f s. passed.order-drops read f p q m) (λ f s. passed.back-drops read f p q m)
-  near-kept p q (moves.takes_empty m) =
-      step p q _ m.after refl refl refl refl (sound-takes_empty read p q m) (λ f s. passed.order-takes_empty read f p q m) (λ f s. passed.back-takes_empty read f p q m)
-  near-kept p q (moves.takes_message m) =
-      step p q _ m.after refl refl refl refl (sound-takes_message read p q m) (λ f s. passed.order-takes_message read f p q m) (λ f s. placed.back-takes_message read f p q m s)
-  near-kept p q (moves.falls m) =
-      step p q _ m.after refl refl refl refl (sound-falls read p q m) (λ f s. failed.order-falls read f p q m s) (λ f s. failed.back-falls read f p q m)
-  near-kept p q (moves.falls_with_order m) =
-      step p q _ m.after refl refl refl refl (sound-falls_with_order read p q m) (λ f s. failed.order-falls_with_order read f p q m s) (λ f s. failed.back-falls_with_order read f p q m)
-  near-kept p q (moves.completes_by_order m) =
-      step p q _ m.after refl refl refl refl (sound-completes_by_order read p q m) (λ f s. failed.order-completes_by_order read f p q m s) (λ f s. failed.back-completes_by_order read f p q m)
-  near-kept p q (moves.answers_order m) =
-      step p q _ m.after refl refl refl refl (sound-answers_order read p q m) (λ f s. failed.order-answers_order read f p q m) (λ f s. failed.back-answers_order read f p q m)
-  near-kept p q (moves.completes_by_answer m) =
-      step p q _ m.after refl refl refl refl (sound-completes_by_answer read p q m) (λ f s. failed.order-completes_by_answer read f p q m s) (λ f s. failed.back-completes_by_answer read f p q m)
-  near-kept p q (moves.ends_wait m) =
-      step p q _ m.after refl refl refl refl (sound-ends_wait read p q m) (λ f s. failed.order-ends_wait read f p q m) (λ f s. failed.back-ends_wait read f p q m)
-  near-kept p q (moves.ignores_answer m) =
-      step p q _ m.after refl refl refl refl (sound-ignores_answer read p q m) (λ f s. failed.order-ignores_answer read f p q m) (λ f s. failed.back-ignores_answer read f p q m)
-  near-kept p q (moves.opens_first m) =
-      step p q _ m.after refl refl refl refl (sound-opens_first read p q m) (λ f s. returned.order-opens_first read f p q m s) (λ f s. returned.back-opens_first read f p q m s)
-  near-kept p q (moves.opens_second m) =
-      step p q _ m.after refl refl refl refl (sound-opens_second read p q m) (λ f s. returned.order-opens_second read f p q m s) (λ f s. returned.back-opens_second read f p q m s)
-  near-kept p q (moves.enters m) =
-      step p q _ m.after refl refl refl refl (sound-enters read p q m) (λ f s. returned.order-enters read f p q m) (λ f s. returned.back-enters read f p q m)
-  near-kept p q (moves.declares m) =
-      step p q _ m.after refl refl refl refl (sound-declares read p q m) (λ f s. returned.order-declares read f p q m s) (λ f s. returned.back-declares read f p q m)
-  near-kept p q (moves.waits_for_time m) =
-      step p q _ m.after refl refl refl refl (sound-waits read p q m) (λ f s. returned.order-waits read f p q m) (λ f s. returned.back-waits read f p q m)
-  near-kept p q (moves.confirms m) =
-      step p q _ m.after refl refl refl refl (sound-confirms read p q m) (λ f s. returned.order-confirms read f p q m) (λ f s. returned.back-confirms read f p q m)
-  near-kept p q (moves.ends_hold m) =
-      step p q _ m.after refl refl refl refl (sound-ends_hold read p q m) (λ f s. returned.order-ends_hold read f p q m s) (λ f s. returned.back-ends_hold read f p q m)
-  near-kept p q (moves.ignores_confirmation m) =
-      step p q _ m.after refl refl refl refl (sound-ignores_confirmation read p q m) (λ f s. returned.order-ignores_confirmation read f p q m) (λ f s. returned.back-ignores_confirmation read f p q m)
-  near-kept p q (moves.runs_late m) = late-step p q m
-  near-kept p q (moves.loses m) = λ h. near_lost m.lost
+  near-kept : (near far : ℕ → Bool) (p q : Pair) → NearMove read p q → IsKept near far p → IsKept near far q
+  near-kept near far p q (moves.accepts m) =
+      step near far p q _ m.after refl refl refl refl refl refl (sound-accepts read p q m) (λ f s. passed.order-accepts read f p q m) (λ f s. passed.back-accepts read f p q m)
+  near-kept near far p q (moves.takes_out m) =
+      step near far p q _ m.after refl refl refl refl refl refl (sound-takes_out read p q m) (λ f s. passed.order-takes_out read f p q m) (λ f s. passed.back-takes_out read f p q m)
+  near-kept near far p q (moves.keeps m) =
+      step near far p q _ m.after refl refl refl refl refl refl (sound-keeps read p q m) (λ f s. passed.order-keeps read f p q m) (λ f s. passed.back-keeps read f p q m)
+  near-kept near far p q (moves.places m) =
+      step near far p q _ m.after refl refl refl refl refl refl (sound-places read p q m) (λ f s. placed.order-places read f p q m s) (λ f s. placed.back-places read f p q m)
+  near-kept near far p q (moves.hands_over m) =
+      step near far p q _ m.after refl refl refl refl refl refl (sound-hands_over read p q m) (λ f s. passed.order-hands_over read f p q m) (λ f s. passed.back-hands_over read f p q m)
+  near-kept near far p q (moves.mixes_others m) =
+      step near far p q _ m.after refl refl refl refl refl refl (sound-mixes_others read p q m) (λ f s. order-mixes_others read p q m f) (λ f s. back-mixes_others read p q m f)
+  near-kept near far p q (moves.sends_status m) =
+      step near far p q _ m.after refl refl refl refl refl refl (sound-sends_status read p q m) (λ f s. passed.order-sends_status read f p q m) (λ f s. passed.back-sends_status read f p q m)
+  near-kept near far p q (moves.sends_message m) =
+      step near far p q _ m.after refl refl refl refl refl refl (sound-sends_message read p q m) (λ f s. passed.order-sends_message read f p q m) (λ f s. passed.back-sends_message read f p q m)
+  near-kept near far p q (moves.sends_empty m) =
+      step near far p q _ m.after refl refl refl refl refl refl (sound-sends_empty read p q m) (λ f s. passed.order-sends_empty read f p q m) (λ f s. passed.back-sends_empty read f p q m)
+  near-kept near far p q (moves.hears_status m) =
+      step near far p q _ m.after refl refl refl refl refl refl (sound-hears_status read p q m) (λ f s. passed.order-hears_status read f p q m) (λ f s. passed.back-hears_status read f p q m)
+  near-kept near far p q (moves.takes_status m) =
+      step near far p q _ m.after refl refl refl refl refl refl (sound-takes_status read p q m) (λ f s. passed.order-takes_status read f p q m) (λ f s. passed.back-takes_status read f p q m)
+  near-kept near far p q (moves.doubles_status m) =
+      step near far p q _ m.after refl refl refl refl refl refl (sound-doubles_status read p q m) (λ f s. passed.order-doubles_status read f p q m) (λ f s. passed.back-doubles_status read f p q m)
+  near-kept near far p q (moves.drops m) =
+      step near far p q _ m.after refl refl refl refl refl refl (sound-drops read p q m) (λ f s. passed.order-drops read f p q m) (λ f s. passed.back-drops read f p q m)
+  near-kept near far p q (moves.takes_empty m) =
+      step near far p q _ m.after refl refl refl refl refl refl (sound-takes_empty read p q m) (λ f s. passed.order-takes_empty read f p q m) (λ f s. passed.back-takes_empty read f p q m)
+  near-kept near far p q (moves.takes_message m) =
+      step near far p q _ m.after refl refl refl refl refl refl (sound-takes_message read p q m) (λ f s. passed.order-takes_message read f p q m) (λ f s. placed.back-takes_message read f p q m s)
+  near-kept near far p q (moves.falls m) =
+      step near far p q _ m.after refl refl refl refl refl refl (sound-falls read p q m) (λ f s. failed.order-falls read f p q m s) (λ f s. failed.back-falls read f p q m)
+  near-kept near far p q (moves.falls_with_order m) =
+      step near far p q _ m.after refl refl refl refl refl refl (sound-falls_with_order read p q m) (λ f s. failed.order-falls_with_order read f p q m s) (λ f s. failed.back-falls_with_order read f p q m)
+  near-kept near far p q (moves.completes_by_order m) =
+      step near far p q _ m.after refl refl refl refl refl refl (sound-completes_by_order read p q m) (λ f s. failed.order-completes_by_order read f p q m s) (λ f s. failed.back-completes_by_order read f p q m)
+  near-kept near far p q (moves.answers_order m) =
+      step near far p q _ m.after refl refl refl refl refl refl (sound-answers_order read p q m) (λ f s. failed.order-answers_order read f p q m) (λ f s. failed.back-answers_order read f p q m)
+  near-kept near far p q (moves.completes_by_answer m) =
+      step near far p q _ m.after refl refl refl refl refl refl (sound-completes_by_answer read p q m) (λ f s. failed.order-completes_by_answer read f p q m s) (λ f s. failed.back-completes_by_answer read f p q m)
+  near-kept near far p q (moves.ends_wait m) =
+      step near far p q _ m.after refl refl refl refl refl refl (sound-ends_wait read p q m) (λ f s. failed.order-ends_wait read f p q m) (λ f s. failed.back-ends_wait read f p q m)
+  near-kept near far p q (moves.ignores_answer m) =
+      step near far p q _ m.after refl refl refl refl refl refl (sound-ignores_answer read p q m) (λ f s. failed.order-ignores_answer read f p q m) (λ f s. failed.back-ignores_answer read f p q m)
+  near-kept near far p q (moves.opens_first m) =
+      step near far p q _ m.after refl refl refl refl refl refl (sound-opens_first read p q m) (λ f s. returned.order-opens_first read f p q m s) (λ f s. returned.back-opens_first read f p q m s)
+  near-kept near far p q (moves.opens_second m) =
+      step near far p q _ m.after refl refl refl refl refl refl (sound-opens_second read p q m) (λ f s. returned.order-opens_second read f p q m s) (λ f s. returned.back-opens_second read f p q m s)
+  near-kept near far p q (moves.enters m) =
+      step near far p q _ m.after refl refl refl refl refl refl (sound-enters read p q m) (λ f s. returned.order-enters read f p q m) (λ f s. returned.back-enters read f p q m)
+  near-kept near far p q (moves.declares m) =
+      step near far p q _ m.after refl refl refl refl refl refl (sound-declares read p q m) (λ f s. returned.order-declares read f p q m s) (λ f s. returned.back-declares read f p q m)
+  near-kept near far p q (moves.waits_for_time m) =
+      step near far p q _ m.after refl refl refl refl refl refl (sound-waits read p q m) (λ f s. returned.order-waits read f p q m) (λ f s. returned.back-waits read f p q m)
+  near-kept near far p q (moves.confirms m) =
+      step near far p q _ m.after refl refl refl refl refl refl (sound-confirms read p q m) (λ f s. returned.order-confirms read f p q m) (λ f s. returned.back-confirms read f p q m)
+  near-kept near far p q (moves.ends_hold m) =
+      step near far p q _ m.after refl refl refl refl refl refl (sound-ends_hold read p q m) (λ f s. returned.order-ends_hold read f p q m s) (λ f s. returned.back-ends_hold read f p q m)
+  near-kept near far p q (moves.ignores_confirmation m) =
+      step near far p q _ m.after refl refl refl refl refl refl (sound-ignores_confirmation read p q m) (λ f s. returned.order-ignores_confirmation read f p q m) (λ f s. returned.back-ignores_confirmation read f p q m)
+  near-kept near far p q (moves.runs_late m) = late-step near far p q m
+  near-kept near far p q (moves.loses m) = λ h. near_lost m.lost
 
-  pub move-kept : (p q : Pair) → Move read p q → IsKept p → IsKept q
-  move-kept p q (moves.near m) h = near-kept p q m h
-  move-kept p q (moves.far m) h = turned-kept (turned q) (near-kept (turned p) (turned q) m (turned-kept p h))
+  pub move-kept : (near far : ℕ → Bool) (p q : Pair) → Move read p q → IsKept near far p → IsKept near far q
+  move-kept near far p q (moves.near m) h = near-kept near far p q m h
+  move-kept near far p q (moves.far m) h = turned-kept far near (turned q) (near-kept far near (turned p) (turned q) m (turned-kept near far p h))
 
   -- ---- a list of moves
 
-  pub moves-kept : (p : Pair) (pairs : List Pair) → Moves read p pairs → IsKept p → IsKept (last_of p pairs)
-  moves-kept p [] m h = h
-  moves-kept p (q ∷ pairs) m h = moves-kept q pairs m.1 (move-kept p q m.0 h)
+  pub moves-kept : (near far : ℕ → Bool) (p : Pair) (pairs : List Pair) → Moves read p pairs → IsKept near far p → IsKept near far (last_of p pairs)
+  moves-kept near far p [] m h = h
+  moves-kept near far p (q ∷ pairs) m h = moves-kept near far q pairs m.1 (move-kept near far p q m.0 h)
 
-  pub all-kept : (start : Pair) (pairs : List Pair) → IsQuiet start → Moves read start pairs → IsKept (last_of start pairs)
+  pub all-kept : (start : Pair) (pairs : List Pair) → IsQuiet read start → Moves read start pairs → IsKept start.near.given_up start.far.given_up (last_of start pairs)
   all-kept start pairs quiet m =
-      moves-kept start pairs m
-      (all_kept (record {
+      moves-kept start.near.given_up start.far.given_up start pairs m
+      (all_kept
+      (record {
         sound = sound-quiet read start quiet;
         there = inr (λ flow. order-quiet read flow start quiet);
-        back = inr (λ flow. order-quiet read flow (turned start) (quiet-turned start quiet));
-      }))
+        back = inr (λ flow. order-quiet read flow (turned start) (quiet-turned read start quiet));
+      })
+      (record { there = refl; back = refl }))

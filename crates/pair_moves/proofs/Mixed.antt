@@ -27,10 +27,10 @@ module _ (read : Message → Saying) where
   pub record IsDeaf (test : Message → Bool) : Type 0 where
     pub deaf : (m : Message) → is_other (read m) ≡ true → test m ≡ false
 
-  deaf-saying : (test : Saying → Bool) → test Other ≡ false → IsDeaf (saying read test)
+  pub deaf-saying : (test : Saying → Bool) → test Other ≡ false → IsDeaf (saying read test)
   deaf-saying test none = record { deaf = λ m e. ap test (other-is (read m) e) ∙ none }
 
-  deaf-user : (test : Message → Bool) → IsDeaf (user read test)
+  pub deaf-user : (test : Message → Bool) → IsDeaf (user read test)
   deaf-user test = record { deaf = λ m e. no-user (is_user_message (read m)) (test m) (ap is_user_message (other-is (read m) e)) }
 
   -- ---- lists
@@ -45,7 +45,7 @@ module _ (read : Message → Saying) where
   count-left test d (m ∷ ms) =
       count-one_left test (is_other (read m)) m (without_others read ms) (count_by test ms) (d.deaf m) (count-left test d ms) ∙ sym (count-cons test m ms)
 
-  count-stays : (test : Message → Bool) → IsDeaf test → (xs ys : List Message) → without_others read xs ≡ without_others read ys →
+  pub count-stays : (test : Message → Bool) → IsDeaf test → (xs ys : List Message) → without_others read xs ≡ without_others read ys →
       count_by test xs ≡ count_by test ys
   count-stays test d xs ys e = sym (count-left test d xs) ∙ ap (count_by test) e ∙ count-left test d ys
 
@@ -60,7 +60,7 @@ module _ (read : Message → Saying) where
       flow-one_left flow (is_other (read m)) m (without_others read ms) ((deaf-user (λ x. is_same_flow (flow_of x) flow)).deaf m)
       ∙ ap (λ (xs : List Message). if is_of_flow read flow m then m ∷ xs else xs) (flow-left flow ms)
 
-  flow-stays : (flow : Flow) (xs ys : List Message) → without_others read xs ≡ without_others read ys → of_flow read flow xs ≡ of_flow read flow ys
+  pub flow-stays : (flow : Flow) (xs ys : List Message) → without_others read xs ≡ without_others read ys → of_flow read flow xs ≡ of_flow read flow ys
   flow-stays flow xs ys e = sym (flow-left flow xs) ∙ ap (of_flow read flow) e ∙ flow-left flow ys
 
   -- ---- the move

@@ -41,6 +41,7 @@ module _ (read : Message → Saying) (p q : Pair) where
       (books-side p s (m.message ∷ []) [] (λ test. omega (arith, count-append test p.near.loose (m.message ∷ []))) (λ test. omega arith))
       (record {
         far = refl;
+        given_up = refl;
         orders = λ link. omega (arith, said read m.message UserMessage is (is_order link));
         answers = λ link. omega (arith, said read m.message UserMessage is (is_answer link));
         truth = λ link. omega (arith, said read m.message UserMessage is (is_untrue link (p.line link).near.up (last_accepted (p.line link).near.queue)), h.there.words link);
@@ -55,20 +56,20 @@ module _ (read : Message → Saying) (p q : Pair) where
   pub sound-takes_out : TakesOut read p q → Sound read p → Sound read q
   sound-takes_out m h =
       subst (Sound read) (sym m.after)
-      (quiet-side read p (record p.near { held = []; loose = p.near.held ++ p.near.loose }) (record { accepted = refl; received = refl; outstanding = refl })
+      (quiet-side read p (record p.near { held = []; loose = p.near.held ++ p.near.loose }) (record { accepted = refl; received = refl; outstanding = refl; given_up = refl })
       (λ test. omega (arith, count-append test p.near.held p.near.loose)) refl h)
 
   pub sound-keeps : Keeps read p q → Sound read p → Sound read q
   sound-keeps m h =
       subst (Sound read) (sym m.after)
-      (quiet-side read p (record p.near { loose = m.rest; held = p.near.held ++ m.message ∷ [] }) (record { accepted = refl; received = refl; outstanding = refl })
+      (quiet-side read p (record p.near { loose = m.rest; held = p.near.held ++ m.message ∷ [] }) (record { accepted = refl; received = refl; outstanding = refl; given_up = refl })
       (λ test. omega (arith, count-append test p.near.held (m.message ∷ []), count-one test m.message, count-first test p.near.loose m.message m.rest m.first)) refl h)
 
   pub sound-places : Places read p q → Sound read p → Sound read q
   sound-places m h =
       let z : Line = p.line m.link in
       subst (Sound read) (sym m.after)
-      (quiet-line read p m.link (with_message z m.message) m.lines m.set (record p.near { loose = m.rest }) (record { accepted = refl; received = refl; outstanding = refl })
+      (quiet-line read p m.link (with_message z m.message) m.lines m.set (record p.near { loose = m.rest }) (record { accepted = refl; received = refl; outstanding = refl; given_up = refl })
       (record { awaited = omega arith; far_awaited = omega arith; truth = h.there.words m.link; far_truth = h.back.words m.link })
       (line-message z m.message m.serving (h.lines m.link))
       (λ test.
@@ -86,6 +87,7 @@ module _ (read : Message → Saying) (p q : Pair) where
       (books-side p s [] (m.heard.message ∷ []) (λ test. omega arith) (λ test. omega (arith, count-one test m.heard.message, count-first test p.near.arrived m.heard.message m.heard.rest m.heard.first)))
       (record {
         far = refl;
+        given_up = refl;
         orders = λ link. omega (arith, looked (is_answer link));
         answers = λ link. omega (arith, looked (is_order link));
         truth = λ link. omega (arith, h.there.words link);
@@ -104,7 +106,7 @@ module _ (read : Message → Saying) (p q : Pair) where
       unreceived z ≡ unreceived (p.line link) → unreceived (turned_line z) ≡ unreceived (turned_line (p.line link)) →
       Sound read p → Sound read (record p { line = lines })
   frames-change link z lines set line flags there back h =
-      quiet-line read p link z lines set p.near (record { accepted = refl; received = refl; outstanding = refl }) flags line
+      quiet-line read p link z lines set p.near (record { accepted = refl; received = refl; outstanding = refl; given_up = refl }) flags line
       (λ test. let e : count_by test (unreceived z) ≡ count_by test (unreceived (p.line link)) = ap (count_by test) there in omega (arith, e))
       (λ test. let e : count_by test (unreceived (turned_line z)) ≡ count_by test (unreceived (turned_line (p.line link))) = ap (count_by test) back in omega (arith, e))
       h
@@ -165,7 +167,7 @@ module _ (read : Message → Saying) (p q : Pair) where
       let z : Line = p.line m.link in
       let s : Side = record p.near { arrived = p.near.arrived ++ m.message ∷ [] } in
       subst (Sound read) (sym m.after)
-      (quiet-line read p m.link (with_accepted z m.rest true m.count) m.lines m.set s (record { accepted = refl; received = refl; outstanding = refl })
+      (quiet-line read p m.link (with_accepted z m.rest true m.count) m.lines m.set s (record { accepted = refl; received = refl; outstanding = refl; given_up = refl })
       (record {
         awaited = omega arith;
         far_awaited = omega arith;

@@ -12,6 +12,7 @@ pub record SameLists (s t : Side) : Type 0 where
   pub accepted : s.accepted ≡ t.accepted
   pub received : s.received ≡ t.received
   pub outstanding : s.outstanding ≡ t.outstanding
+  pub given_up : s.given_up ≡ t.given_up
 
 -- the flags of a line let what is under way be
 pub record SameFlags (read : Message → Saying) (p : Pair) (link : ℕ) (z : Line) : Type 0 where
@@ -24,6 +25,7 @@ module _ (read : Message → Saying) (p : Pair) where
   quiet-agrees : (q : Pair) → q.far ≡ p.far → SameLists q.near p.near → ((link : ℕ) → SameFlags read p link (q.line link)) → Agrees read p q [] []
   quiet-agrees q far s flags = record {
     far = far;
+    given_up = s.given_up;
     orders = λ link. omega (arith, (flags link).awaited);
     answers = λ link. omega (arith, (flags link).far_awaited);
     truth = λ link. omega (arith, (flags link).truth);

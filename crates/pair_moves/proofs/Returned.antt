@@ -40,7 +40,7 @@ module _ (read : Message → Saying) (p q : Pair) where
       let far_none : z.far.queue.all ≡ [] = nothing-stands z.far m.far_may (h.lines m.link).far in
       let near_free : one_if z.near.awaited ≡ 0 = none-said z.near.awaited m.near_may.unawaited in
       subst (Sound read) (sym m.after)
-      (quiet-line read p m.link (opened_first z) m.lines m.set p.near (record { accepted = refl; received = refl; outstanding = refl })
+      (quiet-line read p m.link (opened_first z) m.lines m.set p.near (record { accepted = refl; received = refl; outstanding = refl; given_up = refl })
       (record {
         awaited = omega (arith, near_free);
         far_awaited = omega arith;
@@ -60,7 +60,7 @@ module _ (read : Message → Saying) (p q : Pair) where
       let far_none : z.far.queue.all ≡ [] = ap (λ (x : Queue). x.all) o.queue in
       let near_free : one_if z.near.awaited ≡ 0 = none-said z.near.awaited m.near_may.unawaited in
       subst (Sound read) (sym m.after)
-      (quiet-line read p m.link (opened_second z) m.lines m.set p.near (record { accepted = refl; received = refl; outstanding = refl })
+      (quiet-line read p m.link (opened_second z) m.lines m.set p.near (record { accepted = refl; received = refl; outstanding = refl; given_up = refl })
       (record {
         awaited = omega (arith, near_free);
         far_awaited = omega arith;
@@ -76,7 +76,7 @@ module _ (read : Message → Saying) (p q : Pair) where
   sound-enters m h =
       let z : Line = p.line m.link in
       subst (Sound read) (sym m.after)
-      (quiet-line read p m.link (with_service z) m.lines m.set (record p.near { route = m.route }) (record { accepted = refl; received = refl; outstanding = refl })
+      (quiet-line read p m.link (with_service z) m.lines m.set (record p.near { route = m.route }) (record { accepted = refl; received = refl; outstanding = refl; given_up = refl })
       (record {
         awaited = omega arith;
         far_awaited = omega arith;
@@ -89,13 +89,13 @@ module _ (read : Message → Saying) (p q : Pair) where
   pub sound-waits : WaitsForTime read p q → Sound read p → Sound read q
   sound-waits m h =
       subst (Sound read) (sym m.after)
-      (quiet-side read p (record p.near { route = m.route; holds = m.holds }) (record { accepted = refl; received = refl; outstanding = refl })
+      (quiet-side read p (record p.near { route = m.route; holds = m.holds }) (record { accepted = refl; received = refl; outstanding = refl; given_up = refl })
       (λ test. omega arith) refl h)
 
   pub sound-runs_late : RunsLate p q → Sound read p → Sound read q
   sound-runs_late m h =
       subst (Sound read) (sym m.after)
-      (quiet-side read p (record p.near { holds = m.holds; late = true }) (record { accepted = refl; received = refl; outstanding = refl })
+      (quiet-side read p (record p.near { holds = m.holds; late = true }) (record { accepted = refl; received = refl; outstanding = refl; given_up = refl })
       (λ test. omega arith) refl h)
 
   pub sound-declares : Declares read p q → Sound read p → Sound read q
@@ -114,6 +114,7 @@ module _ (read : Message → Saying) (p q : Pair) where
       (λ test. omega arith))
       (record {
         far = refl;
+        given_up = refl;
         orders = each-line p m.former y m.lines m.set
             (λ k x. count_by (saying read (is_order k)) (m.declaration ∷ []) + one_if (p.line k).near.awaited ≡ one_if x.near.awaited + 0)
             (λ k d. omega (arith, made (is_order k))) (omega (arith, made (is_order m.former)));
@@ -155,6 +156,7 @@ module _ (read : Message → Saying) (p q : Pair) where
       (λ test. omega (arith, count-first test p.near.arrived m.heard.message m.heard.rest m.heard.first, count-one test m.heard.message)))
       (record {
         far = refl;
+        given_up = refl;
         orders = λ k. omega (arith, made (is_order k));
         answers = λ k. omega (arith, made (is_answer k));
         truth = λ k. omega (arith, h.there.words k, made (is_untrue k (p.line k).near.up (last_accepted (p.line k).near.queue)));
@@ -175,6 +177,7 @@ module _ (read : Message → Saying) (p q : Pair) where
       (books-side p s [] (m.heard.message ∷ []) (λ test. omega arith) (λ test. omega (arith, count-first test p.near.arrived m.heard.message m.heard.rest m.heard.first, count-one test m.heard.message)))
       (record {
         far = refl;
+        given_up = refl;
         orders = λ k. omega arith;
         answers = λ k. omega arith;
         truth = λ k. omega (arith, h.there.words k);

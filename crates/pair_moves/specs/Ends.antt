@@ -57,8 +57,10 @@ pub record Side : Type 0 where
   -- the link that a flow takes, and which procedures hold it
   pub route : Flow → Option ℕ
   pub holds : Procedure → Flow → Bool
-  -- the codes of declarations without their confirmation
+  -- the codes of declarations without their confirmation; and of these, those that were so when the moves began, to
+  -- which no confirmation comes any more
   pub outstanding : ℕ → Bool
+  pub given_up : ℕ → Bool
   -- whether a message may be lost, and whether a hold was ended by its timer
   pub lost : Bool
   pub late : Bool
@@ -127,6 +129,7 @@ first_side = record {
   route = λ flow. None;
   holds = λ procedure flow. false;
   outstanding = λ code. false;
+  given_up = λ code. false;
   lost = false;
   late = false;
 }

@@ -41,9 +41,11 @@ module _ (read : Message → Saying) where
       under_way (saying (is_untrue link (p.line link).near.up (last_accepted (p.line link).near.queue))) p ≡ 0
 
   -- the law of codes: of the near node's declarations with a code and the far node's confirmations of it, exactly one
-  -- is under way while the code is outstanding, and otherwise none
+  -- is under way while the code is outstanding, and otherwise none. One that was given up stays outstanding, and none
+  -- is under way
   abbrev pub CodesAreOutstanding : Pair → Type 0
   CodesAreOutstanding p =
       (code : ℕ) →
       under_way (saying (is_declaration code)) p + under_way (saying (is_confirmation code)) (turned p)
+      + one_if (p.near.given_up code)
       ≡ one_if (p.near.outstanding code)

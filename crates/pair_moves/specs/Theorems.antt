@@ -23,7 +23,7 @@ pub record BothWays (Statement : Pair → Type 0) (p : Pair) : Type 0 where
 -- neither node lost anything
 abbrev pub Always : ((Message → Saying) → Pair → Type 0) → Type 0
 Always Statement =
-    (read : Message → Saying) (start : Pair) (pairs : List Pair) → IsQuiet start → Moves read start pairs →
+    (read : Message → Saying) (start : Pair) (pairs : List Pair) → IsQuiet read start → Moves read start pairs →
     (last_of start pairs).near.lost ≡ false →
     (last_of start pairs).far.lost ≡ false → BothWays (Statement read) (last_of start pairs)
 
@@ -87,9 +87,17 @@ answers_move_what_is_lacked =
     (q : Pair) (m : CompletesByAnswer read p q) →
     drop m.count (p.line m.link).near.queue.all ≡ unreceived (p.line m.link))
 
--- the law of codes
+-- the law of codes; and none is given up later
 abbrev pub codes_are_outstanding : Type 0
 codes_are_outstanding = Always CodesAreOutstanding
+
+abbrev pub none_is_given_up : Type 0
+none_is_given_up =
+    (read : Message → Saying) (start : Pair) (pairs : List Pair) → IsQuiet read start → Moves read start pairs →
+    (last_of start pairs).near.lost ≡ false →
+    (last_of start pairs).far.lost ≡ false →
+    ((last_of start pairs).near.given_up ≡ start.near.given_up)
+    × ((last_of start pairs).far.given_up ≡ start.far.given_up)
 
 -- "Exactly once"
 abbrev pub each_message_once : Type 0

@@ -1,7 +1,7 @@
 //! What holds after every list of moves from every quiet pair on, as the first is, in both directions, while neither
-//! node lost anything. A pair is quiet (`specs/Quiet.antt`) while all its links are closed at both ends and neither node
-//! has a message or awaits an answer. The moves are those of `specs/Passing.antt` (Q.704 §2), `specs/Carrying.antt`
-//! (RFC 4165 §2), `specs/Failing.antt` (Q.704 §5) and `specs/Returning.antt` (Q.704 §6).
+//! node lost anything. A pair is quiet (`specs/Quiet.antt`) while all its links are closed at both ends and neither
+//! node has a message for the other. The moves are those of `specs/Passing.antt` (Q.704 §2), `specs/Carrying.antt` (RFC
+//! 4165 §2), `specs/Failing.antt` (Q.704 §5) and `specs/Returning.antt` (Q.704 §6).
 
 ghost use Rattle.pair_moves.specs.Theorems.{lines_flow, first_ends_are_alone, ends_are_sound};
 ghost use Rattle.pair_moves.specs.Theorems.{messages_come_in_order};
@@ -12,7 +12,8 @@ ghost use Rattle.pair_moves.specs.Theorems.{orders_move_what_is_lacked, answers_
 ghost use Rattle.pair_moves.specs.Quiet.{first_pairs_are_quiet};
 ghost use Rattle.pair_moves.specs.Crossing.{Crosses};
 ghost use Rattle.pair_moves.specs.GoingBack.{Returns};
-ghost use Rattle.pair_moves.specs.Theorems.{codes_are_outstanding, each_message_once, each_flow_in_order};
+ghost use Rattle.pair_moves.specs.Theorems.{codes_are_outstanding, none_is_given_up};
+ghost use Rattle.pair_moves.specs.Theorems.{each_message_once, each_flow_in_order};
 
 /// Law (i), of one link and one direction. While either end is up, and until the near end's changeover is complete,
 /// unless an end may follow the other, the far end accepted the first messages of the near end's queue, as many as it
@@ -57,9 +58,11 @@ pub fn completions_move_what_the_peer_lacks()
 {}
 
 /// Of a node's changeback declarations with a code and the peer's confirmations of it, exactly one is under way while
-/// the code is outstanding, and otherwise none (Q.704 §6.3).
+/// the code is outstanding, and otherwise none (Q.704 §6.3). But a code that was outstanding in the quiet pair is given
+/// up: it stays so, and none is under way. No other is given up.
 pub fn codes_are_outstanding_until_they_are_confirmed()
-    ensures { codes_are_outstanding }
+    ensures outstanding { codes_are_outstanding }
+    ensures given_up { none_is_given_up }
 {}
 
 /// "Exactly once": of any kind of user messages, as many were accepted at one node as the other received, together with

@@ -1,4 +1,4 @@
-use Rattle.neighbour_rules.proofs.Anew.{begins-anew, begin-quietly, laws-anew}
+use Rattle.neighbour_rules.proofs.Anew.{begins-anew, begin-quietly}
 use Rattle.neighbour_rules.proofs.laws.promises_begin_anew.Goals as goal
 
 pub returns-clause-anew : goal.returns-clause-anew
@@ -6,6 +6,3 @@ returns-clause-anew c = begins-anew
 
 pub returns-clause-first : goal.returns-clause-first
 returns-clause-first c = begin-quietly
-
-pub returns-clause-laws : goal.returns-clause-laws
-returns-clause-laws c = laws-anew
