@@ -225,7 +225,7 @@ begins-anew near far changes g quiet steps since =
 
 -- ---- at first
 
-first-may : (c z : Configuration) (link : ℕ) → may_open_at (first_pair c z).near link ≡ true
+pub first-may : (c z : Configuration) (link : ℕ) → may_open_at (first_pair c z).near link ≡ true
 first-may c z link =
     ap (λ (x : Link). is_down x.alignment && may_restart (changeover_of (first_parts c) link))
     (each-replicate (λ (x : Link). x ≡ down_link) (length c.links) link down_link refl)

@@ -5,11 +5,12 @@ use Rattle.std.proofs.lemmas.List.{length-replicate}
 use Rattle.pair_rules.proofs.Definitions.{Configuration, Pair, PairState, turned, first_pair, each-replicate}
 use Rattle.exchange_rules.specs.First.{Abstract, first_state}
 use Rattle.pair_moves.specs.Ends as ends
-use Rattle.pair_rules.proofs.World.{World}
+use Rattle.pair_rules.proofs.World.{Flying, World}
 use Rattle.pair_rules.proofs.Going.{goes-none}
 use Rattle.pair_rules.proofs.First.{nothing_flies}
 use Rattle.pair_rules.proofs.Standing.{rests, world_of}
-use Rattle.neighbour_rules.specs.Anew.{Change, Steps, NearRestarts, FarRestarts, NearGivesUp, FarGivesUp, after_all, after_change, given_up, restarted}
+use Rattle.neighbour_rules.specs.Anew.{Change, Steps, NearRestarts, FarRestarts, NearGivesUp, FarGivesUp, after_all, after_change, begun_anew, given_up, restarted}
+use Rattle.neighbour_rules.specs.Neighbours.{Step, after_steps}
 use Rattle.neighbour_rules.proofs.Counted.{base-same, no_base, no_counts}
 use Rattle.neighbour_rules.proofs.World.{says_of, shown}
 use Rattle.neighbour_rules.proofs.Good.{Good}
@@ -19,7 +20,7 @@ use Rattle.neighbour_rules.proofs.Staying.{with_settings, written}
 use Rattle.neighbour_rules.proofs.Sharing.{AreFacing, facing_back, far_joint, from_first, near_joint}
 use Rattle.neighbour_rules.proofs.First.{first-good}
 use Rattle.neighbour_rules.proofs.Standing.{Stands, regood}
-use Rattle.neighbour_rules.proofs.AllSteps.{stands-turned, turn-stands}
+use Rattle.neighbour_rules.proofs.AllSteps.{stands-turned, steps-stand, turn-stands}
 use Rattle.neighbour_rules.proofs.Promised.{first-stands, no-texts}
 
 -- the moves begin with some pair
@@ -127,6 +128,55 @@ module _ (c z : Configuration) (a : AreFacing c z) (q : PairState) (w : Works c 
       };
     }
 
+-- its books, and those of the far end, begin anew
+anew-good : (c z : Configuration) (a : AreFacing c z) (q : PairState) (f g : Flying) → Good c z (near_joint c z (from_first c z a)) (world_of (with_settings c z q) f g)
+    → Good c z (near_joint c z (from_first c z a)) (world_of (begun_anew (with_settings c z q)) f g)
+anew-good c z a q f g h = record {
+  fits = h.fits;
+  counted = h.counted;
+  route = h.route;
+  unawaited = h.unawaited;
+  silent = h.silent;
+  queued = h.queued;
+  elsewhere = h.elsewhere;
+  held = h.held;
+  loose = h.loose;
+  arrived = h.arrived;
+  coming = h.coming;
+}
+
+module _ (c z : Configuration) (a : AreFacing c z) (q : PairState) (w : Works c z a (with_settings c z q)) where
+  abbrev one : PairState
+  one = with_settings c z q
+
+  begun-works : Works c z a (begun_anew one)
+  begun-works =
+      let s : Stands c z (begun c z w.start a) one = w.stands in
+      record {
+        start = shown c z a.near_set a.far_set no_base (world_of (begun_anew one) s.to_near s.to_far);
+        stands = record {
+          near_settings = refl;
+          far_settings = refl;
+          near_waits = s.near_waits;
+          far_waits = s.far_waits;
+          near_knows = s.near_knows;
+          far_knows = s.far_knows;
+          to_near = s.to_near;
+          to_far = s.to_far;
+          near_texts = s.near_texts;
+          far_texts = s.far_texts;
+          near_flags = s.near_flags;
+          far_flags = s.far_flags;
+          near_quiet = s.near_quiet;
+          far_quiet = s.far_quiet;
+          near_alone = s.near_alone;
+          far_alone = s.far_alone;
+          near_good = anew-good c z a q s.to_near s.to_far s.near_good;
+          far_good = anew-good z c (facing_back c z a) (turned q) s.to_far s.to_near s.far_good;
+          goes = goes-none (says_of c.own z.own) _;
+        };
+      }
+
 -- ---- each change
 
 module _ (c z : Configuration) (a : AreFacing c z) (p : PairState) (w : Works c z a p) where
@@ -140,7 +190,10 @@ module _ (c z : Configuration) (a : AreFacing c z) (p : PairState) (w : Works c 
   given_up-works link =
       subst (λ (x : PairState). Works c z a (given_up link x)) (sym is-written) (left-works c z a p (subst (Works c z a) is-written w) link)
 
-change-works : (c z : Configuration) (a : AreFacing c z) (change : Change) (p : PairState) → Works c z a p → Works c z a (after_change change p)
+  pub anew-works : Works c z a (begun_anew p)
+  anew-works = subst (λ (x : PairState). Works c z a (begun_anew x)) (sym is-written) (begun-works c z a p (subst (Works c z a) is-written w))
+
+pub change-works : (c z : Configuration) (a : AreFacing c z) (change : Change) (p : PairState) → Works c z a p → Works c z a (after_change change p)
 change-works c z a (Steps step) p w = record { start = w.start; stands = turn-stands c z (begun c z w.start a) step p w.stands }
 change-works c z a NearRestarts p w = restarted-works c z a p w
 change-works c z a FarRestarts p w =
@@ -149,13 +202,19 @@ change-works c z a (NearGivesUp link) p w = given_up-works c z a p w link
 change-works c z a (FarGivesUp link) p w =
     works-turned z c (facing_back c z a) (given_up link (turned p)) (given_up-works z c (facing_back c z a) (turned p) (works-turned c z a p w) link)
 
-all-changes-work : (c z : Configuration) (a : AreFacing c z) (changes : List Change) (p : PairState) → Works c z a p → Works c z a (after_all changes p)
+pub all-changes-work : (c z : Configuration) (a : AreFacing c z) (changes : List Change) (p : PairState) → Works c z a p → Works c z a (after_all changes p)
 all-changes-work c z a [] p w = w
 all-changes-work c z a (change ∷ changes) p w = all-changes-work c z a changes (after_change change p) (change-works c z a change p w)
 
+pub first-works : (c z : Configuration) (a : AreFacing c z) → Works c z a (first_pair c z)
+first-works c z a = record { start = (from_first c z a).start; stands = first-stands c z a }
+
 pub all-work : (c z : Configuration) (a : AreFacing c z) (changes : List Change) → Works c z a (after_all changes (first_pair c z))
 all-work c z a changes =
-    all-changes-work c z a changes (first_pair c z) (record { start = (from_first c z a).start; stands = first-stands c z a })
+    all-changes-work c z a changes (first_pair c z) (first-works c z a)
+
+pub steps-work : (c z : Configuration) (a : AreFacing c z) (steps : List Step) (p : PairState) → Works c z a p → Works c z a (after_steps steps p)
+steps-work c z a steps p w = record { start = w.start; stands = steps-stand c z (begun c z w.start a) steps p w.stands }
 
 -- ---- what the ends were asked
 

@@ -1,44 +1,42 @@
--- Lists of steps of a network, as each two of its nodes that share a set see them; and nobody speaks for another meanwhile.
-use Rattle.pair_rules.proofs.Basics.{◌≡◌, ◌≢◌, ℕ, true, false, List, [], ◌∷◌, ◌++◌, refl, ap, sym, subst, ◌∙◌, length}
+-- Lists of steps of a network, and of other changes, as each two of its nodes that share a set see them; and nobody speaks for another meanwhile.
+use Rattle.pair_rules.proofs.Basics.{◌≡◌, ◌≢◌, ℕ, true, false, List, [], ◌∷◌, ◌++◌, refl, ap, sym, subst, ◌∙◌, length, map}
 use Rattle.pair_rules.proofs.Definitions.{Message, Configuration, Queue, first_queue, queue_at, PairState, first_pair, in_flight, each-replicate, read_frame}
 use Rattle.std.specs.List.{list_all}
 use Rattle.exchange_rules.specs.Laws.{carried_message}
 use Rattle.exchange_rules.specs.First.{Abstract, first_state}
 use Rattle.pair_moves.specs.Sayings.{Other}
 use Rattle.pair_rules.specs.Promises.{BothWays}
-use Rattle.pair_rules.specs.Sharing.{AreSharing}
+use Rattle.pair_rules.specs.Pairs.{nothing_in_flight}
 use Rattle.pair_rules.proofs.Good.{Each, each-get}
 use Rattle.neighbour_rules.specs.Neighbours as neighbours
-use Rattle.neighbour_rules.specs.Neighbours.{leads_elsewhere, speaks_for_either}
+use Rattle.neighbour_rules.specs.Neighbours.{speaks_for_either}
 use Rattle.neighbour_rules.proofs.World.{says_of}
-use Rattle.neighbour_rules.proofs.Sharing.{AreFacing, are-facing, far_joint, from_first, near_joint}
-use Rattle.neighbour_rules.proofs.Standing.{Stands}
-use Rattle.neighbour_rules.proofs.AllSteps.{steps-stand}
-use Rattle.network_rules.specs.Networks.{NetworkState, Step, after_step, after_steps, first_network}
+use Rattle.neighbour_rules.specs.Anew as pairs
+use Rattle.neighbour_rules.proofs.Sharing.{AreFacing, are-facing, far_joint, near_joint}
+use Rattle.neighbour_rules.proofs.Restarted.{Works, all-changes-work, first-works, steps-work}
+use Rattle.network_rules.specs.Networks.{NetworkState, Step, after_step, after_steps, changed, first_network}
+use Rattle.network_rules.specs.Anew.{Change, GivesUp, Restarts, Steps, after_all, after_change, given_up, restarted}
 use Rattle.network_rules.specs.Pairs.{AreTheirPoints, AreWellOrAlone, ArePairsAlike, HearsNothingElsewhere, IsRunOfNeighbours, nobody_speaks_for_another, pair_of, runs_are_runs_of_neighbours}
 use Rattle.network_rules.proofs.Alike.{away}
-use Rattle.neighbour_rules.proofs.Promised.{first-stands}
 use Rattle.network_rules.proofs.Ends.{EndOk, first-ok}
-use Rattle.network_rules.proofs.AllRuns.{HasPoints, are-apart, first-alike, step-next, steps-join, steps-keep}
+use Rattle.network_rules.proofs.AllRuns.{HasPoints, first-alike, step-next, steps-join, steps-keep}
+use Rattle.network_rules.proofs.Changes.{NextBy, changes-join, give_up-next, restart-next, stepped}
 use Rattle.network_rules.proofs.Runs.{NextOf}
-use Rattle.network_rules.proofs.Quiet.{IsQuiet, SayElsewhere, Watched, are-kept, did-quiet, fine}
+use Rattle.network_rules.proofs.Quiet.{IsQuiet, NodeOk, SayElsewhere, Watched, are-kept, did-quiet, fine, quiet-changed}
 use Rattle.network_rules.proofs.Elsewhere.{harmless-turned, speaks-none, speaks_between}
 use Rattle.network_rules.proofs.Texts.{IsHarmless}
 
-module _ (settings : (point : ℕ) → Configuration) (near far : ℕ) (points : AreTheirPoints settings) (well : AreWellOrAlone settings) (sharing : AreSharing (settings near) (settings far)) where
+module _ (settings : (point : ℕ) → Configuration) (near far : ℕ) (points : AreTheirPoints settings) (well : AreWellOrAlone settings) (a : AreFacing (settings near) (settings far)) where
   abbrev c : Configuration
   c = settings near
 
   abbrev z : Configuration
   z = settings far
 
-  a : AreFacing c z
-  a = from_first c z (are-facing c z sharing)
-
   apart : near ≢ far
-  apart = are-apart settings near far points sharing
+  apart e = a.apart (points near ∙ e ∙ sym (points far))
 
-  abbrev IsCalm : NetworkState → Type 0
+  abbrev pub IsCalm : NetworkState → Type 0
   IsCalm w = IsQuiet settings near far points well a w
 
   abbrev Harmless : List ℕ → Type 0
@@ -46,19 +44,20 @@ module _ (settings : (point : ℕ) → Configuration) (near far : ℕ) (points :
 
   -- ---- at first
 
-  first-calm : IsCalm (first_network settings)
-  first-calm = record {
-    each = λ point. record {
-      kept = refl;
-      third = λ d e f. record { held = refl; links = λ link. each-replicate (λ (q : Queue). list_all (fine settings near far points well a) q.all ≡ true) (length (settings point).links) link first_queue refl };
-      near_end = λ e. subst (λ (n : ℕ). EndOk c z (near_joint c z a) (first_state (settings n)).node) e (first-ok c z (near_joint c z a));
-      far_end = λ e. subst (λ (n : ℕ). EndOk z c (far_joint c z a) (first_state (settings n)).node) e (first-ok z c (far_joint c z a));
-      flying = record {
-        user_data = λ link q. each-replicate (λ (ts : List (List ℕ)). Each Harmless ts) (length (settings point).links) link [] tt;
-        statuses = λ link q. each-replicate (λ (ts : List (List ℕ)). Each Harmless ts) (length (settings point).links) link [] tt;
-      };
+  first-node-ok : (point : ℕ) → NodeOk settings near far points well a point (first_state (settings point)) (nothing_in_flight (length (settings point).links))
+  first-node-ok point = record {
+    kept = refl;
+    third = λ d e f. record { held = refl; links = λ link. each-replicate (λ (q : Queue). list_all (fine settings near far points well a) q.all ≡ true) (length (settings point).links) link first_queue refl };
+    near_end = λ e. subst (λ (n : ℕ). EndOk c z (near_joint c z a) (first_state (settings n)).node) e (first-ok c z (near_joint c z a));
+    far_end = λ e. subst (λ (n : ℕ). EndOk z c (far_joint c z a) (first_state (settings n)).node) e (first-ok z c (far_joint c z a));
+    flying = record {
+      user_data = λ link q. each-replicate (λ (ts : List (List ℕ)). Each Harmless ts) (length (settings point).links) link [] tt;
+      statuses = λ link q. each-replicate (λ (ts : List (List ℕ)). Each Harmless ts) (length (settings point).links) link [] tt;
     };
   }
+
+  first-calm : IsCalm (first_network settings)
+  first-calm = record { each = first-node-ok }
 
   -- ---- what comes from elsewhere
 
@@ -99,7 +98,7 @@ module _ (settings : (point : ℕ) → Configuration) (near far : ℕ) (points :
         ∙ ap (λ (s : Configuration). speaks_between z.own s.own (carried_message (read_frame text))) near-kept
         ∙ speaks-none z.own c.own (carried_message (read_frame text)) (harmless-turned c.own z.own text g).carried
 
-    nobody : BothWays HearsNothingElsewhere (pair_of w near far)
+    pub nobody : BothWays HearsNothingElsewhere (pair_of w near far)
     nobody = record {
       there = record {
         user_data = λ link text e g.
@@ -123,27 +122,31 @@ module _ (settings : (point : ℕ) → Configuration) (near far : ℕ) (points :
   abbrev SaysOther : (one two : Configuration) → Message → Type 0
   SaysOther one two m = says_of one.own two.own m ≡ Other
 
-  elsewhere-of : (w : NetworkState) (p : PairState) → Stands c z a p → ArePairsAlike (pair_of w near far) p → SayElsewhere settings near far points well a w
+  elsewhere-of : (w : NetworkState) (p : PairState) → Works c z a p → ArePairsAlike (pair_of w near far) p → SayElsewhere settings near far points well a w
   elsewhere-of w p s h = record {
-    near_says = λ link d. subst (λ (e : Abstract). Each (SaysOther c z) (queue_at e.node.queues link).all) h.near_alike.exchange (s.near_good.elsewhere link d);
-    far_says = λ link d. subst (λ (e : Abstract). Each (SaysOther z c) (queue_at e.node.queues link).all) h.far_alike.exchange (s.far_good.elsewhere link d);
+    near_says = λ link d. subst (λ (e : Abstract). Each (SaysOther c z) (queue_at e.node.queues link).all) h.near_alike.exchange (s.stands.near_good.elsewhere link d);
+    far_says = λ link d. subst (λ (e : Abstract). Each (SaysOther z c) (queue_at e.node.queues link).all) h.far_alike.exchange (s.stands.far_good.elsewhere link d);
   }
 
   -- ---- steps
 
-  record Goes (w : NetworkState) (p : PairState) : Type 0 where
+  pub record Goes (w : NetworkState) (p : PairState) : Type 0 where
     pub steps : List neighbours.Step
     pub pair : ArePairsAlike (pair_of w near far) (neighbours.after_steps steps p)
     pub calm : IsCalm w
 
-  goes : (steps : List Step) (w : NetworkState) (p : PairState) → IsCalm w → Stands c z a p → ArePairsAlike (pair_of w near far) p → Goes (after_steps steps w) p
+  one-goes : (step : Step) (w : NetworkState) (p : PairState) → IsCalm w → Works c z a p → ArePairsAlike (pair_of w near far) p → Goes (after_step step w) p
+  one-goes step w p calm s h =
+      let one : NextOf near far apart (after_step step w) p = step-next near far apart step w p (own-points w calm) h (nobody w calm) in
+      record { steps = one.steps; pair = one.pair; calm = did-quiet settings near far points well a step.what step.point w calm (elsewhere-of w p s h) }
+
+  pub goes : (steps : List Step) (w : NetworkState) (p : PairState) → IsCalm w → Works c z a p → ArePairsAlike (pair_of w near far) p → Goes (after_steps steps w) p
   goes [] w p calm s h = record { steps = []; pair = h; calm = calm }
   goes (step ∷ steps) w p calm s h =
       let v : NetworkState = after_step step w in
-      let one : NextOf near far apart v p = step-next near far apart step w p (own-points w calm) h (nobody w calm) in
+      let one : Goes v p = one-goes step w p calm s h in
       let q : PairState = neighbours.after_steps one.steps p in
-      let others : Goes (after_steps steps v) q =
-      goes steps v q (did-quiet settings near far points well a step.what step.point w calm (elsewhere-of w p s h)) (steps-stand c z a one.steps p s) one.pair in
+      let others : Goes (after_steps steps v) q = goes steps v q one.calm (steps-work c z a one.steps p s) one.pair in
       record {
         steps = one.steps ++ others.steps;
         pair = subst (ArePairsAlike (pair_of (after_steps steps v) near far)) (sym (steps-join near far apart one.steps others.steps p)) others.pair;
@@ -151,8 +154,7 @@ module _ (settings : (point : ℕ) → Configuration) (near far : ℕ) (points :
       }
 
   all-goes : (steps : List Step) → Goes (after_steps steps (first_network settings)) (first_pair c z)
-  unfolding a
-  all-goes steps = goes steps (first_network settings) (first_pair c z) first-calm (first-stands c z a) (first-alike settings near far)
+  all-goes steps = goes steps (first_network settings) (first_pair c z) first-calm (first-works c z a) (first-alike settings near far)
 
   run-of : (steps : List Step) → IsRunOfNeighbours (pair_of (after_steps steps (first_network settings)) near far)
   run-of steps =
@@ -165,9 +167,50 @@ module _ (settings : (point : ℕ) → Configuration) (near far : ℕ) (points :
             (subst (λ (s : Configuration). ArePairsAlike (pair_of w near far) (neighbours.after_steps g.steps (first_pair c s))) (sym (steps-keep steps (first_network settings) far)) g.pair);
       }
 
+  -- ---- and other changes
+
+  pub record GoesBy (w : NetworkState) (p : PairState) : Type 0 where
+    pub changes : List pairs.Change
+    pub pair : ArePairsAlike (pair_of w near far) (pairs.after_all changes p)
+    pub calm : IsCalm w
+
+  -- a node starts again
+  again-ok : (w : NetworkState) → IsCalm w → (point : ℕ) → IsCalm (changed point restarted w)
+  again-ok w h point =
+      quiet-changed settings near far points well a w point restarted h
+      (subst (λ (s : Configuration). NodeOk settings near far points well a point (first_state s) (nothing_in_flight (length s.links))) (sym (are-kept settings near far points well a w h point)) (first-node-ok point))
+
+  change-goes : (change : Change) (w : NetworkState) (p : PairState) → IsCalm w → Works c z a p → ArePairsAlike (pair_of w near far) p → GoesBy (after_change change w) p
+  change-goes (Steps step) w p calm s h =
+      let one : Goes (after_step step w) p = one-goes step w p calm s h in
+      record { changes = map pairs.Steps one.steps; pair = subst (ArePairsAlike (pair_of (after_step step w) near far)) (sym (stepped one.steps p)) one.pair; calm = one.calm }
+  change-goes (Restarts point) w p calm s h =
+      let one : NextBy (changed point restarted w) near far p = restart-next near far apart w p h point in
+      record { changes = one.changes; pair = one.pair; calm = again-ok w calm point }
+  change-goes (GivesUp point link) w p calm s h =
+      let one : NextBy (changed point (given_up link) w) near far p = give_up-next near far apart w p h point link in
+      record { changes = one.changes; pair = one.pair; calm = quiet-changed settings near far points well a w point (given_up link) calm (calm.each point) }
+
+  changes-go : (changes : List Change) (w : NetworkState) (p : PairState) → IsCalm w → Works c z a p → ArePairsAlike (pair_of w near far) p → GoesBy (after_all changes w) p
+  changes-go [] w p calm s h = record { changes = []; pair = h; calm = calm }
+  changes-go (change ∷ changes) w p calm s h =
+      let v : NetworkState = after_change change w in
+      let one : GoesBy v p = change-goes change w p calm s h in
+      let q : PairState = pairs.after_all one.changes p in
+      let others : GoesBy (after_all changes v) q = changes-go changes v q one.calm (all-changes-work c z a one.changes p s) one.pair in
+      record {
+        changes = one.changes ++ others.changes;
+        pair = subst (ArePairsAlike (pair_of (after_all changes v) near far)) (sym (changes-join one.changes others.changes p)) others.pair;
+        calm = others.calm;
+      }
+
+  pub all-go : (changes : List Change) → GoesBy (after_all changes (first_network settings)) (first_pair c z)
+  all-go changes = changes-go changes (first_network settings) (first_pair c z) first-calm (first-works c z a) (first-alike settings near far)
+
 pub runs : runs_are_runs_of_neighbours
-runs settings steps near far points well sharing = run-of settings near far points well sharing steps
+runs settings steps near far points well sharing = run-of settings near far points well (are-facing (settings near) (settings far) sharing) steps
 
 pub silence : nobody_speaks_for_another
 silence settings steps near far points well sharing =
-    nobody settings near far points well sharing (after_steps steps (first_network settings)) (all-goes settings near far points well sharing steps).calm
+    let a : AreFacing (settings near) (settings far) = are-facing (settings near) (settings far) sharing in
+    nobody settings near far points well a (after_steps steps (first_network settings)) (all-goes settings near far points well a steps).calm

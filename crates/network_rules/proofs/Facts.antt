@@ -1,6 +1,6 @@
 -- What the laws of neighbours say of the queues at the two ends of a link of a network.
 use Rattle.pair_rules.proofs.Basics.{◌≡◌, ◌⊎◌, inl, inr, ◌<◌, ◌≤◌, ◌&&◌, ◌||◌, ℕ, Bool, true, false, not, List, [], ◌∷◌, length, nat_eq, Option, Some, None, refl, ap, sym, ◌∙◌, if◌then◌else◌, slice_get, cons_option, ⊎_elim}
-use Rattle.pair_rules.proofs.Definitions.{Message, Configuration, LinkEntry, Queue, named_count, last_accepted, PairState, LostNothing, in_flight, may_follow, turned, first_pair, is_down_at, is_incomplete_at, queue_of, new_message, Word, down, changeover_of, may_restart, link_at, queue_at, link_with_code}
+use Rattle.pair_rules.proofs.Definitions.{Message, Configuration, LinkEntry, Queue, named_count, last_accepted, PairState, in_flight, may_follow, turned, is_down_at, is_incomplete_at, queue_of, new_message, Word, down, changeover_of, may_restart, link_at, queue_at, link_with_code}
 use Rattle.exchange_rules.specs.First.{Abstract}
 use Rattle.exchange_rules.specs.Routing.{adjacent_of}
 use Rattle.exchange_rules.specs.LastingLinks.{AreLinksSteady, IsSteady, is_l7_running}
@@ -10,17 +10,14 @@ use Rattle.pair_rules.specs.Sharing.{AreSharing}
 use Rattle.pair_rules.specs.Laws.{messages_in}
 use Rattle.exchange_rules.specs.Laws.{carried_message}
 use Rattle.m2pa_codec.specs.Frames.{read_frame}
-use Rattle.neighbour_rules.specs.Neighbours as neighbours
-use Rattle.neighbour_rules.specs.Neighbours.{end_there, far_end, leads_elsewhere_by}
+use Rattle.neighbour_rules.specs.Neighbours.{end_there, leads_elsewhere_by}
 use Rattle.neighbour_rules.specs.Laws.{AreFinal, FramesCarry, IsCarried, IsFinal, IsUnderWay, MovesLacked, is_in_use, word_there}
-use Rattle.neighbour_rules.proofs.FourLaws.{frames-carry, moves-lacked, words-final}
 use Rattle.neighbour_rules.proofs.FarEnds.{AreEnds, ends-turned, is-line, its-far}
 use Rattle.neighbour_rules.proofs.Sharing.{AreFacing, are-facing, far_joint, near_joint}
-use Rattle.network_rules.specs.Networks.{Step}
-use Rattle.network_rules.specs.Pairs.{ArePairsAlike, AreTheirPoints, AreWellOrAlone}
+use Rattle.network_rules.specs.Pairs.{ArePairsAlike, HearsNothingElsewhere}
 use Rattle.network_rules.proofs.Texts.{same-some}
 use Rattle.network_rules.proofs.PartingEvents.{complete, not-serving}
-use Rattle.network_rules.proofs.Promised.{holds-of, its, p, run, still-sharing}
+use Rattle.network_rules.proofs.Promised.{written}
 
 -- ---- tests
 
@@ -80,38 +77,35 @@ first-carries (t ∷ rest) text m e n none = some-carries t text rest m (same-so
 
 -- ---- two nodes
 
-module _ (settings : (point : ℕ) → Configuration) (steps : List Step) (near far : ℕ) (points : AreTheirPoints settings) (well : AreWellOrAlone settings)
-    (sharing : AreSharing (settings near) (settings far)) (kept : LostNothing (p settings steps near far points well sharing)) where
-  abbrev q : PairState
-  q = its settings steps near far points well sharing
+-- two nodes are like two neighbours, of which the laws of links hold; and nobody speaks for either
+pub record HasLaws (p : PairState) : Type 0 where
+  pub pair : PairState
+  pub alike : ArePairsAlike p pair
+  pub sharing : AreSharing p.near.exchange.settings p.far.exchange.settings
+  pub carried : BothWays IsCarried (written p pair)
+  pub lacked : BothWays MovesLacked (written p pair)
+  pub final : BothWays AreFinal (written p pair)
+  pub silent : BothWays HearsNothingElsewhere p
+
+module _ (p : PairState) (laws : HasLaws p) where
+  abbrev pub q : PairState
+  q = written p laws.pair
 
   abbrev c : Configuration
-  c = q.near.exchange.settings
+  c = p.near.exchange.settings
 
   abbrev z : Configuration
-  z = q.far.exchange.settings
-
-  alike : ArePairsAlike (p settings steps near far points well sharing) (neighbours.after_steps (run settings steps near far points well sharing).steps (first_pair c z))
-  alike = (run settings steps near far points well sharing).is_alike
+  z = p.far.exchange.settings
 
   facing : AreFacing c z
-  facing = are-facing c z (still-sharing settings steps near far points well sharing)
-
-  both-carried : BothWays IsCarried q
-  both-carried = holds-of settings steps near far points well sharing (λ (x : PairState). LostNothing x → BothWays IsCarried x) frames-carry (record { near = kept.near; far = kept.far })
-
-  both-lacked : BothWays MovesLacked q
-  both-lacked = holds-of settings steps near far points well sharing (λ (x : PairState). LostNothing x → BothWays MovesLacked x) moves-lacked (record { near = kept.near; far = kept.far })
-
-  both-final : BothWays AreFinal q
-  both-final = holds-of settings steps near far points well sharing (λ (x : PairState). LostNothing x → BothWays AreFinal x) words-final (record { near = kept.near; far = kept.far })
+  facing = are-facing c z laws.sharing
 
   -- the far end's far end
-  pub end-back : (link other : ℕ) → end_there c z (slice_get c.links link) ≡ Some other → end_there z c (slice_get z.links other) ≡ Some link
+  end-back : (link other : ℕ) → end_there c z (slice_get c.links link) ≡ Some other → end_there z c (slice_get z.links other) ≡ Some link
   end-back link other e =
       its-far z c (far_joint c z facing) other link (ends-turned c z facing.near_set facing.far_set link other (is-line c z (near_joint c z facing) link other e))
 
-  pub back-end : (link other : ℕ) → end_there z c (slice_get z.links other) ≡ Some link → end_there c z (slice_get c.links link) ≡ Some other
+  back-end : (link other : ℕ) → end_there z c (slice_get z.links other) ≡ Some link → end_there c z (slice_get c.links link) ≡ Some other
   back-end link other e =
       its-far c z (near_joint c z facing) link other (ends-turned z c facing.far_set facing.near_set other link (is-line z c (far_joint c z facing) other link e))
 
@@ -119,8 +113,8 @@ module _ (settings : (point : ℕ) → Configuration) (steps : List Step) (near 
     pub inside : (link < length c.links) × (other < length z.links)
     inside = (let line : AreEnds c z facing.near_set facing.far_set link other = is-line c z (near_joint c z facing) link other e in (line.here, line.there))
 
-    same-flight : in_flight q.near.incoming.user_data link ≡ in_flight (p settings steps near far points well sharing).near.incoming.user_data link
-    same-flight = alike.near_alike.incoming.user_data link (not-elsewhere c z (slice_get c.links link) other e)
+    same-flight : in_flight q.near.incoming.user_data link ≡ in_flight p.near.incoming.user_data link
+    same-flight = laws.alike.near_alike.incoming.user_data link (not-elsewhere c z (slice_get c.links link) other e)
 
     -- ---- what waits there
 
@@ -129,8 +123,8 @@ module _ (settings : (point : ℕ) → Configuration) (steps : List Step) (near 
       unused-empty e' = by (unused (may_follow q.near link) (may_follow q.far other) (is_down_at q.near link) (is_incomplete_at q.near link) (is_down_at q.far other) e')
         where
           by : NotUsed (may_follow q.near link) (may_follow q.far other) (is_down_at q.near link) (is_incomplete_at q.near link) (is_down_at q.far other) → (queue_of q.near link).all ≡ []
-          by (near_follows f) = may-empty window q.near.exchange link steady (both-carried.back.opening other link (end-back link other e) f).far_may
-          by (far_follows f) = ap (λ (x : Queue). x.all) (both-carried.there.opening link other e f).queue
+          by (near_follows f) = may-empty window q.near.exchange link steady (laws.carried.back.opening other link (end-back link other e) f).far_may
+          by (far_follows f) = ap (λ (x : Queue). x.all) (laws.carried.there.opening link other e f).queue
           by (closed f g) = closed-empty window q.near.exchange link steady f g
 
       used-or : (b : Bool) → is_in_use q link other ≡ b → (is_in_use q link other ≡ true) ⊎ ((queue_of q.near link).all ≡ [])
@@ -142,7 +136,7 @@ module _ (settings : (point : ℕ) → Configuration) (steps : List Step) (near 
           ⊎ ((queue_of q.near link).all ≡ [])
       in-between =
           ⊎_elim
-          (λ (used : is_in_use q link other ≡ true). (let f : FramesCarry q link other = both-carried.there.frames link other e used in inl (f.confirmed, f.received)))
+          (λ (used : is_in_use q link other ≡ true). (let f : FramesCarry q link other = laws.carried.there.frames link other e used in inl (f.confirmed, f.received)))
           (λ none. inr none)
           (used-or (is_in_use q link other) refl)
 
@@ -150,36 +144,36 @@ module _ (settings : (point : ℕ) → Configuration) (steps : List Step) (near 
       pub word-names : (word : Word) → IsUnderWay (turned q) word → word.link ≡ link
           → (named_count (queue_of q.near link) word.number ≡ Some (queue_of q.far other).received) ⊎ ((queue_of q.near link).all ≡ [])
       word-names word under same =
-          let final : IsFinal (turned q) word = both-final.back word under in
+          let final : IsFinal (turned q) word = laws.final.back word under in
           let mine : final.link ≡ other = same-some final.link other (sym (back-end word.link final.link final.its) ∙ ap (λ (k : ℕ). end_there c z (slice_get c.links k)) same ∙ e) in
           ⊎_elim
           (λ (used : is_in_use q link other ≡ true).
-          inl (ap (named_count (queue_of q.near link)) (final.number ∙ ap (λ (k : ℕ). last_accepted (queue_of q.far k)) mine) ∙ both-lacked.there.named link other e used))
+          inl (ap (named_count (queue_of q.near link)) (final.number ∙ ap (λ (k : ℕ). last_accepted (queue_of q.far k)) mine) ∙ laws.lacked.there.named link other e used))
           (λ none. inr none)
           (used-or (is_in_use q link other) refl)
 
     -- ---- what comes
 
     -- a message that the next frame newly carries is the first that wasn't received
-    pub first-missing : (text : List ℕ) (m : Message) → slice_get (in_flight (p settings steps near far points well sharing).near.incoming.user_data link) 0 ≡ Some text
+    pub first-missing : (text : List ℕ) (m : Message) → slice_get (in_flight p.near.incoming.user_data link) 0 ≡ Some text
         → new_message link text q.near.exchange ≡ Some m → slice_get (queue_of q.far other).all (queue_of q.near link).received ≡ Some m
-    first-missing text m g n = both-carried.back.next other link (end-back link other e) text m (ap (λ (texts : List (List ℕ)). slice_get texts 0) same-flight ∙ g) n
+    first-missing text m g n = laws.carried.back.next other link (end-back link other e) text m (ap (λ (texts : List (List ℕ)). slice_get texts 0) same-flight ∙ g) n
 
     -- and a word that it says was under way
-    pub word-came : (text : List ℕ) (m : Message) (word : Word) → slice_get (in_flight (p settings steps near far points well sharing).near.incoming.user_data link) 0 ≡ Some text
+    pub word-came : (text : List ℕ) (m : Message) (word : Word) → slice_get (in_flight p.near.incoming.user_data link) 0 ≡ Some text
         → new_message link text q.near.exchange ≡ Some m → word_there (turned q) m ≡ Some word → IsUnderWay (turned q) word
-    word-came text m word g n says = both-lacked.there.brought link text m word (ap (λ (texts : List (List ℕ)). slice_get texts 0) same-flight ∙ g) n says
+    word-came text m word g n says = laws.lacked.there.brought link text m word (ap (λ (texts : List (List ℕ)). slice_get texts 0) same-flight ∙ g) n says
 
     -- where this end may follow, nothing stands at the other
-    pub followed-empty : may_follow (p settings steps near far points well sharing).near link ≡ true → (queue_of q.far other).all ≡ []
+    pub followed-empty : may_follow p.near link ≡ true → (queue_of q.far other).all ≡ []
     followed-empty follows =
         ap (λ (x : Queue). x.all)
-        (both-carried.back.opening other link (end-back link other e) (alike.near_alike.following link (not-elsewhere c z (slice_get c.links link) other e) ∙ follows)).queue
+        (laws.carried.back.opening other link (end-back link other e) (laws.alike.near_alike.following link (not-elsewhere c z (slice_get c.links link) other e) ∙ follows)).queue
 
     -- a link status carries no message
-    pub status-none : (text : List ℕ) (m : Message) → slice_get (in_flight (p settings steps near far points well sharing).near.incoming.statuses link) 0 ≡ Some text
+    pub status-none : (text : List ℕ) (m : Message) → slice_get (in_flight p.near.incoming.statuses link) 0 ≡ Some text
         → carried_message (read_frame text) ≡ Some m → ⊥
     status-none text m g n =
         first-carries (in_flight q.near.incoming.statuses link) text m
-        (ap (λ (texts : List (List ℕ)). slice_get texts 0) (alike.near_alike.incoming.statuses link (not-elsewhere c z (slice_get c.links link) other e)) ∙ g) n
-        (both-carried.back.statuses link)
+        (ap (λ (texts : List (List ℕ)). slice_get texts 0) (laws.alike.near_alike.incoming.statuses link (not-elsewhere c z (slice_get c.links link) other e)) ∙ g) n
+        (laws.carried.back.statuses link)

@@ -1,6 +1,6 @@
 -- A step at a node of a network that loses nothing: what waits there grows by what the node accepts.
-use Rattle.pair_rules.proofs.Basics.{◌≡◌, ◌≢◌, ◌⊎◌, inl, inr, ◌<◌, ◌≤◌, ◌&&◌, ℕ, ◌+◌, Bool, true, false, not, List, [], ◌∷◌, ◌++◌, length, Option, Some, None, refl, ap, sym, subst, ◌∙◌, arith, nat_tests, slice_get, drop, if◌then◌else◌}
-use Rattle.pair_rules.proofs.Definitions.{Message, Configuration, Queue, first_queue, queue_at, WholeQueues, whole, lost_any, in_flight, new_message, is_link, down, Happening, CameUp, FrameCame, Submitted}
+use Rattle.pair_rules.proofs.Basics.{◌≡◌, ◌≢◌, ◌⊎◌, inl, inr, ◌<◌, ◌≤◌, ◌&&◌, ℕ, ◌+◌, ◌-◌, ◌^◌, Bool, true, false, not, List, [], ◌∷◌, ◌++◌, length, Option, Some, None, refl, ap, sym, subst, ◌∙◌, arith, nat_tests, slice_get, drop, if◌then◌else◌}
+use Rattle.pair_rules.proofs.Definitions.{Message, Configuration, Queue, first_queue, queue_at, WholeQueues, whole, in_flight, new_message, is_link, down, Happening, CameUp, FrameCame, Submitted}
 use Rattle.exchange_rules.specs.State.{WentDown, Ticked, Activated, Deactivated, TitleAdded, TitleRemoved}
 use Rattle.exchange_rules.specs.First.{Abstract}
 use Rattle.exchange_rules.specs.Conserving.{brought_in, users_that}
@@ -16,18 +16,20 @@ use Rattle.exchange_rules.proofs.Definitions.{Node, Outgoing, SendsStatus, Sends
 use Rattle.link.specs.Queue as queue
 use Rattle.pair_moves.specs.Laws.{sum_to}
 use Rattle.network_rules.specs.Networks.{NetworkState, Step}
-use Rattle.network_rules.specs.Totals.{HaveLostNothing, IsJoined, is_listed, received_there}
+use Rattle.neighbour_rules.specs.Anew.{Stays}
+use Rattle.network_rules.specs.Totals.{IsJoined, is_listed, received_there}
 use Rattle.network_rules.proofs.AtState.{between-at, names-at, no-status, there_of}
 use Rattle.network_rules.proofs.Growing.{MayMake}
 use Rattle.network_rules.proofs.Joined.{HasOther, has-other, other-apart}
 use Rattle.network_rules.proofs.Letting.{Named}
+use Rattle.network_rules.proofs.Losing.{LosesNone, loses-none}
 use Rattle.network_rules.proofs.Parting.{SaysWord}
 use Rattle.network_rules.proofs.PartingEvents.{IsOther}
-use Rattle.network_rules.proofs.Reached.{IsSteadyNode, reached, settings-kept, steady-node}
+use Rattle.network_rules.proofs.Reached.{Begins, IsSteadyNode, Kept, begun, reached, settings-kept, steady-node}
 use Rattle.network_rules.proofs.Staying.{AreBetween, all_waits, frame-stays, other-stays, tick-stays, up-stays, waits_at}
 use Rattle.network_rules.proofs.Thirds.{adjacent-fits}
 use Rattle.network_rules.proofs.Turns as turns
-use Rattle.network_rules.proofs.Turns.{IsPlain, MayOpenThere, SameBooks, Turn, comes, enters, idles, occurs, opens}
+use Rattle.network_rules.proofs.Turns.{IsPlain, SameBooks, Turn, comes, enters, idles, occurs, opens}
 
 -- a frame newly carries a message on a link that is there
 pub new-link : (link : ℕ) (text : List ℕ) (a : Abstract) (m : Message) → HasAllPlaces a.settings a.node → new_message link text a ≡ Some m → link < length a.settings.links
@@ -66,15 +68,15 @@ module _ (of : Message → Bool) where
 
   -- ---- a step at a node
 
-  module _ (settings : (point : ℕ) → Configuration) (points : List ℕ) (h : IsJoined settings points) (done : List Step) (step : Step)
-      (before : HaveLostNothing points (reached settings points h done)) (later : HaveLostNothing points (reached settings points h (done ++ step ∷ [])))
-      (others : (point : ℕ) → point ≢ step.point → SameBooks ((reached settings points h done).node point) ((reached settings points h (done ++ step ∷ [])).node point))
+  module _ (settings : (point : ℕ) → Configuration) (points : List ℕ) (h : IsJoined settings points) (start : Begins settings points) (done : List Step) (step : Step)
+      (before : Kept settings points h start (reached settings points h start done)) (later : Kept settings points h start (reached settings points h start (done ++ step ∷ [])))
+      (others : (point : ℕ) → point ≢ step.point → SameBooks ((reached settings points h start done).node point) ((reached settings points h start (done ++ step ∷ [])).node point))
       (listed : is_listed points step.point ≡ true) where
     abbrev w : NetworkState
-    w = reached settings points h done
+    w = reached settings points h start done
 
     abbrev v : NetworkState
-    v = reached settings points h (done ++ step ∷ [])
+    v = reached settings points h start (done ++ step ∷ [])
 
     abbrev x : ℕ
     x = step.point
@@ -83,16 +85,16 @@ module _ (of : Message → Bool) where
     a = (w.node x).exchange
 
     abbrev t : ℕ → ℕ
-    t = there_of settings points h done before x
+    t = there_of settings points h start done before x
 
     abbrev links : ℕ
     links = length a.settings.links
 
     pub kept-inside : (link : ℕ) → link < links → link < length (settings x).links
-    kept-inside link less = subst (λ (c : Configuration). link < length c.links) (settings-kept settings points h done x) less
+    kept-inside link less = subst (λ (c : Configuration). link < length c.links) (settings-kept settings points h start done x) less
 
     -- the other ends received as much
-    pub there-same : (link : ℕ) → link < length (settings x).links → there_of settings points h (done ++ step ∷ []) later x link ≡ t link
+    pub there-same : (link : ℕ) → link < length (settings x).links → there_of settings points h start (done ++ step ∷ []) later x link ≡ t link
     there-same link less =
         let o : HasOther settings points h x link = has-other settings points h x link less in
         ap (received_there v) o.is
@@ -100,18 +102,18 @@ module _ (of : Message → Bool) where
         ∙ sym (ap (received_there w) o.is)
 
     between-before : AreBetween of t links a.node.queues
-    between-before link less = between-at settings points h done before x link (kept-inside link less)
+    between-before link less = between-at settings points h start done before x link (kept-inside link less)
 
     between-later : AreBetween of t links (v.node x).exchange.node.queues
     between-later link less =
         subst (λ (n : ℕ). (((queue_at (v.node x).exchange.node.queues link).confirmed ≤ n) × (n ≤ (queue_at (v.node x).exchange.node.queues link).sent)) ⊎ ((queue_at (v.node x).exchange.node.queues link).all ≡ []))
-        (there-same link (kept-inside link less)) (between-at settings points h (done ++ step ∷ []) later x link (kept-inside link less))
+        (there-same link (kept-inside link less)) (between-at settings points h start (done ++ step ∷ []) later x link (kept-inside link less))
 
     steady : IsSteadyNode a
-    steady = steady-node settings points h done x listed
+    steady = steady-node settings points h start done x listed
 
     fits : MayMake a.settings
-    fits = subst MayMake (sym (settings-kept settings points h done x)) (adjacent-fits (settings x) (h.well x listed))
+    fits = subst MayMake (sym (settings-kept settings points h start done x)) (adjacent-fits (settings x) (h.well x listed))
 
     -- what the node accepts
     abbrev pub more : Turn w v x → List Message
@@ -125,19 +127,22 @@ module _ (of : Message → Bool) where
     Waits : List Message → Type 0
     Waits ms = all_waits of t links a.node.queues + users_that of ms ≡ all_waits of t links (v.node x).exchange.node.queues
 
-    -- of an exchange that this came to
-    as-left : (b : Abstract) → (v.node x).exchange ≡ b → (ms : List Message)
-        → (lost_any b.node.parts ≡ false → AreBetween of t links b.node.queues → all_waits of t links a.node.queues + users_that of ms ≡ all_waits of t links b.node.queues) → Waits ms
+    -- of what happens to its exchange
+    as-left : (what : Happening) → (v.node x).exchange ≡ after whole what a → (ms : List Message)
+        → (LosesNone what a → AreBetween of t links (after whole what a).node.queues → all_waits of t links a.node.queues + users_that of ms ≡ all_waits of t links (after whole what a).node.queues) → Waits ms
     unfolding Waits
-    as-left b e ms f =
-        f (ap (λ (y : Abstract). lost_any y.node.parts) (sym e) ∙ later x listed) (subst (λ (y : Abstract). AreBetween of t links y.node.queues) e between-later)
+    as-left what e ms f =
+        let was : Stays ((begun settings points h start).node x).exchange.node.parts.times_lost a.node.parts.times_lost = before x listed in
+        let is : Stays ((begun settings points h start).node x).exchange.node.parts.times_lost (v.node x).exchange.node.parts.times_lost = later x listed in
+        f (loses-none what a (subst (λ (n : ℕ). n < 2 ^ 64 - 1) (sym was.same) was.countable) (sym (ap (λ (y : Abstract). y.node.parts.times_lost) e) ∙ is.same ∙ sym was.same))
+        (subst (λ (y : Abstract). AreBetween of t links y.node.queues) e between-later)
         ∙ ap (λ (y : Abstract). all_waits of t links y.node.queues) (sym e)
 
     none-more : (k l : ℕ) → l ≡ k → k + 0 ≡ l
     none-more k l e = omega (arith, e)
 
     other-waits : (what : Happening) → IsOther a.settings fits what → (v.node x).exchange ≡ after whole what a → Waits (brought_in what a)
-    other-waits what is e = as-left (after whole what a) e (brought_in what a) (λ kept later. other-stays of t a what fits steady.places steady.steady is kept between-before later)
+    other-waits what is e = as-left what e (brought_in what a) (λ kept later. other-stays of t a what fits steady.places steady.steady is kept between-before later)
 
     plain-waits : (what : Happening) → IsPlain what → (v.node x).exchange ≡ after whole what a → Waits []
     plain-waits (WentDown link) plain e = other-waits (WentDown link) tt e
@@ -145,7 +150,7 @@ module _ (of : Message → Bool) where
     plain-waits (Deactivated link) plain e = other-waits (Deactivated link) tt e
     plain-waits (TitleAdded row is_memory_refused) plain e = other-waits (TitleAdded row is_memory_refused) tt e
     plain-waits (TitleRemoved key digits) plain e = other-waits (TitleRemoved key digits) tt e
-    plain-waits Ticked plain e = as-left (after whole Ticked a) e [] (λ kept later. tick-stays of t a fits steady.places steady.steady kept between-before later)
+    plain-waits Ticked plain e = as-left Ticked e [] (λ kept later. tick-stays of t a fits steady.places steady.steady kept between-before later)
     plain-waits (CameUp link) plain e = absurd plain
     plain-waits (FrameCame link text) plain e = absurd plain
     plain-waits (Submitted m) plain e = absurd plain
@@ -154,9 +159,9 @@ module _ (of : Message → Bool) where
     named : (link : ℕ) (text : List ℕ) → (slice_get (in_flight (w.node x).incoming.user_data link) 0 ≡ Some text) ⊎ (slice_get (in_flight (w.node x).incoming.statuses link) 0 ≡ Some text)
         → Named of t links a.settings.window (SaysWord a.settings (new_message link text a)) a.node.queues
     named link text (inl next) its number said =
-        names-at settings points h done before x link (kept-inside link (new-link link text a said.message steady.places said.is)) text next its number said
+        names-at settings points h start done before x link (kept-inside link (new-link link text a said.message steady.places said.is)) text next its number said
     named link text (inr next) its number said =
-        absurd (no-status settings points h done before x link (kept-inside link (new-link link text a said.message steady.places said.is)) text said.message next said.is)
+        absurd (no-status settings points h start done before x link (kept-inside link (new-link link text a said.message steady.places said.is)) text said.message next said.is)
 
     -- as much more waits as it accepts
     pub here-waits : (turn : Turn w v x) → all_waits of t links a.node.queues + users_that of (more turn) ≡ all_waits of t links (v.node x).exchange.node.queues
@@ -166,6 +171,6 @@ module _ (of : Message → Bool) where
     here-waits (occurs what plain e) = plain-waits what plain e.exchange
     here-waits (enters m e) = other-waits (Submitted m) tt e.exchange
     here-waits (comes link text left f e) =
-        as-left (after whole (FrameCame link text) a) e.exchange (brought_in (FrameCame link text) a)
+        as-left (FrameCame link text) e.exchange (brought_in (FrameCame link text) a)
         (λ kept later. frame-stays of t a link text fits steady.places steady.steady kept between-before later (named link text f))
-    here-waits (opens link f e) = as-left (after whole (CameUp link) a) e.exchange [] (λ kept later. up-stays of t a fits steady.places steady.steady link kept between-before later)
+    here-waits (opens link f e) = as-left (CameUp link) e.exchange [] (λ kept later. up-stays of t a fits steady.places steady.steady link kept between-before later)

@@ -1,6 +1,6 @@
 -- An event lets go of queues what the far ends received, and nothing else: so what is ahead falls by what went.
-use Rattle.exchange_rules.proofs.Basics.{◌≡◌, ◌≢◌, ◌<◌, ◌≤◌, ◌⊎◌, inl, inr, ◌+◌, ◌-◌, ℕ, Bool, true, false, is_some, List, [], ◌++◌, length, Option, Some, None, Ok, refl, ap, sym, subst, ◌∙◌, arith, take, ⊎_elim, cases_eq, cases_lt, slice_set, get_or_past, get_or-set_same, get_or-set_other, length-set, length-append}
-use Rattle.exchange_rules.proofs.Definitions.{Message, Configuration, Queue, first_queue, emptied, unconfirmed, IsQueue, AreQueues, accept_answer, after_answer, accepted, sound-accepted, sound-emptied, sound-first, accepted_count, users_that, WholeQueues, queue_at, whole, Node, Carrying, carries, lost_any, Gone, gone_by_completion}
+use Rattle.exchange_rules.proofs.Basics.{◌≡◌, ◌≢◌, ◌<◌, ◌≤◌, ◌⊎◌, inl, inr, ◌+◌, ◌-◌, ℕ, Bool, true, is_some, List, [], ◌++◌, length, Option, Some, None, Ok, refl, ap, sym, subst, ◌∙◌, arith, take, ⊎_elim, cases_eq, cases_lt, slice_set, get_or_past, get_or-set_same, get_or-set_other, length-set, length-append}
+use Rattle.exchange_rules.proofs.Definitions.{Message, Configuration, Queue, first_queue, emptied, unconfirmed, IsQueue, AreQueues, accept_answer, after_answer, accepted, sound-accepted, sound-emptied, sound-first, accepted_count, users_that, WholeQueues, queue_at, whole, Node, Carrying, carries, Gone, gone_by_completion}
 use Rattle.exchange_rules.specs.Touching.{IsGrown}
 use Rattle.exchange_rules.proofs.Lists.{each-set}
 use Rattle.exchange_rules.proofs.Tallies.{append}
@@ -103,13 +103,16 @@ module _ (of : Message → Bool) (there : ℕ → ℕ) (links w : ℕ) where
       three (total qs) (total done) (ahead_at of there qs link) (total m.queues) (users_that of (gone_by_completion true link (Some number) qs).accepted)
       (completed-less qs link number fits) (all-grown of there links done m.queues (completed-queues qs link number h) e) (goes-ahead qs link number n h f (names link number n said f))
 
-  does-lets : (Said : (link number : ℕ) → Type 0) (qs : WholeQueues) (m : Node WholeQueues) (g : Gone) → AreQueues w qs → links ≡ length qs.links → NamesIt Said qs → lost_any m.parts ≡ false
+  no-doubt : (k : ℕ) → k ≡ 0 → 0 < k → ⊥
+  no-doubt k e f = omega (arith, e, f)
+
+  does-lets : (Said : (link number : ℕ) → Type 0) (qs : WholeQueues) (m : Node WholeQueues) (g : Gone) → AreQueues w qs → links ≡ length qs.links → NamesIt Said qs → g.doubts ≡ 0
       → Does Said qs m g → total qs ≡ total m.queues + users_that of g.accepted
   does-lets Said qs m g h fits names kept (grows e none unlost) = sym (all-grown of there links qs m.queues h e) ∙ none-more (total m.queues) (users_that of g.accepted) (none-of of g.accepted none)
   does-lets Said qs m g h fits names kept (ends link number said e sure is) =
       ends-lets Said qs m link number h fits names said e (accepted_count (queue_at qs link) (Some number)) refl sure
       ∙ ap (λ (x : Gone). total m.queues + users_that of x.accepted) (sym is)
-  does-lets Said qs m g h fits names kept (loses l) = absurd (let no : false ≡ true = sym kept ∙ l in cc)
+  does-lets Said qs m g h fits names kept (loses l) = absurd (no-doubt g.doubts kept l)
 
   -- ---- a frame
 
@@ -124,7 +127,7 @@ module _ (of : Message → Bool) (there : ℕ → ℕ) (links w : ℕ) where
       turn a b s e = omega (arith, e)
 
   module _ (c : Configuration) (link : ℕ) (o : Option Message) (qs : WholeQueues) (m : Node WholeQueues) (ms : List Message) (g : Gone) (h : AreQueues w qs) (fits : links ≡ length qs.links)
-      (names : Named (SaysWord c o) qs) (kept : lost_any m.parts ≡ false) (bound : (queue_at m.queues link).confirmed ≤ there link) where
+      (names : Named (SaysWord c o) qs) (kept : g.doubts ≡ 0) (bound : (queue_at m.queues link).confirmed ≤ there link) where
     module _ (d : Carrying) (count : ℕ) (next : WholeQueues) (e : AreGrown qs next) (numbered : accept_answer (queue_at next link) d.fsn d.bsn (carries d) ≡ Ok count) where
       abbrev q : Queue
       q = queue_at next link
@@ -244,7 +247,7 @@ module _ (of : Message → Bool) (there : ℕ → ℕ) (links w : ℕ) where
               ⊎_elim (λ (t : (n ≡ there other) × ((queue_at took other).confirmed ≤ there other) × (there other ≤ (queue_at took other).sent)). t.1)
               (λ (none : (queue_at took other).sent ≡ 0). zero-less (queue_at took other).confirmed (queue_at took other).sent (there other) (took-queues.each other).confirmed none)
               (now-named other number n said e)
-      took-bound (loses l) = absurd (let no : false ≡ true = sym kept ∙ l in cc)
+      took-bound (loses l) = absurd (no-doubt g.doubts kept l)
 
       confirmed-past : ms ≡ take count (unconfirmed q) → links ≤ link → users_that of ms ≡ 0
       confirmed-past e past =

@@ -19,6 +19,7 @@ pub mod Ends
 pub mod Thirds
 pub mod Elsewhere
 pub mod Quiet
+pub mod Changes
 pub mod Always
 pub mod Promised
 pub mod Joined
@@ -27,6 +28,7 @@ pub mod Turns
 pub mod Reached
 pub mod Known
 pub mod Facts
+pub mod Anew
 pub mod AtState
 pub mod Transit
 pub mod Sums

@@ -1,58 +1,94 @@
--- What an event loses, it flags: so where the flag stays down, nothing was lost.
-use Rattle.exchange_rules.proofs.Basics.{◌≡◌, ◌&&◌, ℕ, Bool, true, false, not, is_some, List, [], ◌∷◌, filter, filter_agree, Option, Some, None, refl, ap, sym, ◌∙◌, if◌then◌else◌}
-use Rattle.exchange_rules.proofs.Definitions.{Message, flow_of, Configuration, Node, WholeQueues, queue_at, whole, lost_any, link_of, waits, go_on, go_by, go, go_each, release, tell_owed, Gone, gone_by_completion, gone_by_release, is_stranded, accepted_count, in_doubt, users_of}
-use Rattle.exchange_rules.proofs.Departing.{go_by-strands}
-use Rattle.exchange_rules.proofs.LastingFlags.{flags-steps}
-use Rattle.exchange_rules.proofs.Rules.{rules-of}
-use Rattle.exchange_rules.proofs.SteppingEvents.{go_by-steps}
-use Rattle.exchange_rules.proofs.SteppingMessages.{tell_owed-steps}
-use Rattle.network_rules.proofs.Parting.{Does, ends, grows, loses}
-use Rattle.network_rules.proofs.PartingEvents.{Comes, quiet, takes}
+-- An event that counts no loss loses nothing, and no changeover ends in it without a reasonable number. What was counted isn't taken back.
+use Rattle.exchange_rules.proofs.Basics.{◌≡◌, ◌<◌, ◌≤◌, ◌+◌, ◌-◌, ◌^◌, ℕ, zero, suc, List, [], ◌∷◌, ◌++◌, map, filter, refl, sym, subst, ◌∙◌, arith, cond, count_by, sum_by-cons}
+use Rattle.exchange_rules.proofs.Definitions.{counted, names_a_message, losses_of, tells_of_loss, Notice, Message, whole, Abstract, Happening, handle_event, gone, gone_by, gone_by_release}
+use Rattle.exchange_rules.specs.State.{Asking, AsksWants, Happens, Takes, once_more}
+use Rattle.exchange_rules.specs.Exchange.{after, taken}
+use Rattle.exchange_rules.specs.Lasting.{after_each}
+use Rattle.exchange_rules.proofs.NamedAll.{events-account, takes-flag}
+use Rattle.signalling_types.specs.declared.notice.Notice.TheVariants as notices
 
--- a changeover that ends by a number that names a count loses nothing
-named-loses : (qs : WholeQueues) (link number : ℕ) (o : Option ℕ) → accepted_count (queue_at qs link) (Some number) ≡ o → is_some o ≡ true → (gone_by_completion true link (Some number) qs).lost ≡ []
-named-loses qs link number (Some n) e some = ap (λ (x : Option ℕ). users_of (in_doubt (queue_at qs link) x)) e
-named-loses qs link number None e some = absurd cc
+-- ---- counts
 
-does-lose : (Said : (link number : ℕ) → Type 0) (qs : WholeQueues) (m : Node WholeQueues) (g : Gone) → lost_any m.parts ≡ false → Does Said qs m g → g.lost ≡ []
-does-lose Said qs m g kept (grows e none unlost) = unlost
-does-lose Said qs m g kept (ends link number said e sure is) = ap (λ (x : Gone). x.lost) is ∙ named-loses qs link number (accepted_count (queue_at qs link) (Some number)) refl sure
-does-lose Said qs m g kept (loses l) = absurd (let no : false ≡ true = sym kept ∙ l in cc)
+once-grows : (k times : ℕ) → k ≤ 2 ^ 64 - 1 → k ≤ times → k ≤ once_more times
+once-grows k times few below = omega (arith, few, below)
 
-pub comes-lose : (c : Configuration) (link : ℕ) (o : Option Message) (qs : WholeQueues) (m : Node WholeQueues) (ms : List Message) (g : Gone) → lost_any m.parts ≡ false → Comes c link o qs m ms g → g.lost ≡ []
-comes-lose c link o qs m ms g kept (quiet e none also unlost) = unlost
-comes-lose c link o qs m ms g kept (takes d count next e numbered is does) = does-lose _ _ m g kept does
+once-exceeds : (times : ℕ) → times < 2 ^ 64 - 1 → times + 1 ≤ once_more times
+once-exceeds times few = omega (arith, few)
 
--- ---- the release
+counted-grows : (more k times : ℕ) → k ≤ 2 ^ 64 - 1 → k ≤ times → k ≤ counted more times
+counted-grows zero k times few below = below
+counted-grows (suc more) k times few below = counted-grows more k (once_more times) few (once-grows k times few below)
 
-still : (b d : Bool) → (b ≡ true → d ≡ true) → d ≡ false → b ≡ false
-still true d f e = (let no : true ≡ false = sym (f refl) ∙ e in absurd cc)
-still false d f e = refl
+counted-none : (more times : ℕ) → times < 2 ^ 64 - 1 → counted more times ≡ times → more ≡ 0
+counted-none zero times few same = refl
+counted-none (suc more) times few same =
+    absurd (no-more times (counted more (once_more times)) (counted-grows more (times + 1) (once_more times) (omega (arith, few)) (once-exceeds times few)) same)
+  where
+    no-more : (n k : ℕ) → n + 1 ≤ k → k ≡ n → ⊥
+    no-more n k e f = omega (arith, e, f)
 
-module _ (c : Configuration) where
-  each-flags : (ms : List Message) (n : Node WholeQueues) → lost_any n.parts ≡ true → lost_any (go_each whole c ms n).parts ≡ true
-  each-flags [] n e = e
-  each-flags (m ∷ ms) n e = each-flags ms (go whole c m n) ((go_by-steps (rules-of (flags-steps c)) (waits c n.parts.holds m) m n refl).lost e)
+event-counts : (what : Happening) (a : Abstract) (k : ℕ) → k ≤ 2 ^ 64 - 1 → k ≤ a.node.parts.times_lost → k ≤ (after whole what a).node.parts.times_lost
+event-counts what a k few below =
+    subst (λ (n : ℕ). k ≤ n) (sym (events-account what a).times_lost)
+    (counted-grows (count_by tells_of_loss (events-account what a).made + (gone what a).doubts) k a.node.parts.times_lost few below)
 
-  -- one that has no link is flagged
-  on-stranded : (link : Option ℕ) (m : Message) (n : Node WholeQueues) → lost_any (go_on whole c link m n).parts ≡ false → not (is_some link) ≡ false
-  on-stranded (Some link) m n e = refl
-  on-stranded None m n e = absurd cc
+pub asked-counts : (asked : List Asking) (a : Abstract) (k : ℕ) → k ≤ 2 ^ 64 - 1 → k ≤ a.node.parts.times_lost → k ≤ (after_each asked a).node.parts.times_lost
+asked-counts [] a k few below = below
+asked-counts (Happens what ∷ asked) a k few below = asked-counts asked (after whole what a) k few (event-counts what a k few below)
+asked-counts (Takes link ∷ asked) a k few below = asked-counts asked (taken whole a link) k few (subst (λ (n : ℕ). k ≤ n) (sym (takes-flag a link).0) below)
+asked-counts (AsksWants link ∷ asked) a k few below = asked-counts asked a k few below
 
-  by-stranded : (waiting : Bool) (m : Message) (n : Node WholeQueues) → lost_any (go_by whole c waiting m n).parts ≡ false → (not waiting && not (is_some (link_of c n.parts (flow_of m)))) ≡ false
-  by-stranded true m n e = refl
-  by-stranded false m n e = on-stranded (link_of c n.parts (flow_of m)) m n e
+-- ---- an event
 
-  each-stranded : (ms : List Message) (n : Node WholeQueues) → lost_any (go_each whole c ms n).parts ≡ false → filter (is_stranded c n.parts) ms ≡ []
-  each-stranded [] n e = refl
-  each-stranded (m ∷ ms) n e =
-      let one : Node WholeQueues = go whole c m n in
-      let first : is_stranded c n.parts m ≡ false = by-stranded (waits c n.parts.holds m) m n (still (lost_any one.parts) (lost_any (go_each whole c ms one).parts) (each-flags ms one) e) in
-      ap (λ (b : Bool). if b then m ∷ filter (is_stranded c n.parts) ms else filter (is_stranded c n.parts) ms) first
-      ∙ sym (filter_agree (is_stranded c one.parts) (is_stranded c n.parts) (λ x. go_by-strands c (waits c n.parts.holds m) m x n) ms)
-      ∙ each-stranded ms one e
+pub record LosesNone (what : Happening) (a : Abstract) : Type 0 where
+  pub by_rule : (gone_by what a).lost ≡ []
+  pub by_release : (gone_by_release a.settings (handle_event whole a.settings what a.node).left).lost ≡ []
+  pub sure : (gone_by what a).doubts ≡ 0
 
-  pub release-loses : (n : Node WholeQueues) → lost_any (tell_owed whole c (release whole c n)).parts ≡ false → (gone_by_release c n).lost ≡ []
-  release-loses n e =
-      each-stranded n.queues.held (record n { queues = whole.without_held n.queues })
-      (still (lost_any (release whole c n).parts) (lost_any (tell_owed whole c (release whole c n)).parts) (tell_owed-steps (rules-of (flags-steps c)) (release whole c n)).lost e)
+first-none : (k l : ℕ) → k + l ≡ 0 → k ≡ 0
+first-none k l e = omega (arith, e)
+
+later-none : (k l : ℕ) → k + l ≡ 0 → l ≡ 0
+later-none k l e = omega (arith, e)
+
+one-not : (k : ℕ) → 1 + k ≡ 0 → ⊥
+one-not k e = omega (arith, e)
+
+-- where no notice tells of a loss, none names a message
+none-named : (made : List Notice) → count_by tells_of_loss made ≡ 0 → filter names_a_message made ≡ []
+none-named [] e = refl
+none-named (notice ∷ made) e = by notice (sym (sum_by-cons (λ (n : Notice). cond (tells_of_loss n) 1 0) notice made) ∙ e) (none-named made)
+  where
+    rest : (notice : Notice) → cond (tells_of_loss notice) 1 0 + count_by tells_of_loss made ≡ 0 → (count_by tells_of_loss made ≡ 0 → filter names_a_message made ≡ []) → filter names_a_message made ≡ []
+    rest notice f none = none (later-none (cond (tells_of_loss notice) 1 0) (count_by tells_of_loss made) f)
+
+    by : (notice : Notice) → cond (tells_of_loss notice) 1 0 + count_by tells_of_loss made ≡ 0 → (count_by tells_of_loss made ≡ 0 → filter names_a_message made ≡ [])
+        → filter names_a_message (notice ∷ made) ≡ []
+    by (notices.Lost cause point sls) f none = absurd (one-not (count_by tells_of_loss made) f)
+    by (notices.Unsent cause point) f none = rest (notices.Unsent cause point) f none
+    by (notices.Expired timer link) f none = rest (notices.Expired timer link) f none
+    by (notices.Refused cause link) f none = rest (notices.Refused cause link) f none
+    by (notices.Frame fault link) f none = rest (notices.Frame fault link) f none
+    by (notices.Failed link why) f none = rest (notices.Failed link why) f none
+    by (notices.Late timer number) f none = rest (notices.Late timer number) f none
+
+first-empty : (f g : Message → Notice) (ms ks : List Message) → map f ms ++ map g ks ≡ [] → ms ≡ []
+first-empty f g [] ks e = refl
+first-empty f g (m ∷ ms) ks e = absurd cc
+
+later-empty : (f g : Message → Notice) (ms ks : List Message) → map f ms ++ map g ks ≡ [] → ks ≡ []
+later-empty f g [] [] e = refl
+later-empty f g [] (k ∷ ks) e = absurd cc
+later-empty f g (m ∷ ms) ks e = absurd cc
+
+pub loses-none : (what : Happening) (a : Abstract) → a.node.parts.times_lost < 2 ^ 64 - 1 → (after whole what a).node.parts.times_lost ≡ a.node.parts.times_lost → LosesNone what a
+loses-none what a few same =
+    let its = events-account what a in
+    let none : count_by tells_of_loss its.made + (gone what a).doubts ≡ 0 =
+    counted-none (count_by tells_of_loss its.made + (gone what a).doubts) a.node.parts.times_lost few (sym its.times_lost ∙ same) in
+    let unnamed : losses_of what a ≡ [] = sym its.names ∙ none-named its.made (first-none (count_by tells_of_loss its.made) (gone what a).doubts none) in
+    record {
+      by_rule = first-empty _ _ (gone_by what a).lost _ unnamed;
+      by_release = later-empty _ _ (gone_by what a).lost _ unnamed;
+      sure = first-none (gone_by what a).doubts _ (later-none (count_by tells_of_loss its.made) (gone what a).doubts none);
+    }

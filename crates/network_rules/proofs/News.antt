@@ -10,18 +10,18 @@ use Rattle.exchange_rules.proofs.Tallies.{append}
 use Rattle.pair_moves.specs.Laws.{sum_to}
 use Rattle.pair_moves.proofs.Counts.{sum-alike}
 use Rattle.network_rules.specs.Networks.{NetworkState, Place, Step}
-use Rattle.network_rules.specs.Totals.{HaveLostNothing, IsJoined, received_there}
+use Rattle.network_rules.specs.Totals.{IsJoined, received_there}
 use Rattle.network_rules.proofs.Ahead.{sum-less}
 use Rattle.network_rules.proofs.AtState.{missing-at, there_of}
 use Rattle.network_rules.proofs.Joined.{HasOther, end_at, has-other, linked-listed, other-apart, other-back, other-inside}
 use Rattle.network_rules.proofs.Places.{not-equal}
-use Rattle.network_rules.proofs.Reached.{IsSteadyNode, reached, steady-node}
+use Rattle.network_rules.proofs.Reached.{Begins, IsSteadyNode, Kept, reached, steady-node}
 use Rattle.network_rules.proofs.Staying.{all_waits, waits_at}
 use Rattle.network_rules.proofs.Sums.{same-here}
 use Rattle.network_rules.proofs.Texts.{same-some}
 use Rattle.network_rules.proofs.There.{Same, Unchanged, back, back-inside, by-place, counted, drop-first, opened-empty, plain-same}
 use Rattle.network_rules.proofs.Turns as turns
-use Rattle.network_rules.proofs.Turns.{IsPlain, MayOpenThere, SameBooks, Turn, comes, enters, idles, occurs, opens}
+use Rattle.network_rules.proofs.Turns.{SameBooks, Turn, comes, enters, idles, occurs, opens}
 
 -- the point at the other end of a link
 abbrev pub point_of : Option Place → ℕ
@@ -40,14 +40,14 @@ pub none-if : (b : Bool) (n : ℕ) → n ≡ 0 → (if b then n else 0) ≡ 0
 none-if true n e = e
 none-if false n e = refl
 
-module _ (of : Message → Bool) (settings : (point : ℕ) → Configuration) (points : List ℕ) (h : IsJoined settings points) (done : List Step) (step : Step)
-    (before : HaveLostNothing points (reached settings points h done)) (later : HaveLostNothing points (reached settings points h (done ++ step ∷ [])))
-    (others : (point : ℕ) → point ≢ step.point → SameBooks ((reached settings points h done).node point) ((reached settings points h (done ++ step ∷ [])).node point)) where
+module _ (of : Message → Bool) (settings : (point : ℕ) → Configuration) (points : List ℕ) (h : IsJoined settings points) (start : Begins settings points) (done : List Step) (step : Step)
+    (before : Kept settings points h start (reached settings points h start done)) (later : Kept settings points h start (reached settings points h start (done ++ step ∷ [])))
+    (others : (point : ℕ) → point ≢ step.point → SameBooks ((reached settings points h start done).node point) ((reached settings points h start (done ++ step ∷ [])).node point)) where
   abbrev w : NetworkState
-  w = reached settings points h done
+  w = reached settings points h start done
 
   abbrev v : NetworkState
-  v = reached settings points h (done ++ step ∷ [])
+  v = reached settings points h start (done ++ step ∷ [])
 
   abbrev x : ℕ
   x = step.point
@@ -56,10 +56,10 @@ module _ (of : Message → Bool) (settings : (point : ℕ) → Configuration) (p
   a = (w.node x).exchange
 
   abbrev tw : (point link : ℕ) → ℕ
-  tw = there_of settings points h done before
+  tw = there_of settings points h start done before
 
   abbrev tv : (point link : ℕ) → ℕ
-  tv = there_of settings points h (done ++ step ∷ []) later
+  tv = there_of settings points h start (done ++ step ∷ []) later
 
   abbrev links_of : ℕ → ℕ
   links_of y = length (settings y).links
@@ -91,24 +91,24 @@ module _ (of : Message → Bool) (settings : (point : ℕ) → Configuration) (p
     o = has-other settings points h y link less
 
     abbrev pub Stays : Type 0
-    Stays = Unchanged of settings points h done step before later others y link less apart
+    Stays = Unchanged of settings points h start done step before later others y link less apart
 
     x-steady : o.other.point ≡ x → IsSteadyNode a
-    x-steady at = steady-node settings points h done x (linked-listed settings points h x o.other.link (back-inside of settings points h done step before later others y link less apart o.other.link at refl))
+    x-steady at = steady-node settings points h start done x (linked-listed settings points h x o.other.link (back-inside of settings points h start done step before later others y link less apart o.other.link at refl))
 
-    pub by : (o.other.point ≡ x → Same of settings points h done step before later others o.other.link ⊎ ((queue_at (queues_of y) link).all ≡ [])) → Stays
-    by f = by-place of settings points h done step before later others y link less apart f
+    pub by : (o.other.point ≡ x → Same of settings points h start done step before later others o.other.link ⊎ ((queue_at (queues_of y) link).all ≡ [])) → Stays
+    by f = by-place of settings points h start done step before later others y link less apart f
 
     -- a frame that newly carries none by this link
     frame-stays : (k : ℕ) (text : List ℕ) → (v.node x).exchange ≡ after whole (FrameCame k text) a → (o.other.point ≡ x → (nat_eq k o.other.link && is_some (new_message k text a)) ≡ false) → Stays
     frame-stays k text e quiet =
-        by (λ at. inl (counted of settings points h done step before later others (FrameCame k text) o.other.link (x-steady at) e refl (ap (λ (b : Bool). if b then 1 else 0) (quiet at))))
+        by (λ at. inl (counted of settings points h start done step before later others (FrameCame k text) o.other.link (x-steady at) e refl (ap (λ (b : Bool). if b then 1 else 0) (quiet at))))
 
     turn-stays : (turn : Turn w v x) → news turn ≡ [] → Stays
     turn-stays (idles e) none = by (λ at. inl (ap (λ (b : Abstract). (queue_at b.node.queues o.other.link).received) e.exchange))
     turn-stays (turns.goes_out k e) none = by (λ at. inl (ap (λ (b : Abstract). (queue_at b.node.queues o.other.link).received) e.exchange ∙ takes-receive a k o.other.link))
-    turn-stays (occurs what plain e) none = by (λ at. inl (plain-same of settings points h done step before later others what o.other.link plain (x-steady at) e.exchange))
-    turn-stays (enters m e) none = by (λ at. inl (counted of settings points h done step before later others (Submitted m) o.other.link (x-steady at) e.exchange refl refl))
+    turn-stays (occurs what plain e) none = by (λ at. inl (plain-same of settings points h start done step before later others what o.other.link plain (x-steady at) e.exchange))
+    turn-stays (enters m e) none = by (λ at. inl (counted of settings points h start done step before later others (Submitted m) o.other.link (x-steady at) e.exchange refl refl))
     turn-stays (comes k text left f e) none = frame-stays k text e.exchange (λ at. and-right (nat_eq k o.other.link) (is_some (new_message k text a)) (nothing-new (new_message k text a) none))
       where
         nothing-new : (m : Option Message) → option_to_list m ≡ [] → is_some m ≡ false
@@ -117,9 +117,9 @@ module _ (of : Message → Bool) (settings : (point : ℕ) → Configuration) (p
     turn-stays (opens k f e) none =
         by (λ at.
         ⊎_elim
-        (λ (same : o.other.link ≡ k). inr (opened-empty of settings points h done step before later others y link less apart k at same f))
+        (λ (same : o.other.link ≡ k). inr (opened-empty of settings points h start done step before later others y link less apart k at same f))
         (λ (far : o.other.link ≢ k).
-        inl (counted of settings points h done step before later others (CameUp k) o.other.link (x-steady at) e.exchange (not-equal k o.other.link (λ same. far (sym same))) refl))
+        inl (counted of settings points h start done step before later others (CameUp k) o.other.link (x-steady at) e.exchange (not-equal k o.other.link (λ same. far (sym same))) refl))
         (cases_eq o.other.link k))
 
   -- ---- at another node
@@ -154,7 +154,7 @@ module _ (of : Message → Bool) (settings : (point : ℕ) → Configuration) (p
           frame-stays y link less apart k text e
           (λ at. and-left (nat_eq k (o y link less apart).other.link) (is_some (new_message k text a))
           (not-equal k (o y link less apart).other.link
-          (λ same. far (same-some (record { point = y; link = link }) its.other (sym (back of settings points h done step before later others y link less apart k at (sym same)) ∙ its.is)))))
+          (λ same. far (same-some (record { point = y; link = link }) its.other (sym (back of settings points h start done step before later others y link less apart k at (sym same)) ∙ its.is)))))
 
       other-node : its.other.point ≢ y → waits_before y ≡ waits_after y
       other-node far = all-stay (λ link less. other-stays link less (λ same. far (sym (ap (λ (p : Place). p.point) same))))
@@ -183,7 +183,7 @@ module _ (of : Message → Bool) (settings : (point : ℕ) → Configuration) (p
     one-more : (queue_at (v.node x).exchange.node.queues k).received ≡ (queue_at a.node.queues k).received + 1
     one-more =
         ap (λ (b : Abstract). received b.node k) e
-        ∙ received-counted (FrameCame k text) a k (steady-node settings points h done x (linked-listed settings points h x k inside)).places refl
+        ∙ received-counted (FrameCame k text) a k (steady-node settings points h start done x (linked-listed settings points h x k inside)).places refl
         ∙ ap (λ (b : Bool). received a.node k + (if b && is_some (new_message k text a) then 1 else 0)) (same-here k)
         ∙ ap (λ (n : Option Message). received a.node k + (if true && is_some n then 1 else 0)) new
 
@@ -196,7 +196,7 @@ module _ (of : Message → Bool) (settings : (point : ℕ) → Configuration) (p
         ap (λ (i : ℕ). users_that of (drop i there.all) + users_that of (m ∷ [])) after-so
         ∙ turn (users_that of (drop (n + 1) there.all)) (users_that of (m ∷ []))
         ∙ sym (append of (m ∷ []) (drop (n + 1) there.all))
-        ∙ sym (ap (users_that of) (drop-first there.all n m (missing-at settings points h done before x k inside text m next new)))
+        ∙ sym (ap (users_that of) (drop-first there.all n m (missing-at settings points h start done before x k inside text m next new)))
         ∙ sym (ap (λ (i : ℕ). users_that of (drop i there.all)) before-is)
       where
         turn : (p q : ℕ) → p + q ≡ q + p

@@ -7,28 +7,28 @@ use Rattle.exchange_rules.specs.Conserving.{brought_in, users_that}
 use Rattle.exchange_rules.proofs.Tallies.{append}
 use Rattle.pair_moves.proofs.Counts.{sum-alike}
 use Rattle.network_rules.specs.Networks.{Arrival, NetworkState, Step}
-use Rattle.network_rules.specs.Totals.{HaveLostNothing, IsJoined, is_listed}
+use Rattle.network_rules.specs.Totals.{IsJoined, is_listed}
 use Rattle.network_rules.proofs.AtState.{no-status, there_of}
 use Rattle.network_rules.proofs.Booked.{arrived-more, texts_of}
 use Rattle.network_rules.proofs.Here.{here-waits, kept-inside, more, new-link, there-same}
 use Rattle.network_rules.proofs.Joined.{HasOther, end_at, has-other, linked-listed, other-apart, other-inside}
 use Rattle.network_rules.proofs.News.{all-stay, by, new-waits, news, none-if, point_of, quiet-waits, sender, waits_after, waits_before}
 use Rattle.network_rules.proofs.Places.{not-equal}
-use Rattle.network_rules.proofs.Reached.{IsSteadyNode, reached, settings-kept, steady-node}
+use Rattle.network_rules.proofs.Reached.{Begins, IsSteadyNode, Kept, reached, settings-kept, steady-node}
 use Rattle.network_rules.proofs.Staying.{all_waits, waits_at}
 use Rattle.network_rules.proofs.Sums.{same-here, sum-agree, sum-once}
 use Rattle.network_rules.proofs.There.{back-inside}
 use Rattle.network_rules.proofs.Turns as turns
 use Rattle.network_rules.proofs.Turns.{SameBooks, Turn, comes, enters, idles, occurs, opens}
 
-module _ (of : Message → Bool) (settings : (point : ℕ) → Configuration) (points : List ℕ) (h : IsJoined settings points) (done : List Step) (step : Step)
-    (before : HaveLostNothing points (reached settings points h done)) (later : HaveLostNothing points (reached settings points h (done ++ step ∷ [])))
-    (others : (point : ℕ) → point ≢ step.point → SameBooks ((reached settings points h done).node point) ((reached settings points h (done ++ step ∷ [])).node point)) where
+module _ (of : Message → Bool) (settings : (point : ℕ) → Configuration) (points : List ℕ) (h : IsJoined settings points) (start : Begins settings points) (done : List Step) (step : Step)
+    (before : Kept settings points h start (reached settings points h start done)) (later : Kept settings points h start (reached settings points h start (done ++ step ∷ [])))
+    (others : (point : ℕ) → point ≢ step.point → SameBooks ((reached settings points h start done).node point) ((reached settings points h start (done ++ step ∷ [])).node point)) where
   abbrev w : NetworkState
-  w = reached settings points h done
+  w = reached settings points h start done
 
   abbrev v : NetworkState
-  v = reached settings points h (done ++ step ∷ [])
+  v = reached settings points h start (done ++ step ∷ [])
 
   abbrev x : ℕ
   x = step.point
@@ -37,10 +37,10 @@ module _ (of : Message → Bool) (settings : (point : ℕ) → Configuration) (p
   a = (w.node x).exchange
 
   abbrev tw : (point link : ℕ) → ℕ
-  tw = there_of settings points h done before
+  tw = there_of settings points h start done before
 
   abbrev tv : (point link : ℕ) → ℕ
-  tv = there_of settings points h (done ++ step ∷ []) later
+  tv = there_of settings points h start (done ++ step ∷ []) later
 
   abbrev accepted_at : NetworkState → ℕ → ℕ
   accepted_at s y = users_that of (s.node y).accepted
@@ -49,10 +49,10 @@ module _ (of : Message → Bool) (settings : (point : ℕ) → Configuration) (p
   arrived_at s y = users_that of (texts_of (s.node y).arrived)
 
   abbrev old : ℕ → ℕ
-  old = waits_before of settings points h done step before later others
+  old = waits_before of settings points h start done step before later others
 
   abbrev new : ℕ → ℕ
-  new = waits_after of settings points h done step before later others
+  new = waits_after of settings points h start done step before later others
 
   -- ---- a step at a node that isn't listed
 
@@ -62,25 +62,25 @@ module _ (of : Message → Bool) (settings : (point : ℕ) → Configuration) (p
 
     unseen-waits : (y : ℕ) → is_listed points y ≡ true → old y ≡ new y
     unseen-waits y listed =
-        all-stay of settings points h done step before later others y (far-from y listed)
+        all-stay of settings points h start done step before later others y (far-from y listed)
         (λ link less.
-        by of settings points h done step before later others y link less (far-from y listed)
+        by of settings points h start done step before later others y link less (far-from y listed)
         (λ at.
         (let clash : true ≡ false =
-        sym (linked-listed settings points h x _ (back-inside of settings points h done step before later others y link less (far-from y listed) (has-other settings points h y link less).other.link at refl)) ∙ unlisted in
+        sym (linked-listed settings points h x _ (back-inside of settings points h start done step before later others y link less (far-from y listed) (has-other settings points h y link less).other.link at refl)) ∙ unlisted in
         absurd cc)))
 
   -- ---- a step at one that is
 
   module _ (listed : is_listed points x ≡ true) where
     abbrev its_more : Turn w v x → List Message
-    its_more turn = more of settings points h done step before later others listed turn
+    its_more turn = more of settings points h start done step before later others listed turn
 
     abbrev its_news : Turn w v x → List Message
-    its_news turn = news of settings points h done step before later others turn
+    its_news turn = news of settings points h start done step before later others turn
 
     abbrev its_sender : Turn w v x → ℕ
-    its_sender turn = sender of settings points h done step before later others turn
+    its_sender turn = sender of settings points h start done step before later others turn
 
     same-more : (ms ks : List Message) → ks ≡ ms → users_that of ks ≡ users_that of ms + 0
     same-more ms ks e = ap (users_that of) e ∙ plus-none (users_that of ms)
@@ -124,10 +124,10 @@ module _ (of : Message → Bool) (settings : (point : ℕ) → Configuration) (p
         (λ clash. other-apart settings points h x link o (sym same ∙ clash))
 
     steady : IsSteadyNode a
-    steady = steady-node settings points h done x listed
+    steady = steady-node settings points h start done x listed
 
     inside-of : (link : ℕ) (text : List ℕ) (m : Message) → new_message link text a ≡ Some m → link < length (settings x).links
-    inside-of link text m e = kept-inside of settings points h done step before later others listed link (new-link link text a m steady.places e)
+    inside-of link text m e = kept-inside of settings points h start done step before later others listed link (new-link link text a m steady.places e)
 
     from-turn : (turn : Turn w v x) → IsFrom turn
     from-turn (idles e) = nobody refl
@@ -144,32 +144,32 @@ module _ (of : Message → Bool) (settings : (point : ℕ) → Configuration) (p
     -- ---- what waits
 
     waits-elsewhere : (turn : Turn w v x) (y : ℕ) → y ≢ x → old y ≡ new y + (if nat_eq (its_sender turn) y then users_that of (its_news turn) else 0)
-    waits-elsewhere (idles e) y far = quiet-waits of settings points h done step before later others y far (idles e) refl (nat_eq 0 y)
-    waits-elsewhere (turns.goes_out link e) y far = quiet-waits of settings points h done step before later others y far (turns.goes_out link e) refl (nat_eq 0 y)
-    waits-elsewhere (occurs what plain e) y far = quiet-waits of settings points h done step before later others y far (occurs what plain e) refl (nat_eq 0 y)
-    waits-elsewhere (enters m e) y far = quiet-waits of settings points h done step before later others y far (enters m e) refl (nat_eq 0 y)
-    waits-elsewhere (opens link f e) y far = quiet-waits of settings points h done step before later others y far (opens link f e) refl (nat_eq 0 y)
+    waits-elsewhere (idles e) y far = quiet-waits of settings points h start done step before later others y far (idles e) refl (nat_eq 0 y)
+    waits-elsewhere (turns.goes_out link e) y far = quiet-waits of settings points h start done step before later others y far (turns.goes_out link e) refl (nat_eq 0 y)
+    waits-elsewhere (occurs what plain e) y far = quiet-waits of settings points h start done step before later others y far (occurs what plain e) refl (nat_eq 0 y)
+    waits-elsewhere (enters m e) y far = quiet-waits of settings points h start done step before later others y far (enters m e) refl (nat_eq 0 y)
+    waits-elsewhere (opens link f e) y far = quiet-waits of settings points h start done step before later others y far (opens link f e) refl (nat_eq 0 y)
     waits-elsewhere (comes link text left f e) y far = split (new_message link text a) refl f
       where
         split : (o : Option Message) → new_message link text a ≡ o
             → (slice_get (in_flight (w.node x).incoming.user_data link) 0 ≡ Some text) ⊎ (slice_get (in_flight (w.node x).incoming.statuses link) 0 ≡ Some text)
             → old y ≡ new y + (if nat_eq (point_of (end_at settings x link)) y then users_that of (option_to_list (new_message link text a)) else 0)
         split None g why =
-            quiet-waits of settings points h done step before later others y far (comes link text left f e) (ap (λ (o : Option Message). option_to_list o) g) (nat_eq (point_of (end_at settings x link)) y)
+            quiet-waits of settings points h start done step before later others y far (comes link text left f e) (ap (λ (o : Option Message). option_to_list o) g) (nat_eq (point_of (end_at settings x link)) y)
         split (Some m) g (inl next) =
             let inside : link < length (settings x).links = inside-of link text m g in
-            new-waits of settings points h done step before later others y far link text m e.exchange next g inside
+            new-waits of settings points h start done step before later others y far link text m e.exchange next g inside
             ∙ ap (λ (n : ℕ). new y + (if nat_eq n y then users_that of (m ∷ []) else 0)) (sym (ap point_of (has-other settings points h x link inside).is))
             ∙ ap (λ (o : Option Message). new y + (if nat_eq (point_of (end_at settings x link)) y then users_that of (option_to_list o) else 0)) (sym g)
-        split (Some m) g (inr next) = absurd (no-status settings points h done before x link (inside-of link text m g) text m next g)
+        split (Some m) g (inr next) = absurd (no-status settings points h start done before x link (inside-of link text m g) text m next g)
 
     waits-here : (turn : Turn w v x) → old x + users_that of (its_more turn) ≡ new x
     waits-here turn =
         subst (λ (c : Configuration). all_waits of (tw x) (length c.links) a.node.queues + users_that of (its_more turn) ≡ all_waits of (tw x) (length c.links) (v.node x).exchange.node.queues)
-        (settings-kept settings points h done x) (here-waits of settings points h done step before later others listed turn)
+        (settings-kept settings points h start done x) (here-waits of settings points h start done step before later others listed turn)
         ∙ ap (λ (k : ℕ). users_that of (v.node x).exchange.node.queues.held + k)
         (sum-alike (waits_at of (tv x) (v.node x).exchange.node.queues) (waits_at of (tw x) (v.node x).exchange.node.queues) (length (settings x).links)
-        (λ link less. ap (λ (n : ℕ). users_that of (drop n (queue_at (v.node x).exchange.node.queues link).all)) (sym (there-same of settings points h done step before later others listed link less))))
+        (λ link less. ap (λ (n : ℕ). users_that of (drop n (queue_at (v.node x).exchange.node.queues link).all)) (sym (there-same of settings points h start done step before later others listed link less))))
 
     -- ---- over all points
 

@@ -1,30 +1,30 @@
--- What an event lets go of queues: what a frame confirms, and what a word of the peer says that it received; else a message may be lost.
-use Rattle.exchange_rules.proofs.Basics.{◌≡◌, ◌&&◌, ℕ, Bool, true, false, not, List, [], Option, Some, None, Result, Ok, Err, refl, subst, if◌then◌else◌, nat_eq}
-use Rattle.exchange_rules.proofs.Definitions.{Message, is_management, opc_of, service_indicator, Configuration, Management, TrafficRestartAllowed, ExtendedChangeoverOrder, ExtendedChangeoverAcknowledgement, EmergencyChangeoverOrder, EmergencyChangeoverAcknowledgement, ChangebackDeclaration, ChangebackAcknowledgement, TransferProhibited, TransferRestricted, TransferAllowed, RouteSetTestProhibited, RouteSetTestRestricted, MgmtFault, Discrimination, Allowed, Restricted, Prohibited, Node, Done, with_parts, answer, refuse, WholeQueues, whole, destination_place, set_place, link_with_code, route_about, is_adjacent, testing, lost_any, read_link_test, read_management}
+-- What an event lets go of queues: what a frame confirms, and what a word of the peer says that it received; else a changeover ends with no reasonable number.
+use Rattle.exchange_rules.proofs.Basics.{◌≡◌, ◌<◌, ◌&&◌, ℕ, Bool, true, false, not, List, [], Option, Some, None, Result, Ok, Err, refl, subst, arith, if◌then◌else◌, nat_eq}
+use Rattle.exchange_rules.proofs.Definitions.{Message, is_management, opc_of, service_indicator, Configuration, Management, TrafficRestartAllowed, ExtendedChangeoverOrder, ExtendedChangeoverAcknowledgement, EmergencyChangeoverOrder, EmergencyChangeoverAcknowledgement, ChangebackDeclaration, ChangebackAcknowledgement, TransferProhibited, TransferRestricted, TransferAllowed, RouteSetTestProhibited, RouteSetTestRestricted, MgmtFault, Discrimination, Allowed, Restricted, Prohibited, Node, Done, with_parts, answer, refuse, WholeQueues, whole, destination_place, set_place, link_with_code, route_about, is_adjacent, testing, read_link_test, read_management}
 use Rattle.exchange_rules.proofs.Definitions.{Gone, nothing_gone, gone_by_completion, gone_by_order, gone_by_answer, gone_by_word, gone_by_message, gone_by_new}
 use Rattle.exchange_rules.proofs.Definitions.{complete_if, concluded, fail_by_order, on_changeover_order, changeover_acknowledgement, changeover_of, with_changeover, completed, with_changeover_acknowledged, do_order, do_acknowledgement, do_management, do_test, manage, local, deliver_to, carry, whither_goes, changeback_acknowledgement, send_routed, note_refusal}
 use Rattle.exchange_rules.specs.Conserving.{is_word}
 use Rattle.exchange_rules.proofs.Changes.{fail_by_order-queues}
-use Rattle.exchange_rules.proofs.LastingFlags.{flags-steps}
-use Rattle.exchange_rules.proofs.LastingNotices.{unreasonable-raises}
-use Rattle.exchange_rules.proofs.Steps.{sends-of}
-use Rattle.exchange_rules.proofs.SteppingMessages.{send_routed-steps}
 use Rattle.mtp3_codec.specs.declared.discrimination.Discrimination.TheVariants as whither
 use Rattle.mtp3_codec.specs.declared.label.Label.{Label}
 use Rattle.signalling_types.specs.declared.cause.Cause.TheVariants as causes
-use Rattle.signalling_types.specs.declared.outcome.Outcome.{Outcome}
-use Rattle.signalling_types.specs.declared.outcome.Outcome.TheVariants.{Queued, Held, Local, Handled, Ignored, Refused}
+use Rattle.signalling_types.specs.declared.outcome.Outcome.TheVariants.{Handled, Ignored}
 use Rattle.route_management.specs.declared.heard.RouteTest.TheVariants as tests
 use Rattle.network_rules.proofs.Passing.{IsFine, IsPassing, each-sent, routed, status-keeps, test-keeps, transfer-keeps, local-keeps}
 use Rattle.network_rules.proofs.PassingLinks.{do_test-keeps, confirmed-keeps}
 use Rattle.network_rules.proofs.Growing.{AreGrown, Grows, MayMake, all-any, any_message, any-fine, grown-same, grown-then, growing}
 
--- nothing goes; or the changeover of a link ends by a number that was said, and all that it names goes; or a message may be lost
+-- nothing goes; or the changeover of a link ends by a number that was said, and all that it names goes; or one ends with no reasonable number
 pub data Does (Said : (link number : ℕ) → Type 0) (qs : WholeQueues) (m : Node WholeQueues) (g : Gone) : Type 0 where
   grows : AreGrown qs m.queues → g.accepted ≡ [] → g.lost ≡ [] → Does Said qs m g
   ends : (link number : ℕ) → Said link number → AreGrown (whole.completed qs link (Some number)) m.queues → (whole.found qs link (Some number)).is_reasonable ≡ true
       → g ≡ gone_by_completion true link (Some number) qs → Does Said qs m g
-  loses : lost_any m.parts ≡ true → Does Said qs m g
+  loses : 0 < g.doubts → Does Said qs m g
+
+-- a completion with no reasonable number leaves a doubt
+pub doubted : (b : Bool) → b ≡ false → 0 < (if b then 0 else 1)
+doubted true e = absurd cc
+doubted false e = omega arith
 
 -- an order to change over from a link, or the answer to one, with this number
 pub data IsWord (c : Configuration) (point link number : ℕ) (r : Result Management MgmtFault) : Type 0 where
@@ -40,12 +40,11 @@ pub record SaysWord (c : Configuration) (o : Option Message) (link number : ℕ)
   pub heard : is_word c message ≡ true
   pub word : IsWord c (opc_of message) link number (read_management message.sif)
 
--- what goes on from there lets nothing more go, and takes no loss back
-pub does-then : {Said : (link number : ℕ) → Type 0} {qs : WholeQueues} {g : Gone} (m o : Node WholeQueues) → AreGrown m.queues o.queues → (lost_any m.parts ≡ true → lost_any o.parts ≡ true)
-    → Does Said qs m g → Does Said qs o g
-does-then m o e f (grows h i l) = grows (grown-then _ _ _ h e) i l
-does-then m o e f (ends link number said h i k) = ends link number said (grown-then _ _ _ h e) i k
-does-then m o e f (loses l) = loses (f l)
+-- what goes on from there lets nothing more go
+pub does-then : {Said : (link number : ℕ) → Type 0} {qs : WholeQueues} {g : Gone} (m o : Node WholeQueues) → AreGrown m.queues o.queues → Does Said qs m g → Does Said qs o g
+does-then m o e (grows h i l) = grows (grown-then _ _ _ h e) i l
+does-then m o e (ends link number said h i k) = ends link number said (grown-then _ _ _ h e) i k
+does-then m o e (loses l) = loses l
 
 -- and what went on before
 pub does-after : {Said : (link number : ℕ) → Type 0} {m : Node WholeQueues} {g : Gone} (qs rs : WholeQueues) → rs ≡ qs → Does Said rs m g → Does Said qs m g
@@ -75,12 +74,12 @@ module _ (c : Configuration) (fits : MayMake c) where
         let done : Node WholeQueues = record { queues = whole.completed n.queues link (Some number); parts = concluded link (whole.found n.queues link (Some number)) n.parts } in
         let anew : List Message = (whole.found n.queues link (Some number)).queued_anew in
         ends link number said (each-sent c any_message f r anew done (all-any anew)).queues e refl
-    conclude-does link number n false e said = loses (unreasonable-raises c link (Some number) n e)
+    conclude-does link number n false e said = loses (doubted (whole.found n.queues link (Some number)).is_reasonable e)
 
     complete-does : (incomplete : Bool) (link : ℕ) (number : Option ℕ) (n : Node WholeQueues) → MaySay Said link number
         → Does Said n.queues (complete_if whole c incomplete link number n) (gone_by_completion incomplete link number n.queues)
     complete-does true link (Some number) n said = conclude-does link number n (whole.found n.queues link (Some number)).is_reasonable refl said
-    complete-does true link None n said = loses (unreasonable-raises c link None n refl)
+    complete-does true link None n said = loses (doubted (whole.found n.queues link None).is_reasonable refl)
     complete-does false link number n said = idle n
 
     order-does : (link : ℕ) (number : Option ℕ) (n : Node WholeQueues) → MaySay Said link number
@@ -91,7 +90,7 @@ module _ (c : Configuration) (fits : MayMake c) where
         let done : Node WholeQueues = complete_if whole c (changeover_of fell.parts link).incomplete link number stood in
         let told : Message = changeover_acknowledgement c link (whole.last_accepted done.queues link) in
         does-after n.queues fell.queues (fail_by_order-queues (λ m. true) c link n)
-        (does-then done (send_routed whole c told done) (routed c any_message f r told done refl).queues (send_routed-steps (sends-of (flags-steps c)) told done).lost
+        (does-then done (send_routed whole c told done) (routed c any_message f r told done refl).queues
         (complete-does (changeover_of fell.parts link).incomplete link number stood said))
 
     answer-by : (awaited : Bool) (link : ℕ) (number : Option ℕ) (n : Node WholeQueues) → MaySay Said link number
@@ -174,19 +173,8 @@ module _ (c : Configuration) (fits : MayMake c) where
   deliver_to-does (whither.Here label) link m n e = here-by (is_management m) link m n refl label e
   deliver_to-does (whither.Transfer label) link m n e = passing n _ (transfer-keeps c any_message f r (Some link) m n refl)
 
-  noted-flag : (link : ℕ) (d : Done WholeQueues) → lost_any d.left.parts ≡ true → lost_any (note_refusal link d).left.parts ≡ true
-  noted-flag link d e = by d.outcome e
-    where
-      by : (o : Outcome) → lost_any d.left.parts ≡ true → lost_any (note_refusal link (record { outcome = o; left = d.left })).left.parts ≡ true
-      by (Refused cause) e = e
-      by (Queued other) e = e
-      by Held e = e
-      by Local e = e
-      by Handled e = e
-      by Ignored e = e
-
   pub carry-does : (link : ℕ) (o : Option Message) (n : Node WholeQueues) → Does (Says o) n.queues (carry whole c link o n).left (gone_by_new o c n)
   carry-does link None n = idle n
   carry-does link (Some m) n =
       let d : Done WholeQueues = deliver_to whole c (whither_goes c m) link m n in
-      does-then d.left (note_refusal link d).left (r.same d.left (note_refusal link d).left refl).queues (noted-flag link d) (deliver_to-does (whither_goes c m) link m n refl)
+      does-then d.left (note_refusal link d).left (r.same d.left (note_refusal link d).left refl).queues (deliver_to-does (whither_goes c m) link m n refl)

@@ -1,12 +1,8 @@
 -- So it is with whole events: with frames, with ticks, with a link that opens, and with all others.
-use Rattle.exchange_rules.proofs.Basics.{◌≡◌, ◌&&◌, ℕ, zero, suc, Bool, true, false, not, List, [], ◌++◌, Option, Some, None, Result, Ok, Err, refl, ap, ◌∙◌, if◌then◌else◌, take}
-use Rattle.exchange_rules.proofs.Definitions.{Message, Configuration, FrameFault, FrameValue, EmptyFrame, MessageFrame, StatusFrame, read_frame, SeqFault, Action, UserData, Status, Alignment, Standing, Link, is_down, is_in_service, may_restart, action_at, accept_answer, unconfirmed, count_confirmed, Node, with_parts, answer, refuse, WholeQueues, queue_at, whole, Carrying, carries, empty_data, message_data, numbers, accept, handle_by, act_by_data, receive_data, read, advance, is_link, link_at, down, late_any, lost_any, may_open, open_link, association_up, changeover_of, title_refusal, with_timers, run_due, run_next, run_times, tick, with_expiry, complete_if, ChangeoverTimer, release, tell_owed, handle_event, apply, Happening, CameUp, WentDown, FrameCame, Ticked, Submitted, Activated, Deactivated, TitleAdded, TitleRemoved, whither_goes, AreLinksSteady, IsSteady, is_l7_running}
+use Rattle.exchange_rules.proofs.Basics.{◌≡◌, ◌<◌, ◌&&◌, ◌+◌, ℕ, zero, suc, Bool, true, false, not, List, [], ◌++◌, Option, Some, None, Result, Ok, Err, refl, ap, ◌∙◌, arith, if◌then◌else◌, take}
+use Rattle.exchange_rules.proofs.Definitions.{Message, Configuration, FrameFault, FrameValue, EmptyFrame, MessageFrame, StatusFrame, read_frame, SeqFault, Action, UserData, Status, Alignment, Standing, Link, is_down, is_in_service, may_restart, action_at, accept_answer, unconfirmed, count_confirmed, Node, with_parts, answer, refuse, WholeQueues, queue_at, whole, Carrying, carries, empty_data, message_data, numbers, accept, handle_by, act_by_data, receive_data, read, advance, is_link, link_at, down, may_open, open_link, association_up, changeover_of, title_refusal, with_timers, run_due, run_next, run_times, tick, with_expiry, complete_if, ChangeoverTimer, release, tell_owed, handle_event, apply, Happening, CameUp, WentDown, FrameCame, Ticked, Submitted, Activated, Deactivated, TitleAdded, TitleRemoved, whither_goes, AreLinksSteady, IsSteady, is_l7_running}
 use Rattle.exchange_rules.proofs.Definitions.{Gone, nothing_gone, both_gone, gone_by_completion, gone_by_new, confirmed_by, confirmed_at, confirmed_in, confirmed_of, gone_by_timer, gone_by_timers, gone_by_tick, new_at, new_by, new_in, new_of, new_message, accept_data, accept_frame, accept_text}
 use Rattle.exchange_rules.specs.Conserving.{confirmed}
-use Rattle.exchange_rules.proofs.LastingFlags.{Flags, flags-steps}
-use Rattle.exchange_rules.proofs.LastingNotices.{unreasonable-raises}
-use Rattle.exchange_rules.proofs.Rules.{rules-of}
-use Rattle.exchange_rules.proofs.SteppingEvents.{settled-steps, run_next-steps}
 use Rattle.link.specs.declared.action.Action.TheVariants as act
 use Rattle.link.specs.declared.action.LinkTimer.TheVariants as its
 use Rattle.link.specs.declared.alignment.Alignment.TheVariants as stage
@@ -20,7 +16,7 @@ use Rattle.timers.specs.Timers.{ticked, due_name, due_count, after_due}
 use Rattle.network_rules.proofs.Passing.{IsFine, IsPassing, fail-keeps, advance-keeps, by_status-keeps, run_out-keeps, ask-keeps}
 use Rattle.network_rules.proofs.PassingLinks.{submit_to-keeps, aside-keeps, down-keeps, activate-keeps, deactivate-keeps, added-keeps, removed-keeps, settles}
 use Rattle.network_rules.proofs.Growing.{AreGrown, Grows, MayMake, any_message, any-fine, grown-same, grown-then, growing, release-grows}
-use Rattle.network_rules.proofs.Parting.{Does, SaysWord, carry-does, does-then}
+use Rattle.network_rules.proofs.Parting.{Does, SaysWord, carry-does, does-then, doubted}
 
 -- what a frame confirms goes from the queue of its link, and then what its message lets go; or it does neither
 pub data Comes (c : Configuration) (link : ℕ) (o : Option Message) (qs : WholeQueues) (m : Node WholeQueues) (ms : List Message) (g : Gone) : Type 0 where
@@ -56,9 +52,6 @@ module _ (c : Configuration) (fits : MayMake c) where
   -- the end of an event
   settled-grows : (n : Node WholeQueues) → Grows n (tell_owed whole c (release whole c n))
   settled-grows n = settles c any_message f r n (release-grows c fits n)
-
-  settled-flags : (n : Node WholeQueues) → Flags n (tell_owed whole c (release whole c n))
-  settled-flags n = settled-steps (rules-of (flags-steps c)) n
 
   -- ---- a frame
 
@@ -101,9 +94,9 @@ module _ (c : Configuration) (fits : MayMake c) where
   receive-comes true true link x n = quiet (grown-same n.queues n.queues refl) refl refl refl
   receive-comes true false link x n = frame-comes link x n
 
-  comes-then : (link : ℕ) (o : Option Message) (qs : WholeQueues) (m s : Node WholeQueues) (ms : List Message) (g : Gone) → Grows m s → Flags m s → Comes c link o qs m ms g → Comes c link o qs s ms g
-  comes-then link o qs m s ms g e k (quiet h i l v) = quiet (grown-then qs m.queues s.queues h e.queues) i l v
-  comes-then link o qs m s ms g e k (takes d count next h i l t) = takes d count next h i l (does-then m s e.queues k.lost t)
+  comes-then : (link : ℕ) (o : Option Message) (qs : WholeQueues) (m s : Node WholeQueues) (ms : List Message) (g : Gone) → Grows m s → Comes c link o qs m ms g → Comes c link o qs s ms g
+  comes-then link o qs m s ms g e (quiet h i l v) = quiet (grown-then qs m.queues s.queues h e.queues) i l v
+  comes-then link o qs m s ms g e (takes d count next h i l t) = takes d count next h i l (does-then m s e.queues t)
 
   pub frame-event : (link : ℕ) (text : List ℕ) (n : Node WholeQueues)
       → Comes c link (new_message link text (record { settings = c; node = n })) n.queues (apply whole c (FrameCame link text) n).left (confirmed link text (record { settings = c; node = n }))
@@ -112,19 +105,19 @@ module _ (c : Configuration) (fits : MayMake c) where
   frame-event link text n =
       let d : Node WholeQueues = (handle_event whole c (FrameCame link text) n).left in
       comes-then link (new_message link text (record { settings = c; node = n })) n.queues d (tell_owed whole c (release whole c d)) (confirmed link text (record { settings = c; node = n })) _
-      (settled-grows d) (settled-flags d) (receive-comes (is_link n.parts link) (down n.parts link) link (read_frame text) n)
+      (settled-grows d) (receive-comes (is_link n.parts link) (down n.parts link) link (read_frame text) n)
 
-  -- ---- a tick: it lets nothing go, or a message may be lost
+  -- ---- a tick: it lets nothing go, or a changeover ends with no number
 
   pub data Ticks (qs : WholeQueues) (m : Node WholeQueues) (g : Gone) : Type 0 where
     runs : AreGrown qs m.queues → g.accepted ≡ [] → g.lost ≡ [] → Ticks qs m g
-    runs_out : lost_any m.parts ≡ true → Ticks qs m g
+    runs_out : 0 < g.doubts → Ticks qs m g
 
   idle : (n : Node WholeQueues) → Ticks n.queues n nothing_gone
   idle n = runs (grown-same n.queues n.queues refl) refl refl
 
   ending-ticks : (incomplete : Bool) (link : ℕ) (n : Node WholeQueues) → Ticks n.queues (complete_if whole c incomplete link None n) (gone_by_completion incomplete link None n.queues)
-  ending-ticks true link n = runs_out (unreasonable-raises c link None n refl)
+  ending-ticks true link n = runs_out (doubted (whole.found n.queues link None).is_reasonable refl)
   ending-ticks false link n = idle n
 
   expiry-ticks : (is_there : Bool) (expired : ChangeoverTimer) (link : ℕ) (n : Node WholeQueues)
@@ -152,38 +145,34 @@ module _ (c : Configuration) (fits : MayMake c) where
   timer-ticks (Some (name.T8 set destination)) n = idle n
   timer-ticks (Some (name.T10 set destination)) n = passing n _ (ask-keeps c any_message f r set destination n)
 
-  same-flags : (n m : Node WholeQueues) → m.parts.times_lost ≡ n.parts.times_lost → m.parts.times_late ≡ n.parts.times_late → Flags n m
-  same-flags n m e g = record { lost = λ h. ap (λ (k : ℕ). lost_any (record n.parts { times_lost = k })) e ∙ h; late = λ h. ap (λ (k : ℕ). late_any (record n.parts { times_late = k })) g ∙ h }
+  first-doubts : (k l : ℕ) → 0 < k → 0 < k + l
+  first-doubts k l e = omega (arith, e)
 
-  next-flags : (n : Node WholeQueues) → Flags n (run_next whole c n)
-  next-flags n = run_next-steps (rules-of (flags-steps c)) n (same-flags n (with_timers n (after_due n.parts.timers)) refl refl) (λ link. tt)
+  later-doubts : (k l : ℕ) → 0 < l → 0 < k + l
+  later-doubts k l e = omega (arith, e)
 
-  times-flags : (many : ℕ) (n : Node WholeQueues) → lost_any n.parts ≡ true → lost_any (run_times whole c many n).parts ≡ true
-  times-flags zero n e = e
-  times-flags (suc more) n e = times-flags more (run_next whole c n) ((next-flags n).lost e)
-
-  both-tick : (qs : WholeQueues) (m s : Node WholeQueues) (g h : Gone) → (lost_any m.parts ≡ true → lost_any s.parts ≡ true) → Ticks qs m g → Ticks m.queues s h → Ticks qs s (both_gone g h)
-  both-tick qs m s g h k (runs e i o) (runs t u v) = runs (grown-then qs m.queues s.queues e t) (ap (λ (ms : List Message). ms ++ h.accepted) i ∙ u) (ap (λ (ms : List Message). ms ++ h.lost) o ∙ v)
-  both-tick qs m s g h k (runs e i o) (runs_out l) = runs_out l
-  both-tick qs m s g h k (runs_out l) t = runs_out (k l)
+  both-tick : (qs : WholeQueues) (m s : Node WholeQueues) (g h : Gone) → Ticks qs m g → Ticks m.queues s h → Ticks qs s (both_gone g h)
+  both-tick qs m s g h (runs e i o) (runs t u v) = runs (grown-then qs m.queues s.queues e t) (ap (λ (ms : List Message). ms ++ h.accepted) i ∙ u) (ap (λ (ms : List Message). ms ++ h.lost) o ∙ v)
+  both-tick qs m s g h (runs e i o) (runs_out l) = runs_out (later-doubts g.doubts h.doubts l)
+  both-tick qs m s g h (runs_out l) t = runs_out (first-doubts g.doubts h.doubts l)
 
   times-tick : (many : ℕ) (n : Node WholeQueues) → Ticks n.queues (run_times whole c many n) (gone_by_timers many c n)
   times-tick zero n = idle n
   times-tick (suc more) n =
       let handed : Node WholeQueues = with_timers n (after_due n.parts.timers) in
       let ran : Node WholeQueues = run_next whole c n in
-      both-tick n.queues ran (run_times whole c more ran) (gone_by_timer (due_name n.parts.timers) handed) (gone_by_timers more c ran) (times-flags more ran)
+      both-tick n.queues ran (run_times whole c more ran) (gone_by_timer (due_name n.parts.timers) handed) (gone_by_timers more c ran)
       (timer-ticks (due_name n.parts.timers) handed) (times-tick more ran)
 
-  ticks-then : (qs : WholeQueues) (m s : Node WholeQueues) (g : Gone) → Grows m s → Flags m s → Ticks qs m g → Ticks qs s g
-  ticks-then qs m s g e k (runs h i o) = runs (grown-then qs m.queues s.queues h e.queues) i o
-  ticks-then qs m s g e k (runs_out l) = runs_out (k.lost l)
+  ticks-then : (qs : WholeQueues) (m s : Node WholeQueues) (g : Gone) → Grows m s → Ticks qs m g → Ticks qs s g
+  ticks-then qs m s g e (runs h i o) = runs (grown-then qs m.queues s.queues h e.queues) i o
+  ticks-then qs m s g e (runs_out l) = runs_out l
 
   pub tick-event : (n : Node WholeQueues) → Ticks n.queues (apply whole c Ticked n).left (gone_by_tick c n)
   unfolding apply
   tick-event n =
       let d : Node WholeQueues = (tick whole c n).left in
-      ticks-then n.queues d (tell_owed whole c (release whole c d)) (gone_by_tick c n) (settled-grows d) (settled-flags d)
+      ticks-then n.queues d (tell_owed whole c (release whole c d)) (gone_by_tick c n) (settled-grows d)
       (times-tick (due_count (ticked n.parts.timers)) (with_timers n (ticked n.parts.timers)))
 
   -- ---- a link opens: it is down without an association, so nothing stands in its queue

@@ -21,7 +21,7 @@ use Rattle.network_rules.proofs.Always.{runs}
 
 -- ---- a pair that is alike, with its books and exchanges written out
 
-abbrev pub written_end : (one other : End) → End
+abbrev written_end : (one other : End) → End
 written_end one other = record other { exchange = one.exchange; accepted = one.accepted; received = one.received }
 
 abbrev pub written : (one other : PairState) → PairState
@@ -33,7 +33,7 @@ end-written near far one other h =
     ∙ ap (λ (ms : List Message). record other { exchange = one.exchange; accepted = ms }) h.accepted
     ∙ ap (λ (ms : List Message). record other { exchange = one.exchange; accepted = one.accepted; received = ms }) h.received
 
-is-written : (one other : PairState) → ArePairsAlike one other → other ≡ written one other
+pub is-written : (one other : PairState) → ArePairsAlike one other → other ≡ written one other
 is-written one other h =
     ap (λ (e : End). record other { near = e }) (end-written one.near.exchange.settings one.far.exchange.settings one.near other.near h.near_alike)
     ∙ ap (λ (e : End). record { near = written_end one.near other.near; far = e }) (end-written one.far.exchange.settings one.near.exchange.settings one.far other.far h.far_alike)
@@ -42,21 +42,21 @@ is-written one other h =
 
 module _ (settings : (point : ℕ) → Configuration) (steps : List Step) (near far : ℕ) (points : AreTheirPoints settings) (well : AreWellOrAlone settings)
     (sharing : AreSharing (settings near) (settings far)) where
-  abbrev pub p : PairState
+  abbrev p : PairState
   p = pair_of (after_steps steps (first_network settings)) near far
 
-  pub run : IsRunOfNeighbours p
+  run : IsRunOfNeighbours p
   run = runs settings steps near far points well sharing
 
-  abbrev pub its : PairState
+  abbrev its : PairState
   its = written p (neighbours.after_steps run.steps (first_pair p.near.exchange.settings p.far.exchange.settings))
 
-  pub still-sharing : AreSharing p.near.exchange.settings p.far.exchange.settings
+  still-sharing : AreSharing p.near.exchange.settings p.far.exchange.settings
   still-sharing =
       subst (λ (c : Configuration). AreSharing c p.far.exchange.settings) (sym (steps-keep steps (first_network settings) near))
       (subst (AreSharing (settings near)) (sym (steps-keep steps (first_network settings) far)) sharing)
 
-  pub holds-of : (Statement : PairState → Type 0) → neighbours_promise.Always Statement → Statement its
+  holds-of : (Statement : PairState → Type 0) → neighbours_promise.Always Statement → Statement its
   holds-of Statement always =
       subst Statement (is-written p (neighbours.after_steps run.steps (first_pair p.near.exchange.settings p.far.exchange.settings)) run.is_alike)
       (always p.near.exchange.settings p.far.exchange.settings run.steps still-sharing)

@@ -182,7 +182,7 @@ module _ (settings : (point : ℕ) → Configuration) (near far : ℕ) (points :
 
   -- ---- a network in which something is done
 
-  quiet-changed : (w : NetworkState) (point : ℕ) (change : NetworkNode → NetworkNode) → IsQuiet w → IsOk point (change (w.node point)) → IsQuiet (changed point change w)
+  pub quiet-changed : (w : NetworkState) (point : ℕ) (change : NetworkNode → NetworkNode) → IsQuiet w → IsOk point (change (w.node point)) → IsQuiet (changed point change w)
   quiet-changed w point change h g = record { each = λ other. by other (nat_eq other point) refl }
     where
       by : (other : ℕ) (b : Bool) → nat_eq other point ≡ b → IsOk other (if b then change (w.node other) else w.node other)

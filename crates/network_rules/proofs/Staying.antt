@@ -1,7 +1,7 @@
 -- An event takes in what it brings, and of what waits at a node nothing goes: what goes for good was received at the far ends.
-use Rattle.exchange_rules.proofs.Basics.{◌≡◌, ◌<◌, ◌≤◌, ◌⊎◌, inl, inr, ◌+◌, ◌-◌, ℕ, zero, suc, Bool, true, false, List, [], ◌∷◌, length, refl, ap, sym, subst, ◌∙◌, arith, take, sum_by, sum_by-cons, ⊎_elim, cases_lt, slice_index_or, get_or_past}
+use Rattle.exchange_rules.proofs.Basics.{◌≡◌, ◌<◌, ◌≤◌, ◌⊎◌, inl, inr, ◌+◌, ◌-◌, ℕ, zero, suc, Bool, List, [], ◌∷◌, length, refl, ap, sym, subst, ◌∙◌, arith, take, sum_by, sum_by-cons, ⊎_elim, cases_lt, slice_index_or, get_or_past}
 use Rattle.std.proofs.Common.{drop}
-use Rattle.exchange_rules.proofs.Definitions.{Message, Configuration, Queue, first_queue, unconfirmed, IsQueue, AreQueues, WholeQueues, queue_at, whole, Abstract, lost_any, users_that, standing, gone_that, Gone, both_gone, gone, gone_by, gone_by_new, gone_by_release, gone_by_tick, brought_in, new_message, accept_text, read_frame, HasAllPlaces, AreLinksSteady, Happening, CameUp, WentDown, FrameCame, Ticked, Submitted, Activated, Deactivated, TitleAdded, TitleRemoved, apply, handle_event, Happens}
+use Rattle.exchange_rules.proofs.Definitions.{Message, Configuration, Queue, first_queue, unconfirmed, IsQueue, AreQueues, WholeQueues, queue_at, whole, Abstract, users_that, standing, gone_that, Gone, both_gone, gone, gone_by, gone_by_new, gone_by_release, gone_by_tick, brought_in, new_message, accept_text, read_frame, HasAllPlaces, AreLinksSteady, Happening, CameUp, WentDown, FrameCame, Ticked, Submitted, Activated, Deactivated, TitleAdded, TitleRemoved, handle_event, Happens}
 use Rattle.exchange_rules.specs.Conserving.{confirmed, only_accepted}
 use Rattle.exchange_rules.specs.Exchange.{after}
 use Rattle.exchange_rules.proofs.Conserved.{conserved}
@@ -13,7 +13,7 @@ use Rattle.pair_moves.specs.Laws.{sum_to}
 use Rattle.network_rules.proofs.Growing.{MayMake}
 use Rattle.network_rules.proofs.Parting.{SaysWord}
 use Rattle.network_rules.proofs.PartingEvents.{Comes, IsOther, Ticks, frame-event, other-event, runs, runs_out, tick-event, up-event}
-use Rattle.network_rules.proofs.Losing.{comes-lose, release-loses}
+use Rattle.network_rules.proofs.Losing.{LosesNone}
 use Rattle.network_rules.proofs.Ahead.{ahead, ahead-all, all_ahead, all-grown, drop-none, take-none}
 use Rattle.network_rules.proofs.Letting.{Named, frame-lets, opens-lets}
 
@@ -118,15 +118,14 @@ module _ (of : Message → Bool) (there : ℕ → ℕ) where
         (conserved what a of places steady) (standing-parts links a.node.queues places.queues before) (standing-parts links b.node.queues left-places.queues later) goes
 
     -- by the release nothing goes
-    release-none : lost_any b.node.parts ≡ false → gone_that of (gone_by_release c (handle_event whole c what a.node).left) ≡ 0
-    unfolding apply
-    release-none kept = ap (λ (ms : List Message). users_that of [] + users_that of ms) (release-loses c (handle_event whole c what a.node).left kept)
+    release-none : LosesNone what a → gone_that of (gone_by_release c (handle_event whole c what a.node).left) ≡ 0
+    release-none none = ap (λ (ms : List Message). users_that of [] + users_that of ms) none.by_release
 
     by-rule : (k s g u v : ℕ) → k ≡ s + g → u ≡ g + v → v ≡ 0 → k ≡ s + u
     by-rule k s g u v e f h = omega (arith, e, f, h)
 
     -- where the rule lets this go
-    goes-by : lost_any b.node.parts ≡ false → all_ahead of there links a.node.queues ≡ all_ahead of there links b.node.queues + gone_that of (gone_by what a) → Goes
+    goes-by : LosesNone what a → all_ahead of there links a.node.queues ≡ all_ahead of there links b.node.queues + gone_that of (gone_by what a) → Goes
     unfolding Goes
     goes-by kept e =
         by-rule (all_ahead of there links a.node.queues) (all_ahead of there links b.node.queues) (gone_that of (gone_by what a)) (gone_that of (gone what a))
@@ -170,7 +169,10 @@ module _ (of : Message → Bool) (there : ℕ → ℕ) where
         sum : (m k l z s : ℕ) → s ≡ m + z + (k + l) → l ≡ 0 → z ≡ 0 → m + k ≡ s
         sum m k l z s e f h = omega (arith, e, f, h)
 
-    pub frame-stays : lost_any heard.node.parts ≡ false → AreBetween its a.node.queues → AreBetween its heard.node.queues → Named of there its a.settings.window (SaysWord a.settings (new_message link text a)) a.node.queues
+    no-doubts : (n : ℕ) → 0 + n ≡ 0 → n ≡ 0
+    no-doubts n e = omega (arith, e)
+
+    pub frame-stays : LosesNone (FrameCame link text) a → AreBetween its a.node.queues → AreBetween its heard.node.queues → Named of there its a.settings.window (SaysWord a.settings (new_message link text a)) a.node.queues
         → all_waits its a.node.queues + users_that of (brought_in (FrameCame link text) a) ≡ all_waits its heard.node.queues
     frame-stays kept before later named =
         let ms : List Message = confirmed link text a in
@@ -178,8 +180,8 @@ module _ (of : Message → Bool) (there : ℕ → ℕ) where
         let comes : Comes a.settings link (new_message link text a) a.node.queues heard.node ms g = frame-event a.settings fits link text a.node in
         waits-by a (FrameCame link text) fits places steady before later
         (goes-by a (FrameCame link text) fits places steady kept
-        (frame-lets of there its a.settings.window a.settings link (new_message link text a) a.node.queues heard.node ms g (record { each = λ l. (steady.each l).queue }) (sym places.queues) named kept (bound later) comes
-        ∙ ap (λ (k : ℕ). all_ahead of there its heard.node.queues + k) (frame-gone ms g (comes-lose a.settings link (new_message link text a) a.node.queues heard.node ms g kept comes))))
+        (frame-lets of there its a.settings.window a.settings link (new_message link text a) a.node.queues heard.node ms g (record { each = λ l. (steady.each l).queue }) (sym places.queues) named (no-doubts g.doubts kept.sure) (bound later) comes
+        ∙ ap (λ (k : ℕ). all_ahead of there its heard.node.queues + k) (frame-gone ms g kept.by_rule)))
 
   -- ---- any other event
 
@@ -191,7 +193,7 @@ module _ (of : Message → Bool) (there : ℕ → ℕ) where
     all = length a.settings.links
 
     -- where no more is ahead, and nothing goes
-    plain : lost_any left.node.parts ≡ false → AreBetween all a.node.queues → AreBetween all left.node.queues → all_ahead of there all left.node.queues ≡ all_ahead of there all a.node.queues
+    plain : LosesNone what a → AreBetween all a.node.queues → AreBetween all left.node.queues → all_ahead of there all left.node.queues ≡ all_ahead of there all a.node.queues
         → gone_that of (gone_by what a) ≡ 0 → all_waits all a.node.queues + users_that of (brought_in what a) ≡ all_waits all left.node.queues
     plain kept before later same none =
         waits-by a what fits places steady before later
@@ -203,7 +205,7 @@ module _ (of : Message → Bool) (there : ℕ → ℕ) where
     its-queues : AreQueues a.settings.window a.node.queues
     its-queues = record { each = λ l. (steady.each l).queue }
 
-    pub other-stays : IsOther a.settings fits what → lost_any left.node.parts ≡ false → AreBetween all a.node.queues → AreBetween all left.node.queues
+    pub other-stays : IsOther a.settings fits what → LosesNone what a → AreBetween all a.node.queues → AreBetween all left.node.queues
         → all_waits all a.node.queues + users_that of (brought_in what a) ≡ all_waits all left.node.queues
     other-stays is kept before later = plain kept before later (all-grown of there all a.node.queues left.node.queues its-queues (other-event a.settings fits what a.node is)) (none what is)
       where
@@ -225,13 +227,16 @@ module _ (of : Message → Bool) (there : ℕ → ℕ) where
     queues-of : AreQueues a.settings.window a.node.queues
     queues-of = record { each = λ l. (steady.each l).queue }
 
-    pub up-stays : (link : ℕ) → lost_any (after whole (CameUp link) a).node.parts ≡ false → AreBetween count a.node.queues → AreBetween count (after whole (CameUp link) a).node.queues
+    pub up-stays : (link : ℕ) → LosesNone (CameUp link) a → AreBetween count a.node.queues → AreBetween count (after whole (CameUp link) a).node.queues
         → all_waits count a.node.queues + users_that of (brought_in (CameUp link) a) ≡ all_waits count (after whole (CameUp link) a).node.queues
     up-stays link kept before later =
         plain a (CameUp link) fits places steady kept before later
         (opens-lets of there count a.settings.window link a.node.queues (after whole (CameUp link) a).node.queues queues-of (sym places.queues) (up-event a.settings fits link a.node steady)) refl
 
-    pub tick-stays : lost_any (after whole Ticked a).node.parts ≡ false → AreBetween count a.node.queues → AreBetween count (after whole Ticked a).node.queues
+    doubtless : (k : ℕ) → k ≡ 0 → 0 < k → ⊥
+    doubtless k e f = omega (arith, e, f)
+
+    pub tick-stays : LosesNone Ticked a → AreBetween count a.node.queues → AreBetween count (after whole Ticked a).node.queues
         → all_waits count a.node.queues + users_that of (brought_in Ticked a) ≡ all_waits count (after whole Ticked a).node.queues
     tick-stays kept before later = by (tick-event a.settings fits a.node)
       where
@@ -240,4 +245,4 @@ module _ (of : Message → Bool) (there : ℕ → ℕ) where
         by (runs e none unlost) =
             plain a Ticked fits places steady kept before later (all-grown of there count a.node.queues (after whole Ticked a).node.queues queues-of e)
             (ap (λ (g : List Message). users_that of g + users_that of (gone_by_tick a.settings a.node).lost) none ∙ ap (λ (ms : List Message). users_that of [] + users_that of ms) unlost)
-        by (runs_out l) = absurd (let no : false ≡ true = sym kept ∙ l in cc)
+        by (runs_out l) = absurd (doubtless (gone_by_tick a.settings a.node).doubts kept.sure l)

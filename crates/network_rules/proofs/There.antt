@@ -8,11 +8,11 @@ use Rattle.exchange_rules.specs.Exchange.{after}
 use Rattle.exchange_rules.specs.Receiving.{brought, is_beginning, received}
 use Rattle.exchange_rules.proofs.Received.{received-counted}
 use Rattle.network_rules.specs.Networks.{NetworkState, Place, Step, end_of}
-use Rattle.network_rules.specs.Totals.{HaveLostNothing, IsJoined, received_there}
+use Rattle.network_rules.specs.Totals.{IsJoined, received_there}
 use Rattle.network_rules.proofs.Ahead.{drop-none}
 use Rattle.network_rules.proofs.AtState.{follows-empty, may-open-empty, there_of}
 use Rattle.network_rules.proofs.Joined.{HasOther, end_at, ends-are, has-other, other-back, other-inside}
-use Rattle.network_rules.proofs.Reached.{IsSteadyNode, reached, settings-kept}
+use Rattle.network_rules.proofs.Reached.{Begins, IsSteadyNode, Kept, reached, settings-kept}
 use Rattle.network_rules.proofs.Texts.{same-some}
 use Rattle.network_rules.proofs.Turns.{IsPlain, MayOpenThere, SameBooks}
 
@@ -25,14 +25,14 @@ drop-first (k ∷ ms) (suc n) m e = drop-first ms n m e ∙ ap (λ (i : ℕ). m 
     one-and : (n : ℕ) → suc (n + 1) ≡ suc n + 1
     one-and n = omega arith
 
-module _ (of : Message → Bool) (settings : (point : ℕ) → Configuration) (points : List ℕ) (h : IsJoined settings points) (done : List Step) (step : Step)
-    (before : HaveLostNothing points (reached settings points h done)) (later : HaveLostNothing points (reached settings points h (done ++ step ∷ [])))
-    (others : (point : ℕ) → point ≢ step.point → SameBooks ((reached settings points h done).node point) ((reached settings points h (done ++ step ∷ [])).node point)) where
+module _ (of : Message → Bool) (settings : (point : ℕ) → Configuration) (points : List ℕ) (h : IsJoined settings points) (start : Begins settings points) (done : List Step) (step : Step)
+    (before : Kept settings points h start (reached settings points h start done)) (later : Kept settings points h start (reached settings points h start (done ++ step ∷ [])))
+    (others : (point : ℕ) → point ≢ step.point → SameBooks ((reached settings points h start done).node point) ((reached settings points h start (done ++ step ∷ [])).node point)) where
   abbrev w : NetworkState
-  w = reached settings points h done
+  w = reached settings points h start done
 
   abbrev v : NetworkState
-  v = reached settings points h (done ++ step ∷ [])
+  v = reached settings points h start (done ++ step ∷ [])
 
   abbrev x : ℕ
   x = step.point
@@ -41,10 +41,10 @@ module _ (of : Message → Bool) (settings : (point : ℕ) → Configuration) (p
   a = (w.node x).exchange
 
   abbrev tw : (point link : ℕ) → ℕ
-  tw = there_of settings points h done before
+  tw = there_of settings points h start done before
 
   abbrev tv : (point link : ℕ) → ℕ
-  tv = there_of settings points h (done ++ step ∷ []) later
+  tv = there_of settings points h start (done ++ step ∷ []) later
 
   abbrev queue_of_link : (point link : ℕ) → Queue
   queue_of_link point link = queue_at (w.node point).exchange.node.queues link
@@ -118,7 +118,7 @@ module _ (of : Message → Bool) (settings : (point : ℕ) → Configuration) (p
         subst (λ (p : Place). (queue_of_link p.point p.link).all ≡ []) place
         (⊎_elim
         (λ (may : MayOpenThere w x k).
-        (let there : may.there ≡ its.other = same-some may.there its.other (sym may.is ∙ ends-are settings w (settings-kept settings points h done) x k ∙ its.is) in
-        may-open-empty settings points h done before x k inside (subst (λ (p : Place). may_open_at (end_of (w.node p.point)) p.link ≡ true) there may.may)))
-        (λ (follows : may_follow (end_of (w.node x)) k ≡ true). follows-empty settings points h done before x k inside follows)
+        (let there : may.there ≡ its.other = same-some may.there its.other (sym may.is ∙ ends-are settings w (settings-kept settings points h start done) x k ∙ its.is) in
+        may-open-empty settings points h start done before x k inside (subst (λ (p : Place). may_open_at (end_of (w.node p.point)) p.link ≡ true) there may.may)))
+        (λ (follows : may_follow (end_of (w.node x)) k ≡ true). follows-empty settings points h start done before x k inside follows)
         why)

@@ -9,12 +9,13 @@ use Rattle.mtp3_codec.specs.declared.discrimination.Discrimination.TheVariants a
 use Rattle.mtp3_codec.specs.declared.label.Label.{Label}
 use Rattle.signalling_types.specs.declared.cause.Cause.TheVariants.{NoLabel, TooLong, WrongNetwork}
 use Rattle.signalling_types.specs.declared.limits.TheConstants.Limits.{SIF_OCTETS}
-use Rattle.network_rules.specs.Networks.{NetworkState, Step, goes_onward, is_onward}
-use Rattle.network_rules.specs.Totals.{HaveLostNothing, IsJoined, is_for, is_here, is_listed, messages_come_from_end_to_end, received_at, total, waiting_at}
-use Rattle.network_rules.proofs.Accounted.{accounts, sum-zero}
+use Rattle.network_rules.specs.Networks.{NetworkState, Step, after_steps, first_network, goes_onward, is_onward}
+use Rattle.network_rules.specs.Anew.{destinations_begin_anew}
+use Rattle.network_rules.specs.Totals.{IsJoined, is_for, is_here, is_listed, messages_come_from_end_to_end, received_at, total, waiting_at}
+use Rattle.network_rules.proofs.Accounted.{accounts-anew, quiet-first, since-first, sum-zero}
 use Rattle.network_rules.proofs.Booked.{texts_of}
 use Rattle.network_rules.proofs.Places.{not-equal}
-use Rattle.network_rules.proofs.Reached.{reached, settings-kept}
+use Rattle.network_rules.proofs.Reached.{Begins, Kept, reached, settings-kept}
 use Rattle.network_rules.proofs.Sums.{same-here, sum-agree, sum-once}
 
 -- one for this point is onward at another of the same network
@@ -67,10 +68,10 @@ and-first : (a b : Bool) → (a && b) ≡ true → a ≡ true
 and-first true b e = refl
 and-first false b e = absurd cc
 
-module _ (settings : (point : ℕ) → Configuration) (points : List ℕ) (steps : List Step) (point : ℕ) (h : IsJoined settings points) (listed : is_listed points point ≡ true)
-    (network : (other : ℕ) → is_listed points other ≡ true → (settings other).network ≡ (settings point).network) (kept : HaveLostNothing points (reached settings points h steps)) (of : Message → Bool) where
+module _ (settings : (point : ℕ) → Configuration) (points : List ℕ) (steps : List Step) (point : ℕ) (h : IsJoined settings points) (start : Begins settings points) (listed : is_listed points point ≡ true)
+    (network : (other : ℕ) → is_listed points other ≡ true → (settings other).network ≡ (settings point).network) (kept : Kept settings points h start (reached settings points h start steps)) (of : Message → Bool) where
   abbrev w : NetworkState
-  w = reached settings points h steps
+  w = reached settings points h start steps
 
   abbrev c : Configuration
   c = settings point
@@ -80,7 +81,7 @@ module _ (settings : (point : ℕ) → Configuration) (points : List ℕ) (steps
 
   none-at : (other : ℕ) → is_listed points other ≡ true → other ≢ point → users_that those (received_at w other) ≡ 0
   none-at other its far =
-      ap (λ (z : Configuration). users_that those (filter (λ m. not (goes_onward z m)) (texts_of (w.node other).arrived))) (settings-kept settings points h steps other)
+      ap (λ (z : Configuration). users_that those (filter (λ m. not (goes_onward z m)) (texts_of (w.node other).arrived))) (settings-kept settings points h start steps other)
       ∙ none-received those (goes_onward (settings other))
       (λ m e. onward-elsewhere c (settings other) m (network other its) (λ same. far (sym (h.own other) ∙ same ∙ h.own point)) (and-first (is_for c m) (of m) e))
       (texts_of (w.node other).arrived)
@@ -104,18 +105,23 @@ module _ (settings : (point : ℕ) → Configuration) (points : List ℕ) (steps
   all-there =
       sum-agree (λ other. users_that those (received_at w other)) (λ other. 0 + (if nat_eq point other then its_count else 0)) points at-point
       ∙ sum-once (λ other. 0) point its_count points (h.once point listed)
-      ∙ ap (λ (n : ℕ). n + its_count) (sum-zero those settings points h (λ other. 0) points (λ other. refl))
+      ∙ ap (λ (n : ℕ). n + its_count) (sum-zero (λ other. 0) points (λ other. refl))
       ∙ first its_count
     where
       first : (n : ℕ) → 0 + n ≡ n
       first n = omega arith
 
-pub ends-meet : messages_come_from_end_to_end
-ends-meet settings points steps point joined listed network kept of =
-    let w : NetworkState = reached settings points joined steps in
+pub ends-meet-anew : destinations_begin_anew
+ends-meet-anew settings points changes point joined listed network quiet steps kept of =
+    let start : Begins settings points = record { changes = changes; quiet = quiet } in
+    let w : NetworkState = reached settings points joined start steps in
     let those : Message → Bool = λ m. is_for (settings point) m && of m in
     let waits : ℕ = total those points (waiting_at w) in
     let refused : ℕ = total those points (λ other. (w.node other).refused) in
-    accounts settings points steps joined kept those
-    ∙ ap (λ (n : ℕ). n + waits + refused) (all-there settings points steps point joined listed network kept of)
+    accounts-anew settings points changes joined quiet steps kept those
+    ∙ ap (λ (n : ℕ). n + waits + refused) (all-there settings points steps point joined start listed network kept of)
     ∙ ap (λ (n : ℕ). users_that those (received_at w n) + waits + refused) (sym (joined.own point))
+
+pub ends-meet : messages_come_from_end_to_end
+ends-meet settings points steps point joined listed network kept =
+    ends-meet-anew settings points [] point joined listed network (quiet-first settings points) steps (since-first settings points (after_steps steps (first_network settings)) kept)

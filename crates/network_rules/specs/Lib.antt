@@ -2,4 +2,5 @@ pub mod Networks
 pub mod Pairs
 pub mod Transit
 pub mod Totals
+pub mod Anew
 pub mod TwoFailures

@@ -2,6 +2,8 @@
 //! steps from newly booted exchanges on. The steps are those of `specs/Networks.antt`. Each function says its law by
 //! its contract, and does nothing.
 
+ghost use Rattle.network_rules.specs.Anew.{neighbours_begin_anew, nobody_ever_speaks_for_another};
+ghost use Rattle.network_rules.specs.Anew.{destinations_begin_anew, networks_begin_anew, networks_begin_quietly};
 ghost use Rattle.network_rules.specs.Pairs.{books_are_of_the_two, each_flow_in_order, each_message_once};
 ghost use Rattle.network_rules.specs.Pairs.{flows_stay_between, nothing_is_awaited_in_vain, nothing_is_held_in_vain};
 ghost use Rattle.network_rules.specs.Pairs.{nobody_speaks_for_another, runs_are_runs_of_neighbours};
@@ -62,6 +64,16 @@ pub fn nothing_is_held_in_vain()
     ensures { nothing_is_held_in_vain }
 {}
 
+/// Both promises begin anew between any two nodes whenever nothing is left between them, whatever was lost before,
+/// however often any node has started again, and whatever the others do: while each link between the two may open at
+/// both ends, neither of which may follow the other, and no message between the two is in Held. Of what is accepted
+/// from then on "Exactly once" holds until either node counts one loss more, and "Order" until the accepting one ends a
+/// hold by a timer besides. And whatever was done or lost, nobody speaks for another.
+pub fn neighbours_begin_anew()
+    ensures promises { neighbours_begin_anew }
+    ensures silent { nobody_ever_speaks_for_another }
+{}
+
 /// A message that comes to a node for another point, whatever happened before, is queued, held or refused. The node
 /// books it as accepted, once, exactly if it isn't refused. Where it is accepted for an adjacent point to which one set
 /// alone leads, what is promised of that set begins.
@@ -84,6 +96,16 @@ pub fn each_message_is_accounted_for()
 /// once, or waits, or was refused; and it ended at no other point.
 pub fn messages_come_from_end_to_end()
     ensures { messages_come_from_end_to_end }
+{}
+
+/// Both laws from end to end begin anew from every quiet network on, whatever was lost before, and however often nodes
+/// have started again: one in which each link of each node may open, no node may follow, and nothing is in Held. Of
+/// what enters from then on each message is accounted for, and those for one point came there, wait, or were refused,
+/// until a node counts one loss more. A network of newly booted exchanges is quiet.
+pub fn networks_begin_anew()
+    ensures all { networks_begin_anew }
+    ensures destinations { destinations_begin_anew }
+    ensures first { networks_begin_quietly }
 {}
 
 /// These laws aren't empty: three nodes in a row keep the premises, those of the whole network too. Each two neighbours
