@@ -5,10 +5,12 @@ use Rattle.exchange_rules.specs.declared.wants.Wants.{Wants}
 use Rattle.pair_rules.specs.Pairs as pairs
 use Rattle.pair_rules.specs.Pairs.{Doing, in_flight, may_follow, with_status_twice, without_data, without_status}
 use Rattle.pair_rules.specs.Promises.{BothWays}
+use Rattle.pair_rules.specs.Sharing.{AreSharing}
 use Rattle.neighbour_rules.specs.Neighbours as neighbours
+use Rattle.neighbour_rules.proofs.Sharing.{AreFacing, are-facing}
 use Rattle.network_rules.specs.Networks.{NetworkNode, NetworkState, Place, Step, after_step, after_steps, change_statuses, changed, comes_up, deliver_frame, did, did_here, end_of, first_network, is_led, may_open_there, opens_first, opens_second, other_end, place_there, reaches, sends, take_frame}
 use Rattle.pair_rules.proofs.Definitions.{Streams}
-use Rattle.network_rules.specs.Pairs.{ArePairsAlike, HearsNothingElsewhere, pair_between, pair_of}
+use Rattle.network_rules.specs.Pairs.{AreTheirPoints, ArePairsAlike, HearsNothingElsewhere, pair_between, pair_of}
 use Rattle.network_rules.proofs.Alike.{away}
 use Rattle.network_rules.proofs.Nodes.{idle, led-away, reach-away}
 use Rattle.network_rules.proofs.Places.{IsNamed, named-away, not-equal, place-named}
@@ -225,3 +227,8 @@ first-alike settings near far = record {
     following_links = refl;
   };
 }
+
+pub are-apart : (settings : (point : ℕ) → Configuration) (near far : ℕ) → AreTheirPoints settings → AreSharing (settings near) (settings far) → near ≢ far
+are-apart settings near far points sharing =
+    let facing : AreFacing (settings near) (settings far) = are-facing (settings near) (settings far) sharing in
+    λ e. facing.apart (points near ∙ e ∙ sym (points far))
