@@ -54,5 +54,6 @@ pub mod Managing
 pub mod Hearing
 pub mod Deliveries
 pub mod Summed
+pub mod Delivered
 pub mod ThirdNode
 pub mod AfterRestart

@@ -19,6 +19,7 @@ use Rattle.pair_rules.proofs.RunSettings.{joined}
 use Rattle.neighbour_rules.specs.Neighbours.{after_steps, leads_elsewhere, speaks_for_either, takes_elsewhere, users_to}
 use Rattle.pair_rules.specs.Promises.{queue_of}
 use Rattle.neighbour_rules.specs.Promises.{waiting}
+use Rattle.neighbour_rules.proofs.Delivered as delivering
 use Rattle.neighbour_rules.specs.ThirdNode.{GoesOn, heard, sends_far, its_text, near_settings, served, the_message}
 
 -- ---- the settings keep every limit, and share a set
@@ -160,8 +161,7 @@ unfolding apply tell_owed first_sets links_below status_of set_timer clear_timer
 its-new = refl
 
 delivers : receive whole near_settings 0 its_text first ≡ deliver whole near_settings 0 the_message node
-unfolding apply tell_owed first_sets links_below status_of set_timer clear_timer start_unless_running clear_set due_name after_due due_count names_of choice_among link_by changes_of changes take_back_each owes_nothing any_flow flows
-delivers = refl
+delivers = delivering.delivers near_settings 0 the_message its_text first its-new
 
 offers : (n : Node WholeQueues) → deliver whole near_settings 0 the_message n ≡ offered n (waits near_settings n.parts.holds the_message)
 offers n = refl

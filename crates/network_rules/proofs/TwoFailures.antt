@@ -12,6 +12,7 @@ use Rattle.flow_hold.specs.declared.procedure.Procedure.TheVariants.{Changeover,
 use Rattle.exchange_rules.specs.Telling.{tell_owed}
 use Rattle.pair_rules.specs.Pairs.{Submits, Takes, Delivers}
 use Rattle.neighbour_rules.specs.ThirdNode.{the_message}
+use Rattle.neighbour_rules.proofs.Delivered.{delivers}
 use Rattle.network_rules.specs.Networks.{NetworkState, first_network}
 use Rattle.network_rules.specs.TwoFailures.{answering, come, done_at, failed, failed_on, fails, first_line, fourth_line, middle_settings, moved, moved_on, opening, ordering, passed, row, second_line, sends, sent, sent_on, served, settling, submitted, third_line, turned}
 use Rattle.network_rules.proofs.LaidOut.{Three, network-seen, network_of, node_at, run, seen}
@@ -139,8 +140,7 @@ unfolding apply tell_owed first_sets links_below status_of set_timer clear_timer
 near-new = refl
 
 near-goes : receive whole middle_settings 1 (next_text 1 (moved_from first_three).first) (moved_from first_three).first.exchange.node ≡ deliver whole middle_settings 1 the_message (next_accepted (moved_from first_three).first)
-unfolding apply tell_owed first_sets links_below status_of set_timer clear_timer start_unless_running clear_set due_name after_due due_count names_of choice_among link_by changes_of changes take_back_each owes_nothing any_flow flows rerouted
-near-goes = refl
+near-goes = delivers middle_settings 1 the_message (next_text 1 (moved_from first_three).first) (moved_from first_three).first.exchange.node near-new
 
 near-free : Free 1 0 (next_accepted (moved_from first_three).first).parts.holds
 unfolding apply tell_owed first_sets links_below status_of set_timer clear_timer start_unless_running clear_set due_name after_due due_count names_of choice_among link_by changes_of changes take_back_each owes_nothing any_flow flows rerouted
