@@ -1,7 +1,9 @@
 -- Lists of steps of a network, and of other changes, as each two of its nodes that share a set see them; and nobody speaks for another meanwhile.
 use Rattle.pair_rules.proofs.Basics.{◌≡◌, ◌≢◌, ℕ, true, false, List, [], ◌∷◌, ◌++◌, refl, ap, sym, subst, ◌∙◌, length, map}
 use Rattle.pair_rules.proofs.Definitions.{Message, Configuration, Queue, first_queue, queue_at, PairState, first_pair, in_flight, each-replicate, read_frame}
+use Rattle.std.specs.Prelude.{All}
 use Rattle.std.specs.List.{list_all}
+use Rattle.std.proofs.lemmas.List.Elements.{All-head, All-tail}
 use Rattle.exchange_rules.specs.Laws.{carried_message}
 use Rattle.exchange_rules.specs.First.{Abstract, first_state}
 use Rattle.pair_moves.specs.Sayings.{Other}
@@ -15,12 +17,12 @@ use Rattle.neighbour_rules.specs.Anew as pairs
 use Rattle.neighbour_rules.proofs.Sharing.{AreFacing, are-facing, far_joint, near_joint}
 use Rattle.neighbour_rules.proofs.Restarted.{Works, all-changes-work, first-works, steps-work}
 use Rattle.network_rules.specs.Networks.{NetworkState, Step, after_step, after_steps, changed, first_network}
-use Rattle.network_rules.specs.Anew.{Change, GivesUp, Restarts, Steps, after_all, after_change, given_up, restarted}
+use Rattle.network_rules.specs.Anew.{Change, GivesUp, IsStepOrThird, Restarts, Steps, after_all, after_change, given_up, restarted}
 use Rattle.network_rules.specs.Pairs.{AreTheirPoints, AreWellOrAlone, ArePairsAlike, HearsNothingElsewhere, IsRunOfNeighbours, nobody_speaks_for_another, pair_of, runs_are_runs_of_neighbours}
 use Rattle.network_rules.proofs.Alike.{away}
 use Rattle.network_rules.proofs.Ends.{EndOk, first-ok}
 use Rattle.network_rules.proofs.AllRuns.{HasPoints, first-alike, step-next, steps-join, steps-keep}
-use Rattle.network_rules.proofs.Changes.{NextBy, changes-join, give_up-next, restart-next, stepped}
+use Rattle.network_rules.proofs.Changes.{NextBy, changes-join, give_up-next, restart-next, stepped, third-alike}
 use Rattle.network_rules.proofs.Runs.{NextOf}
 use Rattle.network_rules.proofs.Quiet.{IsQuiet, NodeOk, SayElsewhere, Watched, are-kept, did-quiet, fine, quiet-changed}
 use Rattle.network_rules.proofs.Elsewhere.{harmless-turned, speaks-none, speaks_between}
@@ -140,18 +142,20 @@ module _ (settings : (point : ℕ) → Configuration) (near far : ℕ) (points :
       let one : NextOf near far apart (after_step step w) p = step-next near far apart step w p (own-points w calm) h (nobody w calm) in
       record { steps = one.steps; pair = one.pair; calm = did-quiet settings near far points well a step.what step.point w calm (elsewhere-of w p s h) }
 
+  -- steps upon steps
+  goes-on : (v u : NetworkState) (p : PairState) (one : Goes v p) → Goes u (neighbours.after_steps one.steps p) → Goes u p
+  goes-on v u p one others = record {
+    steps = one.steps ++ others.steps;
+    pair = subst (ArePairsAlike (pair_of u near far)) (sym (steps-join near far apart one.steps others.steps p)) others.pair;
+    calm = others.calm;
+  }
+
   pub goes : (steps : List Step) (w : NetworkState) (p : PairState) → IsCalm w → Works c z a p → ArePairsAlike (pair_of w near far) p → Goes (after_steps steps w) p
   goes [] w p calm s h = record { steps = []; pair = h; calm = calm }
   goes (step ∷ steps) w p calm s h =
       let v : NetworkState = after_step step w in
       let one : Goes v p = one-goes step w p calm s h in
-      let q : PairState = neighbours.after_steps one.steps p in
-      let others : Goes (after_steps steps v) q = goes steps v q one.calm (steps-work c z a one.steps p s) one.pair in
-      record {
-        steps = one.steps ++ others.steps;
-        pair = subst (ArePairsAlike (pair_of (after_steps steps v) near far)) (sym (steps-join near far apart one.steps others.steps p)) others.pair;
-        calm = others.calm;
-      }
+      goes-on v (after_steps steps v) p one (goes steps v (neighbours.after_steps one.steps p) one.calm (steps-work c z a one.steps p s) one.pair)
 
   all-goes : (steps : List Step) → Goes (after_steps steps (first_network settings)) (first_pair c z)
   all-goes steps = goes steps (first_network settings) (first_pair c z) first-calm (first-works c z a) (first-alike settings near far)
@@ -180,6 +184,10 @@ module _ (settings : (point : ℕ) → Configuration) (near far : ℕ) (points :
       quiet-changed settings near far points well a w point restarted h
       (subst (λ (s : Configuration). NodeOk settings near far points well a point (first_state s) (nothing_in_flight (length s.links))) (sym (are-kept settings near far points well a w h point)) (first-node-ok point))
 
+  -- a node may not follow on a link any more
+  less-ok : (w : NetworkState) → IsCalm w → (point link : ℕ) → IsCalm (changed point (given_up link) w)
+  less-ok w h point link = quiet-changed settings near far points well a w point (given_up link) h (h.each point)
+
   change-goes : (change : Change) (w : NetworkState) (p : PairState) → IsCalm w → Works c z a p → ArePairsAlike (pair_of w near far) p → GoesBy (after_change change w) p
   change-goes (Steps step) w p calm s h =
       let one : Goes (after_step step w) p = one-goes step w p calm s h in
@@ -189,7 +197,7 @@ module _ (settings : (point : ℕ) → Configuration) (near far : ℕ) (points :
       record { changes = one.changes; pair = one.pair; calm = again-ok w calm point }
   change-goes (GivesUp point link) w p calm s h =
       let one : NextBy (changed point (given_up link) w) near far p = give_up-next near far apart w p h point link in
-      record { changes = one.changes; pair = one.pair; calm = quiet-changed settings near far points well a w point (given_up link) calm (calm.each point) }
+      record { changes = one.changes; pair = one.pair; calm = less-ok w calm point link }
 
   changes-go : (changes : List Change) (w : NetworkState) (p : PairState) → IsCalm w → Works c z a p → ArePairsAlike (pair_of w near far) p → GoesBy (after_all changes w) p
   changes-go [] w p calm s h = record { changes = []; pair = h; calm = calm }
@@ -203,6 +211,20 @@ module _ (settings : (point : ℕ) → Configuration) (near far : ℕ) (points :
         pair = subst (ArePairsAlike (pair_of (after_all changes v) near far)) (sym (changes-join one.changes others.changes p)) others.pair;
         calm = others.calm;
       }
+
+  -- where nothing but steps is done at either of the two, they see steps alone
+  apart-goes : (change : Change) → IsStepOrThird near far change → (w : NetworkState) (p : PairState) → IsCalm w → Works c z a p → ArePairsAlike (pair_of w near far) p → Goes (after_change change w) p
+  apart-goes (Steps step) i w p calm s h = one-goes step w p calm s h
+  apart-goes (Restarts point) i w p calm s h = record { steps = []; pair = third-alike near far apart w p h point restarted i.0 i.1; calm = again-ok w calm point }
+  apart-goes (GivesUp point link) i w p calm s h = record { steps = []; pair = third-alike near far apart w p h point (given_up link) i.0 i.1; calm = less-ok w calm point link }
+
+  pub goes-apart : (changes : List Change) → All (IsStepOrThird near far) changes → (w : NetworkState) (p : PairState) → IsCalm w → Works c z a p → ArePairsAlike (pair_of w near far) p → Goes (after_all changes w) p
+  goes-apart [] i w p calm s h = record { steps = []; pair = h; calm = calm }
+  goes-apart (change ∷ changes) i w p calm s h =
+      let v : NetworkState = after_change change w in
+      let one : Goes v p = apart-goes change (All-head (IsStepOrThird near far) change changes i) w p calm s h in
+      goes-on v (after_all changes v) p one
+      (goes-apart changes (All-tail (IsStepOrThird near far) change changes i) v (neighbours.after_steps one.steps p) one.calm (steps-work c z a one.steps p s) one.pair)
 
   pub all-go : (changes : List Change) → GoesBy (after_all changes (first_network settings)) (first_pair c z)
   all-go changes = changes-go changes (first_network settings) (first_pair c z) first-calm (first-works c z a) (first-alike settings near far)

@@ -1,4 +1,5 @@
 -- Between two nodes both promises begin anew, since they do between two neighbours; and so do the laws of links.
+use Rattle.std.specs.Prelude.{All}
 use Rattle.pair_rules.proofs.Basics.{◌≡◌, ◌<◌, ℕ, zero, suc, true, List, [], ◌∷◌, length, Option, Some, None, refl, ap, sym, subst, ◌∙◌, arith, list_any, slice_get}
 use Rattle.pair_rules.proofs.Definitions.{Configuration, LinkEntry, PairState, first_pair, turned}
 use Rattle.pair_rules.specs.Promises.{BothWays}
@@ -14,8 +15,8 @@ use Rattle.neighbour_rules.proofs.Sharing.{AreFacing, are-facing}
 use Rattle.network_rules.specs.Networks.{NetworkNode, NetworkState, Step, after_steps, first_network}
 use Rattle.network_rules.specs.Pairs.{ArePairsAlike, AreTheirPoints, AreWellOrAlone, pair_between, pair_of}
 use Rattle.network_rules.specs.Totals.{is_listed}
-use Rattle.network_rules.specs.Anew.{BothKeep, Change, IsQuietNetwork, IsQuietNode, after_all, begun_anew, neighbours_begin_anew, nobody_ever_speaks_for_another}
-use Rattle.network_rules.proofs.Always.{Goes, GoesBy, IsCalm, all-go, goes, nobody}
+use Rattle.network_rules.specs.Anew.{BothKeep, Change, IsQuietNetwork, IsQuietNode, IsStepOrThird, after_all, begun_anew, neighbours_begin_anew, nobody_ever_speaks_for_another}
+use Rattle.network_rules.proofs.Always.{Goes, GoesBy, IsCalm, all-go, goes, goes-apart, nobody}
 use Rattle.network_rules.proofs.Facts.{HasLaws, not-elsewhere}
 use Rattle.network_rules.proofs.Quiet.{are-kept}
 use Rattle.network_rules.proofs.Promised.{is-written, written}
@@ -132,16 +133,16 @@ module _ (settings : (point : ℕ) → Configuration) (changes : List Change) (n
   anew-calm : IsCalm settings near far points well a (begun_anew w)
   anew-calm = record { each = λ point. go.calm.each point }
 
-  on : (steps : List Step) → Goes settings near far points well a (after_steps steps (begun_anew w)) (pairs.begun_anew q)
+  abbrev Later : NetworkState → Type 0
+  Later v = Goes settings near far points well a v (pairs.begun_anew q)
+
+  on : (steps : List Step) → Later (after_steps steps (begun_anew w))
   on steps = goes settings near far points well a steps (begun_anew w) (pairs.begun_anew q) anew-calm (anew-works c z a q works) (anew-alike (pair_of w near far) q go.pair)
 
-  module _ (quiet : IsQuietPair (pair_of w near far)) (steps : List Step) (since : LostNothingSince (pair_of w near far) (pair_of (after_steps steps (begun_anew w)) near far)) where
-    abbrev v : NetworkState
-    v = after_steps steps (begun_anew w)
+  on-apart : (later : List Change) → All (IsStepOrThird near far) later → Later (after_all later (begun_anew w))
+  on-apart later i = goes-apart settings near far points well a later i (begun_anew w) (pairs.begun_anew q) anew-calm (anew-works c z a q works) (anew-alike (pair_of w near far) q go.pair)
 
-    g : Goes settings near far points well a v (pairs.begun_anew q)
-    g = on steps
-
+  module _ (quiet : IsQuietPair (pair_of w near far)) (v : NetworkState) (g : Later v) (since : LostNothingSince (pair_of w near far) (pair_of v near far)) where
     abbrev later : PairState
     later = neighbours.after_steps g.steps (pairs.begun_anew q)
 
@@ -161,8 +162,8 @@ module _ (settings : (point : ℕ) → Configuration) (changes : List Change) (n
     law-of : (Statement : PairState → Type 0) → BothWays Statement later → BothWays Statement (written (pair_of v near far) later)
     law-of Statement law = subst (BothWays Statement) (is-written (pair_of v near far) later g.pair) law
 
-    pub has-laws : HasLaws (pair_of v near far)
-    has-laws = record {
+    laws : HasLaws (pair_of v near far)
+    laws = record {
       pair = later;
       alike = g.pair;
       sharing =
@@ -174,8 +175,13 @@ module _ (settings : (point : ℕ) → Configuration) (changes : List Change) (n
       silent = nobody settings near far points well a v g.calm;
     }
 
+  pub has-laws : IsQuietPair (pair_of w near far) → (steps : List Step) → LostNothingSince (pair_of w near far) (pair_of (after_steps steps (begun_anew w)) near far) → HasLaws (pair_of (after_steps steps (begun_anew w)) near far)
+  has-laws quiet steps since = laws quiet (after_steps steps (begun_anew w)) (on steps) since
+
 pub neighbours-anew : neighbours_begin_anew
-neighbours-anew settings changes near far points well sharing quiet steps since = holds-between settings changes near far points well sharing quiet steps since
+neighbours-anew settings changes near far points well sharing quiet later i since =
+    let w : NetworkState = after_all changes (first_network settings) in
+    holds-between settings changes near far points well sharing quiet (after_all later (begun_anew w)) (on-apart settings changes near far points well sharing later i) since
 
 pub never-spoken : nobody_ever_speaks_for_another
 never-spoken settings changes near far points well sharing =

@@ -66,6 +66,12 @@ module _ (near far : ℕ) (apart : near ≢ far) (w : NetworkState) (p : PairSta
   abbrev y : NetworkNode
   y = w.node far
 
+  -- whatever is done at a third node
+  pub third-alike : (point : ℕ) (change : NetworkNode → NetworkNode) → near ≢ point → far ≢ point → ArePairsAlike (pair_of (changed point change w) near far) p
+  third-alike point change d e =
+      subst (λ (n : NetworkNode). ArePairsAlike (pair_between n ((changed point change w).node far)) p) (sym (node-other point near change w d))
+      (subst (λ (n : NetworkNode). ArePairsAlike (pair_between x n) p) (sym (node-other point far change w e)) h)
+
   -- something is done at one node: at either of the two, or at a third
   module _ (point : ℕ) (change : NetworkNode → NetworkNode) (at_near at_far : pairs.Change)
       (here : ArePairsAlike (pair_between (change x) y) (pairs.after_change at_near p)) (there : ArePairsAlike (pair_between x (change y)) (pairs.after_change at_far p)) where
@@ -91,12 +97,7 @@ module _ (near far : ℕ) (apart : near ≢ far) (w : NetworkState) (p : PairSta
     }
 
     third-changed : near ≢ point → far ≢ point → NextBy v near far p
-    third-changed d e = record {
-      changes = [];
-      pair =
-          subst (λ (n : NetworkNode). ArePairsAlike (pair_between n (v.node far)) p) (sym (node-other point near change w d))
-          (subst (λ (n : NetworkNode). ArePairsAlike (pair_between x n) p) (sym (node-other point far change w e)) h);
-    }
+    third-changed d e = record { changes = []; pair = third-alike point change d e }
 
     changed-next : NextBy v near far p
     changed-next =

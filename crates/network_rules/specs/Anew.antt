@@ -1,6 +1,6 @@
 -- What a network promises anew: from each state on in which nothing is left between two of its nodes, or in all of it,
 -- whatever was lost before, and however often nodes have started again.
-use Rattle.std.specs.Prelude.{◌≡◌, ◌<◌, ℕ, true, false, List, [], ◌∷◌, length, slice_set}
+use Rattle.std.specs.Prelude.{◌≡◌, ◌≢◌, ◌<◌, ℕ, ⊤, true, false, List, [], ◌∷◌, All, length, slice_set}
 use Rattle.settings_rows.specs.Configuration.{Configuration}
 use Rattle.pair_rules.specs.Pairs.{PairState, turned, may_follow, may_open_at}
 use Rattle.pair_rules.specs.Promises.{BothWays}
@@ -68,12 +68,18 @@ pub record BothKeep (p q : PairState) : Type 0 where
   pub there : KeepsPromises p q
   pub back : KeepsPromises (turned p) (turned q)
 
--- after every list of steps of the network, while neither of the two may have lost a message since
+-- a step at any point; or a node at a third point starts again, or gives up following the other end of a link
+abbrev pub IsStepOrThird : (near far : ℕ) → Change → Type 0
+IsStepOrThird near far (Steps step) = ⊤
+IsStepOrThird near far (Restarts point) = (near ≢ point) × (far ≢ point)
+IsStepOrThird near far (GivesUp point link) = (near ≢ point) × (far ≢ point)
+
+-- after every list of such changes of the network, while neither of the two may have lost a message since
 abbrev pub HoldBetween : (near far : ℕ) → NetworkState → Type 0
 HoldBetween near far w =
-    (steps : List Step) →
-    LostNothingSince (pair_of w near far) (pair_of (after_steps steps (begun_anew w)) near far) →
-    BothKeep (pair_of w near far) (pair_of (after_steps steps (begun_anew w)) near far)
+    (changes : List Change) → All (IsStepOrThird near far) changes →
+    LostNothingSince (pair_of w near far) (pair_of (after_all changes (begun_anew w)) near far) →
+    BothKeep (pair_of w near far) (pair_of (after_all changes (begun_anew w)) near far)
 
 -- if nothing is left between the two, whatever may be in the others
 abbrev pub neighbours_begin_anew : Type 0

@@ -22,7 +22,9 @@ use Rattle.network_rules.specs.Totals.{HaveLostNothing, IsJoined}
 abbrev pub end_settings : (own other : ℕ) → Configuration
 end_settings own other = record (settings_of own 1) {
   destinations =
-      record { point = 1; sets = 0 ∷ []; joined = false } ∷ record { point = other; sets = 0 ∷ []; joined = false } ∷ [];
+      record { point = 1; sets = 0 ∷ []; joined = false }
+      ∷ record { point = other; sets = 0 ∷ []; joined = false }
+      ∷ [];
 }
 
 -- point 1 between them: its links 0 and 1 lead to point 3, and its links 2 and 3 to point 2

@@ -64,11 +64,12 @@ pub fn nothing_is_held_in_vain()
     ensures { nothing_is_held_in_vain }
 {}
 
-/// Both promises begin anew between any two nodes whenever nothing is left between them, whatever was lost before,
-/// however often any node has started again, and whatever the others do: while each link between the two may open at
-/// both ends, neither of which may follow the other, and no message between the two is in Held. Of what is accepted
-/// from then on "Exactly once" holds until either node counts one loss more, and "Order" until the accepting one ends a
-/// hold by a timer besides. And whatever was done or lost, nobody speaks for another.
+/// Both promises begin anew between any two nodes whenever nothing is left between them, whatever was lost before, and
+/// however often any node has started again: while each link between the two may open at both ends, neither of which
+/// may follow the other, and no message between the two is in Held. Of what is accepted from then on "Exactly once"
+/// holds until either node counts one loss more, and "Order" until the accepting one ends a hold by a timer besides:
+/// whatever the others do, restarts among it, while neither of the two starts again, or gives up following the other
+/// end of a link. And whatever was done or lost, nobody speaks for another.
 pub fn neighbours_begin_anew()
     ensures promises { neighbours_begin_anew }
     ensures silent { nobody_ever_speaks_for_another }
