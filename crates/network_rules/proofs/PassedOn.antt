@@ -8,9 +8,9 @@ use Rattle.mtp3_codec.specs.declared.discrimination.Discrimination.TheVariants a
 use Rattle.signalling_types.specs.declared.outcome.Outcome.{Outcome}
 use Rattle.signalling_types.specs.declared.outcome.Outcome.TheVariants.{Handled, Held, Ignored, Local, Queued, Refused}
 use Rattle.pair_rules.specs.Pairs.{Streams}
-use Rattle.network_rules.specs.Networks.{Arrival, NetworkNode, NetworkState, Step, after_step, changed, deliver_frame, entered_by, first_network, goes_onward, is_onward, is_refused, refused_by}
-use Rattle.network_rules.specs.Anew.{Change, GivesUp, Restarts, Steps, after_all, after_change, given_up, restarted}
-use Rattle.network_rules.specs.Paths.{AreMerged, PassesInOrder, each_node_passes_in_order, none, onward_at}
+use Rattle.network_rules.specs.Networks.{Arrival, NetworkNode, NetworkState, Step, after_step, changed, deliver_frame, entered_by, goes_onward, is_onward, is_refused, refused_by}
+use Rattle.network_rules.specs.Anew.{Change, GivesUp, Restarts, Steps, after_all, after_change, begun_anew, given_up, restarted}
+use Rattle.network_rules.specs.Paths.{AreMerged, PassesInOrder, books_begin_empty, each_node_passes_in_order, none, onward_at}
 use Rattle.network_rules.proofs.AllRuns.{did-keeps}
 use Rattle.network_rules.proofs.Booked.{arrived-more, onward_of, texts_of}
 use Rattle.network_rules.proofs.Merged.{merged-append, merged-one, merged-other}
@@ -169,4 +169,7 @@ changes-pass [] w y h = h
 changes-pass (change ∷ changes) w y h = changes-pass changes (after_change change w) y (change-passes change w y h)
 
 pub all-pass : each_node_passes_in_order
-all-pass settings changes point = changes-pass changes (first_network settings) point (record { passed = []; came = none; accepted = none })
+all-pass w changes point = changes-pass changes (begun_anew w) point (record { passed = []; came = none; accepted = none })
+
+pub begin-empty : books_begin_empty
+begin-empty settings = refl

@@ -13,11 +13,14 @@ use Rattle.neighbour_rules.specs.Promises.{InOrder, accepted_there, waiting, wai
 use Rattle.network_rules.specs.Networks.{NetworkNode, NetworkState, Step, after_steps, first_network, goes_onward}
 use Rattle.network_rules.specs.Pairs.{AreTheirPoints, AreWellOrAlone, came_from, pair_of}
 use Rattle.network_rules.specs.Totals.{received_at}
-use Rattle.network_rules.specs.Paths.{AreMerged, ComesInOrder, EachHopInOrder, EachOnlyPasses, KeepsInOrder, OnlyPasses, PassesInOrder, came_last, came_over, last_hops_keep_flows_in_order, left_on, onward_at, paths_keep_the_order_of_their_hops, waits_on, waits_over}
+use Rattle.network_rules.specs.Paths.{AreMerged, ComesInOrder, EachHopInOrder, EachOnlyPasses, KeepsInOrder, OnlyPasses, PassesInOrder, came_last, came_over, last_hops_begin_anew, last_hops_keep_flows_in_order, left_on, onward_at, paths_keep_the_order_of_their_hops, waits_on, waits_over}
+use Rattle.network_rules.specs.Anew.{after_all, begun_anew}
 use Rattle.network_rules.proofs.AllRuns.{steps-keep}
+use Rattle.network_rules.proofs.Anew.{neighbours-anew}
 use Rattle.network_rules.proofs.Merged.{AreLeft, merged-alone, merged-append, merged-count, merged-filter, merged-one, merged-other, merged-split, merged-through}
 use Rattle.network_rules.proofs.PassedOn.{all-pass}
 use Rattle.network_rules.proofs.Promised.{order}
+use Rattle.network_rules.proofs.Reached.{changes-keep}
 
 -- ---- at a point between
 
@@ -107,7 +110,7 @@ module _ (flow : Flow) where
         }
 
 pub paths : paths_keep_the_order_of_their_hops
-paths settings changes flow first rest hops only = over flow _ (all-pass settings changes) first rest hops only
+paths w changes flow first rest hops only = over flow _ (all-pass w changes) first rest hops only
 
 -- ---- the last hop
 
@@ -155,17 +158,31 @@ module _ (point sls : ℕ) where
         ∙ ap (λ (ms : List Message). of_flow its (join_to waits_at n) ++ ms) (ap (λ (k : ℕ). of_flow its (users_to k held)) own ∙ to-point held)
         ∙ sym (filter-append (is_of_flow its) (join_to waits_at n) held)
 
+module _ (w : NetworkState) (near far sls : ℕ) (own : (w.node far).exchange.settings.own ≡ far) where
+  abbrev p : PairState
+  p = pair_of w near far
+
+  abbrev flow : Flow
+  flow = its far sls
+
+  abbrev came : List Message
+  came = came_from (w.node far).exchange.settings (w.node near).exchange.settings (w.node far).arrived
+
+  hop : InOrder p → KeepsInOrder flow w near far
+  hop in_order =
+      sym (ap (λ (k : ℕ). of_flow flow (users_to k (w.node near).accepted)) own ∙ to-point far sls (w.node near).accepted)
+      ∙ in_order flow
+      ∙ ap (λ (ms : List Message). ms ++ of_flow flow (waiting p)) (ap (λ (k : ℕ). of_flow flow (users_to k came)) own ∙ to-point far sls came)
+      ∙ ap (λ (ms : List Message). of_flow flow came ++ ms) (waits-same far sls p own (w.node near).exchange.node.queues.held (length (w.node near).exchange.settings.links))
+
 pub last-hop : last_hops_keep_flows_in_order
 last-hop settings steps near far sls points well sharing kept punctual =
-    let w : NetworkState = after_steps steps (first_network settings) in
-    let p : PairState = pair_of w near far in
-    let own : p.far.exchange.settings.own ≡ far = ap (λ (c : Configuration). c.own) (steps-keep steps (first_network settings) far) ∙ points far in
-    let flow : Flow = record { point = far; sls = sls } in
-    let held : List Message = (w.node near).exchange.node.queues.held in
-    let came : List Message = came_from (w.node far).exchange.settings (w.node near).exchange.settings (w.node far).arrived in
-    let in_order : of_flow flow p.near.accepted ≡ of_flow flow p.far.received ++ of_flow flow (waiting p) =
-    (order settings steps near far points well sharing kept).there punctual flow in
-    sym (ap (λ (k : ℕ). of_flow flow (users_to k (w.node near).accepted)) own ∙ to-point far sls (w.node near).accepted)
-    ∙ in_order
-    ∙ ap (λ (ms : List Message). ms ++ of_flow flow (waiting p)) (ap (λ (k : ℕ). of_flow flow (users_to k came)) own ∙ to-point far sls came)
-    ∙ ap (λ (ms : List Message). of_flow flow came ++ ms) (waits-same far sls p own held (length (w.node near).exchange.settings.links))
+    hop (after_steps steps (first_network settings)) near far sls (ap (λ (c : Configuration). c.own) (steps-keep steps (first_network settings) far) ∙ points far)
+    ((order settings steps near far points well sharing kept).there punctual)
+
+pub last-anew : last_hops_begin_anew
+last-anew settings changes near far points well sharing quiet later sls apart since stays =
+    let w : NetworkState = after_all changes (first_network settings) in
+    hop (after_all later (begun_anew w)) near far sls
+    (ap (λ (c : Configuration). c.own) (changes-keep later (begun_anew w) far ∙ changes-keep changes (first_network settings) far) ∙ points far)
+    ((neighbours-anew settings changes near far points well sharing quiet later apart since).there.order stays)

@@ -1,6 +1,6 @@
 -- Order over a path of nodes. What a node passes on stays in the order in which it came; so if each hop of a path keeps
 -- a flow in order, the path does.
-use Rattle.std.specs.Prelude.{◌≡◌, ◌+◌, ℕ, ⊤, Bool, List, [], ◌∷◌, ◌++◌, Option, Some, None, count_by, drop, filter, length, map}
+use Rattle.std.specs.Prelude.{◌≡◌, ◌+◌, ℕ, ⊤, Bool, List, [], ◌∷◌, ◌++◌, All, Option, Some, None, count_by, drop, filter, length, map}
 use Rattle.signalling_types.specs.Message.{Message}
 use Rattle.signalling_types.specs.declared.point.Flow.{Flow}
 use Rattle.settings_rows.specs.Configuration.{Configuration}
@@ -11,10 +11,11 @@ use Rattle.pair_rules.specs.Promises.{IsPunctual, LostNothing, of_flow, queue_of
 use Rattle.pair_rules.specs.Sharing.{AreSharing}
 use Rattle.neighbour_rules.specs.Neighbours.{far_end}
 use Rattle.neighbour_rules.specs.Promises.{accepted_there}
+use Rattle.neighbour_rules.specs.Anew.{IsQuietPair, LostNothingSince, Stays, times_late}
 use Rattle.network_rules.specs.Networks.{NetworkNode, NetworkState, Step, after_steps, first_network, goes_onward}
 use Rattle.network_rules.specs.Pairs.{AreTheirPoints, AreWellOrAlone, came_from, pair_of}
 use Rattle.network_rules.specs.Totals.{received_at}
-use Rattle.network_rules.specs.Anew.{Change, after_all}
+use Rattle.network_rules.specs.Anew.{AfterChanges, Change, IsStepOrThird, after_all, begun_anew}
 
 -- the messages of one list and those of another, in some order that keeps that of each
 pub data AreMerged : (one other both : List Message) → Type 0 where
@@ -37,11 +38,17 @@ pub record PassesInOrder (x : NetworkNode) : Type 0 where
   pub came : AreMerged passed x.refused (users_of (onward_at x))
   pub accepted : AreMerged passed (users_of x.entered) (users_of x.accepted)
 
--- so it is at each node, whatever is done or lost, and however often nodes start again
+-- so it is at each node, from any network on, of what is booked from then on: whatever is done or lost, and however
+-- often nodes start again
 abbrev pub each_node_passes_in_order : Type 0
 each_node_passes_in_order =
-    (settings : (point : ℕ) → Configuration) (changes : List Change) (point : ℕ) →
-    PassesInOrder ((after_all changes (first_network settings)).node point)
+    (w : NetworkState) (changes : List Change) (point : ℕ) →
+    PassesInOrder ((after_all changes (begun_anew w)).node point)
+
+-- at first nothing is booked
+abbrev pub books_begin_empty : Type 0
+books_begin_empty =
+    (settings : (point : ℕ) → Configuration) → begun_anew (first_network settings) ≡ first_network settings
 
 -- ---- over a hop
 
@@ -115,13 +122,15 @@ pub record ComesInOrder (flow : Flow) (w : NetworkState) (first : ℕ) (rest : L
 -- so it is over each path of which each hop keeps the flow in order
 abbrev pub paths_keep_the_order_of_their_hops : Type 0
 paths_keep_the_order_of_their_hops =
-    (settings : (point : ℕ) → Configuration) (changes : List Change) (flow : Flow) (first : ℕ) (rest : List ℕ) →
-    EachHopInOrder flow (after_all changes (first_network settings)) first rest →
-    EachOnlyPasses flow (after_all changes (first_network settings)) first rest →
-    ComesInOrder flow (after_all changes (first_network settings)) first rest
+    (w : NetworkState) (changes : List Change) (flow : Flow) (first : ℕ) (rest : List ℕ) →
+    EachHopInOrder flow (after_all changes (begun_anew w)) first rest →
+    EachOnlyPasses flow (after_all changes (begun_anew w)) first rest →
+    ComesInOrder flow (after_all changes (begun_anew w)) first rest
 
--- and the last hop does so, where the flow is for the last point: while neither of its two nodes may have lost a
--- message, and no timer of the former one ended a hold
+-- ---- the last hop, where the flow is for the last point
+
+-- it keeps the flow in order while neither of its two nodes may have lost a message, and no timer of the former one
+-- ended a hold
 abbrev pub last_hops_keep_flows_in_order : Type 0
 last_hops_keep_flows_in_order =
     (settings : (point : ℕ) → Configuration) (steps : List Step) (near far sls : ℕ) → AreTheirPoints settings →
@@ -129,3 +138,13 @@ last_hops_keep_flows_in_order =
     LostNothing (pair_of (after_steps steps (first_network settings)) near far) →
     IsPunctual (pair_of (after_steps steps (first_network settings)) near far) →
     KeepsInOrder (record { point = far; sls = sls }) (after_steps steps (first_network settings)) near far
+
+-- and anew whenever nothing is left between the two
+abbrev pub last_hops_begin_anew : Type 0
+last_hops_begin_anew =
+    AfterChanges (λ near far w.
+    IsQuietPair (pair_of w near far) →
+    (later : List Change) (sls : ℕ) → All (IsStepOrThird near far) later →
+    LostNothingSince (pair_of w near far) (pair_of (after_all later (begun_anew w)) near far) →
+    Stays (times_late (pair_of w near far)) (times_late (pair_of (after_all later (begun_anew w)) near far)) →
+    KeepsInOrder (record { point = far; sls = sls }) (after_all later (begun_anew w)) near far)

@@ -8,8 +8,8 @@ ghost use Rattle.network_rules.specs.Anew.{destinations_begin_anew, networks_beg
 ghost use Rattle.network_rules.specs.Pairs.{books_are_of_the_two, each_flow_in_order, each_message_once};
 ghost use Rattle.network_rules.specs.Pairs.{flows_stay_between, nothing_is_awaited_in_vain, nothing_is_held_in_vain};
 ghost use Rattle.network_rules.specs.Pairs.{nobody_speaks_for_another, runs_are_runs_of_neighbours};
-ghost use Rattle.network_rules.specs.Paths.{each_node_passes_in_order, last_hops_keep_flows_in_order};
-ghost use Rattle.network_rules.specs.Paths.{paths_keep_the_order_of_their_hops};
+ghost use Rattle.network_rules.specs.Paths.{books_begin_empty, each_node_passes_in_order, last_hops_begin_anew};
+ghost use Rattle.network_rules.specs.Paths.{last_hops_keep_flows_in_order, paths_keep_the_order_of_their_hops};
 ghost use Rattle.network_rules.specs.Totals.{each_message_is_accounted_for, messages_come_from_end_to_end};
 ghost use Rattle.network_rules.specs.Transit.{messages_pass_through};
 ghost use Rattle.network_rules.specs.TwoFailures.{CrossesTwoFailures};
@@ -89,7 +89,8 @@ pub fn messages_pass_through()
 /// up of those that it passed on and those that it refused, and what it accepted of those that it passed on and those
 /// that entered there, each in order. This holds whatever is done or lost, and however often nodes start again.
 pub fn nodes_pass_on_in_order()
-    ensures { each_node_passes_in_order }
+    ensures each { each_node_passes_in_order }
+    ensures first { books_begin_empty }
 {}
 
 /// So the order of a flow over a path is that of its hops. If each hop keeps it, as two neighbours do for the messages
@@ -100,6 +101,7 @@ pub fn nodes_pass_on_in_order()
 pub fn paths_keep_the_order_of_their_hops()
     ensures paths { paths_keep_the_order_of_their_hops }
     ensures last { last_hops_keep_flows_in_order }
+    ensures anew { last_hops_begin_anew }
 {}
 
 /// From end to end, over any number of nodes, each of which reaches its adjacent points by one set alone and all others
