@@ -62,6 +62,10 @@ third-lost : lost_any (broken_from first_three).third.exchange.node.parts ≡ tr
 unfolding apply tell_owed first_sets links_below status_of set_timer clear_timer start_unless_running clear_set due_name after_due due_count names_of choice_among link_by changes_of changes take_back_each owes_nothing any_flow flows rerouted
 third-lost = refl
 
+far-lost : lost_any (broken_from first_three).second.exchange.node.parts ≡ true
+unfolding apply tell_owed first_sets links_below status_of set_timer clear_timer start_unless_running clear_set due_name after_due due_count names_of choice_among link_by changes_of changes take_back_each owes_nothing any_flow flows rerouted
+far-lost = refl
+
 is-quiet : (point many : ℕ) (x : NetworkNode) → broken.node point ≡ x → length (row point).links ≡ many → ((link : ℕ) → link < many → May x link) → x.exchange.node.queues.held ≡ []
     → IsQuietNode (broken.node point)
 is-quiet point many x same size may held = record {
@@ -101,7 +105,7 @@ near-shows : shown (come_from first_three).first ≡ shows (record { link = 1; m
 unfolding apply tell_owed first_sets links_below status_of set_timer clear_timer start_unless_running clear_set due_name after_due due_count names_of choice_among link_by changes_of changes take_back_each owes_nothing any_flow flows rerouted
 near-shows = refl
 
-far-shows : shown (come_from first_three).second ≡ shows (record { link = 0; message = the_message } ∷ []) [] 0
+far-shows : shown (come_from first_three).second ≡ shows (record { link = 0; message = the_message } ∷ []) [] 2
 unfolding apply tell_owed first_sets links_below status_of set_timer clear_timer start_unless_running clear_set due_name after_due due_count names_of choice_among link_by changes_of changes take_back_each owes_nothing any_flow flows rerouted
 far-shows = refl
 
@@ -111,7 +115,7 @@ third-is = ap (λ (w : NetworkState). shown (w.node 3)) come-is ∙ third-shows
 near-is : shown (come.node 1) ≡ shows (record { link = 1; message = the_message } ∷ []) [] 0
 near-is = ap (λ (w : NetworkState). shown (w.node 1)) come-is ∙ near-shows
 
-far-is : shown (come.node 2) ≡ shows (record { link = 0; message = the_message } ∷ []) [] 0
+far-is : shown (come.node 2) ≡ shows (record { link = 0; message = the_message } ∷ []) [] 2
 far-is = ap (λ (w : NetworkState). shown (w.node 2)) come-is ∙ far-shows
 
 done : (x : NetworkNode) (arrivals : List Arrival) (entered : List Message) (lost : ℕ) → shown x ≡ shows arrivals entered lost → IsDone x
@@ -123,7 +127,7 @@ third-before : (broken_from first_three).third.exchange.node.parts.times_lost �
 unfolding apply tell_owed first_sets links_below status_of set_timer clear_timer start_unless_running clear_set due_name after_due due_count names_of choice_among link_by changes_of changes take_back_each owes_nothing any_flow flows rerouted
 third-before = refl
 
-far-before : (broken_from first_three).second.exchange.node.parts.times_lost ≡ 0
+far-before : (broken_from first_three).second.exchange.node.parts.times_lost ≡ 2
 unfolding apply tell_owed first_sets links_below status_of set_timer clear_timer start_unless_running clear_set due_name after_due due_count names_of choice_among link_by changes_of changes take_back_each owes_nothing any_flow flows rerouted
 far-before = refl
 
@@ -143,7 +147,8 @@ node-is point = ap (λ (w : NetworkState). w.node point) broken-is
 pub comes-after : ComesAfterRestart
 comes-after = record {
   joined = joined;
-  lost = ap (λ (x : NetworkNode). lost_any x.exchange.node.parts) (node-is 3) ∙ third-lost;
+  third_lost = ap (λ (x : NetworkNode). lost_any x.exchange.node.parts) (node-is 3) ∙ third-lost;
+  far_lost = ap (λ (x : NetworkNode). lost_any x.exchange.node.parts) (node-is 2) ∙ far-lost;
   quiet =
       of-three (λ point. IsQuietNode (broken.node point))
       (is-quiet 1 4 (broken_from first_three).first (node-is 1) refl near-may near-held)
@@ -154,10 +159,10 @@ comes-after = record {
   comes = ap (λ (s : Shown). s.come) far-is;
   third_done = done (come.node 3) [] (the_message ∷ []) 2 third-is;
   near_done = done (come.node 1) (record { link = 1; message = the_message } ∷ []) [] 0 near-is;
-  far_done = done (come.node 2) (record { link = 0; message = the_message } ∷ []) [] 0 far-is;
+  far_done = done (come.node 2) (record { link = 0; message = the_message } ∷ []) [] 2 far-is;
   since =
       of-three (λ point. Stays (broken.node point).exchange.node.parts.times_lost (come.node point).exchange.node.parts.times_lost)
       (stays 0 (broken_from first_three).first (broken.node 1) (come.node 1) _ _ (omega arith) (node-is 1) near-before near-is)
-      (stays 0 (broken_from first_three).second (broken.node 2) (come.node 2) _ _ (omega arith) (node-is 2) far-before far-is)
+      (stays 2 (broken_from first_three).second (broken.node 2) (come.node 2) _ _ (omega arith) (node-is 2) far-before far-is)
       (stays 2 (broken_from first_three).third (broken.node 3) (come.node 3) _ _ (omega arith) (node-is 3) third-before third-is);
 }

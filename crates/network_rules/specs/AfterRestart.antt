@@ -1,37 +1,37 @@
--- A run of the three nodes in a row of `TwoFailures`. The middle node starts again while a link from there to one end is
--- in service, and T1 of that end runs out, which counts as a loss; then the network is quiet. The link returns, one to
--- the other end opens, and a message comes from end to end, once.
+-- A run of the three nodes in a row of `TwoFailures`. The middle node starts again while a link from there to either end
+-- is in service, and T1 of both ends runs out, which counts as losses; then the network is quiet. The links return, and
+-- a message comes from end to end, once.
 use Rattle.std.specs.Prelude.{◌≡◌, true, map, replicate, List, [], ◌∷◌, ◌++◌}
 use Rattle.exchange_rules.specs.Conserving.{standing}
 use Rattle.exchange_rules.specs.State.{lost_any}
 use Rattle.pair_rules.specs.Pairs.{Submits, Takes, Delivers, Loses, Ticks}
 use Rattle.neighbour_rules.specs.ThirdNode.{the_message}
-use Rattle.network_rules.specs.Networks.{NetworkNode, NetworkState, Step, after_steps, first_network}
+use Rattle.network_rules.specs.Networks.{NetworkNode, NetworkState, Place, Step, after_steps, first_network}
 use Rattle.network_rules.specs.Totals.{IsJoined}
 use Rattle.network_rules.specs.Anew.{Change, HaveLostNothingSince, IsQuietNetwork, Restarts, Steps, after_all, begun_anew}
 use Rattle.network_rules.specs.TwoFailures.{aligns, done_at, row, second_line, sends, serves, third_line, turned, users_come}
 
 -- ---- steps
 
--- a link between points 3 and 1 enters service
+-- a link between points 3 and 1 and one between points 1 and 2 enter service
 abbrev pub opening : List Step
 opening =
-    aligns second_line
-    ++ record { point = 1; what = Ticks } ∷ record { point = 3; what = Ticks }
-    ∷ serves second_line
-
--- point 1 starts again. Point 3 sees the association lost, and its T1 runs out, after nine ticks
-abbrev pub breaking : List Change
-breaking =
-    Restarts 1 ∷ Steps (done_at second_line.here Loses) ∷ replicate 9 (Steps (record { point = 3; what = Ticks }))
-
--- the link returns, and one between points 1 and 2 enters service; and all that the nodes tell each other of routes
--- comes
-abbrev pub returning : List Step
-returning =
     aligns second_line ++ aligns third_line
     ++ record { point = 1; what = Ticks } ∷ record { point = 2; what = Ticks } ∷ record { point = 3; what = Ticks }
     ∷ serves third_line ++ serves second_line
+
+-- a node sees its association lost, and its T1 runs out, after nine ticks
+abbrev pub loses : Place → List Step
+loses end = done_at end Loses ∷ replicate 9 (record { point = end.point; what = Ticks })
+
+-- point 1 starts again
+abbrev pub breaking : List Change
+breaking = Restarts 1 ∷ map Steps (loses second_line.here ++ loses third_line.there)
+
+-- the links return, and all that the nodes tell each other of routes comes
+abbrev pub returning : List Step
+returning =
+    opening
     ++ sends third_line ++ sends third_line ++ sends third_line ++ sends (turned third_line) ++ sends (turned third_line)
     ++ sends second_line ++ sends second_line ++ sends (turned second_line)
 
@@ -66,8 +66,9 @@ pub record IsDone (x : NetworkNode) : Type 0 where
 
 pub record ComesAfterRestart : Type 0 where
   pub joined : IsJoined row (1 ∷ 2 ∷ 3 ∷ [])
-  -- point 3 may have lost a message, and the network is quiet
-  pub lost : lost_any (broken.node 3).exchange.node.parts ≡ true
+  -- either end may have lost a message, and the network is quiet
+  pub third_lost : lost_any (broken.node 3).exchange.node.parts ≡ true
+  pub far_lost : lost_any (broken.node 2).exchange.node.parts ≡ true
   pub quiet : IsQuietNetwork (1 ∷ 2 ∷ 3 ∷ []) broken
   -- a message enters at point 3, and comes to each node on its way, once
   pub entered : (come.node 3).entered ≡ the_message ∷ []

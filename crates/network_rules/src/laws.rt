@@ -139,9 +139,9 @@ pub fn a_message_crosses_two_failures()
     ensures { CrossesTwoFailures }
 {}
 
-/// Nor are those that begin anew: the middle one of three nodes in a row starts again, and one of the others loses
-/// messages by that. Then the network is quiet, and a user message comes from end to end, once; no node counts one loss
-/// more, and nothing waits in the end.
+/// Nor are those that begin anew: the middle one of three nodes in a row starts again, by which both others lose
+/// messages. Then the network is quiet, and a user message comes from end to end, once; no node counts one loss more, and
+/// nothing waits in the end.
 pub fn a_message_comes_after_a_restart()
     ensures { ComesAfterRestart }
 {}
