@@ -4,7 +4,7 @@ use Rattle.std.specs.Prelude.{length, Option, None, Some}
 use Rattle.std.specs.List.{list_all}
 use Rattle.std.specs.Option.{option_map, option_and_then}
 use Rattle.signalling_types.specs.declared.limits.TheConstants.Limits.{TITLE_DIGITS}
-use Rattle.settings_rows.specs.Configuration.{TitleEntry}
+use Rattle.settings_rows.specs.Configuration.{TitleEntry, unchanged}
 use Rattle.settings_rows.specs.declared.title_row.TitleRoute.{TitleRoute}
 use Rattle.settings_rows.specs.declared.title_row.TitleRoute.TheVariants.{Title, Ssn}
 use Rattle.settings.specs.Checks.{is_digit}
@@ -56,6 +56,7 @@ row_leading name point route = record {
   digits = name.digits.items;
   point = point;
   route = route;
+  change = unchanged;
 }
 
 -- the row of this name that these words write, with points in this format: `POINT ROUTE SSN`

@@ -1,5 +1,6 @@
 -- The longest way that exists along the digits of a key is that of the row by which its addresses are translated.
 use Rattle.sccp_relay.proofs.Basics.{◌≡◌, ℕ, ◌+◌, ◌*◌, ◌<◌, ◌≤◌, ◌^◌, ◌/◌, ◌%◌, Bool, true, cond, List, ◌++◌, length, get_or, take, Option, Some, None, refl, sym, ap, subst, ◌∙◌, inl, inr, arith, and_parts, cases_lt, eq-eqb, eqb-true, ne_eqb, lt-ltb, le-ltb, get_or_default, length-take, length-take-le, All-get_or, bytes_decides, filter, list_any, starts_with, NoNature, NoDigits, All, Err, nat_eq, DigitMap, behind, Cause, TitleKey, TitleEntry, HasTitleRanges, TitleRoute, Title, Ssn, key_of, leads, has_key, IsTranslation, translation, translation_refusal, or_refusal, IsRow, IsRoute, IsSsn, key_digits, way_of, lead_of, leads_of, route_number, route_of, row_led}
+use Rattle.settings_rows.specs.Configuration.{unchanged}
 use Rattle.sccp_relay.specs.Digits.{longest as longest_digits}
 use Rattle.sccp_relay.proofs.Longest.{is-longest, is-none-longest}
 use Rattle.sccp_relay.specs.Translation.{longest}
@@ -36,6 +37,7 @@ row-back row is =
       digits = row.digits;
       point = n;
       route = route_of (lead_of row / 2 ^ 14);
+      change = unchanged;
     }) parts.0
     ∙ ap (λ (r : TitleRoute). record {
       translation = row.translation;
@@ -44,6 +46,7 @@ row-back row is =
       digits = row.digits;
       point = row.point;
       route = r;
+      change = unchanged;
     }) (ap route_of parts.1 ∙ route-back row.route is.route)
 
 led-same : (key : TitleKey) (digits : List ℕ) (row : TitleEntry) → IsRow row → SameWay key digits row → row_led key digits (lead_of row) ≡ row

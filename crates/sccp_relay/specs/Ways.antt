@@ -3,7 +3,7 @@ use Rattle.std.specs.Prelude.{ℕ, ◌+◌, ◌*◌, ◌^◌, ◌/◌, ◌%◌, 
 use Rattle.std.specs.Str.{bytes_eq}
 use Rattle.sccp_relay.specs.Digits.{DigitMap}
 use Rattle.sccp_codec.specs.declared.title.TitleKey.{TitleKey}
-use Rattle.settings_rows.specs.Configuration.{TitleEntry}
+use Rattle.settings_rows.specs.Configuration.{TitleEntry, unchanged}
 use Rattle.settings_rows.specs.Titles.{HasTitleRanges}
 use Rattle.settings_rows.specs.declared.title_row.TitleRoute.{TitleRoute}
 use Rattle.settings_rows.specs.declared.title_row.TitleRoute.TheVariants.{Title, Ssn}
@@ -45,6 +45,7 @@ row_led key digits lead = record {
   digits = digits;
   point = lead % 2 ^ 14;
   route = route_of (lead / 2 ^ 14);
+  change = unchanged;
 }
 
 -- where rows lead, by their ways
