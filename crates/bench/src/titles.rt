@@ -2,7 +2,7 @@
 
 ghost use Rattle.std.specs.Prelude.{◌≤◌};
 
-use settings::{Limits, TitleDraft};
+use settings::{ChangeDraft, Limits, TitleDraft};
 use std::alloc::{AllocError, Global};
 
 /// Rows of a table that is short.
@@ -82,5 +82,6 @@ fn title(alloc: Global, digits: String, point: i64) -> Result<TitleDraft, AllocE
         point,
         route: format!(in alloc; "ssn")?,
         ssn: Some(SUBSYSTEM as i64),
+        change: ChangeDraft::none(alloc),
     })
 }

@@ -19,8 +19,8 @@ pub use mtp3_codec::Label;
 pub use routes::RouteStatus;
 pub use sccp_relay::TitleKey;
 pub use settings::{
-    Cause, ChangeoverTimer, DestinationDraft, Draft, DraftFault, FailureReason, FaultKind,
+    Cause, ChangeDraft, ChangeoverTimer, DestinationDraft, Draft, DraftFault, FailureReason, FaultKind,
     FrameFault, Key, LateTimer, Limits, LinkDraft, LinkId, Msu, MsuRef, Notice, Outcome, PointCode,
-    SetDraft, SetId, Settings, Sls, Ssn, TimersDraft, TitleDraft, TitleRoute, TitleRow,
+    SetDraft, SetId, Settings, Sls, Ssn, TimersDraft, TitleChange, TitleDraft, TitleRoute, TitleRow,
 };
 pub use view::{LinkStanding, LinkView, NewNotices, RouteView};

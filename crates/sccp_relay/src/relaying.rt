@@ -2,21 +2,20 @@
 
 ghost use Rattle.std.specs.Prelude.{◌≡◌, ◌≤◌, length, drop, List, ℕ, Ok};
 ghost use Rattle.mtp3_codec.specs.Headings.{label_at};
-ghost use Rattle.sccp_codec.specs.Values.{address_of, parts_value};
+ghost use Rattle.sccp_codec.specs.Values.{address_of};
 ghost use Rattle.sccp_relay.specs.Relay as rule;
-ghost use Rattle.sccp_relay.specs.Sccp.{sccp_parts, with_new_parts, lowered};
+ghost use Rattle.sccp_relay.specs.Sccp.{sccp_parts};
 ghost use Rattle.sccp_relay.specs.Values.{own_value, relayed_of, sccp_of, IfOnward};
 
 use crate::Translations;
 use crate::answering::answer;
-use crate::message::{Message, lowered_hops};
+use crate::changing::changed_title;
+use crate::message::Message;
 use crate::own::Own;
 use crate::relayed::Relayed;
-use crate::writing::{ssn_by, translated, write_extended, write_udt, write_udts};
+use crate::writing::{led, ssn_by, write_lowered};
 use mtp3_codec::Label;
-use sccp_codec::{
-    Address, ExtendedUnitdata, Field, Parts, Routing, SccpFault, Udt, Udts, Unitdata,
-};
+use sccp_codec::{Address, Field, Parts, Routing, SccpFault};
 use settings_rows::TitleRow;
 use signalling_types::{Cause, Limits, PointCode};
 
@@ -28,8 +27,8 @@ const LABEL_OCTETS: usize = 4;
 /// place. What follows it there may change, and so may all of that field if it doesn't go on (Q.714 §2.3, §5.3.4).
 ///
 /// Refused, in this order: NotInProfile if it is neither a UDT nor a UDTS, nor an XUDT nor an XUDTS where these are
-/// relayed, and BadSccp if it can't be read; NotInProfile if it is a UDT or an XUDT of a class above 1; HopCounter if it
-/// has a hop counter of 0 or above 15, or of 1 if it is routed by title; if it is routed by title, as
+/// relayed, and BadSccp if it can't be read; NotInProfile if it is a UDT or an XUDT of a class above 1; HopCounter if
+/// it has a hop counter of 0 or above 15, or of 1 if it is routed by title; if it is routed by title, as
 /// `Address::global_title` and then `Translations::translate` refuse the title of its called address; Unequipped if it
 /// is for a subsystem that isn't here; TooLong if it goes on and a pointer is over 255, or the field over 272 octets.
 #[tactic(auto, unfolding(crate::specs::Relay::relay))]
@@ -80,7 +79,7 @@ fn relay_read(
     if !message.is_connectionless() {
         return Relayed::Refused(Cause::NotInProfile);
     }
-    if !message.has_hops() {
+    if !message.has_valid_hops() {
         return Relayed::Refused(Cause::HopCounter);
     }
     let called = &message.parts().called;
@@ -166,51 +165,24 @@ fn lead_on(
     own: &Own<'_>,
     field: &mut Field,
 ) -> Relayed
-    ensures exact { relayed_of result field.new ≡ rule.onward (rule.written row.now.point own.now.point label
-        (with_new_parts (lowered (sccp_of message.now))
-        (rule.led_on row.now label.opc (sccp_parts (sccp_of message.now))))) }
+    ensures exact { relayed_of result field.new ≡ rule.lead_on (own_value own.now) label (sccp_of message.now)
+        row.now.point (rule.translated row.now (sccp_parts (sccp_of message.now)).called) }
     ensures label { IfOnward result (λ count. 4 ≤ count) }
     ensures fits { IfOnward result (λ count. count ≤ Limits.SIF_OCTETS) }
 {
-    let point = row.point();
-    let written = match message {
-        Message::Plain(Unitdata::Udt(udt)) => {
-            let udt = Udt {
-                class_octet: udt.class_octet,
-                parts: led_on(row, label.opc, &udt.parts),
-            };
-            write_udt(point, own.point, label, &udt, field)
-        }
-        Message::Plain(Unitdata::Udts(udts)) => {
-            let udts = Udts {
-                return_cause: udts.return_cause,
-                parts: led_on(row, label.opc, &udts.parts),
-            };
-            write_udts(point, own.point, label, &udts, field)
-        }
-        Message::Extended(extended) => {
-            let extended = ExtendedUnitdata {
-                hop_counter: lowered_hops(extended),
-                parts: led_on(row, label.opc, &extended.parts),
-                ..*extended
-            };
-            write_extended(point, own.point, label, &extended, field)
-        }
+    let came = message.parts();
+    let changed = match changed_title(row, &came.called) {
+        Ok(changed) => changed,
+        Err(cause) => return Relayed::Refused(cause),
     };
-    match written {
+    let parts = Parts {
+        called: led(row, &came.called, &changed),
+        calling: from_point(label.opc, &came.calling),
+        data: came.data,
+    };
+    match write_lowered(row.point(), own.point, label, message, &parts, field) {
         Some(count) => Relayed::Onward(count),
         None => Relayed::Refused(Cause::TooLong),
-    }
-}
-
-/// The parts, as a row leads them on.
-fn led_on<'a>(row: &TitleRow, sender: PointCode, parts: &Parts<'a>) -> Parts<'a>
-    ensures { parts_value result ≡ rule.led_on row.now sender (parts_value parts.now) }
-{
-    Parts {
-        called: translated(row, &parts.called),
-        calling: from_point(sender, &parts.calling),
-        data: parts.data,
     }
 }
 

@@ -81,6 +81,8 @@ pub enum Key {
     ExtendedUnitdata,
     /// `subsystem_tests`.
     SubsystemTests,
+    /// `user_part_unavailable`.
+    UserPartUnavailable,
     /// `timers`, the table itself.
     Timers,
     /// A key of `timers`.
@@ -133,6 +135,14 @@ pub enum Key {
     TitleRoute(usize),
     /// `title[i].ssn`.
     TitleSsn(usize),
+    /// `title[i].new_plan`.
+    TitleNewPlan(usize),
+    /// `title[i].new_nature`.
+    TitleNewNature(usize),
+    /// `title[i].remove`.
+    TitleRemove(usize),
+    /// `title[i].add`.
+    TitleAdd(usize),
 }
 
 impl Key {
@@ -150,6 +160,7 @@ impl Key {
             Key::Subsystems => "subsystems",
             Key::ExtendedUnitdata => "extended_unitdata",
             Key::SubsystemTests => "subsystem_tests",
+            Key::UserPartUnavailable => "user_part_unavailable",
             Key::Timers => "timers",
             Key::Timer(timer) => timer.path(),
             Key::Set | Key::SetEntry(_) | Key::SetName(_) | Key::SetAdjacent(_) => "set",
@@ -172,7 +183,11 @@ impl Key {
             | Key::TitleDigits(_)
             | Key::TitlePoint(_)
             | Key::TitleRoute(_)
-            | Key::TitleSsn(_) => "title",
+            | Key::TitleSsn(_)
+            | Key::TitleNewPlan(_)
+            | Key::TitleNewNature(_)
+            | Key::TitleRemove(_)
+            | Key::TitleAdd(_) => "title",
         }
     }
 
@@ -200,7 +215,11 @@ impl Key {
             | Key::TitleDigits(i)
             | Key::TitlePoint(i)
             | Key::TitleRoute(i)
-            | Key::TitleSsn(i) => Some(i),
+            | Key::TitleSsn(i)
+            | Key::TitleNewPlan(i)
+            | Key::TitleNewNature(i)
+            | Key::TitleRemove(i)
+            | Key::TitleAdd(i) => Some(i),
             _ => None,
         }
     }
@@ -224,6 +243,10 @@ impl Key {
             Key::TitleDigits(_) => ".digits",
             Key::TitleRoute(_) => ".route",
             Key::TitleSsn(_) => ".ssn",
+            Key::TitleNewPlan(_) => ".new_plan",
+            Key::TitleNewNature(_) => ".new_nature",
+            Key::TitleRemove(_) => ".remove",
+            Key::TitleAdd(_) => ".add",
             _ => "",
         }
     }

@@ -1,6 +1,6 @@
 //! Settings that no file has: a draft without a row, and more translation rows than a file can hold.
 
-use exchange::{Draft, Settings, TitleDraft};
+use exchange::{ChangeDraft, Draft, Settings, TitleDraft};
 use script::built_in;
 use std::alloc::Global;
 use std::test::*;
@@ -73,6 +73,7 @@ fn title(alloc: Global, number: u32) -> Result<TitleDraft, Fail> {
         point: 2,
         route: String::from_str(alloc, "title")?,
         ssn: None,
+        change: ChangeDraft::none(alloc),
     })
 }
 

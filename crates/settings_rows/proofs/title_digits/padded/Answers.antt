@@ -1,7 +1,7 @@
 -- What is copied comes first, and the zeros after it are left.
 use Rattle.std.proofs.Common.{ap, ◌++◌, List, ℕ, length}
 use Rattle.std.proofs.lemmas.List.{drop-replicate}
-use Rattle.settings_rows.proofs.title_row.padded.Goals as goal
+use Rattle.settings_rows.proofs.title_digits.padded.Goals as goal
 
 pub returns : goal.returns
 returns c =

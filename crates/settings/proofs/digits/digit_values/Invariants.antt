@@ -1,5 +1,5 @@
 use Rattle.settings.proofs.Basics.{◌≡◌, ◌<◌, ◌^◌, All, map, take, drop, list_all, is_digit, digit_of}
-use Rattle.settings.proofs.titles.digit_values.Given as goal
+use Rattle.settings.proofs.digits.digit_values.Given as goal
 
 abbrev pub invariant-loop-octet : goal.invariant-loop-octet
 invariant-loop-octet l = record {

@@ -1,7 +1,7 @@
 use Rattle.std.proofs.Common.{arith, refl, ◌<◌, ◌^◌}
 use Rattle.std.proofs.lemmas.Grind.{common_steps}
 use Rattle.std.proofs.lemmas.List.Elements.{All-more}
-use Rattle.settings_rows.proofs.title_row.are_digits.Goals as goal
+use Rattle.settings_rows.proofs.title_digits.are_digits.Goals as goal
 
 pub loop-digit-preserved : goal.loop-digit-preserved
 loop-digit-preserved c =
