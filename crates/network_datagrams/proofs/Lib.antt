@@ -7,3 +7,4 @@ pub mod Changing
 pub mod Meeting
 pub mod Running
 pub mod Promised
+pub mod Paths
