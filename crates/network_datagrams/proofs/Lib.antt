@@ -8,3 +8,4 @@ pub mod Meeting
 pub mod Running
 pub mod Promised
 pub mod Paths
+pub mod Happening

@@ -1,5 +1,6 @@
 //! What the nodes of a network promise over datagrams. The statements are those of `specs/NetworkPromises.antt`.
 
+ghost use Rattle.network_datagrams.specs.Example.{Happens};
 ghost use Rattle.network_datagrams.specs.NetworkPromises.{books_are_of_the_two, each_flow_in_order, each_message_once};
 ghost use Rattle.network_datagrams.specs.NetworkPromises.{each_message_is_accounted_for, flows_stay_between};
 ghost use Rattle.network_datagrams.specs.NetworkPromises.{last_hops_keep_flows_in_order, nodes_pass_on_in_order};
@@ -74,4 +75,10 @@ pub fn paths_keep_the_order_of_their_hops()
     ensures nodes { nodes_pass_on_in_order }
     ensures paths { paths_keep_the_order_of_their_hops }
     ensures last { last_hops_keep_flows_in_order }
+{}
+
+/// These laws aren't empty. Three nodes in a row keep the premises, and in a run of 11 steps a link between two of them
+/// opens at one and then at the other, and a link status crosses in a datagram that comes twice, once.
+pub fn a_link_opens_over_datagrams()
+    ensures { Happens }
 {}
