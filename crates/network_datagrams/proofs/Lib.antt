@@ -9,3 +9,4 @@ pub mod Running
 pub mod Promised
 pub mod Paths
 pub mod Happening
+pub mod Fitting

@@ -1,7 +1,10 @@
 -- What the nodes of a network promise over datagrams: all that those of `network_rules` promise.
-use Rattle.std.specs.Prelude.{◌≡◌, ℕ, true, List}
+use Rattle.std.specs.Prelude.{◌≡◌, ℕ, true, List, Some}
 use Rattle.signalling_types.specs.declared.point.Flow.{Flow}
 use Rattle.settings_rows.specs.Configuration.{Configuration}
+use Rattle.m2pa_codec.specs.Frames.{FrameValue}
+use Rattle.exchange_rules.specs.Exchange.{frame_to_take}
+use Rattle.exchange_rules.specs.Queues.{whole}
 use Rattle.sctp_ends.specs.Shown.{AreGood}
 use Rattle.pair_rules.specs.Awaiting.{HoldInNoVain}
 use Rattle.pair_rules.specs.Pairs.{PairState}
@@ -13,8 +16,9 @@ use Rattle.network_rules.specs.Networks.{NetworkNode, Step, after_steps, first_n
 use Rattle.network_rules.specs.Pairs.{pair_of}
 use Rattle.network_rules.specs.Paths.{ComesInOrder, EachHopInOrder, EachOnlyPasses, KeepsInOrder, PassesInOrder}
 use Rattle.network_rules.specs.Totals.{ComeToPoint, HaveLostNothing, IsAccounted, IsJoined, is_listed}
+use Rattle.node_rules.specs.Promises.{IsShort}
 use Rattle.node_rules.specs.Worlds.{Make}
-use Rattle.network_datagrams.specs.NetworkWorlds.{NetworkWorld, Steps, last_world, new_world, shown}
+use Rattle.network_datagrams.specs.NetworkWorlds.{HasEnd, NetworkWorld, Steps, last_world, new_world, shown}
 
 abbrev pub settings_of : (make : (point : ℕ) → Make) → (point : ℕ) → Configuration
 settings_of make point = (make point).configuration
@@ -113,3 +117,12 @@ last_hops_keep_flows_in_order =
     (near far sls : ℕ) → AreSharing (settings_of make near) (settings_of make far) →
     LostNothing (pair_of (shown w) near far) → IsPunctual (pair_of (shown w) near far) →
     KeepsInOrder (record { point = far; sls = sls }) (shown w) near far)
+
+-- ---- frames
+
+-- an endpoint takes each frame that a link sends next as a message, as in `node_rules`
+abbrev pub frames_are_short : Type 0
+frames_are_short =
+    Always (λ make points w.
+    (point link : ℕ) → HasEnd w point link → (frame : FrameValue) →
+    frame_to_take whole (w.node point).books.exchange link ≡ Some frame → IsShort frame)

@@ -3,6 +3,7 @@
 ghost use Rattle.network_datagrams.specs.Example.{Happens};
 ghost use Rattle.network_datagrams.specs.NetworkPromises.{books_are_of_the_two, each_flow_in_order, each_message_once};
 ghost use Rattle.network_datagrams.specs.NetworkPromises.{each_message_is_accounted_for, flows_stay_between};
+ghost use Rattle.network_datagrams.specs.NetworkPromises.{frames_are_short};
 ghost use Rattle.network_datagrams.specs.NetworkPromises.{last_hops_keep_flows_in_order, nodes_pass_on_in_order};
 ghost use Rattle.network_datagrams.specs.NetworkPromises.{paths_keep_the_order_of_their_hops};
 ghost use Rattle.network_datagrams.specs.NetworkPromises.{messages_come_from_end_to_end, nothing_is_awaited_in_vain};
@@ -75,6 +76,11 @@ pub fn paths_keep_the_order_of_their_hops()
     ensures nodes { nodes_pass_on_in_order }
     ensures paths { paths_keep_the_order_of_their_hops }
     ensures last { last_hops_keep_flows_in_order }
+{}
+
+/// The next frame that a link sends has 1 to 290 octets, so an endpoint takes it as a message.
+pub fn frames_fit_an_endpoint()
+    ensures { frames_are_short }
 {}
 
 /// These laws aren't empty. Three nodes in a row keep the premises, and in a run of 11 steps a link between two of them
