@@ -115,3 +115,6 @@ pub mod ProvedEvents
 pub mod Inhibited
 pub mod InhibitedTicks
 pub mod InhibitedRuns
+pub mod Causes
+pub mod EndedHolds
+pub mod FailedLinks

@@ -10,7 +10,7 @@ use Rattle.changeback.specs.Rerouting.{rerouted}
 use Rattle.route_management.specs.Told as told
 use Rattle.route_management.specs.declared.heard.Heard.TheVariants as hears
 use Rattle.exchange_rules.specs.Testing.{is_unsure}
-use Rattle.exchange_rules.proofs.Steps.{status_over, AreQuiet, KeepsTests, IsJustSet, AreTestedAs, IsOfSends, IsOfRules, either-steps, either_done-steps}
+use Rattle.exchange_rules.proofs.Steps.{status_over, AreQuiet, KeepsTests, IsJustSet, AreTestedAs, IsOfSends, either-steps, either_done-steps, Deed, IsOfDeeds}
 use Rattle.exchange_rules.proofs.OwnRoutes.{rerouted-one, one-unsure, allowed-sure}
 use Rattle.exchange_rules.proofs.KeepingTests.{set-tests, telling-tests, clear-tests}
 use Rattle.exchange_rules.proofs.SteppingTimers.{same-quiet, set-quiet, clear-quiet}
@@ -51,7 +51,7 @@ module _ {c : Configuration} {R : Node WholeQueues → Node WholeQueues → Type
   send_each-steps [] n = s.none n
   send_each-steps (m ∷ ms) n = s.both _ _ _ (by_link-steps None (link_of c n.parts (flow_of m)) m n refl) (send_each-steps ms (send_anew whole c m n))
 
-module _ {c : Configuration} {Own Counts : ℕ → Type 0} {R : Node WholeQueues → Node WholeQueues → Type 0} (s : IsOfRules c Own Counts R) where
+module _ {c : Configuration} {Own Counts : ℕ → Type 0} {May : Deed → Type 0} {R : Node WholeQueues → Node WholeQueues → Type 0} (s : IsOfDeeds c Own Counts May R) where
   -- ---- what adjacent points are told
 
   pub told_parts-steps : (o : Owed) (n : Node WholeQueues) → R n (with_parts n (told_parts c o n.parts))

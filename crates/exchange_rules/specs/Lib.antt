@@ -33,4 +33,5 @@ pub mod Receiving
 pub mod Conserving
 pub mod LawsOfMessages
 pub mod LawsOfLosses
+pub mod LawsOfCauses
 pub mod RuleExamples

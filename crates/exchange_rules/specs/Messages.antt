@@ -1,4 +1,5 @@
--- HMRT, message routing (Q.704 §2.3): room, then Held if the flow has a hold, then a route, then the end of a queue.
+-- HMRT, message routing (Q.704 §2.3): room in the pool and in the link's share of it, then Held if the flow has a hold,
+-- then a route, then the end of a queue.
 use Rattle.std.specs.Prelude.{ℕ, Bool, true, false, Option, Some, None, is_some, if◌then◌else◌, List, ◌&&◌, nat_eq, position, Result, Ok, Err, nat_lt, length}
 use Rattle.signalling_types.specs.Message.{Message, flow_of, dpc_of, service_indicator, opc_of, is_management}
 use Rattle.settings_rows.specs.Configuration.{Configuration, TitleEntry}
@@ -78,8 +79,8 @@ in_place_of m sif = record m { sif = sif }
 module _ {Q : Type 0} (q : QueueKind Q) (c : Configuration) where
   -- ---- a refused message is returned
 
-  -- the UDTS that returns a message, if one does, goes the way of any message for another point; if there is no way, it
-  -- is dropped
+  -- the UDTS or XUDTS that returns a message, if one does, goes the way of any message for another point; if there is
+  -- no way, it is dropped
   abbrev pub send_udts : (udts : Option (List ℕ)) → Message → Node Q → Node Q
   send_udts (Some sif) m node = (transfer q c None (in_place_of m sif) node).left
   send_udts None m node = node
