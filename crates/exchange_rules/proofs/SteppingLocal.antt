@@ -1,20 +1,22 @@
 -- Messages for this point, and those that frames carry and user parts hand over: each rule is made of steps.
 use Rattle.exchange_rules.proofs.Basics.{◌≡◌, ℕ, Bool, true, false, Option, Some, None, Result, Ok, Err, refl, if◌then◌else◌}
-use Rattle.exchange_rules.proofs.Definitions.{Message, dpc_of, opc_of, service_indicator, is_management, Configuration, Cause, Outcome, Queued, Held, Local, Handled, Ignored, Refused, set_place, destination_place, MgmtFault, TestKind, Test, Acknowledgement, Management, TrafficRestartAllowed, ExtendedChangeoverOrder, ExtendedChangeoverAcknowledgement, EmergencyChangeoverOrder, EmergencyChangeoverAcknowledgement, ChangebackDeclaration, ChangebackAcknowledgement, TransferProhibited, TransferRestricted, TransferAllowed, RouteSetTestProhibited, RouteSetTestRestricted, LinkTestValue, read_link_test, read_management, Allowed, Restricted, Prohibited, is_outstanding, Discrimination, Node, Done, with_parts, answer, refuse, in_service, note_outcome, route_about, no_room, send, changeback_acknowledgement, freed, on_changeback_acknowledgement, sccp, is_user, is_adjacent, test_answer, link_with_code, local, do_order, do_acknowledgement, do_management, do_kind, do_test, manage, distribute, transfer, on_unitdata, whither_goes, deliver_to, deliver, submit_to, submit, WholeQueues, whole}
+use Rattle.exchange_rules.proofs.Definitions.{Message, dpc_of, opc_of, service_indicator, is_management, Configuration, Cause, Outcome, Queued, Held, Local, Handled, Ignored, Refused, set_place, destination_place, MgmtFault, TestKind, Test, Acknowledgement, Management, TrafficRestartAllowed, ExtendedChangeoverOrder, ExtendedChangeoverAcknowledgement, EmergencyChangeoverOrder, EmergencyChangeoverAcknowledgement, ChangebackDeclaration, ChangebackAcknowledgement, TransferProhibited, TransferRestricted, TransferAllowed, RouteSetTestProhibited, RouteSetTestRestricted, UserPartUnavailable, LinkTestValue, read_link_test, read_management, Allowed, Restricted, Prohibited, is_outstanding, Discrimination, Node, Done, with_parts, answer, refuse, in_service, note_outcome, route_about, no_room, send, changeback_acknowledgement, freed, on_changeback_acknowledgement, sccp, is_user, is_adjacent, answer_no_user_part, from_afar, test_answer, link_with_code, local, do_order, do_acknowledgement, do_management, do_kind, do_test, manage, distribute, transfer, on_unitdata, whither_goes, deliver_to, deliver, submit_to, submit, WholeQueues, whole}
 use Rattle.std.specs.Prelude.{nat_eq}
 use Rattle.signalling_types.specs.declared.cause.Cause.TheVariants as causes
 use Rattle.signalling_types.specs.declared.notice.Notice.TheVariants as notices
 use Rattle.route_management.specs.declared.heard.RouteTest.TheVariants as tests
 use Rattle.mtp3_codec.specs.declared.discrimination.Discrimination.TheVariants as whither
 use Rattle.exchange_rules.proofs.Steps.{IsOfRules, either_done-steps}
-use Rattle.exchange_rules.proofs.SteppingMessages.{send_routed-steps, on_route_test-steps, on_route_status-steps, transfer-steps}
+use Rattle.exchange_rules.proofs.SteppingMessages.{answer_no_user_part-steps, send_routed-steps, on_route_test-steps, on_route_status-steps, transfer-steps}
 use Rattle.exchange_rules.proofs.SteppingRelaying.{on_unitdata-steps}
 
 module _ {c : Configuration} {Own Counts : ℕ → Type 0} {R : Node WholeQueues → Node WholeQueues → Type 0} (s : IsOfRules c Own Counts R) where
-  local-steps : (m : Message) (n : Node WholeQueues) → R n (local whole c m n).left
-  local-steps m n =
-      either_done-steps s.sends (nat_eq (service_indicator m) sccp) n (on_unitdata whole c m n) (if is_user c (service_indicator m) then answer Local n else refuse causes.NoUserPart n) (on_unitdata-steps s m n)
-      (either_done-steps s.sends (is_user c (service_indicator m)) n (answer Local n) (refuse causes.NoUserPart n) (s.sends.none n) (s.sends.none n))
+  local-steps : (from : Option ℕ) (m : Message) (n : Node WholeQueues) → R n (local whole c from m n).left
+  local-steps from m n =
+      let origin : Option ℕ = destination_place c (opc_of m) in
+      let absent : Done WholeQueues = refuse causes.NoUserPart (answer_no_user_part whole c from origin m n) in
+      either_done-steps s.sends (nat_eq (service_indicator m) sccp) n (on_unitdata whole c m n) (if is_user c (service_indicator m) then answer Local n else absent) (on_unitdata-steps s m n)
+      (either_done-steps s.sends (is_user c (service_indicator m)) n (answer Local n) absent (s.sends.none n) (answer_no_user_part-steps s from origin m n))
 
   -- ---- tests of a link
 
@@ -63,10 +65,11 @@ module _ {c : Configuration} {Own Counts : ℕ → Type 0} {R : Node WholeQueues
   do_management-steps (Ok (TransferAllowed about)) point n = on_route_status-steps s Allowed (route_about (set_place c point) (destination_place c about)) n
   do_management-steps (Ok (RouteSetTestProhibited about)) point n = on_route_test-steps s tests.Prohibited (route_about (set_place c point) (destination_place c about)) n
   do_management-steps (Ok (RouteSetTestRestricted about)) point n = on_route_test-steps s tests.Restricted (route_about (set_place c point) (destination_place c about)) n
+  do_management-steps (Ok (UserPartUnavailable about user_part cause)) point n = s.sends.none n
 
   heard-steps : (adjacent : Bool) (link : ℕ) (m : Message) (n : Node WholeQueues) → in_service n.parts link ≡ true → is_adjacent c (opc_of m) ≡ adjacent
       → R n (if adjacent then (if nat_eq (service_indicator m) 1 then do_test whole c (read_link_test m.sif) link (opc_of m) n
-      else do_management whole c (read_management m.sif) (opc_of m) n) else refuse causes.NotFromAdjacent n).left
+      else do_management whole c (read_management m.sif) (opc_of m) n) else answer (from_afar c m) n).left
   heard-steps true link m n e f =
       either_done-steps s.sends (nat_eq (service_indicator m) 1) n (do_test whole c (read_link_test m.sif) link (opc_of m) n) (do_management whole c (read_management m.sif) (opc_of m) n)
       (do_test-steps (read_link_test m.sif) link (opc_of m) n e f) (do_management-steps (read_management m.sif) (opc_of m) n)
@@ -74,7 +77,7 @@ module _ {c : Configuration} {Own Counts : ℕ → Type 0} {R : Node WholeQueues
 
   distribute-steps : (link : ℕ) (m : Message) (n : Node WholeQueues) → in_service n.parts link ≡ true → R n (distribute whole c link m n).left
   distribute-steps link m n e =
-      either_done-steps s.sends (is_management m) n (manage whole c link m n) (local whole c m n) (heard-steps (is_adjacent c (opc_of m)) link m n e refl) (local-steps m n)
+      either_done-steps s.sends (is_management m) n (manage whole c link m n) (local whole c (Some link) m n) (heard-steps (is_adjacent c (opc_of m)) link m n e refl) (local-steps (Some link) m n)
 
   -- ---- messages in frames, and those that are handed over
 
@@ -98,7 +101,7 @@ module _ {c : Configuration} {Own Counts : ℕ → Type 0} {R : Node WholeQueues
 
   submit_to-steps : (d : Discrimination) (m : Message) (n : Node WholeQueues) → R n (submit_to whole c d m n).left
   submit_to-steps (whither.Refused cause) m n = s.sends.none n
-  submit_to-steps (whither.Here label) m n = either_done-steps s.sends (is_management m) n (refuse causes.NotInProfile n) (local whole c m n) (s.sends.none n) (local-steps m n)
+  submit_to-steps (whither.Here label) m n = either_done-steps s.sends (is_management m) n (refuse causes.NotInProfile n) (local whole c None m n) (s.sends.none n) (local-steps None m n)
   submit_to-steps (whither.Transfer label) m n =
       either_done-steps s.sends (is_management m) n (refuse causes.NotInProfile n) (transfer whole c None m n) (s.sends.none n) (transfer-steps s None m n)
 

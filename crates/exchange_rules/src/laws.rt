@@ -34,7 +34,8 @@ ghost use Rattle.exchange_rules.specs.LawsOfReturns.{flows_return_by_their_proce
 ghost use Rattle.exchange_rules.specs.LawsOfShares.{full_shares_refuse, others_know_no_shares};
 
 /// A refused event changes nothing, but that a refused message may be answered: a UDT for this point is returned, and
-/// where a message in a frame found no route the point at the other end of its link is told. Of a message in a frame
+/// where a message in a frame found no route the point at the other end of its link is told, and of one for a user part
+/// that isn't here its sender. Of a message in a frame
 /// also what accepting that frame did stands, with a notice, and what then found room to be told.
 pub fn refusals_change_nothing()
     ensures { refusals_leave }
