@@ -1,9 +1,9 @@
 -- Link tests, and management that passes by, as it comes to a node: by moves.
-use Rattle.pair_rules.proofs.Basics.{suc, ◌≡◌, ◌≢◌, ◌<◌, ◌≤◌, ◌+◌, ◌^◌, ◌/◌, ◌&&◌, ℕ, Bool, true, false, List, [], ◌∷◌, length, Option, Some, None, Result, Ok, Err, refl, ap, sym, subst, ◌∙◌, nat_eq, nat_lt, arith, nat_tests, drop, take, if◌then◌else◌, option_and_then, slice_index_or, ⊎_elim, cases_eq}
+use Rattle.pair_rules.proofs.Basics.{suc, ◌≡◌, ◌≢◌, ◌<◌, ◌≤◌, ◌+◌, ◌^◌, ◌/◌, ◌%◌, ◌&&◌, ℕ, Bool, true, false, List, [], ◌∷◌, length, Option, Some, None, Result, Ok, Err, refl, ap, sym, subst, ◌∙◌, nat_eq, nat_lt, arith, nat_tests, drop, take, if◌then◌else◌, option_and_then, slice_index_or, ⊎_elim, cases_eq}
 use Rattle.pair_rules.proofs.Definitions.{Message, SIF_OCTETS, flow_of, is_management, opc_of, service_indicator, Cause, Handled, Ignored, Configuration, LinkEntry, SetEntry, set_place, destination_place, Management, MgmtFault, read_management, Node, answer, refuse, with_parts, in_service, set_of, link_of, no_room, send, queue_on, link_with_code, is_outstanding, freed, on_changeback_acknowledgement, on_management, do_management, do_order, do_acknowledgement, do_test, manage, testing, is_adjacent, WholeQueues, whole, StaysFit, fit-steps, Saying}
 use Rattle.std.proofs.lemmas.List.{length-drop, length-take}
 use Rattle.std.proofs.lemmas.List.Quantifiers.{position-Some}
-use Rattle.mtp3_codec.specs.Headings.{changeback_code_in, kind_of, label_at, number_in, point_in}
+use Rattle.mtp3_codec.specs.Headings.{cause_of_code, changeback_code_in, kind_of, label_at, number_in, point_in}
 use Rattle.mtp3_codec.specs.Management.{LinkTestValue, link_code_of, message_of, message_in, pattern_in, read_link_test, test_in, test_of_kind, with_field, unavailable_in}
 use Rattle.mtp3_codec.specs.declared.fault.MgmtFault.TheVariants as faults
 use Rattle.mtp3_codec.specs.declared.link_test.TestKind.{TestKind}
@@ -55,7 +55,8 @@ coded-unavailable : (fields : List ℕ) → IsCoded (unavailable_in fields)
 coded-unavailable [] = coded-err faults.Short
 coded-unavailable (low ∷ []) = coded-err faults.Short
 coded-unavailable (low ∷ high ∷ []) = coded-err faults.Short
-coded-unavailable (low ∷ high ∷ octet ∷ rest) = coded-ok _ (omega arith)
+coded-unavailable (low ∷ high ∷ octet ∷ rest) =
+    coded-field (λ point. says.UserPartUnavailable point (octet % 16) (cause_of_code (octet / 16))) (point_in (low ∷ high ∷ [])) (λ k. omega arith)
 
 coded-message : (octet slc : ℕ) (fields : List ℕ) → slc < 2 ^ 4 → IsCoded (message_of octet slc fields)
 coded-message octet slc fields h =

@@ -184,7 +184,7 @@ module _ (c : Configuration) (link : ℕ) where
   parted false n o = refl
 
   -- one whose user part isn't here
-  absent : Message → Node WholeQueues → Node WholeQueues
+  abbrev absent : Message → Node WholeQueues → Node WholeQueues
   absent m n = answer_no_user_part whole c (Some link) (destination_place c (opc_of m)) m n
 
   module _ (m : Message) (n : Node WholeQueues) where
