@@ -15,8 +15,8 @@ use Rattle.node_rules.specs.Worlds.{Make, Port, new_port, associated, told_by, i
 
 -- ---- a node
 
--- what it is and books in a network, but for what is in flight to it: that its endpoints put out; and the endpoint of
--- each of its links
+-- its exchange and its books, as in a network of `network_rules`, but that nothing is ever in flight to it: what is, the
+-- endpoints put out; and the endpoint of each of its links
 pub record Node : Type 0 where
   pub books : NetworkNode
   pub ports : (link : ℕ) → Port
