@@ -1,10 +1,10 @@
 -- The titles of what goes on and of what is returned, read where they arrive.
-use Rattle.std.proofs.Common.{◌≡◌, ◌≢◌, ℕ, ◌+◌, ◌-◌, ◌*◌, ◌/◌, ◌%◌, ◌^◌, ◌<◌, ◌≤◌, Bool, true, false, List, [], ◌∷◌, ◌++◌, length, drop, take, get_or, Option, Some, None, Result, Ok, Err, refl, sym, ap, subst, ◌∙◌, inl, inr, arith}
-use Rattle.std.proofs.lemmas.Bool.{cases_lt, eq-eqb, eqb-true, eqb-false, and_parts}
+use Rattle.std.proofs.Common.{◌≡◌, ◌≢◌, ℕ, ◌+◌, ◌-◌, ◌*◌, ◌/◌, ◌%◌, ◌^◌, ◌<◌, ◌≤◌, Bool, true, false, List, [], ◌∷◌, length, drop, take, Option, Some, None, Result, Ok, Err, refl, sym, ap, subst, ◌∙◌, inl, inr, arith}
+use Rattle.std.proofs.lemmas.Bool.{cases_lt, eqb-true, eqb-false, and_parts}
 use Rattle.std.proofs.lemmas.List.{get_or-drop, get_or-take, get_or_past, length-take}
 use Rattle.std.proofs.lemmas.List.Elements.{All-append, All-drop, All-take, All-from_recursion, All-from_get_or, recursion_from_All}
 use Rattle.std.specs.List.{AllByRecursion, flat_map}
-use Rattle.std.specs.Prelude.{◌==◌, ◌&&◌, if◌then◌else◌, nat_eq, nat_lt, All, IfSome, is_none, unwrap_or, slice_index}
+use Rattle.std.specs.Prelude.{◌==◌, ◌&&◌, if◌then◌else◌, nat_eq, nat_lt, All, IfSome, is_none, unwrap_or}
 use Rattle.signalling_types.specs.declared.cause.Cause.{Cause}
 use Rattle.signalling_types.specs.declared.cause.Cause.TheVariants.{NoDigits, TooLong, NoNature}
 use Rattle.settings_rows.specs.Configuration.{ChangeEntry, unchanged}
@@ -15,7 +15,7 @@ use Rattle.sccp_codec.specs.declared.title.TitleKey.{TitleKey}
 use Rattle.sccp_codec.specs.Messages.{AddressValue, AreOctets}
 use Rattle.sccp_codec.specs.Titles.{TitleValue, halves, digits_in, read_octets, read_title, title_octets}
 use Rattle.sccp_codec.proofs.TitleTexts.{title-back}
-use Rattle.sccp_relay.specs.Changing.{is_unchanged, changed_key, changed_digits, octets_of_title, changed_octets, title_after}
+use Rattle.sccp_relay.specs.Changing.{is_unchanged, changed_key, changed_digits, changed_octets, title_after}
 use Rattle.sccp_relay.specs.Led.{SameTitle, IsChanged}
 
 -- ---- what changes nothing

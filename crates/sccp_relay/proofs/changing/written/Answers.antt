@@ -1,4 +1,4 @@
-use Rattle.std.proofs.Common.{◌≡◌, ◌≤◌, List, ℕ, length, refl, ◌∙◌, arith}
+use Rattle.std.proofs.Common.{◌≤◌, List, ℕ, length, refl, ◌∙◌, arith}
 use Rattle.std.proofs.lemmas.List.{take_all}
 use Rattle.sccp_codec.specs.Titles.{digits_in, packed}
 use Rattle.sccp_relay.specs.Changing as rule
