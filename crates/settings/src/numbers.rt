@@ -69,10 +69,7 @@ pub(crate) fn point(value: i64, key: Key) -> Result<PointCode, DraftFault>
 }
 
 /// The point of this number, if it wasn't left out.
-pub(crate) fn optional_point(
-    value: Option<i64>,
-    key: Key,
-) -> Result<Option<PointCode>, DraftFault>
+pub(crate) fn optional_point(value: Option<i64>, key: Key) -> Result<Option<PointCode>, DraftFault>
     ensures value { IfOk result (λ point. point ≡ option_map natural value) }
     ensures well { OnOk result (optional_fault 0 16383 key value ≡ None) }
     ensures fault { IfErr result (λ fault. optional_fault 0 16383 key value ≡ Some fault) }

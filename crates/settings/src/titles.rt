@@ -178,9 +178,10 @@ fn routed_row(
     let by_title = is_by_title(title.route.as_str(), Key::TitleRoute(place))?;
     let ssn = subsystem(title.ssn, Key::TitleSsn(place))?;
     let route = route(by_title, ssn, Key::TitleSsn(place))?;
-    let row = TitleRow::new(translation, plan, nature, digits, point, route).ok_or(
-        DraftFault::At(FaultKind::Range, Key::TitleDigits(place)),
-    )?;
+    let row = TitleRow::new(translation, plan, nature, digits, point, route).ok_or(DraftFault::At(
+        FaultKind::Range,
+        Key::TitleDigits(place),
+    ))?;
     Ok(backed_up(row, backup))
 }
 
