@@ -103,7 +103,7 @@ pub fn relayed(said: &mut Said, table: &Translations, sif: &[u8], extended: bool
         point: PointCode::of_low_bits(1),
         subsystems: &[8],
         extended,
-        tested: extended,
+        answers_tests: extended,
     };
     if sif.len() < 4 {
         return;

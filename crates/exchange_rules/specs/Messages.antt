@@ -68,7 +68,7 @@ own_of c = record {
   point = c.own;
   subsystems = c.subsystems;
   extended = c.extended_unitdata;
-  tested = c.subsystem_tests;
+  answers_tests = c.subsystem_tests;
 }
 
 -- a message in the place of another, with the same service information octet

@@ -163,7 +163,7 @@ fn own_of(settings: &Settings) -> Own<'_>
         point: settings.own(),
         subsystems: settings.subsystems(),
         extended: settings.extended_unitdata(),
-        tested: settings.subsystem_tests(),
+        answers_tests: settings.subsystem_tests(),
     }
 }
 

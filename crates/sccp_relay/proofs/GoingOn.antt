@@ -17,7 +17,7 @@ use Rattle.sccp_codec.specs.declared.management.ManagementKind.TheVariants.{Subs
 use Rattle.sccp_codec.specs.Messages.{AreOctets, IsAddressValue, IsPartsValue, PartsValue, UdtValue, UdtsValue}
 use Rattle.sccp_codec.specs.Management.{ManagementValue, read_management}
 use Rattle.sccp_codec.proofs.ManagementTexts.{read_management-written}
-use Rattle.sccp_relay.specs.Sccp.{SccpValue, Plain, Extended, sccp_parts, with_new_parts, read_sccp, is_connectionless, has_hops, lowered, is_spent}
+use Rattle.sccp_relay.specs.Sccp.{SccpValue, Plain, Extended, sccp_parts, with_new_parts, read_sccp, is_connectionless, has_valid_hops, lowered, is_spent}
 use Rattle.sccp_relay.specs.Relay.{OwnValue, RelayedValue, Delivered, Onward, Refused, relay, relay_read, relay_by_routing, relay_by_row, row_of, ssn_by, written, onward, led_on, is_equipped, for_subsystem, answered_or, answer, answer_to, allowed, is_answered, is_management, is_test, management_address}
 use Rattle.sccp_relay.specs.Led.{IsLed, IsSeenFrom, IsLowered, GoesOn, IsForManagement, IsTestAnswer, AreInRange, type_octet, second_octet, hops_of, optional_of, what_goes_on_reads_back}
 use Rattle.sccp_relay.specs.Ways.{IsRow}
@@ -39,7 +39,7 @@ pub record Answers (own : OwnValue) (label : Label) (ssn : Option ℕ) (came : S
   pub class_octet : ℕ
   pub parts : PartsValue
   pub plain : came ≡ Plain (UdtValue class_octet parts)
-  pub tested : own.tested ≡ true
+  pub tested : own.answers_tests ≡ true
   pub number : ssn ≡ Some 1
   pub test : ManagementValue
   pub says : read_management parts.data ≡ Ok test
@@ -83,14 +83,14 @@ answer-answers : (own : OwnValue) (label : Label) (ssn : Option ℕ) (came : Scc
 answer-answers own label ssn (Plain (UdtsValue number parts)) field e = absurd cc
 answer-answers own label ssn (Extended v) field e = absurd cc
 answer-answers own label ssn (Plain (UdtValue class_octet parts)) field e =
-    let r = in-case (own.tested && is_management ssn) (answer_to own label (read_management parts.data)) field e in
+    let r = in-case (own.answers_tests && is_management ssn) (answer_to own label (read_management parts.data)) field e in
     let a = is-answer own label (read_management parts.data) field r.1 in
     record {
       class_octet = class_octet;
       parts = parts;
       plain = refl;
-      tested = (and_parts own.tested (is_management ssn) r.0).0;
-      number = management-number ssn (and_parts own.tested (is_management ssn) r.0).1;
+      tested = (and_parts own.answers_tests (is_management ssn) r.0).0;
+      number = management-number ssn (and_parts own.answers_tests (is_management ssn) r.0).1;
       test = a.test;
       says = a.says;
       answered = a.answered;
@@ -141,7 +141,7 @@ module _ (own : OwnValue) (rows : List TitleEntry) (label : Label) (came : SccpV
 pub record ReadsAndLeads (own : OwnValue) (rows : List TitleEntry) (label : Label) (read : Result SccpValue SccpFault) (field : List ℕ) : Type 0 where
   pub came : SccpValue
   pub reads : read ≡ Ok came
-  pub hops : has_hops came ≡ true
+  pub hops : has_valid_hops came ≡ true
   pub leads : Leads own rows label came field ⊎ Answered own rows label came field
 
 past-tests : (a b : Bool) (r : RelayedValue) (field : List ℕ) → (if not a then Refused NotInProfile else if not b then Refused HopCounter else r) ≡ Onward field → (b ≡ true) × (r ≡ Onward field)
@@ -153,7 +153,7 @@ pub read-leads : (own : OwnValue) (rows : List TitleEntry) (label : Label) (read
     → ReadsAndLeads own rows label read field
 read-leads own rows label (Err fault) field e = absurd cc
 read-leads own rows label (Ok came) field e =
-    let r = past-tests (is_connectionless came) (has_hops came) _ field e in
+    let r = past-tests (is_connectionless came) (has_valid_hops came) _ field e in
     record { came = came; reads = refl; hops = r.0; leads = routing-leads own rows label came field (sccp_parts came).called.routing refl r.1 }
 
 -- ---- the message with other parts, after a translation
@@ -172,7 +172,7 @@ kept (Extended v) parts = record { type = refl; second = refl; same = refl; opti
 pub hops-left : (hops : ℕ) → (nat_le 1 hops && nat_le hops 15) ≡ true → nat_eq (hops - 1) 0 ≡ false → (2 ≤ hops) × (hops ≤ 15)
 hops-left hops h f = (grind (arith, nat_tests, h, f), grind (arith, nat_tests, h, f))
 
-is-lowered : (came : SccpValue) (parts : PartsValue) → has_hops came ≡ true → is_spent (lowered came) ≡ false → IsLowered (hops_of came) (hops_of (with_new_parts (lowered came) parts))
+is-lowered : (came : SccpValue) (parts : PartsValue) → has_valid_hops came ≡ true → is_spent (lowered came) ≡ false → IsLowered (hops_of came) (hops_of (with_new_parts (lowered came) parts))
 is-lowered (Plain (UdtValue class_octet old)) parts h f = refl
 is-lowered (Plain (UdtsValue number old)) parts h f = refl
 is-lowered (Extended v) parts h f = let l = hops-left v.hop_counter h f in (l.0, l.1, refl)
@@ -198,7 +198,7 @@ led-fits row sender parts r s h =
 -- ---- what goes on
 
 module _ (own : OwnValue) (rows : List TitleEntry) (sif field : List ℕ) (range : AreInRange own rows) (came : SccpValue) where
-  goes-on : read_sccp own.extended (drop 4 sif) ≡ Ok came → IsSccpValue came → has_hops came ≡ true → Leads own rows (label_at sif) came field → GoesOn own rows sif field
+  goes-on : read_sccp own.extended (drop 4 sif) ≡ Ok came → IsSccpValue came → has_valid_hops came ≡ true → Leads own rows (label_at sif) came field → GoesOn own rows sif field
   goes-on reads fits hops l =
       let parts = led_on l.row (label_at sif).opc (sccp_parts came) in
       let goes = with_new_parts (lowered came) parts in
@@ -279,13 +279,13 @@ is-test_answer own rows sif field range came reads answered =
       reads_back = plain-read own.extended (drop 4 field) (UdtValue 0 (sccp_parts (allowed a.test))) w.back;
       called = refl;
       calling = refl;
-      answer = read_management-written (record a.test { kind = SubsystemAllowed }) (rw t.point range);
+      answer = read_management-written (record a.test { kind = SubsystemAllowed; multiplicity = 0 }) (rw t.point range);
     }
 
 pub drop-octets : (n : ℕ) (sif : List ℕ) → AreOctets sif → AreOctets (drop n sif)
 drop-octets n sif fits i = rw (get_or-drop n sif i 0) (fits (n + i))
 
-reads-back : (own : OwnValue) (rows : List TitleEntry) (sif field : List ℕ) → AreInRange own rows → AreOctets (drop 4 sif) → (came : SccpValue) → read_sccp own.extended (drop 4 sif) ≡ Ok came → has_hops came ≡ true
+reads-back : (own : OwnValue) (rows : List TitleEntry) (sif field : List ℕ) → AreInRange own rows → AreOctets (drop 4 sif) → (came : SccpValue) → read_sccp own.extended (drop 4 sif) ≡ Ok came → has_valid_hops came ≡ true
     → Leads own rows (label_at sif) came field ⊎ Answered own rows (label_at sif) came field → GoesOn own rows sif field ⊎ IsTestAnswer own rows sif field
 reads-back own rows sif field range octets came reads hops (inl leads) = inl (goes-on own rows sif field range came reads (fits-read own.extended (drop 4 sif) came octets reads) hops leads)
 reads-back own rows sif field range octets came reads hops (inr answered) = inr (is-test_answer own rows sif field range.point came reads answered)

@@ -13,7 +13,7 @@ use Rattle.sccp_codec.specs.declared.address.Routing.TheVariants.{Title, Ssn}
 use Rattle.sccp_codec.specs.declared.fault.SccpFault.{SccpFault}
 use Rattle.sccp_codec.specs.declared.fault.SccpFault.TheVariants.{Short, Pointer, Kind}
 use Rattle.sccp_relay.specs.Translation.{has_key, or_refusal}
-use Rattle.sccp_relay.specs.Sccp.{SccpValue, sccp_parts, with_new_parts, read_sccp, is_connectionless, has_hops, lowered, is_spent}
+use Rattle.sccp_relay.specs.Sccp.{SccpValue, sccp_parts, with_new_parts, read_sccp, is_connectionless, has_valid_hops, lowered, is_spent}
 use Rattle.sccp_relay.specs.Relay.{OwnValue, RelayedValue, Delivered, Onward, Refused, relay, relay_read, relay_by_routing, relay_by_row, row_of, row_of_title, ssn_by, written, onward, led_on, is_equipped, answered_or, answer}
 
 abbrev pub is_relay_cause : Cause → Bool
@@ -98,7 +98,7 @@ module _ (own : OwnValue) (label : Label) where
   read-so rows (Err Kind) = refl
   read-so rows (Ok m) =
       either-so (not (is_connectionless m)) (Refused NotInProfile) _ refl
-      (either-so (not (has_hops m)) (Refused HopCounter) _ refl (routing-so (sccp_parts m).called.routing rows m))
+      (either-so (not (has_valid_hops m)) (Refused HopCounter) _ refl (routing-so (sccp_parts m).called.routing rows m))
 
 pub refused-so : (own : OwnValue) (rows : List TitleEntry) (sif : List ℕ) → is_refused_so (relay own rows sif) ≡ true
 unfolding relay

@@ -93,11 +93,12 @@ pub record GoesOn (own : OwnValue) (rows : List TitleEntry) (sif field : List �
 pub record IsForManagement (own : OwnValue) (rows : List TitleEntry) (called : AddressValue) : Type 0 where
   pub by_number : called.routing ≡ Ssn → called.ssn ≡ Some 1
   pub by_title : called.routing ≡ Title →
-      (row : TitleEntry) × (row_of rows called ≡ Ok row) × (row.point ≡ own.point) × (ssn_by row.route called.ssn ≡ Some 1)
+      (row : TitleEntry) × (row_of rows called ≡ Ok row) × (row.point ≡ own.point)
+      × (ssn_by row.route called.ssn ≡ Some 1)
 
 -- an SSA goes back in the place of an SST about a subsystem that is here
 pub record IsTestAnswer (own : OwnValue) (rows : List TitleEntry) (sif field : List ℕ) : Type 0 where
-  pub answers : own.tested ≡ true
+  pub answers : own.answers_tests ≡ true
   pub class_octet : ℕ
   pub came : PartsValue
   pub reads : read_unitdata (drop 4 sif) ≡ Ok (UdtValue class_octet came)
@@ -113,7 +114,7 @@ pub record IsTestAnswer (own : OwnValue) (rows : List TitleEntry) (sif field : L
   pub reads_back : read_unitdata (drop 4 field) ≡ Ok (UdtValue 0 goes)
   pub called : goes.called ≡ management_address
   pub calling : goes.calling ≡ management_address
-  pub answer : read_management goes.data ≡ Ok (record test { kind = SubsystemAllowed })
+  pub answer : read_management goes.data ≡ Ok (record test { kind = SubsystemAllowed; multiplicity = 0 })
 
 -- ---- what is returned
 

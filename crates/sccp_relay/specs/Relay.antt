@@ -1,6 +1,6 @@
 -- SCRC and SCLC, SCCP routing control and connectionless control: what becomes of an SCCP message for this point, and
 -- what returns one that is refused (Q.714 §2.3, §4.2).
-use Rattle.std.specs.Prelude.{ℕ, Bool, true, false, not, ◌&&◌, if◌then◌else◌, nat_eq, List, [], ◌∷◌, ◌++◌, take, drop, Option, Some, None, is_none, unwrap_or, Result, Ok, Err}
+use Rattle.std.specs.Prelude.{ℕ, Bool, true, false, not, ◌&&◌, ◌||◌, if◌then◌else◌, nat_eq, List, [], ◌∷◌, ◌++◌, take, drop, Option, Some, None, is_none, unwrap_or, Result, Ok, Err}
 use Rattle.std.specs.List.{list_any}
 use Rattle.settings_rows.specs.Configuration.{TitleEntry}
 use Rattle.signalling_types.specs.declared.cause.Cause.{Cause}
@@ -23,18 +23,18 @@ use Rattle.sccp_codec.specs.Management.{ManagementValue, management_octets, read
 use Rattle.sccp_codec.specs.Extended.{ExtendedValue, ParameterValue, first_named}
 use Rattle.sccp_codec.specs.Titles.{TitleValue, read_title, digits_in}
 use Rattle.sccp_relay.specs.Translation.{translation}
-use Rattle.sccp_relay.specs.Sccp.{SccpValue, Plain, Extended, sccp_parts, with_new_parts, read_sccp, is_connectionless, asks_for_return, has_hops, lowered, is_spent, is_sccp_writable, sccp_octets}
+use Rattle.sccp_relay.specs.Sccp.{SccpValue, Plain, Extended, sccp_parts, with_new_parts, read_sccp, is_connectionless, asks_for_return, has_valid_hops, lowered, is_spent, is_sccp_writable, sccp_octets}
 
 -- ---- What becomes of a message: by its called address it is for a subsystem here, or goes on, written again (Q.714
 -- §2.3, §2.4).
 
--- the point that a node is, and the numbers of the subsystems that are there; whether extended messages are relayed, and
--- whether tests of these subsystems are answered
+-- the point that a node is, and the numbers of the subsystems that are there; whether extended messages are relayed,
+-- and whether tests of these subsystems are answered
 pub record OwnValue : Type 0 where
   pub point : ℕ
   pub subsystems : List ℕ
   pub extended : Bool
-  pub tested : Bool
+  pub answers_tests : Bool
 
 -- what becomes of a message: a subsystem here gets it, one with this signalling information field goes on in its place,
 -- or it is refused
@@ -102,20 +102,22 @@ led_on row sender parts =
 
 -- ---- for this point
 
--- whether a subsystem of this number is here; without a number none is
+abbrev pub is_management : Option ℕ → Bool
+is_management None = false
+is_management (Some ssn) = nat_eq ssn 1
+
+-- whether a subsystem of this number is here; without a number none is. Where tests are answered SCCP management,
+-- subsystem 1, is here (Q.714 §5.3.4)
 abbrev pub is_equipped : OwnValue → Option ℕ → Bool
 is_equipped own None = false
-is_equipped own (Some ssn) = list_any (λ subsystem. nat_eq subsystem ssn) own.subsystems
+is_equipped own (Some ssn) =
+    own.answers_tests && nat_eq ssn 1 || list_any (λ subsystem. nat_eq subsystem ssn) own.subsystems
 
 -- a message for a subsystem of this point
 abbrev pub to_subsystem : OwnValue → Option ℕ → RelayedValue
 to_subsystem own ssn = if is_equipped own ssn then Delivered else Refused Unequipped
 
 -- ---- tests of the subsystems here: what SCCP management, subsystem 1, is asked (Q.714 §5.3.4)
-
-abbrev pub is_management : Option ℕ → Bool
-is_management None = false
-is_management (Some ssn) = nat_eq ssn 1
 
 abbrev pub is_test : ManagementKind → Bool
 is_test SubsystemAllowed = false
@@ -138,12 +140,13 @@ management_address = record {
   title = [];
 }
 
--- the answer: an SSA about the same subsystem, from SCCP management here to that of the sender, in a UDT of class 0
+-- the answer: an SSA about the same subsystem, from SCCP management here to that of the sender, in a UDT of class 0; its
+-- multiplicity indicator, and the spare bits there, are 0
 abbrev pub allowed : ManagementValue → SccpValue
 allowed test = Plain (UdtValue 0 (record {
   called = management_address;
   calling = management_address;
-  «data» = management_octets 0 (record test { kind = SubsystemAllowed });
+  «data» = management_octets 0 (record test { kind = SubsystemAllowed; multiplicity = 0 });
 }))
 
 -- the field of the answer to what was read, if it is answered
@@ -155,7 +158,7 @@ answer_to own label (Ok test) =
 -- the same, of a message for this subsystem: only the data of a UDT are looked at
 abbrev pub answer : OwnValue → Label → SccpValue → Option ℕ → Option (List ℕ)
 answer own label (Plain (UdtValue class_octet parts)) ssn =
-    if own.tested && is_management ssn then answer_to own label (read_management parts.data) else None
+    if own.answers_tests && is_management ssn then answer_to own label (read_management parts.data) else None
 answer own label (Plain (UdtsValue return_cause parts)) ssn = None
 answer own label (Extended extended) ssn = None
 
@@ -200,7 +203,7 @@ abbrev pub relay_read : OwnValue → List TitleEntry → Label → Result SccpVa
 relay_read own rows label (Err fault) = Refused (sccp_cause fault)
 relay_read own rows label (Ok message) =
     if not (is_connectionless message) then Refused NotInProfile
-    else if not (has_hops message) then Refused HopCounter
+    else if not (has_valid_hops message) then Refused HopCounter
     else relay_by_routing (sccp_parts message).called.routing own rows label message
 
 -- what becomes of a message with this signalling information field

@@ -15,7 +15,7 @@ own_value own = record {
   point = own.point;
   subsystems = own.subsystems.now;
   extended = own.extended;
-  tested = own.tested;
+  answers_tests = own.answers_tests;
 }
 
 abbrev pub sccp_of : Message → SccpValue

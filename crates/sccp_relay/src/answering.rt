@@ -7,8 +7,8 @@ ghost use Rattle.sccp_relay.specs.Relay as rule;
 ghost use Rattle.sccp_relay.specs.Values.{own_value, sccp_of, written_in};
 
 use crate::message::Message;
-use crate::own::Own;
-use crate::writing::write_udt;
+use crate::own::{MANAGEMENT, Own};
+use crate::writing::label_to;
 use mtp3_codec::Label;
 use sccp_codec::{
     Address, Field, ManagementKind, Parts, Routing, SubsystemManagement, TitleIndicator, Udt,
@@ -16,11 +16,8 @@ use sccp_codec::{
 };
 use signalling_types::{Limits, PointCode};
 
-/// The number of SCCP management (Q.713 §3.4.2.2).
-const MANAGEMENT: u8 = 1;
-
-/// Writes the SSA that answers a message for this subsystem here at the front of the field that is lent, and returns how
-/// many octets it has. None if the message is none to answer: a UDT for SCCP management with an SST about this point
+/// Writes the SSA that answers a message for this subsystem here at the front of the field that is lent, and returns
+/// how many octets it has. None if the message is none to answer: a UDT for SCCP management with an SST about this point
 /// and a subsystem that is here, from another point, where tests are answered (Q.714 §5.3.4).
 pub(crate) fn answer(
     message: &Message<'_>,
@@ -36,7 +33,7 @@ pub(crate) fn answer(
     let Message::Plain(Unitdata::Udt(udt)) = message else {
         return None;
     };
-    if own.tested && is_management(ssn) {
+    if own.answers_tests && is_management(ssn) {
         answer_to(udt.parts.data, label, own, field)
     } else {
         None
@@ -99,6 +96,7 @@ fn write_allowed(
 {
     let allowed = SubsystemManagement {
         kind: ManagementKind::SubsystemAllowed,
+        multiplicity: 0,
         ..*test
     };
     let octets = allowed.write();
@@ -110,7 +108,8 @@ fn write_allowed(
             data: &octets,
         },
     };
-    write_udt(label.opc, own.point, label, &udt, field)
+    let label = label_to(label.opc, own.point, label).write();
+    udt.write(label, field).ok()
 }
 
 /// The address of SCCP management: its subsystem number alone.

@@ -9,14 +9,12 @@ ghost use Rattle.sccp_relay.specs.Values.{own_value, relayed_of, sccp_of, IfOnwa
 
 use crate::Translations;
 use crate::answering::answer;
-use crate::message::{Message, lowered_hops};
+use crate::message::Message;
 use crate::own::Own;
 use crate::relayed::Relayed;
-use crate::writing::{ssn_by, translated, write_extended, write_udt, write_udts};
+use crate::writing::{ssn_by, translated, write_lowered};
 use mtp3_codec::Label;
-use sccp_codec::{
-    Address, ExtendedUnitdata, Field, Parts, Routing, SccpFault, Udt, Udts, Unitdata,
-};
+use sccp_codec::{Address, Field, Parts, Routing, SccpFault};
 use settings_rows::TitleRow;
 use signalling_types::{Cause, Limits, PointCode};
 
@@ -28,8 +26,8 @@ const LABEL_OCTETS: usize = 4;
 /// place. What follows it there may change, and so may all of that field if it doesn't go on (Q.714 §2.3, §5.3.4).
 ///
 /// Refused, in this order: NotInProfile if it is neither a UDT nor a UDTS, nor an XUDT nor an XUDTS where these are
-/// relayed, and BadSccp if it can't be read; NotInProfile if it is a UDT or an XUDT of a class above 1; HopCounter if it
-/// has a hop counter of 0 or above 15, or of 1 if it is routed by title; if it is routed by title, as
+/// relayed, and BadSccp if it can't be read; NotInProfile if it is a UDT or an XUDT of a class above 1; HopCounter if
+/// it has a hop counter of 0 or above 15, or of 1 if it is routed by title; if it is routed by title, as
 /// `Address::global_title` and then `Translations::translate` refuse the title of its called address; Unequipped if it
 /// is for a subsystem that isn't here; TooLong if it goes on and a pointer is over 255, or the field over 272 octets.
 #[tactic(auto, unfolding(crate::specs::Relay::relay))]
@@ -80,7 +78,7 @@ fn relay_read(
     if !message.is_connectionless() {
         return Relayed::Refused(Cause::NotInProfile);
     }
-    if !message.has_hops() {
+    if !message.has_valid_hops() {
         return Relayed::Refused(Cause::HopCounter);
     }
     let called = &message.parts().called;
@@ -172,45 +170,15 @@ fn lead_on(
     ensures label { IfOnward result (λ count. 4 ≤ count) }
     ensures fits { IfOnward result (λ count. count ≤ Limits.SIF_OCTETS) }
 {
-    let point = row.point();
-    let written = match message {
-        Message::Plain(Unitdata::Udt(udt)) => {
-            let udt = Udt {
-                class_octet: udt.class_octet,
-                parts: led_on(row, label.opc, &udt.parts),
-            };
-            write_udt(point, own.point, label, &udt, field)
-        }
-        Message::Plain(Unitdata::Udts(udts)) => {
-            let udts = Udts {
-                return_cause: udts.return_cause,
-                parts: led_on(row, label.opc, &udts.parts),
-            };
-            write_udts(point, own.point, label, &udts, field)
-        }
-        Message::Extended(extended) => {
-            let extended = ExtendedUnitdata {
-                hop_counter: lowered_hops(extended),
-                parts: led_on(row, label.opc, &extended.parts),
-                ..*extended
-            };
-            write_extended(point, own.point, label, &extended, field)
-        }
+    let came = message.parts();
+    let parts = Parts {
+        called: translated(row, &came.called),
+        calling: from_point(label.opc, &came.calling),
+        data: came.data,
     };
-    match written {
+    match write_lowered(row.point(), own.point, label, message, &parts, field) {
         Some(count) => Relayed::Onward(count),
         None => Relayed::Refused(Cause::TooLong),
-    }
-}
-
-/// The parts, as a row leads them on.
-fn led_on<'a>(row: &TitleRow, sender: PointCode, parts: &Parts<'a>) -> Parts<'a>
-    ensures { parts_value result ≡ rule.led_on row.now sender (parts_value parts.now) }
-{
-    Parts {
-        called: translated(row, &parts.called),
-        calling: from_point(sender, &parts.calling),
-        data: parts.data,
     }
 }
 

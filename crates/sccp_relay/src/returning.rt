@@ -12,7 +12,7 @@ use crate::Translations;
 use crate::message::{MAX_HOPS, Message};
 use crate::own::Own;
 use crate::relaying::{behind_label, row_of};
-use crate::writing::{same, translated, write_extended, write_udts};
+use crate::writing::{anew, label_to, same, same_parts, translated};
 use mtp3_codec::Label;
 use sccp_codec::{
     Address, ExtendedKind, ExtendedUnitdata, Field, OptionalPart, Parts, Routing, Udts,
@@ -178,30 +178,21 @@ fn return_to(
     if point == own {
         return None;
     }
-    match message {
+    let label = label_to(point, own, label).write();
+    let written = match message {
         Message::Plain(_) => {
             let udts = Udts {
                 return_cause: number,
                 parts: same_parts(parts),
             };
-            write_udts(point, own, label, &udts, field)
+            udts.write(label, field)
         }
         Message::Extended(extended) => {
             let octets = kept_octets(&extended.optional);
-            let xudts = xudts(number, parts, &octets);
-            write_extended(point, own, label, &xudts, field)
+            xudts(number, parts, &octets).write(label, field)
         }
-    }
-}
-
-fn same_parts<'a>(parts: &Parts<'a>) -> Parts<'a>
-    ensures { parts_value result ≡ parts_value parts.now }
-{
-    Parts {
-        called: same(&parts.called),
-        calling: same(&parts.calling),
-        data: parts.data,
-    }
+    };
+    written.ok()
 }
 
 /// An XUDTS with these parts, and the optional parameters at the front of these octets.
@@ -219,20 +210,6 @@ fn xudts<'a>(number: u8, parts: &'a Parts<'_>, octets: &'a [u8]) -> ExtendedUnit
             data: parts.data,
         },
         optional: OptionalPart::read(octets).unwrap(),
-    }
-}
-
-/// The same address, for as long as it is lent.
-fn anew<'a>(address: &'a Address<'_>) -> Address<'a>
-    ensures { address_of result ≡ address_of address.now }
-{
-    Address {
-        national: address.national,
-        routing: address.routing,
-        point: address.point,
-        ssn: address.ssn,
-        title_indicator: address.title_indicator,
-        title: address.title,
     }
 }
 

@@ -91,7 +91,7 @@ impl Exchange {
             point: self.settings.own(),
             subsystems: self.settings.subsystems(),
             extended: self.settings.extended_unitdata(),
-            tested: self.settings.subsystem_tests(),
+            answers_tests: self.settings.subsystem_tests(),
         }
     }
 
