@@ -2,7 +2,6 @@
 use Rattle.std.proofs.Common.{◌≡◌, ◌≢◌, ℕ, ◌+◌, ◌-◌, ◌^◌, ◌<◌, ◌≤◌, ◌⊎◌, Bool, true, false, cond, List, drop, Option, Some, None, Result, Ok, Err, refl, sym, ap, subst, ◌∙◌, inl, inr, arith, not}
 use Rattle.std.proofs.lemmas.Bool.{and_parts, cases_eq, eq-eqb, eqb-true, ne_eqb}
 use Rattle.std.proofs.lemmas.Bool.Decides.{nat_tests}
-use Rattle.std.proofs.lemmas.List.{get_or-drop}
 use Rattle.std.specs.Prelude.{◌&&◌, if◌then◌else◌, nat_eq, nat_le}
 use Rattle.signalling_types.specs.declared.cause.Cause.{Cause}
 use Rattle.signalling_types.specs.declared.cause.Cause.TheVariants.{NotInProfile, HopCounter, Unequipped}
@@ -14,15 +13,16 @@ use Rattle.sccp_codec.specs.declared.address.Routing.{Routing}
 use Rattle.sccp_codec.specs.declared.address.Routing.TheVariants.{Title, Ssn}
 use Rattle.sccp_codec.specs.declared.management.ManagementKind.{ManagementKind}
 use Rattle.sccp_codec.specs.declared.management.ManagementKind.TheVariants.{SubsystemAllowed, SubsystemProhibited, SubsystemStatusTest}
-use Rattle.sccp_codec.specs.Messages.{AreOctets, IsAddressValue, IsPartsValue, PartsValue, UdtValue, UdtsValue}
+use Rattle.sccp_codec.specs.Messages.{AddressValue, AreOctets, IsAddressValue, IsPartsValue, PartsValue, UdtValue, UdtsValue}
 use Rattle.sccp_codec.specs.Management.{ManagementValue, read_management}
 use Rattle.sccp_codec.proofs.ManagementTexts.{read_management-written}
 use Rattle.sccp_relay.specs.Sccp.{SccpValue, Plain, Extended, sccp_parts, with_new_parts, read_sccp, is_connectionless, has_valid_hops, lowered, is_spent}
-use Rattle.sccp_relay.specs.Relay.{OwnValue, RelayedValue, Delivered, Onward, Refused, relay, relay_read, relay_by_routing, relay_by_row, row_of, ssn_by, written, onward, led_on, is_equipped, for_subsystem, answered_or, answer, answer_to, allowed, is_answered, is_management, is_test, management_address}
+use Rattle.sccp_relay.specs.Relay.{OwnValue, RelayedValue, Delivered, Onward, Refused, relay, relay_read, relay_by_routing, relay_by_row, row_of, ssn_by, translated, written, onward, led_on, lead_on, is_equipped, for_subsystem, answered_or, answer, answer_to, allowed, is_answered, is_management, is_test, management_address}
 use Rattle.sccp_relay.specs.Led.{IsLed, IsSeenFrom, IsLowered, GoesOn, IsForManagement, IsTestAnswer, AreInRange, type_octet, second_octet, hops_of, optional_of, what_goes_on_reads_back}
 use Rattle.sccp_relay.specs.Ways.{IsRow}
 use Rattle.sccp_relay.proofs.LedAddresses.{translated-led, seen_from-of, translated-fits, cond-fits, title-row, label-fits}
-use Rattle.sccp_relay.proofs.SaidMessages.{IsSccpValue, IsReadHere, fits-read, here-read, plain-read, written-reads, sent}
+use Rattle.sccp_relay.proofs.Titles.{octets-dropped}
+use Rattle.sccp_relay.proofs.SaidMessages.{IsSccpValue, IsReadHere, HasOctetTitles, fits-read, titles-read, here-read, plain-read, written-reads, sent}
 
 -- ---- to a row's point
 
@@ -31,7 +31,9 @@ pub record Leads (own : OwnValue) (rows : List TitleEntry) (label : Label) (came
   pub finds : row_of rows (sccp_parts came).called ≡ Ok row
   pub elsewhere : row.point ≢ own.point
   pub left : is_spent (lowered came) ≡ false
-  pub writes : written row.point own.point label (with_new_parts (lowered came) (led_on row label.opc (sccp_parts came))) ≡ Some field
+  pub called : AddressValue
+  pub leads_on : translated row (sccp_parts came).called ≡ Ok called
+  pub writes : written row.point own.point label (with_new_parts (lowered came) (led_on called label.opc (sccp_parts came))) ≡ Some field
 
 -- ---- as an answer
 
@@ -106,6 +108,16 @@ onward-some : (text : Option (List ℕ)) (field : List ℕ) → onward text ≡ 
 onward-some None field e = absurd cc
 onward-some (Some text) field e = let same : text ≡ field = cc in ap Some same
 
+record IsLedOn (own : OwnValue) (label : Label) (came : SccpValue) (point : ℕ) (to : Result AddressValue Cause) (field : List ℕ) : Type 0 where
+  pub called : AddressValue
+  pub is : to ≡ Ok called
+  pub writes : written point own.point label (with_new_parts (lowered came) (led_on called label.opc (sccp_parts came))) ≡ Some field
+
+is-led_on : (own : OwnValue) (label : Label) (came : SccpValue) (point : ℕ) (to : Result AddressValue Cause) (field : List ℕ) → lead_on own label came point to ≡ Onward field
+    → IsLedOn own label came point to field
+is-led_on own label came point (Err cause) field e = absurd cc
+is-led_on own label came point (Ok called) field e = record { called = called; is = refl; writes = onward-some _ field e }
+
 module _ (own : OwnValue) (rows : List TitleEntry) (label : Label) (came : SccpValue) (field : List ℕ) where
   row-leads : (found : Result TitleEntry Cause) → (sccp_parts came).called.routing ≡ Title → is_spent (lowered came) ≡ false → row_of rows (sccp_parts came).called ≡ found
       → relay_by_row own label came found ≡ Onward field → Leads own rows label came field ⊎ Answered own rows label came field
@@ -119,7 +131,9 @@ module _ (own : OwnValue) (rows : List TitleEntry) (label : Label) (came : SccpV
               for_management = record { by_number = λ s. absurd (let no = t in cc); by_title = λ s. (row, f, same, a.number) };
               answers = a;
             })
-        | inr other ↦ inl (record { row = row; finds = f; elsewhere = other; left = left; writes = onward-some _ field (rw (ne_eqb row.point own.point other) at e) })
+        | inr other ↦
+            let l = is-led_on own label came row.point (translated row (sccp_parts came).called) field (rw (ne_eqb row.point own.point other) at e) in
+            inl (record { row = row; finds = f; elsewhere = other; left = left; called = l.called; leads_on = l.is; writes = l.writes })
       ]
 
   title-leads : (spent : Bool) → is_spent (lowered came) ≡ spent → (sccp_parts came).called.routing ≡ Title
@@ -191,20 +205,21 @@ pub parts-fit : (m : SccpValue) → IsSccpValue m → IsPartsValue (sccp_parts m
 parts-fit (Plain u) h = h
 parts-fit (Extended v) h = h.parts
 
-led-fits : (row : TitleEntry) (sender : ℕ) (parts : PartsValue) → IsRow row → sender < 2 ^ 14 → IsPartsValue parts → IsPartsValue (led_on row sender parts)
-led-fits row sender parts r s h =
-    record { called = translated-fits row parts.called r h.called; calling = cond-fits _ sender parts.calling s h.calling }
+led-fits : (row : TitleEntry) (called : AddressValue) (sender : ℕ) (parts : PartsValue) → IsRow row → sender < 2 ^ 14 → IsPartsValue parts → translated row parts.called ≡ Ok called
+    → IsPartsValue (led_on called sender parts)
+led-fits row called sender parts r s h e =
+    record { called = translated-fits row parts.called called r h.called e; calling = cond-fits _ sender parts.calling s h.calling }
 
 -- ---- what goes on
 
 module _ (own : OwnValue) (rows : List TitleEntry) (sif field : List ℕ) (range : AreInRange own rows) (came : SccpValue) where
-  goes-on : read_sccp own.extended (drop 4 sif) ≡ Ok came → IsSccpValue came → has_valid_hops came ≡ true → Leads own rows (label_at sif) came field → GoesOn own rows sif field
-  goes-on reads fits hops l =
-      let parts = led_on l.row (label_at sif).opc (sccp_parts came) in
+  goes-on : read_sccp own.extended (drop 4 sif) ≡ Ok came → IsSccpValue came → HasOctetTitles came → has_valid_hops came ≡ true → Leads own rows (label_at sif) came field → GoesOn own rows sif field
+  goes-on reads fits titles hops l =
+      let parts = led_on l.called (label_at sif).opc (sccp_parts came) in
       let goes = with_new_parts (lowered came) parts in
       let row = title-row rows _ l.row range.each l.finds in
       let k = kept came parts in
-      let there = led-fits l.row (label_at sif).opc (sccp_parts came) row (label-fits sif).opc (parts-fit came fits) in
+      let there = led-fits l.row l.called (label_at sif).opc (sccp_parts came) row (label-fits sif).opc (parts-fit came fits) l.leads_on in
       let w = written-reads own.extended l.row.point own.point (label_at sif) goes field row.point range.point (label-fits sif)
       (new-here own.extended came parts (here-read own.extended (drop 4 sif) came reads)) (new-fits came parts fits there) l.writes in
       record {
@@ -219,7 +234,7 @@ module _ (own : OwnValue) (rows : List TitleEntry) (sif field : List ℕ) (range
         type = k.type;
         second = k.second;
         hops = is-lowered came parts hops l.left;
-        called = subst (λ (p : PartsValue). IsLed l.row (sccp_parts came).called p.called) (sym k.same) (translated-led l.row (sccp_parts came).called);
+        called = subst (λ (p : PartsValue). IsLed l.row (sccp_parts came).called p.called) (sym k.same) (translated-led l.row (sccp_parts came).called l.called row titles.called l.leads_on);
         calling = subst (λ (p : PartsValue). IsSeenFrom (label_at sif).opc (sccp_parts came).calling p.calling) (sym k.same) (seen_from-of (label_at sif).opc (sccp_parts came).calling);
         carried = ap (λ (p : PartsValue). p.data) k.same;
         optional = k.optional;
@@ -282,16 +297,13 @@ is-test_answer own rows sif field range came reads answered =
       answer = read_management-written (record a.test { kind = SubsystemAllowed; multiplicity = 0 }) (rw t.point range);
     }
 
-pub drop-octets : (n : ℕ) (sif : List ℕ) → AreOctets sif → AreOctets (drop n sif)
-drop-octets n sif fits i = rw (get_or-drop n sif i 0) (fits (n + i))
-
 reads-back : (own : OwnValue) (rows : List TitleEntry) (sif field : List ℕ) → AreInRange own rows → AreOctets (drop 4 sif) → (came : SccpValue) → read_sccp own.extended (drop 4 sif) ≡ Ok came → has_valid_hops came ≡ true
     → Leads own rows (label_at sif) came field ⊎ Answered own rows (label_at sif) came field → GoesOn own rows sif field ⊎ IsTestAnswer own rows sif field
-reads-back own rows sif field range octets came reads hops (inl leads) = inl (goes-on own rows sif field range came reads (fits-read own.extended (drop 4 sif) came octets reads) hops leads)
+reads-back own rows sif field range octets came reads hops (inl leads) = inl (goes-on own rows sif field range came reads (fits-read own.extended (drop 4 sif) came octets reads) (titles-read own.extended (drop 4 sif) came octets reads) hops leads)
 reads-back own rows sif field range octets came reads hops (inr answered) = inr (is-test_answer own rows sif field range.point came reads answered)
 
 pub goes_on-onward : what_goes_on_reads_back
 unfolding relay
 goes_on-onward own rows sif field range octets e =
     let r = read-leads own rows (label_at sif) (read_sccp own.extended (drop 4 sif)) field e in
-    reads-back own rows sif field range (drop-octets 4 sif octets) r.came r.reads r.hops r.leads
+    reads-back own rows sif field range (octets-dropped 4 sif octets) r.came r.reads r.hops r.leads

@@ -40,7 +40,7 @@ hops-read text v read = ap (λ (w : ExtendedValue). w.hop_counter) (unless-ok (e
 written-lower : (own : OwnValue) (rows : List TitleEntry) (sif field : List ℕ) (v : ExtendedValue) → hop_octet sif ≡ v.hop_counter → has_valid_hops (Extended v) ≡ true
     → Leads own rows (label_at sif) (Extended v) field → OneLower sif field
 written-lower own rows sif field v hop h l =
-    let parts : PartsValue = led_on l.row (label_at sif).opc v.parts in
+    let parts : PartsValue = led_on l.called (label_at sif).opc v.parts in
     let goes : ExtendedValue = record v { hop_counter = v.hop_counter - 1; parts = parts } in
     let text : extended_octets goes ≡ drop 4 field = ap (drop 4) (written-text l.row.point own.point (label_at sif) (Extended goes) field l.writes) in
     let left = hops-left v.hop_counter h l.left in

@@ -16,6 +16,8 @@ pub mod Translating
 pub mod KeyRows
 pub mod TitleExamples
 pub mod KeptParameters
+pub mod Titles
+pub mod ChangedDigits
 pub mod LedAddresses
 pub mod SaidMessages
 pub mod GoingOn

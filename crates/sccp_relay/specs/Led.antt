@@ -1,7 +1,7 @@
 -- What goes on, and what is returned, as it reads where it arrives: laws (Q.714 §2.3, §2.4, §4.2, §5.3.4).
-use Rattle.std.specs.Prelude.{◌≡◌, ◌≢◌, ℕ, ◌+◌, ◌-◌, ◌/◌, ◌<◌, ◌≤◌, ◌^◌, ◌⊎◌, true, All, List, [], ◌∷◌, length, drop, Option, Some, None, IfSome, Ok, unwrap_or}
+use Rattle.std.specs.Prelude.{◌≡◌, ◌≢◌, ℕ, ◌+◌, ◌-◌, ◌/◌, ◌<◌, ◌≤◌, ◌^◌, ◌⊎◌, true, All, List, [], ◌∷◌, ◌++◌, length, drop, Option, Some, None, IfSome, Ok, unwrap_or}
 use Rattle.signalling_types.specs.declared.cause.Cause.{Cause}
-use Rattle.settings_rows.specs.Configuration.{TitleEntry}
+use Rattle.settings_rows.specs.Configuration.{ChangeEntry, TitleEntry, unchanged}
 use Rattle.settings_rows.specs.declared.title_row.TitleRoute.TheVariants as route
 use Rattle.mtp3_codec.specs.Headings.{label_at}
 use Rattle.sccp_codec.specs.declared.address.Routing.TheVariants.{Title, Ssn}
@@ -9,6 +9,7 @@ use Rattle.sccp_codec.specs.declared.management.ManagementKind.TheVariants.{Subs
 use Rattle.sccp_codec.specs.Messages.{AddressValue, AreOctets, PartsValue, UdtValue, kind_of, second_of, read_unitdata}
 use Rattle.sccp_codec.specs.Extended.{ParameterValue, type_of, after_type}
 use Rattle.sccp_codec.specs.Management.{ManagementValue, read_management}
+use Rattle.sccp_codec.specs.Titles.{TitleValue, read_title, digits_in, title_octets}
 use Rattle.sccp_relay.specs.Sccp.{SccpValue, Plain, Extended, sccp_parts, is_extended, read_sccp}
 use Rattle.sccp_relay.specs.Relay.{OwnValue, Onward, relay, row_of, ssn_by, is_equipped, management_address, return_cause, returned_parameters, returned}
 use Rattle.sccp_relay.specs.Ways.{IsRow}
@@ -40,9 +41,29 @@ pub record SameTitle (a b : AddressValue) : Type 0 where
   pub title_indicator : b.title_indicator ≡ a.title_indicator
   pub title : b.title ≡ a.title
 
--- the called address that a row leads on: routed as the row says, for the subsystem of the row rather than its own
+-- A title that a row changes reads as one of the same translation type, with the plan and the nature of the change where
+-- it has them, and with the digits that the change puts on before those that it leaves. There is one digit at least, the
+-- encoding scheme says whether they are odd or even in number, and filler and spare bits are 0.
+pub record IsChanged (change : ChangeEntry) (a b : AddressValue) : Type 0 where
+  pub came : TitleValue
+  pub reads : read_title a.title_indicator a.title ≡ Ok came
+  pub goes : TitleValue
+  pub reads_back : read_title b.title_indicator b.title ≡ Ok goes
+  pub translation_type : goes.key.translation ≡ came.key.translation
+  pub plan : goes.key.plan ≡ unwrap_or change.plan came.key.plan
+  pub nature : goes.key.nature ≡ unwrap_or change.nature came.key.nature
+  pub digits : digits_in goes.scheme goes.digit_octets
+      ≡ change.added ++ drop change.removed (digits_in came.scheme came.digit_octets)
+  pub some : 1 ≤ length (digits_in goes.scheme goes.digit_octets)
+  pub octets : b.title ≡ title_octets goes.key (digits_in goes.scheme goes.digit_octets)
+
+-- the called address that a row leads on: routed as the row says, for the subsystem of the row rather than its own; its
+-- title is the same, or as the row changes it
 pub record IsLed (row : TitleEntry) (a b : AddressValue) : Type 0 where
-  pub kept : SameTitle a b
+  pub kept : row.change ≡ unchanged → SameTitle a b
+  pub changed : row.change ≢ unchanged → IsChanged row.change a b
+  pub national : b.national ≡ a.national
+  pub title_indicator : b.title_indicator ≡ a.title_indicator
   pub point : b.point ≡ None
   pub by_number : (ssn : ℕ) → row.route ≡ route.Ssn ssn → (b.routing ≡ Ssn) × (b.ssn ≡ Some ssn)
   pub by_title : (ssn : ℕ) → row.route ≡ route.Title (Some ssn) → (b.routing ≡ Title) × (b.ssn ≡ Some ssn)
@@ -143,7 +164,6 @@ pub record IsReturned (own : OwnValue) (rows : List TitleEntry) (sif : List ℕ)
   pub second : second_octet goes ≡ number
   pub hops : IfSome (hops_of goes) (λ hops. hops ≡ 15)
   pub calling : (sccp_parts goes).calling ≡ (sccp_parts came).called
-  pub called : SameTitle (sccp_parts came).calling (sccp_parts goes).called
   pub back : GoesBack rows (label_at sif).opc (sccp_parts came).calling (label_at field).dpc (sccp_parts goes).called
   pub carried : (sccp_parts goes).data ≡ (sccp_parts came).data
   pub optional : optional_of goes ≡ returned_parameters (optional_of came)

@@ -22,6 +22,7 @@ use Rattle.sccp_codec.specs.Messages.{AddressValue, is_by_ssn, PartsValue, UdtVa
 use Rattle.sccp_codec.specs.Management.{ManagementValue, management_octets, read_management}
 use Rattle.sccp_codec.specs.Extended.{ExtendedValue, ParameterValue, first_named}
 use Rattle.sccp_codec.specs.Titles.{TitleValue, read_title, digits_in}
+use Rattle.sccp_relay.specs.Changing.{title_after}
 use Rattle.sccp_relay.specs.Translation.{translation}
 use Rattle.sccp_relay.specs.Sccp.{SccpValue, Plain, Extended, sccp_parts, with_new_parts, read_sccp, is_connectionless, asks_for_return, has_valid_hops, lowered, is_spent, is_sccp_writable, sccp_octets}
 
@@ -68,13 +69,22 @@ abbrev pub ssn_by : TitleRoute → Option ℕ → Option ℕ
 ssn_by (route.Title number) ssn = number_or number ssn
 ssn_by (route.Ssn number) ssn = Some number
 
--- the called address, as a row leads it on: its title is kept, and it no longer names a point
-abbrev pub translated : TitleEntry → AddressValue → AddressValue
-translated row address = record address {
+-- the called address, as a row leads it on with this title: it no longer names a point
+abbrev pub led : TitleEntry → AddressValue → (title : List ℕ) → AddressValue
+led row address title = record address {
   routing = routing_by row.route;
   point = None;
   ssn = ssn_by row.route address.ssn;
+  title = title;
 }
+
+abbrev pub led_with : TitleEntry → AddressValue → Result (List ℕ) Cause → Result AddressValue Cause
+led_with row address (Err cause) = Err cause
+led_with row address (Ok title) = Ok (led row address title)
+
+-- the same, with the title that the row gives it
+abbrev pub translated : TitleEntry → AddressValue → Result AddressValue Cause
+translated row address = led_with row address (title_after row.change address)
 
 -- the calling address, as a further point must see it: if it is routed by subsystem number and names no point, it gets
 -- that of the sender (Q.714 §2.7)
@@ -95,10 +105,9 @@ abbrev pub onward : Option (List ℕ) → RelayedValue
 onward (Some sif) = Onward sif
 onward None = Refused TooLong
 
--- the parts, as a row leads them on
-abbrev pub led_on : TitleEntry → (sender : ℕ) → PartsValue → PartsValue
-led_on row sender parts =
-    record parts { called = translated row parts.called; calling = from_point sender parts.calling }
+-- the parts, with the called address as a row leads it on
+abbrev pub led_on : (called : AddressValue) → (sender : ℕ) → PartsValue → PartsValue
+led_on called sender parts = record parts { called = called; calling = from_point sender parts.calling }
 
 -- ---- for this point
 
@@ -173,14 +182,20 @@ for_subsystem own label message ssn = answered_or (answer own label message ssn)
 
 -- ---- a message
 
+-- a message goes on to the point of a row, with this called address
+abbrev pub lead_on : OwnValue → Label → SccpValue → (point : ℕ) → Result AddressValue Cause → RelayedValue
+lead_on own label message point (Err cause) = Refused cause
+lead_on own label message point (Ok called) =
+    onward (written point own.point label
+    (with_new_parts (lowered message) (led_on called label.opc (sccp_parts message))))
+
 -- a message whose called address is by title, by the row of that title
 abbrev pub relay_by_row : OwnValue → Label → SccpValue → Result TitleEntry Cause → RelayedValue
 relay_by_row own label message (Err cause) = Refused cause
 relay_by_row own label message (Ok row) =
     if nat_eq row.point own.point
     then for_subsystem own label message (ssn_by row.route (sccp_parts message).called.ssn)
-    else onward (written row.point own.point label
-    (with_new_parts (lowered message) (led_on row label.opc (sccp_parts message))))
+    else lead_on own label message row.point (translated row (sccp_parts message).called)
 
 -- before it is translated its hop counter is lowered, and it is refused if this comes to 0 (Q.714 §2.3.1)
 abbrev pub relay_by_title : OwnValue → List TitleEntry → Label → SccpValue → RelayedValue
@@ -254,14 +269,19 @@ return_to own label point message = if nat_eq point own then None else written p
 abbrev pub sent_back : PartsValue → PartsValue
 sent_back parts = record parts { called = parts.calling; calling = parts.called }
 
--- the same, sent to the calling address as a row translates it; the called address stays
-abbrev pub led_back : TitleEntry → PartsValue → PartsValue
-led_back row parts = record parts { called = translated row parts.calling; calling = parts.called }
+-- the same, sent to the calling address as a row leads it on; the called address stays
+abbrev pub led_back : (calling : AddressValue) → PartsValue → PartsValue
+led_back calling parts = record parts { called = calling; calling = parts.called }
+
+abbrev pub return_led : OwnValue → Label → ℕ → SccpValue → (point : ℕ) → Result AddressValue Cause → Option (List ℕ)
+return_led own label number message point (Err cause) = None
+return_led own label number message point (Ok calling) =
+    return_to own.point label point (service number message (led_back calling (sccp_parts message)))
 
 abbrev pub return_by_row : OwnValue → Label → ℕ → SccpValue → Result TitleEntry Cause → Option (List ℕ)
 return_by_row own label number message (Err cause) = None
 return_by_row own label number message (Ok row) =
-    return_to own.point label row.point (service number message (led_back row (sccp_parts message)))
+    return_led own label number message row.point (translated row (sccp_parts message).calling)
 
 -- It goes to the address that called. By subsystem number that is the point that it names, else the point that the
 -- message came from; by title it is where a row leads

@@ -3,10 +3,11 @@ use Rattle.std.specs.Prelude.{ℕ, ◌+◌, ◌*◌, ◌^◌, ◌/◌, ◌%◌, 
 use Rattle.std.specs.Str.{bytes_eq}
 use Rattle.sccp_relay.specs.Digits.{DigitMap}
 use Rattle.sccp_codec.specs.declared.title.TitleKey.{TitleKey}
-use Rattle.settings_rows.specs.Configuration.{TitleEntry, unchanged}
-use Rattle.settings_rows.specs.Titles.{HasTitleRanges}
+use Rattle.settings_rows.specs.Configuration.{ChangeEntry, TitleEntry, unchanged}
+use Rattle.settings_rows.specs.Titles.{HasTitleRanges, HasChangeRanges}
 use Rattle.settings_rows.specs.declared.title_row.TitleRoute.{TitleRoute}
 use Rattle.settings_rows.specs.declared.title_row.TitleRoute.TheVariants.{Title, Ssn}
+use Rattle.sccp_relay.specs.Changing.{is_unchanged}
 use Rattle.sccp_relay.specs.Rows.{key_of}
 
 -- the digits of a key: two of the translation type, the plan, two of the nature
@@ -32,11 +33,15 @@ route_of number =
     else if nat_lt number 256 then Title (Some (number % 256))
     else Ssn (number % 256)
 
--- where a row leads, as a number
-abbrev pub lead_of : TitleEntry → ℕ
-lead_of row = route_number row.route * 2 ^ 14 + row.point
+-- whether a row changes titles, as a number
+abbrev pub change_number : ChangeEntry → ℕ
+change_number change = if is_unchanged change then 0 else 1
 
--- the row of this key and these digits that leads there
+-- where a row leads, as a number, and whether it changes titles
+abbrev pub lead_of : TitleEntry → ℕ
+lead_of row = change_number row.change * 2 ^ 23 + (route_number row.route * 2 ^ 14 + row.point)
+
+-- the row of this key and these digits that leads there, and changes no titles
 abbrev pub row_led : TitleKey → List ℕ → ℕ → TitleEntry
 row_led key digits lead = record {
   translation = key.translation;
@@ -66,3 +71,4 @@ pub record IsRow (row : TitleEntry) : Type 0 where
   pub ranges : HasTitleRanges row.plan row.nature row.digits
   pub point : row.point < 2 ^ 14
   pub route : IsRoute row.route
+  pub change : HasChangeRanges row.change

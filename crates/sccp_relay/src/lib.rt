@@ -5,6 +5,7 @@
 #![tactic(auto)]
 
 mod answering;
+mod changing;
 pub mod fault;
 pub mod laws;
 mod message;

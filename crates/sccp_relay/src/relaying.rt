@@ -2,17 +2,18 @@
 
 ghost use Rattle.std.specs.Prelude.{◌≡◌, ◌≤◌, length, drop, List, ℕ, Ok};
 ghost use Rattle.mtp3_codec.specs.Headings.{label_at};
-ghost use Rattle.sccp_codec.specs.Values.{address_of, parts_value};
+ghost use Rattle.sccp_codec.specs.Values.{address_of};
 ghost use Rattle.sccp_relay.specs.Relay as rule;
-ghost use Rattle.sccp_relay.specs.Sccp.{sccp_parts, with_new_parts, lowered};
+ghost use Rattle.sccp_relay.specs.Sccp.{sccp_parts};
 ghost use Rattle.sccp_relay.specs.Values.{own_value, relayed_of, sccp_of, IfOnward};
 
 use crate::Translations;
 use crate::answering::answer;
+use crate::changing::changed_title;
 use crate::message::Message;
 use crate::own::Own;
 use crate::relayed::Relayed;
-use crate::writing::{ssn_by, translated, write_lowered};
+use crate::writing::{led, ssn_by, write_lowered};
 use mtp3_codec::Label;
 use sccp_codec::{Address, Field, Parts, Routing, SccpFault};
 use settings_rows::TitleRow;
@@ -164,15 +165,18 @@ fn lead_on(
     own: &Own<'_>,
     field: &mut Field,
 ) -> Relayed
-    ensures exact { relayed_of result field.new ≡ rule.onward (rule.written row.now.point own.now.point label
-        (with_new_parts (lowered (sccp_of message.now))
-        (rule.led_on row.now label.opc (sccp_parts (sccp_of message.now))))) }
+    ensures exact { relayed_of result field.new ≡ rule.lead_on (own_value own.now) label (sccp_of message.now)
+        row.now.point (rule.translated row.now (sccp_parts (sccp_of message.now)).called) }
     ensures label { IfOnward result (λ count. 4 ≤ count) }
     ensures fits { IfOnward result (λ count. count ≤ Limits.SIF_OCTETS) }
 {
     let came = message.parts();
+    let changed = match changed_title(row, &came.called) {
+        Ok(changed) => changed,
+        Err(cause) => return Relayed::Refused(cause),
+    };
     let parts = Parts {
-        called: translated(row, &came.called),
+        called: led(row, &came.called, &changed),
         calling: from_point(label.opc, &came.calling),
         data: came.data,
     };

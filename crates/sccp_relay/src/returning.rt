@@ -9,10 +9,11 @@ ghost use Rattle.sccp_relay.specs.Sccp.{sccp_parts};
 ghost use Rattle.sccp_relay.specs.Values.{four_octets, one_octet, own_value, sccp_of, written_in};
 
 use crate::Translations;
+use crate::changing::changed_title;
 use crate::message::{MAX_HOPS, Message};
 use crate::own::Own;
 use crate::relaying::{behind_label, row_of};
-use crate::writing::{anew, label_to, same, same_parts, translated};
+use crate::writing::{anew, label_to, led, same, same_parts};
 use mtp3_codec::Label;
 use sccp_codec::{
     Address, ExtendedKind, ExtendedUnitdata, Field, OptionalPart, Parts, Routing, Udts,
@@ -122,20 +123,43 @@ fn return_by(
         return return_to(point, own.point, label, number, message, &parts, field);
     }
     match row_of(rows, caller) {
-        Ok(row) => {
-            let parts = led_back(&row, parts);
-            return_to(
-                row.point(),
-                own.point,
-                label,
-                number,
-                message,
-                &parts,
-                field,
-            )
-        }
+        Ok(row) => return_led(number, message, &row, label, own, field),
         Err(_) => None,
     }
+}
+
+/// It goes to the point of a row, which leads the address that called on.
+fn return_led(
+    number: u8,
+    message: &Message<'_>,
+    row: &TitleRow,
+    label: Label,
+    own: &Own<'_>,
+    field: &mut Field,
+) -> Option<usize>
+    ensures text { written_in result field.new ≡ rule.return_led (own_value own.now) label number
+        (sccp_of message.now) row.now.point (rule.translated row.now (sccp_parts (sccp_of message.now)).calling) }
+    ensures label { IfSome result (λ count. 4 ≤ count) }
+    ensures fits { IfSome result (λ count. count ≤ Limits.SIF_OCTETS) }
+{
+    let came = message.parts();
+    let Ok(changed) = changed_title(row, &came.calling) else {
+        return None;
+    };
+    let parts = Parts {
+        called: led(row, &came.calling, &changed),
+        calling: same(&came.called),
+        data: came.data,
+    };
+    return_to(
+        row.point(),
+        own.point,
+        label,
+        number,
+        message,
+        &parts,
+        field,
+    )
 }
 
 /// The parts, sent back: to the address that called, from the one that was called.
@@ -144,17 +168,6 @@ fn sent_back<'a>(parts: &Parts<'a>) -> Parts<'a>
 {
     Parts {
         called: same(&parts.calling),
-        calling: same(&parts.called),
-        data: parts.data,
-    }
-}
-
-/// The same, sent to the calling address as a row translates it.
-fn led_back<'a>(row: &TitleRow, parts: &Parts<'a>) -> Parts<'a>
-    ensures { parts_value result ≡ rule.led_back row.now (parts_value parts.now) }
-{
-    Parts {
-        called: translated(row, &parts.calling),
         calling: same(&parts.called),
         data: parts.data,
     }

@@ -3,9 +3,10 @@
 ghost use Rattle.std.specs.Prelude.{◌≡◌, ◌%◌, ◌^◌, ◌<◌, All, IfSome, IfOk, OnOk, OnErr, None};
 ghost use Rattle.sccp_relay.specs.Digits.{with_value};
 ghost use Rattle.sccp_relay.specs.Nodes.{stored};
-ghost use Rattle.settings_rows.specs.Titles.{HasTitleRanges};
+ghost use Rattle.settings_rows.specs.Titles.{HasTitleRanges, HasChangeRanges};
 ghost use Rattle.sccp_relay.specs.Ways.{IsRow, IsRoute, IsSsn, key_digits, way_of, lead_of, route_number, ssn_number, route_of, row_led, leads_of};
 
+use crate::changing::is_unchanged;
 use crate::places::key_of;
 use crate::{Trie, TrieFault};
 use arrayvec::ArrayVec;
@@ -25,6 +26,9 @@ const POINTS: u32 = 1 << 14;
 
 /// How many subsystem numbers there are, 0 included.
 const SUBSYSTEMS: u32 = 256;
+
+/// What is added to where a row leads, if it changes titles.
+pub(crate) const CHANGES: u32 = 2 * SUBSYSTEMS * POINTS;
 
 /// The digits of a key: two of the translation type, the plan, two of the nature.
 pub(crate) fn key_digits(key: TitleKey) -> [u8; KEY_DIGITS]
@@ -51,13 +55,19 @@ pub(crate) fn way_of(row: &TitleRow) -> ArrayVec<u8, WAY_DIGITS>
     way
 }
 
-/// Where a row leads, as one number.
+/// Where a row leads, as one number, and whether it changes titles.
 pub(crate) fn lead_of(row: &TitleRow) -> u32
     ensures lead { result ≡ lead_of row.now }
     ensures point { row.now.point < 2 ^ 14 }
     ensures route { IsRoute row.now.route }
+    ensures change { HasChangeRanges row.now.change }
 {
-    route_number(row.route()) * POINTS + u32::from(row.point().code())
+    let change = if is_unchanged(row.change()) {
+        0
+    } else {
+        CHANGES
+    };
+    change + (route_number(row.route()) * POINTS + u32::from(row.point().code()))
 }
 
 /// How a row is routed, as a number.
@@ -102,6 +112,7 @@ fn point_of(lead: u32) -> PointCode
     PointCode::new((lead % POINTS) as u16).unwrap()
 }
 
+/// The row of this key and these digits that leads there, and changes no titles.
 pub(crate) fn row_led(key: TitleKey, digits: &[u8], lead: u32) -> TitleRow
     requires { HasTitleRanges key.plan key.nature digits.now }
     ensures { result ≡ row_led key digits.now lead }

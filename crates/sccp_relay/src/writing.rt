@@ -5,8 +5,9 @@ ghost use Rattle.sccp_codec.specs.ExtendedValues.{extended_of};
 ghost use Rattle.sccp_codec.specs.Values.{address_of, parts_value};
 ghost use Rattle.sccp_relay.specs.Relay as rule;
 ghost use Rattle.sccp_relay.specs.Sccp.{Extended, with_new_parts, lowered};
-ghost use Rattle.sccp_relay.specs.Values.{sccp_of, written_in};
+ghost use Rattle.sccp_relay.specs.Values.{made_or, sccp_of, written_in};
 
+use crate::changing::TitleOctets;
 use crate::message::{Message, lowered_hops};
 use mtp3_codec::Label;
 use sccp_codec::{Address, ExtendedUnitdata, Field, Parts, Routing, Udt, Udts, Unitdata};
@@ -108,15 +109,33 @@ fn routing_by(route: TitleRoute) -> Routing
     }
 }
 
-/// The called address, as a row leads it on: its title is kept, and it no longer names a point.
-pub(crate) fn translated<'a>(row: &TitleRow, address: &Address<'a>) -> Address<'a>
-    ensures { address_of result ≡ rule.translated row.now (address_of address.now) }
+/// The called address, as a row leads it on with these octets as its title, or without any with its own: it no longer
+/// names a point.
+pub(crate) fn led<'a>(
+    row: &TitleRow,
+    address: &'a Address<'_>,
+    changed: &'a Option<TitleOctets>,
+) -> Address<'a>
+    ensures { address_of result ≡ rule.led row.now (address_of address.now)
+        (made_or address.now.title.now (λ octets. octets.items) changed.now) }
 {
     Address {
+        national: address.national,
         routing: routing_by(row.route()),
         point: None,
         ssn: ssn_by(row.route(), address.ssn),
-        ..*address
+        title_indicator: address.title_indicator,
+        title: title_or(address.title, changed),
+    }
+}
+
+/// The octets that were made, or else these.
+fn title_or<'a>(came: &'a [u8], changed: &'a Option<TitleOctets>) -> &'a [u8]
+    ensures { result.now ≡ made_or came.now (λ octets. octets.items) changed.now }
+{
+    match changed {
+        Some(octets) => octets.as_slice(),
+        None => came,
     }
 }
 
