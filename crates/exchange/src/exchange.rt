@@ -38,6 +38,8 @@ mod ticking;
 mod timing;
 mod views;
 
+pub use relaying::LinkWays;
+
 use crate::event::{Event, Order};
 use crate::frame_text::LONGEST_FRAME;
 use cell_pool::CellPool;

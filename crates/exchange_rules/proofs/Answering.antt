@@ -39,7 +39,7 @@ module _ (c : Configuration) where
   answered_by-waits : (d : Discrimination) (cause : Cause) (from : Option ℕ) (m : Message) (n : Node WholeQueues) → AllWait c n → AllWait c (answered_by d cause from m c n)
   answered_by-waits (whither.Refused fault) cause from m n w = w
   answered_by-waits (whither.Here label) cause from m n w =
-      either_node (AllWait c) (nat_eq (service_indicator m) sccp) (return_unitdata whole c cause m n) n (send_udts-waits (returned (own_of c) n.parts.titles m.sif cause) m n w) w
+      either_node (AllWait c) (nat_eq (service_indicator m) sccp) (return_unitdata whole c cause m n) n (send_udts-waits (returned (own_of c n.parts) n.parts.titles m.sif cause) m n w) w
   answered_by-waits (whither.Transfer label) causes.NoRoute from m n w = answer_no_route-waits c from (destination_place c (dpc_of m)) n w
   answered_by-waits (whither.Transfer label) cause from m n w = w
 
@@ -105,7 +105,7 @@ module _ (c : Configuration) where
 
   returned-told : (b : Bool) (cause : Cause) (m : Message) (n : Node WholeQueues) → nat_eq (service_indicator m) sccp ≡ b
       → is_all_told whole c (if b then return_unitdata whole c cause m n else n) ≡ is_all_told whole c n
-  returned-told true cause m n e = send_udts-told (returned (own_of c) n.parts.titles m.sif cause) m n (user (service_indicator m) e)
+  returned-told true cause m n e = send_udts-told (returned (own_of c n.parts) n.parts.titles m.sif cause) m n (user (service_indicator m) e)
   returned-told false cause m n e = refl
 
   answered_by-told : (d : Discrimination) (cause : Cause) (m : Message) (n : Node WholeQueues) → is_all_told whole c (answered_by d cause None m c n) ≡ is_all_told whole c n

@@ -32,7 +32,7 @@ module _ (c : Configuration) (n : Node WholeQueues) where
   local-fate : (m : Message) → has_fate (local whole c m n).outcome ≡ true
   local-fate m =
       let user : Done WholeQueues = if is_user c (service_indicator m) then answer Local n else refuse causes.NoUserPart n in
-      either-fate (nat_eq (service_indicator m) sccp) (on_unitdata whole c m n) user (relay-fate (relay (own_of c) n.parts.titles m.sif) m)
+      either-fate (nat_eq (service_indicator m) sccp) (on_unitdata whole c m n) user (relay-fate (relay (own_of c n.parts) n.parts.titles m.sif) m)
       (either-fate (is_user c (service_indicator m)) (answer Local n) (refuse causes.NoUserPart n) refl refl)
 
   here-fate : (link : ℕ) (m : Message) → is_management m ≡ false → has_fate (distribute whole c link m n).outcome ≡ true

@@ -115,3 +115,4 @@ pub mod ProvedEvents
 pub mod Inhibited
 pub mod InhibitedTicks
 pub mod InhibitedRuns
+pub mod KeptFacts
