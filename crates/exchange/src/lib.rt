@@ -19,8 +19,9 @@ pub use mtp3_codec::Label;
 pub use routes::RouteStatus;
 pub use sccp_relay::TitleKey;
 pub use settings::{
-    Cause, ChangeDraft, ChangeoverTimer, DestinationDraft, Draft, DraftFault, FailureReason, FaultKind,
-    FrameFault, Key, LateTimer, Limits, LinkDraft, LinkId, Msu, MsuRef, Notice, Outcome, PointCode,
-    SetDraft, SetId, Settings, Sls, Ssn, TimersDraft, TitleChange, TitleDraft, TitleRoute, TitleRow,
+    Cause, ChangeDraft, ChangeoverTimer, DestinationDraft, Draft, DraftFault, FailureReason,
+    FaultKind, FrameFault, Key, LateTimer, Limits, LinkDraft, LinkId, Msu, MsuRef, Notice, Outcome,
+    PointCode, SetDraft, SetId, Settings, Sls, Ssn, TimersDraft, TitleChange, TitleDraft,
+    TitleRoute, TitleRow,
 };
 pub use view::{LinkStanding, LinkView, NewNotices, RouteView};

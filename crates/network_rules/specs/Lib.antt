@@ -4,3 +4,5 @@ pub mod Transit
 pub mod Totals
 pub mod Anew
 pub mod TwoFailures
+pub mod AfterRestart
+pub mod Paths

@@ -1,0 +1,2 @@
+pub mod NetworkWorlds
+pub mod NetworkPromises
