@@ -104,6 +104,7 @@ pub fn relayed(said: &mut Said, table: &Translations, sif: &[u8], extended: bool
         subsystems: &[8],
         extended,
         answers_tests: extended,
+        ways: Reached(reached),
     };
     if sif.len() < 4 {
         return;
