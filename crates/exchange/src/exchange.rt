@@ -38,8 +38,6 @@ mod ticking;
 mod timing;
 mod views;
 
-pub use relaying::LinkWays;
-
 use crate::event::{Event, Order};
 use crate::frame_text::LONGEST_FRAME;
 use cell_pool::CellPool;
@@ -50,6 +48,7 @@ use flow_hold::Holds;
 use link::Sequence;
 use m2pa_codec::BUFFER_OCTETS;
 use node_links::NodeLinks;
+pub use relaying::LinkWays;
 use route_management::{PendingUpdates, Told};
 use sccp_relay::Translations;
 use settings::{LinkId, Notice, Outcome, Settings};
