@@ -80,6 +80,7 @@ fn title(alloc: Global, digits: String, point: i64) -> Result<TitleDraft, AllocE
         nature: NATURE as i64,
         digits,
         point,
+        backup: None,
         route: format!(in alloc; "ssn")?,
         ssn: Some(SUBSYSTEM as i64),
         change: ChangeDraft::none(alloc),

@@ -55,11 +55,12 @@ row_leading name point route = record {
   nature = name.key.nature;
   digits = name.digits.items;
   point = point;
+  backup = None;
   route = route;
   change = unchanged;
 }
 
--- the row of this name that these words write, with points in this format; it changes no titles
+-- the row of this name that these words write, with points in this format; it has no backup, and changes no titles
 abbrev pub row_of : PointFormat → RowName → (point way ssn : List ℕ) → Option TitleEntry
 row_of points name point way ssn =
     option_and_then (λ p. option_and_then (λ s. option_map (λ route. row_leading name p route) (route_named way s))

@@ -50,6 +50,7 @@ use flow_hold::Holds;
 use link::Sequence;
 use m2pa_codec::BUFFER_OCTETS;
 use node_links::NodeLinks;
+pub use relaying::LinkWays;
 use route_management::{PendingUpdates, Told};
 use sccp_relay::Translations;
 use settings::{LinkId, Notice, Outcome, Settings};

@@ -11,7 +11,7 @@ pub mod view;
 
 pub use cell_pool::Pick;
 pub use event::{Answer, Call, Event, Order, TitleDigits};
-pub use exchange::Exchange;
+pub use exchange::{Exchange, LinkWays};
 pub use exchange_rules::Wants;
 pub use frame_text::{FrameText, LONGEST_FRAME};
 pub use m2pa_codec::{BUFFER_OCTETS, Frame, Framer, Next, decode};

@@ -44,7 +44,7 @@ module _ (c : Configuration) where
   answered_by-waits (whither.Refused fault) cause from m n w = w
   answered_by-waits (whither.Here label) cause from m n w =
       either_node (AllWait c) (nat_eq (service_indicator m) sccp) (return_unitdata whole c cause m n) (no_part_answered cause from m c n)
-      (send_udts-waits (returned (own_of c) n.parts.titles m.sif cause) m n w) (no_part-waits cause from m n w)
+      (send_udts-waits (returned (own_of c n.parts) n.parts.titles m.sif cause) m n w) (no_part-waits cause from m n w)
   answered_by-waits (whither.Transfer label) causes.NoRoute from m n w = answer_no_route-waits c from (destination_place c (dpc_of m)) n w
   answered_by-waits (whither.Transfer label) cause from m n w = w
 
@@ -114,7 +114,7 @@ module _ (c : Configuration) where
 
   returned-told : (b : Bool) (cause : Cause) (m : Message) (n : Node WholeQueues) → nat_eq (service_indicator m) sccp ≡ b
       → is_all_told whole c (if b then return_unitdata whole c cause m n else no_part_answered cause None m c n) ≡ is_all_told whole c n
-  returned-told true cause m n e = send_udts-told (returned (own_of c) n.parts.titles m.sif cause) m n (user (service_indicator m) e)
+  returned-told true cause m n e = send_udts-told (returned (own_of c n.parts) n.parts.titles m.sif cause) m n (user (service_indicator m) e)
   returned-told false cause m n e = ap (is_all_told whole c) (no_part-told cause m n)
 
   answered_by-told : (d : Discrimination) (cause : Cause) (m : Message) (n : Node WholeQueues) → is_all_told whole c (answered_by d cause None m c n) ≡ is_all_told whole c n

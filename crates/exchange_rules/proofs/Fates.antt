@@ -33,7 +33,7 @@ module _ (c : Configuration) (n : Node WholeQueues) where
   local-fate from m =
       let absent : Done WholeQueues = refuse causes.NoUserPart (answer_no_user_part whole c from (destination_place c (opc_of m)) m n) in
       let user : Done WholeQueues = if is_user c (service_indicator m) then answer Local n else absent in
-      either-fate (nat_eq (service_indicator m) sccp) (on_unitdata whole c m n) user (relay-fate (relay (own_of c) n.parts.titles m.sif) m)
+      either-fate (nat_eq (service_indicator m) sccp) (on_unitdata whole c m n) user (relay-fate (relay (own_of c n.parts) n.parts.titles m.sif) m)
       (either-fate (is_user c (service_indicator m)) (answer Local n) absent refl refl)
 
   here-fate : (link : ℕ) (m : Message) → is_management m ≡ false → has_fate (distribute whole c link m n).outcome ≡ true

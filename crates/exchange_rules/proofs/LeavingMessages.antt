@@ -165,8 +165,8 @@ module _ (c : Configuration) (n : Node WholeQueues) where
   -- a refused one is returned
   on_unitdata-leaves : (m : Message) → Leaves (on_unitdata whole c m n) (λ cause. return_unitdata whole c cause m n)
   on_unitdata-leaves m =
-      let d : Done WholeQueues = relay_by whole c (relay (own_of c) n.parts.titles m.sif) m n in
-      let f : Leaves d (as_it_was n) = relay_by-leaves (relay (own_of c) n.parts.titles m.sif) m in
+      let d : Done WholeQueues = relay_by whole c (relay (own_of c n.parts) n.parts.titles m.sif) m n in
+      let f : Leaves d (as_it_was n) = relay_by-leaves (relay (own_of c n.parts) n.parts.titles m.sif) m in
       record {
         left = λ cause e.
             ap (λ (o : Outcome). return_outcome whole c o m d.left) e

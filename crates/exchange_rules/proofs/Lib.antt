@@ -119,3 +119,4 @@ pub mod InhibitedRuns
 pub mod Causes
 pub mod EndedHolds
 pub mod FailedLinks
+pub mod KeptFacts

@@ -74,9 +74,9 @@ module _ (of : Message → Bool) (c : Configuration) where
   return-brings : (o : Outcome) (m : Message) (n left : Node WholeQueues) → Fits c n → ((cause : Cause) → o ≡ Refused cause → left ≡ n)
       → stands of (return_outcome whole c o m left) ≡ stands of left + users_that of (answered_in o c m n)
   return-brings (Refused cause) m n left f same =
-      let more : ℕ = users_that of (returned_in (returned (own_of c) n.parts.titles m.sif cause) c m n) in
+      let more : ℕ = users_that of (returned_in (returned (own_of c n.parts) n.parts.titles m.sif cause) c m n) in
       ap (λ (x : Node WholeQueues). stands of (return_unitdata whole c cause m x)) (same cause refl)
-      ∙ udts-brings (returned (own_of c) n.parts.titles m.sif cause) m n f
+      ∙ udts-brings (returned (own_of c n.parts) n.parts.titles m.sif cause) m n f
       ∙ ap (λ (x : Node WholeQueues). stands of x + more) (sym (same cause refl))
   return-brings (Queued link) m n left f same = none-more (stands of left)
   return-brings Held m n left f same = none-more (stands of left)
@@ -90,7 +90,7 @@ module _ (of : Message → Bool) (c : Configuration) where
   unitdata-brings : (m : Message) (n : Node WholeQueues) → Fits c n
       → stands of (on_unitdata whole c m n).left ≡ stands of n + users_that of (unitdata_in (on_unitdata whole c m n).outcome c m n)
   unitdata-brings m n f =
-      let v : RelayedValue = relay (own_of c) n.parts.titles m.sif in
+      let v : RelayedValue = relay (own_of c n.parts) n.parts.titles m.sif in
       let d : Done WholeQueues = relay_by whole c v m n in
       two-more (stands of n) (users_that of (relayed_in v d.outcome m)) (users_that of (answered_in d.outcome c m n)) (stands of (return_outcome whole c d.outcome m d.left)) (stands of d.left)
       (users_that of (relayed_in v d.outcome m ++ answered_in d.outcome c m n))

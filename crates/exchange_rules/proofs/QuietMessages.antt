@@ -168,7 +168,7 @@ module _ (c : Configuration) where
   udts-quiet None m n = any-quiet 1 n
 
   return_outcome-quiet : (o : Outcome) (m : Message) (n : Node WholeQueues) → Quiet 1 n (return_outcome whole c o m n)
-  return_outcome-quiet (Refused cause) m n = udts-quiet (returned (own_of c) n.parts.titles m.sif cause) m n
+  return_outcome-quiet (Refused cause) m n = udts-quiet (returned (own_of c n.parts) n.parts.titles m.sif cause) m n
   return_outcome-quiet (Queued link) m n = any-quiet 1 n
   return_outcome-quiet Held m n = any-quiet 1 n
   return_outcome-quiet Local m n = any-quiet 1 n
@@ -177,8 +177,8 @@ module _ (c : Configuration) where
 
   unitdata-quiet : (m : Message) (n : Node WholeQueues) → Quiet 2 n (on_unitdata whole c m n).left
   unitdata-quiet m n =
-      let d : Done WholeQueues = relay_by whole c (relay (own_of c) n.parts.titles m.sif) m n in
-      both-quiet 1 1 n d.left _ (relay-quiet (relay (own_of c) n.parts.titles m.sif) m n) (return_outcome-quiet d.outcome m d.left)
+      let d : Done WholeQueues = relay_by whole c (relay (own_of c n.parts) n.parts.titles m.sif) m n in
+      both-quiet 1 1 n d.left _ (relay-quiet (relay (own_of c n.parts) n.parts.titles m.sif) m n) (return_outcome-quiet d.outcome m d.left)
 
   pub local-quiet : (from : Option ℕ) (m : Message) (n : Node WholeQueues) → Quiet 2 n (local whole c from m n).left
   local-quiet from m n =

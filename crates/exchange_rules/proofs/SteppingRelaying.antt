@@ -11,7 +11,7 @@ module _ {c : Configuration} {Own Counts : ℕ → Type 0} {May : Deed → Type 
   send_udts-steps None m n = s.sends.none n
 
   return-steps : (outcome : Outcome) (m : Message) (n : Node WholeQueues) → R n (return_outcome whole c outcome m n)
-  return-steps (Refused cause) m n = send_udts-steps (returned (own_of c) n.parts.titles m.sif cause) m n
+  return-steps (Refused cause) m n = send_udts-steps (returned (own_of c n.parts) n.parts.titles m.sif cause) m n
   return-steps (Queued link) m n = s.sends.none n
   return-steps Held m n = s.sends.none n
   return-steps Local m n = s.sends.none n
@@ -25,8 +25,8 @@ module _ {c : Configuration} {Own Counts : ℕ → Type 0} {May : Deed → Type 
 
   pub on_unitdata-steps : (m : Message) (n : Node WholeQueues) → R n (on_unitdata whole c m n).left
   on_unitdata-steps m n =
-      let d : Done WholeQueues = relay_by whole c (relay (own_of c) n.parts.titles m.sif) m n in
-      s.sends.both _ _ _ (relay-steps (relay (own_of c) n.parts.titles m.sif) m n) (return-steps d.outcome m d.left)
+      let d : Done WholeQueues = relay_by whole c (relay (own_of c n.parts) n.parts.titles m.sif) m n in
+      s.sends.both _ _ _ (relay-steps (relay (own_of c n.parts) n.parts.titles m.sif) m n) (return-steps d.outcome m d.left)
 
   -- ---- translation rows
 

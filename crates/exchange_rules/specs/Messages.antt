@@ -63,13 +63,14 @@ module _ {Q : Type 0} (q : QueueKind Q) (c : Configuration) where
 
 -- ---- SCRC, SCCP routing control (Q.714 §2.3, §4.2): SCCP messages for this point, and the rows that lead them on.
 
--- the point that this node is, its subsystems, and what it does for SCCP
-abbrev pub own_of : Configuration → OwnValue
-own_of c = record {
+-- the point that this node is, its subsystems, what it does for SCCP, and whether the flow to a point has a link
+abbrev pub own_of : Configuration → Parts → OwnValue
+own_of c p = record {
   point = c.own;
   subsystems = c.subsystems;
   extended = c.extended_unitdata;
   answers_tests = c.subsystem_tests;
+  leads = λ point sls. is_some (link_of c p (record { point = point; sls = sls }));
 }
 
 -- a message in the place of another, with the same service information octet
@@ -86,7 +87,7 @@ module _ {Q : Type 0} (q : QueueKind Q) (c : Configuration) where
   send_udts None m node = node
 
   abbrev pub return_unitdata : Cause → Message → Node Q → Node Q
-  return_unitdata cause m node = send_udts (returned (own_of c) node.parts.titles m.sif cause) m node
+  return_unitdata cause m node = send_udts (returned (own_of c node.parts) node.parts.titles m.sif cause) m node
 
   abbrev pub return_outcome : Outcome → Message → Node Q → Node Q
   return_outcome (Refused cause) m node = return_unitdata cause m node
@@ -110,7 +111,7 @@ module _ {Q : Type 0} (q : QueueKind Q) (c : Configuration) where
 
   -- an SCCP message for this point
   abbrev pub on_unitdata : Message → Node Q → Done Q
-  on_unitdata m node = return_refusal m (relay_by (relay (own_of c) node.parts.titles m.sif) m node)
+  on_unitdata m node = return_refusal m (relay_by (relay (own_of c node.parts) node.parts.titles m.sif) m node)
 
 -- ---- translation rows
 

@@ -181,6 +181,9 @@ module _ (c z : Configuration) (j : Joint c z) where
     abbrev rows : List TitleEntry
     rows = n.parts.titles
 
+    abbrev own : relays.OwnValue
+    own = own_of c n.parts
+
     -- where it is refused, which left the node as it was, or told that there is no route
     returning : (out : Message) (o : Outcome) (left : Node WholeQueues) → ((cause : Cause) → o ≡ Refused cause → left ≡ n)
         → Passes c z j (at c z j w n [] []) (at c z j (accepting w (taken_in o out)) left [] [])
@@ -189,7 +192,7 @@ module _ (c z : Configuration) (j : Joint c z) where
         subst (λ (x : Node WholeQueues).
         Passes c z j (at c z j w n [] []) (at c z j (accepting w (answered_in (Refused cause) c m n)) (return_outcome whole c (Refused cause) m x) [] []))
         (sym (same cause refl))
-        (answered (relays.returned (own_of c) rows m.sif cause) (λ sif e. returned-fits (own_of c) rows m.sif cause sif e))
+        (answered (relays.returned own rows m.sif cause) (λ sif e. returned-fits own rows m.sif cause sif e))
     returning out (Queued link) left same p = p
     returning out Held left same p = p
     returning out Local left same p = p
@@ -199,17 +202,17 @@ module _ (c z : Configuration) (j : Joint c z) where
     abbrev relayed : relays.RelayedValue → Done WholeQueues
     relayed v = relay_by whole c v m n
 
-    relayed-passes : (v : relays.RelayedValue) → relays.relay (own_of c) rows m.sif ≡ v
+    relayed-passes : (v : relays.RelayedValue) → relays.relay own rows m.sif ≡ v
         → Passes c z j (at c z j w n [] [])
         (at c z j (accepting w (relayed_in v (relayed v).outcome m ++ answered_in (relayed v).outcome c m n)) (return_outcome whole c (relayed v).outcome m (relayed v).left) [] [])
     relayed-passes relays.Delivered e = none-accepted w n
     relayed-passes (relays.Onward sif) e =
         returning (in_place_of m sif) (relayed (relays.Onward sif)).outcome (relayed (relays.Onward sif)).left (relay_by-leaves c n (relays.Onward sif) m).left
-        (written sif (onward-fits (own_of c) rows m.sif sif e))
-    relayed-passes (relays.Refused cause) e = answered (relays.returned (own_of c) rows m.sif cause) (λ sif e. returned-fits (own_of c) rows m.sif cause sif e)
+        (written sif (onward-fits own rows m.sif sif e))
+    relayed-passes (relays.Refused cause) e = answered (relays.returned own rows m.sif cause) (λ sif e. returned-fits own rows m.sif cause sif e)
 
     pub unitdata-passes : Passes c z j (at c z j w n [] []) (at c z j (accepting w (unitdata_in (on_unitdata whole c m n).outcome c m n)) (on_unitdata whole c m n).left [] [])
-    unitdata-passes = relayed-passes (relays.relay (own_of c) rows m.sif) refl
+    unitdata-passes = relayed-passes (relays.relay own rows m.sif) refl
 
     -- a message for SCCP, or for a user part
     pub local-passes : (from : Option ℕ) → Passes c z j (at c z j w n [] []) (at c z j (accepting w (brought_here (local whole c from m n).outcome c m n)) (local whole c from m n).left [] [])

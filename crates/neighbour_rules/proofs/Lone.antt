@@ -88,7 +88,7 @@ module _ (c : Configuration) (far : ℕ) (only : HasOnly c far) where
     returned-in None = none
 
     answered-in : (o : Outcome) → Are (answered_in o c m n)
-    answered-in (Refused cause) = returned-in (returned (own_of c) n.parts.titles m.sif cause)
+    answered-in (Refused cause) = returned-in (returned (own_of c n.parts) n.parts.titles m.sif cause)
     answered-in (Queued link) = none
     answered-in Held = none
     answered-in Local = none
@@ -102,7 +102,7 @@ module _ (c : Configuration) (far : ℕ) (only : HasOnly c far) where
 
     unitdata-in : Are (unitdata_in (on_unitdata whole c m n).outcome c m n)
     unitdata-in =
-        let v : RelayedValue = relay (own_of c) n.parts.titles m.sif in
+        let v : RelayedValue = relay (own_of c n.parts) n.parts.titles m.sif in
         All-append (IsUserMessageTo far) (relayed_in v (relay_by whole c v m n).outcome m) (answered_in (relay_by whole c v m n).outcome c m n)
         (relayed-in v) (answered-in (relay_by whole c v m n).outcome)
 
@@ -173,7 +173,7 @@ module _ (c : Configuration) (far : ℕ) (only : HasOnly c far) (n : Node WholeQ
       by None e = All-nil (IsUserMessageTo far)
       by (Some m) e =
           subst (λ (o : Outcome). All (IsUserMessageTo far) (brought_to (whither_goes c m) o c m (accept_text link (read_frame text) a))) (sym (outcome-same c (FrameCame link text) n))
-          (received-as c link m (λ o x. All (IsUserMessageTo far) (brought_to (whither_goes c m) o c m x)) (λ x. delivered-to c far only (whither_goes c m) link m x (apart m e)) text n e)
+          (received-as c link m (λ d x. All (IsUserMessageTo far) (brought_to (whither_goes c m) d.outcome c m x)) (λ x. delivered-to c far only (whither_goes c m) link m x (apart m e)) text n e)
 
 -- ---- a message that the other end has for this one
 

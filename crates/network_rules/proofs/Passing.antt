@@ -170,7 +170,7 @@ module _ (c : Configuration) (fine : Message → Bool) (f : IsFine c fine) {R : 
   udts-keeps None m n e = stays n
 
   return-keeps : (outcome : Outcome) (m : Message) (n : Node WholeQueues) → is_management m ≡ false → R n (return_outcome whole c outcome m n)
-  return-keeps (Refused cause) m n e = udts-keeps (returned (own_of c) n.parts.titles m.sif cause) m n e
+  return-keeps (Refused cause) m n e = udts-keeps (returned (own_of c n.parts) n.parts.titles m.sif cause) m n e
   return-keeps (Queued link) m n e = stays n
   return-keeps Held m n e = stays n
   return-keeps Local m n e = stays n
@@ -184,8 +184,8 @@ module _ (c : Configuration) (fine : Message → Bool) (f : IsFine c fine) {R : 
 
   unitdata-keeps : (m : Message) (n : Node WholeQueues) → is_management m ≡ false → R n (on_unitdata whole c m n).left
   unitdata-keeps m n e =
-      let d : Done WholeQueues = relay_by whole c (relay (own_of c) n.parts.titles m.sif) m n in
-      r.both n d.left _ (relay-keeps (relay (own_of c) n.parts.titles m.sif) m n e) (return-keeps d.outcome m d.left e)
+      let d : Done WholeQueues = relay_by whole c (relay (own_of c n.parts) n.parts.titles m.sif) m n in
+      r.both n d.left _ (relay-keeps (relay (own_of c n.parts) n.parts.titles m.sif) m n e) (return-keeps d.outcome m d.left e)
 
   pub local-keeps : (from : Option ℕ) (m : Message) (n : Node WholeQueues) → is_management m ≡ false → R n (local whole c from m n).left
   local-keeps from m n e =

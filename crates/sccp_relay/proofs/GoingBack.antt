@@ -16,12 +16,13 @@ use Rattle.sccp_codec.specs.Messages.{AddressValue, AreOctets, PartsValue, UdtVa
 use Rattle.sccp_codec.specs.Extended.{first_named, has_its_length, is_parameter, type_of, after_type}
 use Rattle.sccp_codec.specs.Titles.{read_title}
 use Rattle.sccp_relay.specs.Sccp.{SccpValue, Plain, Extended, sccp_parts, read_sccp, asks_for_return, is_kind_returned}
-use Rattle.sccp_relay.specs.Relay.{OwnValue, row_of, written, return_cause, parameter_of, returned_parameters, service, return_to, return_by, return_led, return_by_row, return_read, translated, returned, sent_back, led_back}
+use Rattle.sccp_relay.specs.Relay.{OwnValue, row_of, point_by, written, return_cause, parameter_of, returned_parameters, service, return_to, return_by, return_led, return_by_row, return_read, translated, returned, sent_back, led_back}
 use Rattle.sccp_relay.specs.Led.{GoesBack, IsReturned, AreInRange, type_octet, second_octet, hops_of, optional_of, a_udts_returns_a_udt}
 use Rattle.sccp_relay.specs.Ways.{IsRow}
 use Rattle.sccp_relay.proofs.KeptParameters.{named-length}
 use Rattle.sccp_relay.proofs.LedAddresses.{translated-led, translated-fits, title-row, label-fits}
 use Rattle.sccp_relay.proofs.SaidMessages.{IsSccpValue, IsReadHere, HasOctetTitles, fits-read, titles-read, here-read, written-reads, sent}
+use Rattle.sccp_relay.proofs.RowPoints.{led-to, point-fits}
 use Rattle.sccp_relay.proofs.Titles.{octets-dropped}
 use Rattle.sccp_relay.proofs.GoingOn.{in-case, parts-fit}
 
@@ -35,7 +36,7 @@ record Returns (own : OwnValue) (rows : List TitleEntry) (label : Label) (number
   pub fits : IsPartsValue goes
   pub writes : written point own.point label (service number came goes) ≡ Some field
   pub calling : goes.calling ≡ (sccp_parts came).called
-  pub back : GoesBack rows label.opc (sccp_parts came).calling point goes.called
+  pub back : GoesBack own rows label (sccp_parts came).calling point goes.called
   pub carried : goes.data ≡ (sccp_parts came).data
 
 otherwise : (b : Bool) (text : Option (List ℕ)) (field : List ℕ) → cond b None text ≡ Some field → (b ≡ false) × (text ≡ Some field)
@@ -71,18 +72,19 @@ row-returns own rows label number came (Err cause) field t all h titles f e = ab
 row-returns own rows label number came (Ok row) field t all h titles f e =
     let caller = (sccp_parts came).calling in
     let is = title-row rows (read_title caller.title_indicator caller.title) row all f in
-    let l = is-led_back own label number came row.point (translated row caller) field e in
-    let b = goes-back own.point label row.point (service number came (led_back l.called (sccp_parts came))) field l.returns in
+    let point = point_by own label.sls row in
+    let l = is-led_back own label number came point (translated row caller) field e in
+    let b = goes-back own.point label point (service number came (led_back l.called (sccp_parts came))) field l.returns in
     let led = translated-led row caller l.called is titles.calling l.is in
     record {
-      point = row.point;
-      point_fits = is.point;
+      point = point;
+      point_fits = point-fits own label.sls row is;
       elsewhere = b.elsewhere;
       goes = led_back l.called (sccp_parts came);
       fits = record { called = translated-fits row caller l.called is h.calling l.is; calling = h.called };
       writes = b.writes;
       calling = refl;
-      back = record { by_number = λ s. absurd (let no = t in cc); by_title = λ s. (row, f, refl, led) };
+      back = record { by_number = λ s. absurd (let no = t in cc); by_title = λ s. (row, f, led-to own label.sls row, led) };
       carried = refl;
     }
 
@@ -191,7 +193,7 @@ is-returned own rows sif cause field range octets r =
       second = s.second;
       hops = s.hops;
       calling = rw s.same b.calling;
-      back = rw s.same (subst (λ (point : ℕ). GoesBack rows (label_at sif).opc (sccp_parts r.came).calling point b.goes.called) (sym (ap (λ (label : Label). label.dpc) w.labelled)) b.back);
+      back = rw s.same (subst (λ (point : ℕ). GoesBack own rows (label_at sif) (sccp_parts r.came).calling point b.goes.called) (sym (ap (λ (label : Label). label.dpc) w.labelled)) b.back);
       carried = rw s.same b.carried;
       optional = s.optional;
     }

@@ -17,10 +17,11 @@ use Rattle.sccp_codec.specs.Messages.{AddressValue, AreOctets, IsAddressValue, I
 use Rattle.sccp_codec.specs.Management.{ManagementValue, read_management}
 use Rattle.sccp_codec.proofs.ManagementTexts.{read_management-written}
 use Rattle.sccp_relay.specs.Sccp.{SccpValue, Plain, Extended, sccp_parts, with_new_parts, read_sccp, is_connectionless, has_valid_hops, lowered, is_spent}
-use Rattle.sccp_relay.specs.Relay.{OwnValue, RelayedValue, Delivered, Onward, Refused, relay, relay_read, relay_by_routing, relay_by_row, row_of, ssn_by, translated, written, onward, led_on, lead_on, is_equipped, for_subsystem, answered_or, answer, answer_to, allowed, is_answered, is_management, is_test, management_address}
-use Rattle.sccp_relay.specs.Led.{IsLed, IsSeenFrom, IsLowered, GoesOn, IsForManagement, IsTestAnswer, AreInRange, type_octet, second_octet, hops_of, optional_of, what_goes_on_reads_back}
+use Rattle.sccp_relay.specs.Relay.{OwnValue, RelayedValue, Delivered, Onward, Refused, relay, relay_read, relay_by_routing, relay_by_row, row_of, ssn_by, point_by, translated, written, onward, led_on, lead_on, is_equipped, for_subsystem, answered_or, answer, answer_to, allowed, is_answered, is_management, is_test, management_address}
+use Rattle.sccp_relay.specs.Led.{IsLed, IsLedTo, IsSeenFrom, IsLowered, GoesOn, IsForManagement, IsTestAnswer, AreInRange, type_octet, second_octet, hops_of, optional_of, what_goes_on_reads_back}
 use Rattle.sccp_relay.specs.Ways.{IsRow}
 use Rattle.sccp_relay.proofs.LedAddresses.{translated-led, seen_from-of, translated-fits, cond-fits, title-row, label-fits}
+use Rattle.sccp_relay.proofs.RowPoints.{led-to, point-fits}
 use Rattle.sccp_relay.proofs.Titles.{octets-dropped}
 use Rattle.sccp_relay.proofs.SaidMessages.{IsSccpValue, IsReadHere, HasOctetTitles, fits-read, titles-read, here-read, plain-read, written-reads, sent}
 
@@ -29,11 +30,11 @@ use Rattle.sccp_relay.proofs.SaidMessages.{IsSccpValue, IsReadHere, HasOctetTitl
 pub record Leads (own : OwnValue) (rows : List TitleEntry) (label : Label) (came : SccpValue) (field : List ℕ) : Type 0 where
   pub row : TitleEntry
   pub finds : row_of rows (sccp_parts came).called ≡ Ok row
-  pub elsewhere : row.point ≢ own.point
+  pub elsewhere : point_by own label.sls row ≢ own.point
   pub left : is_spent (lowered came) ≡ false
   pub called : AddressValue
   pub leads_on : translated row (sccp_parts came).called ≡ Ok called
-  pub writes : written row.point own.point label (with_new_parts (lowered came) (led_on called label.opc (sccp_parts came))) ≡ Some field
+  pub writes : written (point_by own label.sls row) own.point label (with_new_parts (lowered came) (led_on called label.opc (sccp_parts came))) ≡ Some field
 
 -- ---- as an answer
 
@@ -50,7 +51,7 @@ pub record Answers (own : OwnValue) (label : Label) (ssn : Option ℕ) (came : S
 
 pub record Answered (own : OwnValue) (rows : List TitleEntry) (label : Label) (came : SccpValue) (field : List ℕ) : Type 0 where
   pub ssn : Option ℕ
-  pub for_management : IsForManagement own rows (sccp_parts came).called
+  pub for_management : IsForManagement own rows label.sls (sccp_parts came).called
   pub answers : Answers own label ssn came field
 
 not-onward : (b : Bool) (cause : Cause) (field : List ℕ) → cond b Delivered (Refused cause) ≢ Onward field
@@ -123,16 +124,17 @@ module _ (own : OwnValue) (rows : List TitleEntry) (label : Label) (came : SccpV
       → relay_by_row own label came found ≡ Onward field → Leads own rows label came field ⊎ Answered own rows label came field
   row-leads (Err cause) t left f e = absurd cc
   row-leads (Ok row) t left f e =
-      elim (cases_eq row.point own.point) [
+      let point = point_by own label.sls row in
+      elim (cases_eq point own.point) [
         | inl same ↦
-            let a = subsystem-answers own label (ssn_by row.route (sccp_parts came).called.ssn) came field (rw (eq-eqb row.point own.point same) at e) in
+            let a = subsystem-answers own label (ssn_by row.route (sccp_parts came).called.ssn) came field (rw (eq-eqb point own.point same) at e) in
             inr (record {
               ssn = ssn_by row.route (sccp_parts came).called.ssn;
-              for_management = record { by_number = λ s. absurd (let no = t in cc); by_title = λ s. (row, f, same, a.number) };
+              for_management = record { by_number = λ s. absurd (let no = t in cc); by_title = λ s. (row, f, subst (IsLedTo own label.sls row) same (led-to own label.sls row), a.number) };
               answers = a;
             })
         | inr other ↦
-            let l = is-led_on own label came row.point (translated row (sccp_parts came).called) field (rw (ne_eqb row.point own.point other) at e) in
+            let l = is-led_on own label came point (translated row (sccp_parts came).called) field (rw (ne_eqb point own.point other) at e) in
             inl (record { row = row; finds = f; elsewhere = other; left = left; called = l.called; leads_on = l.is; writes = l.writes })
       ]
 
@@ -220,15 +222,16 @@ module _ (own : OwnValue) (rows : List TitleEntry) (sif field : List ℕ) (range
       let row = title-row rows _ l.row range.each l.finds in
       let k = kept came parts in
       let there = led-fits l.row l.called (label_at sif).opc (sccp_parts came) row (label-fits sif).opc (parts-fit came fits) l.leads_on in
-      let w = written-reads own.extended l.row.point own.point (label_at sif) goes field row.point range.point (label-fits sif)
+      let point = point_by own (label_at sif).sls l.row in
+      let w = written-reads own.extended point own.point (label_at sif) goes field (point-fits own (label_at sif).sls l.row row) range.point (label-fits sif)
       (new-here own.extended came parts (here-read own.extended (drop 4 sif) came reads)) (new-fits came parts fits there) l.writes in
       record {
         came = came;
         reads = reads;
         row = l.row;
         finds = l.finds;
-        label = sent own l.row.point goes sif field l.elsewhere w;
-        to_row = ap (λ (label : Label). label.dpc) w.labelled;
+        label = sent own point goes sif field l.elsewhere w;
+        to_row = subst (IsLedTo own (label_at sif).sls l.row) (sym (ap (λ (label : Label). label.dpc) w.labelled)) (led-to own (label_at sif).sls l.row);
         goes = goes;
         reads_back = w.back;
         type = k.type;
@@ -282,7 +285,7 @@ is-test_answer own rows sif field range came reads answered =
       class_octet = a.class_octet;
       came = a.parts;
       reads = plain-read own.extended (drop 4 sif) (UdtValue a.class_octet a.parts) (reads ∙ ap Ok a.plain);
-      for_management = subst (λ (m : SccpValue). IsForManagement own rows (sccp_parts m).called) a.plain answered.for_management;
+      for_management = subst (λ (m : SccpValue). IsForManagement own rows (label_at sif).sls (sccp_parts m).called) a.plain answered.for_management;
       test = a.test;
       says = a.says;
       kind = t.kind;

@@ -8,7 +8,7 @@ use Rattle.sccp_codec.specs.Extended.{ExtendedValue, extended_fault, extended_in
 use Rattle.sccp_codec.proofs.AddressTexts.{unless-ok}
 use Rattle.sccp_codec.proofs.MessageTexts.{first-none, header-well}
 use Rattle.sccp_relay.specs.Sccp.{SccpValue, Plain, Extended, is_extended, read_sccp, has_valid_hops}
-use Rattle.sccp_relay.specs.Relay.{OwnValue, Onward, relay, led_on}
+use Rattle.sccp_relay.specs.Relay.{OwnValue, Onward, relay, point_by, led_on}
 use Rattle.sccp_relay.specs.Led.{RelayingNode, GoesThrough, loops_of_titles_end}
 use Rattle.sccp_relay.proofs.SaidMessages.{plain-read, extended-read, is-type, written-text}
 use Rattle.sccp_relay.proofs.GoingOn.{Leads, Answered, read-leads, hops-left}
@@ -42,7 +42,7 @@ written-lower : (own : OwnValue) (rows : List TitleEntry) (sif field : List ℕ)
 written-lower own rows sif field v hop h l =
     let parts : PartsValue = led_on l.called (label_at sif).opc v.parts in
     let goes : ExtendedValue = record v { hop_counter = v.hop_counter - 1; parts = parts } in
-    let text : extended_octets goes ≡ drop 4 field = ap (drop 4) (written-text l.row.point own.point (label_at sif) (Extended goes) field l.writes) in
+    let text : extended_octets goes ≡ drop 4 field = ap (drop 4) (written-text (point_by own (label_at sif).sls l.row) own.point (label_at sif) (Extended goes) field l.writes) in
     let left = hops-left v.hop_counter h l.left in
     let after : v.hop_counter - 1 ≡ hop_octet field = ap (λ (octets : List ℕ). slice_index octets 2) text in
     record {

@@ -6,6 +6,7 @@ pub mod Rows
 pub mod Trees
 pub mod Behind
 pub mod RowOrder
+pub mod RowPoints
 pub mod LongestRow
 pub mod TableRows
 pub mod OneRow

@@ -16,7 +16,7 @@ use Rattle.sccp_codec.specs.declared.fault.SccpFault.TheVariants.{Short, Pointer
 use Rattle.sccp_relay.specs.Translation.{has_key, or_refusal}
 use Rattle.sccp_relay.specs.Sccp.{SccpValue, sccp_parts, with_new_parts, read_sccp, is_connectionless, has_valid_hops, lowered, is_spent}
 use Rattle.sccp_relay.specs.Changing.{is_unchanged, changed_key, changed_digits, changed_octets, title_after}
-use Rattle.sccp_relay.specs.Relay.{OwnValue, RelayedValue, Delivered, Onward, Refused, relay, relay_read, relay_by_routing, relay_by_row, row_of, row_of_title, ssn_by, led_with, translated, written, onward, led_on, lead_on, is_equipped, answered_or, answer}
+use Rattle.sccp_relay.specs.Relay.{OwnValue, RelayedValue, Delivered, Onward, Refused, relay, relay_read, relay_by_routing, relay_by_row, row_of, point_by, row_of_title, ssn_by, led_with, translated, written, onward, led_on, lead_on, is_equipped, answered_or, answer}
 
 abbrev pub is_relay_cause : Cause → Bool
 is_relay_cause NoNature = true
@@ -122,8 +122,8 @@ module _ (own : OwnValue) (label : Label) where
   by_row-so : (m : SccpValue) (row : Result TitleEntry Cause) → is_row_so row ≡ true → is_refused_so (relay_by_row own label m row) ≡ true
   by_row-so m (Err cause) h = h
   by_row-so m (Ok row) h =
-      either-so (nat_eq row.point own.point) _ _ (answered-so (answer own label m (ssn_by row.route (sccp_parts m).called.ssn)) (is_equipped own (ssn_by row.route (sccp_parts m).called.ssn)))
-      (lead_on-so m row.point (translated row (sccp_parts m).called) (led-so row (sccp_parts m).called))
+      either-so (nat_eq (point_by own label.sls row) own.point) _ _ (answered-so (answer own label m (ssn_by row.route (sccp_parts m).called.ssn)) (is_equipped own (ssn_by row.route (sccp_parts m).called.ssn)))
+      (lead_on-so m (point_by own label.sls row) (translated row (sccp_parts m).called) (led-so row (sccp_parts m).called))
 
   routing-so : (routing : Routing) (rows : List TitleEntry) (m : SccpValue) → is_refused_so (relay_by_routing routing own rows label m) ≡ true
   routing-so Ssn rows m = answered-so (answer own label m (sccp_parts m).called.ssn) (is_equipped own (sccp_parts m).called.ssn)

@@ -2,8 +2,9 @@
 use Rattle.sccp_relay.proofs.Basics.{◌≡◌, ℕ, ◌+◌, ◌*◌, ◌<◌, ◌≤◌, ◌^◌, ◌/◌, ◌%◌, Bool, true, cond, List, ◌++◌, length, get_or, take, Option, Some, None, refl, sym, ap, subst, ◌∙◌, inl, inr, arith, and_parts, cases_lt, eq-eqb, eqb-true, ne_eqb, lt-ltb, le-ltb, get_or_default, length-take, length-take-le, All-get_or, bytes_decides, filter, list_any, starts_with, NoNature, NoDigits, All, Err, nat_eq, DigitMap, behind, Cause, TitleKey, TitleEntry, HasTitleRanges, TitleRoute, Title, Ssn, key_of, leads, has_key, IsTranslation, translation, translation_refusal, or_refusal, IsRow, IsRoute, IsSsn, key_digits, way_of, lead_of, leads_of, route_number, route_of, row_led}
 use Rattle.settings_rows.specs.Configuration.{ChangeEntry, unchanged}
 use Rattle.sccp_relay.specs.Changing.{is_unchanged}
+use Rattle.sccp_relay.specs.Ways.{is_plain}
 use Rattle.sccp_relay.proofs.Titles.{same-unchanged}
-use Rattle.std.specs.Prelude.{if◌then◌else◌, Contains, false, ◌∷◌, Result, Ok, IfOk, OnErr}
+use Rattle.std.specs.Prelude.{if◌then◌else◌, Contains, false, is_none, ◌∷◌, Result, Ok, IfOk, OnErr}
 use Rattle.sccp_relay.proofs.Basics.{is_at, is_eq, has_row, place_of, row_place, place_order, IsOrdered, list_any_at, tied_itself, nat_list_cmp_total, Equal}
 use Rattle.sccp_relay.proofs.OneRow.{same-row, translation-is_translation}
 use Rattle.sccp_relay.specs.Digits.{longest as longest_digits}
@@ -32,9 +33,13 @@ route-back (Ssn n) h = route-back-ssn n h
 lead-parts : (r p : ℕ) → p < 2 ^ 14 → ((r * 2 ^ 14 + p) % 2 ^ 14 ≡ p) × ((r * 2 ^ 14 + p) / 2 ^ 14 ≡ r)
 lead-parts r p h = (omega (arith, h), omega (arith, h))
 
--- a row with another point, route or change of titles
-to : TitleEntry → ℕ → TitleRoute → ChangeEntry → TitleEntry
-to row point route change = record row { point = point; route = route; change = change }
+-- a row with another point, backup, route or change of titles
+to : TitleEntry → ℕ → Option ℕ → TitleRoute → ChangeEntry → TitleEntry
+to row point backup route change = record row { point = point; backup = backup; route = route; change = change }
+
+no-backup : (backup : Option ℕ) → is_none backup ≡ true → None ≡ backup
+no-backup None e = refl
+no-backup (Some point) e = absurd cc
 
 lead-alone : (same : Bool) (lead : ℕ) → same ≡ true → (if same then 0 else 1) * 2 ^ 23 + lead ≡ lead
 lead-alone true lead e = omega arith
@@ -44,16 +49,18 @@ lead-small : (same : Bool) (lead : ℕ) → (if same then 0 else 1) * 2 ^ 23 + l
 lead-small true lead h = refl
 lead-small false lead h = absurd (omega (arith, h))
 
-pub row-back : (row : TitleEntry) → IsRow row → is_unchanged row.change ≡ true → row_led (key_of row) row.digits (lead_of row) ≡ row
+pub row-back : (row : TitleEntry) → IsRow row → is_plain row ≡ true → row_led (key_of row) row.digits (lead_of row) ≡ row
 unfolding to
 row-back row is same =
     let parts = lead-parts (route_number row.route) row.point is.point in
-    ap (row_led (key_of row) row.digits) (lead-alone (is_unchanged row.change) (route_number row.route * 2 ^ 14 + row.point) same)
-    ∙ ap (λ (n : ℕ). to row n (route_of ((route_number row.route * 2 ^ 14 + row.point) / 2 ^ 14)) unchanged) parts.0
-    ∙ ap (λ (r : TitleRoute). to row row.point r unchanged) (ap route_of parts.1 ∙ route-back row.route is.route)
-    ∙ ap (to row row.point row.route) (sym (same-unchanged row.change same))
+    let plain = and_parts (is_none row.backup) (is_unchanged row.change) same in
+    ap (row_led (key_of row) row.digits) (lead-alone (is_plain row) (route_number row.route * 2 ^ 14 + row.point) same)
+    ∙ ap (λ (n : ℕ). to row n None (route_of ((route_number row.route * 2 ^ 14 + row.point) / 2 ^ 14)) unchanged) parts.0
+    ∙ ap (λ (r : TitleRoute). to row row.point None r unchanged) (ap route_of parts.1 ∙ route-back row.route is.route)
+    ∙ ap (λ (backup : Option ℕ). to row row.point backup row.route unchanged) (no-backup row.backup plain.0)
+    ∙ ap (to row row.point row.backup row.route) (sym (same-unchanged row.change plain.1))
 
-led-same : (key : TitleKey) (digits : List ℕ) (row : TitleEntry) → IsRow row → is_unchanged row.change ≡ true → SameWay key digits row → row_led key digits (lead_of row) ≡ row
+led-same : (key : TitleKey) (digits : List ℕ) (row : TitleEntry) → IsRow row → is_plain row ≡ true → SameWay key digits row → row_led key digits (lead_of row) ≡ row
 led-same key digits row is same s =
     ap (λ (t : ℕ). row_led (record { translation = t; plan = key.plan; nature = key.nature }) digits (lead_of row)) (sym s.translation)
     ∙ ap (λ (p : ℕ). row_led (record { translation = row.translation; plan = p; nature = key.nature }) digits (lead_of row)) (sym s.plan)
@@ -166,8 +173,8 @@ translated rows key digits count lead all e =
       within = l.within;
       ranges = same-ranges key (take count digits) f.row s is.ranges;
       row = λ small.
-          let unchanged = lead-small (is_unchanged f.row.change) (route_number f.row.route * 2 ^ 14 + f.row.point) (subst (λ (n : ℕ). n < 2 ^ 23) (sym f.lead_is) small) in
-          let same : row_led key (take count digits) lead ≡ f.row = ap (row_led key (take count digits)) (sym f.lead_is) ∙ led-same key (take count digits) f.row is unchanged s in
+          let plain = lead-small (is_plain f.row) (route_number f.row.route * 2 ^ 14 + f.row.point) (subst (λ (n : ℕ). n < 2 ^ 23) (sym f.lead_is) small) in
+          let same : row_led key (take count digits) lead ≡ f.row = ap (row_led key (take count digits)) (sym f.lead_is) ∙ led-same key (take count digits) f.row is plain s in
           subst (IsTranslation rows key digits) (sym same) found;
       there = is-there rows (place_of key (take count digits)) f.at f.row f.within f.is place;
       at_place = λ row h among at.

@@ -30,12 +30,14 @@ use Rattle.sccp_relay.specs.Sccp.{SccpValue, Plain, Extended, sccp_parts, with_n
 -- §2.3, §2.4).
 
 -- the point that a node is, and the numbers of the subsystems that are there; whether extended messages are relayed,
--- and whether tests of these subsystems are answered
+-- and whether tests of these subsystems are answered; and whether a link leads to a point, for messages of a link
+-- selection
 pub record OwnValue : Type 0 where
   pub point : ℕ
   pub subsystems : List ℕ
   pub extended : Bool
   pub answers_tests : Bool
+  pub leads : (point sls : ℕ) → Bool
 
 -- what becomes of a message: a subsystem here gets it, one with this signalling information field goes on in its place,
 -- or it is refused
@@ -54,6 +56,19 @@ row_of_title rows (Ok title) =
 
 abbrev pub row_of : List TitleEntry → AddressValue → Result TitleEntry Cause
 row_of rows address = row_of_title rows (read_title address.title_indicator address.title)
+
+-- whether messages of this link selection reach a point: it is this one, or a link leads to it
+abbrev pub is_reached : OwnValue → (sls point : ℕ) → Bool
+is_reached own sls point = nat_eq point own.point || own.leads point sls
+
+abbrev pub point_or : OwnValue → (sls point : ℕ) → (backup : Option ℕ) → ℕ
+point_or own sls point None = point
+point_or own sls point (Some backup) =
+    if not (is_reached own sls point) && is_reached own sls backup then backup else point
+
+-- the point that a row leads to: its own; its backup while they reach that alone
+unfoldable pub point_by : OwnValue → (sls : ℕ) → TitleEntry → ℕ
+point_by own sls row = point_or own sls row.point row.backup
 
 -- what the address is routed by at the point that a row leads to, and the subsystem number there: that of the row if it
 -- has one, else that of the address if it has one
@@ -193,9 +208,9 @@ lead_on own label message point (Ok called) =
 abbrev pub relay_by_row : OwnValue → Label → SccpValue → Result TitleEntry Cause → RelayedValue
 relay_by_row own label message (Err cause) = Refused cause
 relay_by_row own label message (Ok row) =
-    if nat_eq row.point own.point
+    if nat_eq (point_by own label.sls row) own.point
     then for_subsystem own label message (ssn_by row.route (sccp_parts message).called.ssn)
-    else lead_on own label message row.point (translated row (sccp_parts message).called)
+    else lead_on own label message (point_by own label.sls row) (translated row (sccp_parts message).called)
 
 -- before it is translated its hop counter is lowered, and it is refused if this comes to 0 (Q.714 §2.3.1)
 abbrev pub relay_by_title : OwnValue → List TitleEntry → Label → SccpValue → RelayedValue
@@ -281,7 +296,7 @@ return_led own label number message point (Ok calling) =
 abbrev pub return_by_row : OwnValue → Label → ℕ → SccpValue → Result TitleEntry Cause → Option (List ℕ)
 return_by_row own label number message (Err cause) = None
 return_by_row own label number message (Ok row) =
-    return_led own label number message row.point (translated row (sccp_parts message).calling)
+    return_led own label number message (point_by own label.sls row) (translated row (sccp_parts message).calling)
 
 -- It goes to the address that called. By subsystem number that is the point that it names, else the point that the
 -- message came from; by title it is where a row leads

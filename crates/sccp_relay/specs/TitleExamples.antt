@@ -18,6 +18,7 @@ row digits = record {
   nature = 4;
   digits = digits;
   point = 2;
+  backup = None;
   route = Title None;
   change = unchanged;
 }

@@ -1,5 +1,5 @@
 -- What the relay's types say, without where their octets lie.
-use Rattle.std.specs.Prelude.{◌≡◌, ℕ, List, [], ◌∷◌, take, Option, Some, None, Result, Ok, Err, ⊤}
+use Rattle.std.specs.Prelude.{◌≡◌, ℕ, Bool, List, [], ◌∷◌, take, Option, Some, None, Result, Ok, Err, ⊤}
 use Rattle.signalling_types.specs.declared.cause.Cause.{Cause}
 use Rattle.sccp_codec.specs.Values.{unitdata_of}
 use Rattle.sccp_codec.specs.ExtendedValues.{extended_of}
@@ -11,12 +11,13 @@ use Rattle.sccp_relay.specs.declared.relayed.Relayed.TheVariants as said
 use Rattle.sccp_relay.specs.Sccp.{SccpValue, Plain, Extended}
 use Rattle.sccp_relay.specs.Relay.{OwnValue, RelayedValue, Delivered, Onward, Refused}
 
-abbrev pub own_value : Own → OwnValue
-own_value own = record {
+abbrev pub own_value : {W : Type 0} → (leads : W → ℕ → ℕ → Bool) → Own W → OwnValue
+own_value leads own = record {
   point = own.point;
   subsystems = own.subsystems.now;
   extended = own.extended;
   answers_tests = own.answers_tests;
+  leads = leads own.ways;
 }
 
 abbrev pub sccp_of : Message → SccpValue

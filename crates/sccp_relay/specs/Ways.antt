@@ -1,9 +1,9 @@
 -- How a row is found, by its way, the digits of its key followed by its own; and where it leads, as one number.
-use Rattle.std.specs.Prelude.{ℕ, ◌+◌, ◌*◌, ◌^◌, ◌/◌, ◌%◌, ◌<◌, ◌≤◌, IfSome, if◌then◌else◌, nat_eq, nat_lt, List, [], ◌∷◌, ◌++◌, Option, Some, None}
+use Rattle.std.specs.Prelude.{ℕ, Bool, ◌&&◌, is_none, ◌+◌, ◌*◌, ◌^◌, ◌/◌, ◌%◌, ◌<◌, ◌≤◌, IfSome, if◌then◌else◌, nat_eq, nat_lt, List, [], ◌∷◌, ◌++◌, Option, Some, None}
 use Rattle.std.specs.Str.{bytes_eq}
 use Rattle.sccp_relay.specs.Digits.{DigitMap}
 use Rattle.sccp_codec.specs.declared.title.TitleKey.{TitleKey}
-use Rattle.settings_rows.specs.Configuration.{ChangeEntry, TitleEntry, unchanged}
+use Rattle.settings_rows.specs.Configuration.{TitleEntry, unchanged}
 use Rattle.settings_rows.specs.Titles.{HasTitleRanges, HasChangeRanges}
 use Rattle.settings_rows.specs.declared.title_row.TitleRoute.{TitleRoute}
 use Rattle.settings_rows.specs.declared.title_row.TitleRoute.TheVariants.{Title, Ssn}
@@ -33,15 +33,15 @@ route_of number =
     else if nat_lt number 256 then Title (Some (number % 256))
     else Ssn (number % 256)
 
--- whether a row changes titles, as a number
-abbrev pub change_number : ChangeEntry → ℕ
-change_number change = if is_unchanged change then 0 else 1
+-- whether a row has no backup, and changes no titles
+abbrev pub is_plain : TitleEntry → Bool
+is_plain row = is_none row.backup && is_unchanged row.change
 
--- where a row leads, as a number, and whether it changes titles
+-- where a row leads, as a number, and whether it is plain
 abbrev pub lead_of : TitleEntry → ℕ
-lead_of row = change_number row.change * 2 ^ 23 + (route_number row.route * 2 ^ 14 + row.point)
+lead_of row = (if is_plain row then 0 else 1) * 2 ^ 23 + (route_number row.route * 2 ^ 14 + row.point)
 
--- the row of this key and these digits that leads there, and changes no titles
+-- the plain row of this key and these digits that leads there
 abbrev pub row_led : TitleKey → List ℕ → ℕ → TitleEntry
 row_led key digits lead = record {
   translation = key.translation;
@@ -49,6 +49,7 @@ row_led key digits lead = record {
   nature = key.nature;
   digits = digits;
   point = lead % 2 ^ 14;
+  backup = None;
   route = route_of (lead / 2 ^ 14);
   change = unchanged;
 }
@@ -70,5 +71,6 @@ IsRoute (Ssn ssn) = IsSsn ssn
 pub record IsRow (row : TitleEntry) : Type 0 where
   pub ranges : HasTitleRanges row.plan row.nature row.digits
   pub point : row.point < 2 ^ 14
+  pub backup : IfSome row.backup (λ point. point < 2 ^ 14)
   pub route : IsRoute row.route
   pub change : HasChangeRanges row.change

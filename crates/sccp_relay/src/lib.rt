@@ -21,7 +21,7 @@ mod ways;
 mod writing;
 
 pub use fault::TrieFault;
-pub use own::Own;
+pub use own::{Own, Ways};
 pub use relayed::Relayed;
 pub use relaying::relay;
 pub use returning::returned;

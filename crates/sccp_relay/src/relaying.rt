@@ -11,7 +11,7 @@ use crate::Translations;
 use crate::answering::answer;
 use crate::changing::changed_title;
 use crate::message::Message;
-use crate::own::Own;
+use crate::own::{Own, Ways};
 use crate::relayed::Relayed;
 use crate::writing::{led, ssn_by, write_lowered};
 use mtp3_codec::Label;
@@ -32,9 +32,14 @@ const LABEL_OCTETS: usize = 4;
 /// `Address::global_title` and then `Translations::translate` refuse the title of its called address; Unequipped if it
 /// is for a subsystem that isn't here; TooLong if it goes on and a pointer is over 255, or the field over 272 octets.
 #[tactic(auto, unfolding(crate::specs::Relay::relay))]
-pub fn relay(sif: &[u8], rows: &Translations, own: &Own<'_>, field: &mut Field) -> Relayed
+pub fn relay<W: Ways>(
+    sif: &[u8],
+    rows: &Translations,
+    own: &Own<'_, W>,
+    field: &mut Field,
+) -> Relayed
     requires label { 4 ≤ length sif.now }
-    ensures exact { relayed_of result field.new ≡ rule.relay (own_value own.now) rows.now sif.now }
+    ensures exact { relayed_of result field.new ≡ rule.relay (own_value W.leads own.now) rows.now sif.now }
     ensures label { IfOnward result (λ count. 4 ≤ count) }
     ensures fits { IfOnward result (λ count. count ≤ Limits.SIF_OCTETS) }
 {
@@ -64,15 +69,15 @@ fn sccp_cause(fault: SccpFault) -> Cause
 }
 
 /// A message that was read.
-fn relay_read(
+fn relay_read<W: Ways>(
     message: &Message<'_>,
     label: Label,
     rows: &Translations,
-    own: &Own<'_>,
+    own: &Own<'_, W>,
     field: &mut Field,
 ) -> Relayed
     ensures exact { relayed_of result field.new
-        ≡ rule.relay_read (own_value own.now) rows.now label (Ok (sccp_of message.now)) }
+        ≡ rule.relay_read (own_value W.leads own.now) rows.now label (Ok (sccp_of message.now)) }
     ensures label { IfOnward result (λ count. 4 ≤ count) }
     ensures fits { IfOnward result (λ count. count ≤ Limits.SIF_OCTETS) }
 {
@@ -90,15 +95,15 @@ fn relay_read(
 }
 
 /// A message for SCCP management or another subsystem of this point.
-fn for_subsystem(
+fn for_subsystem<W: Ways>(
     message: &Message<'_>,
     ssn: Option<u8>,
     label: Label,
-    own: &Own<'_>,
+    own: &Own<'_, W>,
     field: &mut Field,
 ) -> Relayed
     ensures exact { relayed_of result field.new
-        ≡ rule.for_subsystem (own_value own.now) label (sccp_of message.now) ssn }
+        ≡ rule.for_subsystem (own_value W.leads own.now) label (sccp_of message.now) ssn }
     ensures label { IfOnward result (λ count. 4 ≤ count) }
     ensures fits { IfOnward result (λ count. count ≤ Limits.SIF_OCTETS) }
 {
@@ -109,8 +114,8 @@ fn for_subsystem(
 }
 
 /// A message for a subsystem of this point.
-fn to_subsystem(own: &Own<'_>, ssn: Option<u8>) -> Relayed
-    ensures exact { (field : List ℕ) → relayed_of result field ≡ rule.to_subsystem (own_value own.now) ssn }
+fn to_subsystem<W: Ways>(own: &Own<'_, W>, ssn: Option<u8>) -> Relayed
+    ensures exact { (field : List ℕ) → relayed_of result field ≡ rule.to_subsystem (own_value W.leads own.now) ssn }
     ensures label { IfOnward result (λ count. 4 ≤ count) }
     ensures fits { IfOnward result (λ count. count ≤ Limits.SIF_OCTETS) }
 {
@@ -122,15 +127,15 @@ fn to_subsystem(own: &Own<'_>, ssn: Option<u8>) -> Relayed
 }
 
 /// A message whose called address is by title.
-fn relay_by_title(
+fn relay_by_title<W: Ways>(
     message: &Message<'_>,
     label: Label,
     rows: &Translations,
-    own: &Own<'_>,
+    own: &Own<'_, W>,
     field: &mut Field,
 ) -> Relayed
     ensures exact { relayed_of result field.new
-        ≡ rule.relay_by_title (own_value own.now) rows.now label (sccp_of message.now) }
+        ≡ rule.relay_by_title (own_value W.leads own.now) rows.now label (sccp_of message.now) }
     ensures label { IfOnward result (λ count. 4 ≤ count) }
     ensures fits { IfOnward result (λ count. count ≤ Limits.SIF_OCTETS) }
 {
@@ -140,11 +145,29 @@ fn relay_by_title(
     let called = &message.parts().called;
     match row_of(rows, called) {
         Err(cause) => Relayed::Refused(cause),
-        Ok(row) if row.point() == own.point => {
-            for_subsystem(message, ssn_by(row.route(), called.ssn), label, own, field)
-        }
-        Ok(row) => lead_on(message, &row, label, own, field),
+        Ok(row) => relay_by_row(message, &row, label, own, field),
     }
+}
+
+/// A message that a row leads: for a subsystem of this point, or on to another.
+fn relay_by_row<W: Ways>(
+    message: &Message<'_>,
+    row: &TitleRow,
+    label: Label,
+    own: &Own<'_, W>,
+    field: &mut Field,
+) -> Relayed
+    ensures exact { relayed_of result field.new
+        ≡ rule.relay_by_row (own_value W.leads own.now) label (sccp_of message.now) (Ok row.now) }
+    ensures label { IfOnward result (λ count. 4 ≤ count) }
+    ensures fits { IfOnward result (λ count. count ≤ Limits.SIF_OCTETS) }
+{
+    let point = own.point_by(row, label.sls);
+    if point == own.point {
+        let ssn = ssn_by(row.route(), message.parts().called.ssn);
+        return for_subsystem(message, ssn, label, own, field);
+    }
+    lead_on(point, message, row, label, own, field)
 }
 
 /// The row that the title of an address is translated by.
@@ -157,16 +180,17 @@ pub(crate) fn row_of(rows: &Translations, address: &Address<'_>) -> Result<Title
     }
 }
 
-/// A message goes on to the point that a row leads to.
-fn lead_on(
+/// A message that a row leads goes on to this point.
+fn lead_on<W: Ways>(
+    point: PointCode,
     message: &Message<'_>,
     row: &TitleRow,
     label: Label,
-    own: &Own<'_>,
+    own: &Own<'_, W>,
     field: &mut Field,
 ) -> Relayed
-    ensures exact { relayed_of result field.new ≡ rule.lead_on (own_value own.now) label (sccp_of message.now)
-        row.now.point (rule.translated row.now (sccp_parts (sccp_of message.now)).called) }
+    ensures exact { relayed_of result field.new ≡ rule.lead_on (own_value W.leads own.now) label (sccp_of message.now)
+        point (rule.translated row.now (sccp_parts (sccp_of message.now)).called) }
     ensures label { IfOnward result (λ count. 4 ≤ count) }
     ensures fits { IfOnward result (λ count. count ≤ Limits.SIF_OCTETS) }
 {
@@ -180,7 +204,7 @@ fn lead_on(
         calling: from_point(label.opc, &came.calling),
         data: came.data,
     };
-    match write_lowered(row.point(), own.point, label, message, &parts, field) {
+    match write_lowered(point, own.point, label, message, &parts, field) {
         Some(count) => Relayed::Onward(count),
         None => Relayed::Refused(Cause::TooLong),
     }

@@ -11,7 +11,7 @@ ghost use Rattle.sccp_relay.specs.Values.{four_octets, one_octet, own_value, scc
 use crate::Translations;
 use crate::changing::changed_title;
 use crate::message::{MAX_HOPS, Message};
-use crate::own::Own;
+use crate::own::{Own, Ways};
 use crate::relaying::{behind_label, row_of};
 use crate::writing::{anew, label_to, led, same, same_parts};
 use mtp3_codec::Label;
@@ -44,15 +44,15 @@ const KEPT_OCTETS: usize = 2 + 4 + 2 + 1 + 1;
 /// NoNature, NoDigits, Unequipped, HopCounter, UnknownDestination, NoRoute and TooLong; and if what returns it would go
 /// to this point, finds no translation, or would be too long.
 #[tactic(auto, unfolding(crate::specs::Relay::returned))]
-pub fn returned(
+pub fn returned<W: Ways>(
     sif: &[u8],
     cause: Cause,
     rows: &Translations,
-    own: &Own<'_>,
+    own: &Own<'_, W>,
     field: &mut Field,
 ) -> Option<usize>
     requires label { 4 ≤ length sif.now }
-    ensures exact { written_in result field.new ≡ rule.returned (own_value own.now) rows.now sif.now cause }
+    ensures exact { written_in result field.new ≡ rule.returned (own_value W.leads own.now) rows.now sif.now cause }
     ensures label { IfSome result (λ count. 4 ≤ count) }
     ensures fits { IfSome result (λ count. count ≤ Limits.SIF_OCTETS) }
 {
@@ -80,16 +80,16 @@ fn return_cause(cause: Cause) -> Option<u8>
 }
 
 /// A message that asks for it is returned with this return cause.
-fn return_read(
+fn return_read<W: Ways>(
     message: &Message<'_>,
     number: u8,
     label: Label,
     rows: &Translations,
-    own: &Own<'_>,
+    own: &Own<'_, W>,
     field: &mut Field,
 ) -> Option<usize>
     ensures text { written_in result field.new
-        ≡ rule.return_read (own_value own.now) rows.now label (Some number) (Ok (sccp_of message.now)) }
+        ≡ rule.return_read (own_value W.leads own.now) rows.now label (Some number) (Ok (sccp_of message.now)) }
     ensures label { IfSome result (λ count. 4 ≤ count) }
     ensures fits { IfSome result (λ count. count ≤ Limits.SIF_OCTETS) }
 {
@@ -102,16 +102,16 @@ fn return_read(
 
 /// It goes to the address that called. By subsystem number that is the point that it names, else the point that the
 /// message came from; by title it is where a row leads.
-fn return_by(
+fn return_by<W: Ways>(
     number: u8,
     message: &Message<'_>,
     label: Label,
     rows: &Translations,
-    own: &Own<'_>,
+    own: &Own<'_, W>,
     field: &mut Field,
 ) -> Option<usize>
     ensures text { written_in result field.new ≡ rule.return_by (sccp_parts (sccp_of message.now)).calling.routing
-        (own_value own.now) rows.now label number (sccp_of message.now) }
+        (own_value W.leads own.now) rows.now label number (sccp_of message.now) }
     ensures label { IfSome result (λ count. 4 ≤ count) }
     ensures fits { IfSome result (λ count. count ≤ Limits.SIF_OCTETS) }
 {
@@ -128,17 +128,17 @@ fn return_by(
     }
 }
 
-/// It goes to the point of a row, which leads the address that called on.
-fn return_led(
+/// It goes to the point that a row leads to, which leads the address that called on.
+fn return_led<W: Ways>(
     number: u8,
     message: &Message<'_>,
     row: &TitleRow,
     label: Label,
-    own: &Own<'_>,
+    own: &Own<'_, W>,
     field: &mut Field,
 ) -> Option<usize>
-    ensures text { written_in result field.new ≡ rule.return_led (own_value own.now) label number
-        (sccp_of message.now) row.now.point (rule.translated row.now (sccp_parts (sccp_of message.now)).calling) }
+    ensures text { written_in result field.new ≡ rule.return_led (own_value W.leads own.now) label number
+        (sccp_of message.now) (rule.point_by (own_value W.leads own.now) label.sls row.now) (rule.translated row.now (sccp_parts (sccp_of message.now)).calling) }
     ensures label { IfSome result (λ count. 4 ≤ count) }
     ensures fits { IfSome result (λ count. count ≤ Limits.SIF_OCTETS) }
 {
@@ -151,15 +151,8 @@ fn return_led(
         calling: same(&came.called),
         data: came.data,
     };
-    return_to(
-        row.point(),
-        own.point,
-        label,
-        number,
-        message,
-        &parts,
-        field,
-    )
+    let point = own.point_by(row, label.sls);
+    return_to(point, own.point, label, number, message, &parts, field)
 }
 
 /// The parts, sent back: to the address that called, from the one that was called.

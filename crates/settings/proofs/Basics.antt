@@ -35,5 +35,5 @@ pub use Rattle.settings_rows.specs.declared.fault.DraftFault.{DraftFault}
 pub use Rattle.settings_rows.specs.declared.fault.FaultKind.{FaultKind}
 pub use Rattle.settings_rows.specs.declared.fault.FaultKind.TheVariants.{Range, Duplicate, UnknownName, TooMany}
 pub use Rattle.settings_rows.specs.declared.key.Key.{Key}
-pub use Rattle.settings_rows.specs.declared.key.Key.TheVariants.{Own, Network, Window, Pool, Users, Subsystems, Timer, Destination, DestinationPoint, DestinationSets, DestinationJoined, SetAdjacent, Link, LinkName, LinkSet, LinkSlc, LinkShare, Set, SetName, Title, TitleTranslation, TitlePlan, TitleNature, TitleDigits, TitlePoint, TitleRoute, TitleSsn, TitleNewPlan, TitleNewNature, TitleRemove, TitleAdd}
+pub use Rattle.settings_rows.specs.declared.key.Key.TheVariants.{Own, Network, Window, Pool, Users, Subsystems, Timer, Destination, DestinationPoint, DestinationSets, DestinationJoined, SetAdjacent, Link, LinkName, LinkSet, LinkSlc, LinkShare, Set, SetName, Title, TitleTranslation, TitlePlan, TitleNature, TitleDigits, TitlePoint, TitleBackup, TitleRoute, TitleSsn, TitleNewPlan, TitleNewNature, TitleRemove, TitleAdd}
 pub use Rattle.signalling_types.specs.declared.limits.TheConstants.Limits.{WINDOW, POOL, TICKS, DESTINATIONS, SETS_PER_DESTINATION, LINKS, LINKS_PER_SET, SETS, TITLES, TITLE_DIGITS}

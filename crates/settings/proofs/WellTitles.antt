@@ -1,5 +1,5 @@
 -- Translation rows without a fault satisfy what is asked of them.
-use Rattle.settings.proofs.Basics.{refl, sym, ◌≡◌, ◌≤◌, ◌<◌, ◌^◌, ℕ, Bool, true, false, not, ◌&&◌, nat_eq, nat_lt, nat_le, List, [], ◌∷◌, map, length, All, arith, Option, None, Some, ℤ, string_bytes, IsDistinct, AllByRecursion, list_all, list_any, option_map, bytes_eq, int_eq, length-map, All-from_recursion, bytes_eq-Decides, nat_tests, natural, is_within, is_digit, fault_unless, range_fault, entries_fault, optional_fault, ssn_fault, route_fault, digits_fault, added_fault, title_of, digit_of, route_of, change_of, is_by_title, titles_fault, title_fault, title_numbers_fault, title_digits_fault, title_target_fault, title_change_fault, is_same_title, TitleDraft, ChangeDraft, Key, Title, TitleTranslation, TitlePlan, TitleNature, TitleDigits, TitlePoint, TitleRoute, TitleSsn, TitleNewPlan, TitleNewNature, TitleRemove, TitleAdd, Range, Duplicate, TooMany, TITLES, TITLE_DIGITS, IsWithin, IsTitle, HasSubsystem, is_same_row, and_from, not-true, and_parts}
+use Rattle.settings.proofs.Basics.{refl, sym, ◌≡◌, ◌≤◌, ◌<◌, ◌^◌, ℕ, Bool, true, false, not, ◌&&◌, nat_eq, nat_lt, nat_le, List, [], ◌∷◌, map, length, All, arith, Option, None, Some, IfSome, ℤ, string_bytes, IsDistinct, AllByRecursion, list_all, list_any, option_map, bytes_eq, int_eq, length-map, All-from_recursion, bytes_eq-Decides, nat_tests, natural, is_within, is_digit, fault_unless, range_fault, entries_fault, optional_fault, ssn_fault, route_fault, digits_fault, added_fault, title_of, digit_of, route_of, change_of, is_by_title, titles_fault, title_fault, title_numbers_fault, title_digits_fault, title_target_fault, title_change_fault, is_same_title, TitleDraft, ChangeDraft, Key, Title, TitleTranslation, TitlePlan, TitleNature, TitleDigits, TitlePoint, TitleBackup, TitleRoute, TitleSsn, TitleNewPlan, TitleNewNature, TitleRemove, TitleAdd, Range, Duplicate, TooMany, TITLES, TITLE_DIGITS, IsWithin, IsTitle, HasSubsystem, is_same_row, and_from, not-true, and_parts}
 use Rattle.std.proofs.lemmas.Option.{IfSome_then}
 use Rattle.settings_rows.specs.Titles.{HasChangeRanges}
 use Rattle.settings.proofs.Rows.{two_none, three_none, four_none, passes, two_pass, within_from_test, each_entry, each_made, each_of_all, entries_differ, differ_made, none_of_any, none_differ}
@@ -61,15 +61,16 @@ record HasRange (t : TitleDraft) : Type 0 where
   fits : nat_le (length (string_bytes t.digits)) TITLE_DIGITS ≡ true
   digits : AllByRecursion (λ x. is_digit x ≡ true) (string_bytes t.digits)
   point : is_within 0 16383 t.point ≡ true
+  backup : IfSome (option_map natural t.backup) (IsWithin 0 16383)
   route : HasSubsystem (route_of (is_by_title t) (option_map natural t.ssn))
   change : HasChangeRanges (change_of t.change)
 
 title_none : (earlier : List TitleDraft) (t : TitleDraft) → title_fault earlier t ≡ None → (title_numbers_fault (length earlier) t ≡ None) × (title_digits_fault earlier t ≡ None) × (title_target_fault (length earlier) t ≡ None) × (title_change_fault (length earlier) t.change ≡ None)
 title_none earlier t h = four_none (title_numbers_fault (length earlier) t) (title_digits_fault earlier t) (title_target_fault (length earlier) t) (title_change_fault (length earlier) t.change) h
 
-target_none : (place : ℕ) (t : TitleDraft) → title_target_fault place t ≡ None → (range_fault 0 16383 (TitlePoint place) t.point ≡ None) × (route_fault (TitleRoute place) (string_bytes t.route) ≡ None) × (ssn_fault (is_by_title t) (TitleSsn place) t.ssn ≡ None)
+target_none : (place : ℕ) (t : TitleDraft) → title_target_fault place t ≡ None → (range_fault 0 16383 (TitlePoint place) t.point ≡ None) × (optional_fault 0 16383 (TitleBackup place) t.backup ≡ None) × (route_fault (TitleRoute place) (string_bytes t.route) ≡ None) × (ssn_fault (is_by_title t) (TitleSsn place) t.ssn ≡ None)
 target_none place t h =
-    three_none (range_fault 0 16383 (TitlePoint place) t.point) (route_fault (TitleRoute place) (string_bytes t.route)) (ssn_fault (is_by_title t) (TitleSsn place) t.ssn) h
+    four_none (range_fault 0 16383 (TitlePoint place) t.point) (optional_fault 0 16383 (TitleBackup place) t.backup) (route_fault (TitleRoute place) (string_bytes t.route)) (ssn_fault (is_by_title t) (TitleSsn place) t.ssn) h
 
 digits_none : (earlier : List TitleDraft) (t : TitleDraft) → title_digits_fault earlier t ≡ None → (digits_fault (TitleDigits (length earlier)) (string_bytes t.digits) ≡ None) × (fault_unless (not (list_any (is_same_title t) earlier)) Duplicate (TitleDigits (length earlier)) ≡ None)
 digits_none earlier t h =
@@ -91,7 +92,8 @@ has_range earlier t h =
       fits = count.1;
       digits = each_of_all is_digit (string_bytes t.digits) d.1;
       point = passes (is_within 0 16383 t.point) Range (TitlePoint i) q.0;
-      route = route_well (is_by_title t) (TitleSsn i) t.ssn q.2;
+      backup = optional_in_range 0 16383 (TitleBackup i) t.backup q.1;
+      route = route_well (is_by_title t) (TitleSsn i) t.ssn q.3;
       change = change_well i t.change r.3;
     }
 
@@ -114,6 +116,7 @@ within_well t h =
         values = digits_below (string_bytes t.digits) h.digits;
       };
       point = omega (arith, q.below);
+      backup = IfSome_then (option_map natural t.backup) h.backup (λ x w. omega (arith, w.below));
       route = h.route;
       change = h.change;
     }

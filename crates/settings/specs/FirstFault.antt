@@ -20,8 +20,8 @@ use Rattle.settings_rows.specs.declared.key.Key.TheVariants.{SetName, SetAdjacen
 use Rattle.settings_rows.specs.declared.key.Key.TheVariants.{LinkShare}
 use Rattle.settings_rows.specs.declared.key.Key.TheVariants.{Destination, DestinationPoint, DestinationSets}
 use Rattle.settings_rows.specs.declared.key.Key.TheVariants.{DestinationJoined, Title, TitleTranslation, TitlePlan}
-use Rattle.settings_rows.specs.declared.key.Key.TheVariants.{TitleNature, TitleDigits, TitlePoint, TitleRoute, TitleSsn}
-use Rattle.settings_rows.specs.declared.key.Key.TheVariants.{TitleNewPlan, TitleNewNature, TitleRemove, TitleAdd}
+use Rattle.settings_rows.specs.declared.key.Key.TheVariants.{TitleNature, TitleDigits, TitlePoint, TitleBackup}
+use Rattle.settings_rows.specs.declared.key.Key.TheVariants.{TitleRoute, TitleSsn, TitleNewPlan, TitleNewNature, TitleRemove, TitleAdd}
 use Rattle.signalling_types.specs.declared.limits.TheConstants.Limits.{WINDOW, POOL, TICKS, LINKS, SETS, TITLES}
 use Rattle.signalling_types.specs.declared.limits.TheConstants.Limits.{DESTINATIONS, SETS_PER_DESTINATION, TITLE_DIGITS}
 use Rattle.settings.specs.declared.timers.Written.{Written}
@@ -188,10 +188,11 @@ title_numbers_fault place t = first_of (
     ∷ range_fault 0 127 (TitleNature place) t.nature
     ∷ [])
 
--- where a translation row at this index leads to: its point, its route and its subsystem number
+-- where a translation row at this index leads to: its point, its backup, its route and its subsystem number
 abbrev pub title_target_fault : ℕ → TitleDraft → Option DraftFault
 title_target_fault place t = first_of (
     range_fault 0 16383 (TitlePoint place) t.point
+    ∷ optional_fault 0 16383 (TitleBackup place) t.backup
     ∷ route_fault (TitleRoute place) (string_bytes t.route)
     ∷ ssn_fault (is_by_title t) (TitleSsn place) t.ssn
     ∷ [])

@@ -91,6 +91,7 @@ title_of t = record {
   nature = natural t.nature;
   digits = map digit_of (string_bytes t.digits);
   point = natural t.point;
+  backup = option_map natural t.backup;
   route = route_of (is_by_title t) (option_map natural t.ssn);
   change = change_of t.change;
 }

@@ -86,6 +86,7 @@ pub record IsTitle (t : TitleEntry) : Type 0 where
   pub translation : t.translation < 2 ^ 8
   pub ranges : HasTitleRanges t.plan t.nature t.digits
   pub point : t.point < 2 ^ 14
+  pub backup : IfSome t.backup (λ point. point < 2 ^ 14)
   pub route : HasSubsystem t.route
   pub change : HasChangeRanges t.change
 

@@ -68,6 +68,18 @@ pub(crate) fn point(value: i64, key: Key) -> Result<PointCode, DraftFault>
     PointCode::new(number).ok_or(DraftFault::At(FaultKind::Range, key))
 }
 
+/// The point of this number, if it wasn't left out.
+pub(crate) fn optional_point(value: Option<i64>, key: Key) -> Result<Option<PointCode>, DraftFault>
+    ensures value { IfOk result (λ point. point ≡ option_map natural value) }
+    ensures well { OnOk result (optional_fault 0 16383 key value ≡ None) }
+    ensures fault { IfErr result (λ fault. optional_fault 0 16383 key value ≡ Some fault) }
+{
+    match value {
+        Some(value) => Ok(Some(point(value, key)?)),
+        None => Ok(None),
+    }
+}
+
 /// The point of this number, if it isn't the node's own.
 pub(crate) fn far_point(value: i64, own: PointCode, key: Key) -> Result<PointCode, DraftFault>
     ensures value { IfOk result (λ point. point ≡ natural value) }

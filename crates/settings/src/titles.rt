@@ -14,11 +14,11 @@ ghost use Rattle.settings.specs.FirstFault.{title_fault, titles_fault};
 
 use crate::changes::title_change;
 use crate::digits::{Digits, digits};
-use crate::numbers::{ensure, number, point};
+use crate::numbers::{ensure, number, optional_point, point};
 use arrayvec::ArrayVec;
 use indexmap::IndexSet;
 use settings_rows::{DraftFault, FaultKind, Key, TitleDraft, TitleRoute, TitleRow};
-use signalling_types::{Limits, Ssn};
+use signalling_types::{Limits, PointCode, Ssn};
 use std::alloc::Global;
 
 /// The largest subsystem number.
@@ -142,6 +142,17 @@ fn title_numbers(title: &TitleDraft, place: usize) -> Result<(u8, u8, u8), Draft
     Ok((translation as u8, plan as u8, nature as u8))
 }
 
+/// The same row, with this point as its backup, if any.
+fn backed_up(row: TitleRow, backup: Option<PointCode>) -> TitleRow
+    requires { row.backup ≡ None }
+    ensures { result ≡ record row { backup = backup } }
+{
+    match backup {
+        Some(point) => row.with_backup(point),
+        None => row,
+    }
+}
+
 /// The translation row of these numbers and digits, which are in the row that was written. It changes no titles yet.
 fn routed_row(
     title: &TitleDraft,
@@ -163,13 +174,15 @@ fn routed_row(
 {
     let (translation, plan, nature) = numbers;
     let point = point(title.point, Key::TitlePoint(place))?;
+    let backup = optional_point(title.backup, Key::TitleBackup(place))?;
     let by_title = is_by_title(title.route.as_str(), Key::TitleRoute(place))?;
     let ssn = subsystem(title.ssn, Key::TitleSsn(place))?;
     let route = route(by_title, ssn, Key::TitleSsn(place))?;
-    TitleRow::new(translation, plan, nature, digits, point, route).ok_or(DraftFault::At(
+    let row = TitleRow::new(translation, plan, nature, digits, point, route).ok_or(DraftFault::At(
         FaultKind::Range,
         Key::TitleDigits(place),
-    ))
+    ))?;
+    Ok(backed_up(row, backup))
 }
 
 /// A translation row, after those before it, whose keys are `seen`.

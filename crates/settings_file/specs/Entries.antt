@@ -55,28 +55,31 @@ change_at has_keys i t =
     and_then (optional_text_at has_keys (codes "add") (key.TitleAdd i) t) (λ added.
     Ok (record { plan = plan; nature = nature; removed = unwrap_or removed (pos 0); added = added })))))
 
--- a translation row
-unfoldable pub title_in : (has_change : Bool) → ℕ → Data → Result WrittenTitle SettingsFault
-title_in has_change i d =
+-- a translation row, in a file whose version has the keys of backups and of changed titles, or doesn't have them: there
+-- they are ignored
+unfoldable pub title_in : (has_extensions : Bool) → ℕ → Data → Result WrittenTitle SettingsFault
+title_in has_extensions i d =
     and_then (table_in (key.TitleEntry i) d) (λ t.
     and_then (integer_at (codes "translation") (key.TitleTranslation i) t) (λ translation.
     and_then (integer_at (codes "plan") (key.TitlePlan i) t) (λ plan.
     and_then (integer_at (codes "nature") (key.TitleNature i) t) (λ nature.
     and_then (text_at (codes "digits") (key.TitleDigits i) t) (λ digits.
     and_then (integer_at (codes "point") (key.TitlePoint i) t) (λ point.
+    and_then (optional_integer_at has_extensions (codes "backup") (key.TitleBackup i) t) (λ backup.
     and_then (text_at (codes "route") (key.TitleRoute i) t) (λ route.
     and_then (ssn_at i route t) (λ ssn.
-    and_then (change_at has_change i t) (λ change.
+    and_then (change_at has_extensions i t) (λ change.
     Ok (record {
       translation = translation;
       plan = plan;
       nature = nature;
       digits = digits;
       point = point;
+      backup = backup;
       route = route;
       ssn = ssn;
       change = change;
-    }))))))))))
+    })))))))))))
 
 -- the arrays of a file, of which only that of translation rows may be left out or empty
 unfoldable pub sets_at : Members → Result (List WrittenSet) SettingsFault
@@ -89,9 +92,9 @@ unfoldable pub destinations_at : (has_joined : Bool) → Members → Result (Lis
 destinations_at has_joined t =
     and_then (entries_at (codes "destination") key.Destination t) (each (destination_in has_joined) 0)
 
-abbrev pub titles_in : (has_change : Bool) → Option Data → Result (List WrittenTitle) SettingsFault
-titles_in has_change None = Ok []
-titles_in has_change (Some d) = and_then (array_in key.Title d) (each (title_in has_change) 0)
+abbrev pub titles_in : (has_extensions : Bool) → Option Data → Result (List WrittenTitle) SettingsFault
+titles_in has_extensions None = Ok []
+titles_in has_extensions (Some d) = and_then (array_in key.Title d) (each (title_in has_extensions) 0)
 
-unfoldable pub titles_at : (has_change : Bool) → Members → Result (List WrittenTitle) SettingsFault
-titles_at has_change t = titles_in has_change (get_member (codes "title") t)
+unfoldable pub titles_at : (has_extensions : Bool) → Members → Result (List WrittenTitle) SettingsFault
+titles_at has_extensions t = titles_in has_extensions (get_member (codes "title") t)

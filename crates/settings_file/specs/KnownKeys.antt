@@ -53,10 +53,10 @@ destination_keys true = codes "point" ∷ codes "sets" ∷ codes "joined" ∷ []
 destination_keys false = codes "point" ∷ codes "sets" ∷ []
 
 -- the keys of a translation row
-abbrev pub title_keys : (may_have_change : Bool) → List (List ℕ)
+abbrev pub title_keys : (may_have_extensions : Bool) → List (List ℕ)
 title_keys true =
-    codes "translation" ∷ codes "plan" ∷ codes "nature" ∷ codes "digits" ∷ codes "point" ∷ codes "route" ∷ codes "ssn"
-    ∷ codes "new_plan" ∷ codes "new_nature" ∷ codes "remove" ∷ codes "add" ∷ []
+    codes "translation" ∷ codes "plan" ∷ codes "nature" ∷ codes "digits" ∷ codes "point" ∷ codes "backup"
+    ∷ codes "route" ∷ codes "ssn" ∷ codes "new_plan" ∷ codes "new_nature" ∷ codes "remove" ∷ codes "add" ∷ []
 title_keys false =
     codes "translation" ∷ codes "plan" ∷ codes "nature" ∷ codes "digits" ∷ codes "point" ∷ codes "route" ∷ codes "ssn"
     ∷ []

@@ -35,6 +35,7 @@ pub record WrittenTitle : Type 0 where
   pub nature : ℤ
   pub digits : List ℕ
   pub point : ℤ
+  pub backup : Option ℤ
   pub route : List ℕ
   pub ssn : Option ℤ
   pub change : WrittenChange
@@ -79,6 +80,7 @@ title_written t = record {
   nature = t.nature;
   digits = string_bytes t.digits;
   point = t.point;
+  backup = t.backup;
   route = string_bytes t.route;
   ssn = t.ssn;
   change = change_written t.change;

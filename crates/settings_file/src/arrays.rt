@@ -103,15 +103,15 @@ fn change(
     })
 }
 
-/// A translation row, in a file whose version has the keys of changed titles or doesn't have them.
+/// A translation row, in a file whose version has the keys of backups and changed titles or doesn't have them.
 #[tactic(auto, unfolding(crate::specs::Entries::title_in))]
 fn title(
     alloc: Global,
-    has_change: bool,
+    has_extensions: bool,
     i: usize,
     value: &Value,
 ) -> Result<TitleDraft, SettingsFault>
-    ensures { AnswersOrNoMemory title_written (title_in has_change i (view value.now)) result }
+    ensures { AnswersOrNoMemory title_written (title_in has_extensions i (view value.now)) result }
 {
     let table = table_in(value, Key::TitleEntry(i))?;
     let translation = integer(table, "translation", Key::TitleTranslation(i))?;
@@ -119,15 +119,17 @@ fn title(
     let nature = integer(table, "nature", Key::TitleNature(i))?;
     let digits = text(alloc, table, "digits", Key::TitleDigits(i))?;
     let point = integer(table, "point", Key::TitlePoint(i))?;
+    let backup = optional_integer(has_extensions, table, "backup", Key::TitleBackup(i))?;
     let route = text(alloc, table, "route", Key::TitleRoute(i))?;
     let ssn = ssn(table, i, route.as_str())?;
-    let change = change(alloc, has_change, i, table)?;
+    let change = change(alloc, has_extensions, i, table)?;
     Ok(TitleDraft {
         translation,
         plan,
         nature,
         digits,
         point,
+        backup,
         route,
         ssn,
         change,
@@ -184,15 +186,15 @@ fn each_destination(
 /// The translation rows that values are.
 fn each_title(
     alloc: Global,
-    has_change: bool,
+    has_extensions: bool,
     values: &[Value],
 ) -> Result<Vec<TitleDraft>, SettingsFault>
     ensures { AnswersOrNoMemory (λ titles. map title_written titles.items)
-        (each (title_in has_change) 0 (map view values.now)) result }
+        (each (title_in has_extensions) 0 (map view values.now)) result }
 {
     let mut titles = Vec::with_capacity(alloc, values.len())?;
     for i in 0..values.len() {
-        let title = title(alloc, has_change, i, &values[i])?;
+        let title = title(alloc, has_extensions, i, &values[i])?;
         titles.push(title)?;
     }
     Ok(titles)
@@ -241,16 +243,16 @@ pub(crate) fn destinations(
 #[tactic(auto, unfolding(crate::specs::Entries::titles_at))]
 pub(crate) fn titles(
     alloc: Global,
-    has_change: bool,
+    has_extensions: bool,
     table: &Table,
 ) -> Result<Vec<TitleDraft>, SettingsFault>
     ensures { AnswersOrNoMemory (λ titles. map title_written titles.items)
-        (titles_at has_change (table_view table.now)) result }
+        (titles_at has_extensions (table_view table.now)) result }
 {
     match found(table, "title") {
         Some(value) => {
             let values = array_in(value, Key::Title)?;
-            each_title(alloc, has_change, values)
+            each_title(alloc, has_extensions, values)
         }
         None => Ok(Vec::new(alloc)),
     }

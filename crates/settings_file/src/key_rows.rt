@@ -92,6 +92,7 @@ pub(crate) fn key_row(key: Key) -> KeyRow
         Key::TitleNature(i) => entry_key("title", i, "nature", INTEGER, NATURE),
         Key::TitleDigits(i) => entry_key("title", i, "digits", TEXT, DIGITS),
         Key::TitlePoint(i) => entry_key("title", i, "point", INTEGER, POINT),
+        Key::TitleBackup(i) => entry_key("title", i, "backup", INTEGER, POINT),
         Key::TitleRoute(i) => entry_key("title", i, "route", TEXT, "\"title\" or \"ssn\""),
         Key::TitleSsn(i) => entry_key("title", i, "ssn", INTEGER, "1 to 255"),
         Key::TitleNewPlan(i) => entry_key("title", i, "new_plan", INTEGER, PLAN),

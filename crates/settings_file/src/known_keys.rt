@@ -121,6 +121,7 @@ const TITLE_OF_THREE: &[&str] = &[
     "nature",
     "digits",
     "point",
+    "backup",
     "route",
     "ssn",
     "new_plan",
@@ -204,11 +205,11 @@ fn destination_keys(may_be_joined: bool) -> &'static [&'static str]
     }
 }
 
-/// The keys of a translation row, in a document whose rows may change titles or may not.
-fn title_keys(may_have_change: bool) -> &'static [&'static str]
-    ensures { map (λ key. key.now) result.now ≡ title_keys may_have_change }
+/// The keys of a translation row, in a document that may have the keys that the last version brought, or may not.
+fn title_keys(may_have_extensions: bool) -> &'static [&'static str]
+    ensures { map (λ key. key.now) result.now ≡ title_keys may_have_extensions }
 {
-    if may_have_change {
+    if may_have_extensions {
         TITLE_OF_THREE
     } else {
         TITLE

@@ -36,13 +36,15 @@ pub record ChangeEntry : Type 0 where
 abbrev pub unchanged : ChangeEntry
 unchanged = record { plan = None; nature = None; removed = 0; added = [] }
 
--- a translation row: what its addresses begin with, where they lead, and how their titles change (Q.714 §2.4)
+-- a translation row: what its addresses begin with, where they lead, the point that they lead to while that one can't be
+-- reached, if any, and how their titles change (Q.714 §2.4)
 pub record TitleEntry : Type 0 where
   pub translation : ℕ
   pub plan : ℕ
   pub nature : ℕ
   pub digits : List ℕ
   pub point : ℕ
+  pub backup : Option ℕ
   pub route : TitleRoute
   pub change : ChangeEntry
 

@@ -12,7 +12,7 @@ use Rattle.settings_rows.specs.declared.key.Key.TheVariants.{DestinationEntry, D
 use Rattle.settings_rows.specs.declared.key.Key.TheVariants.{DestinationJoined}
 use Rattle.settings_rows.specs.declared.key.Key.TheVariants.{Title, TitleEntry, TitleTranslation, TitlePlan}
 use Rattle.settings_rows.specs.declared.key.Key.TheVariants.{TitleNature}
-use Rattle.settings_rows.specs.declared.key.Key.TheVariants.{TitleDigits, TitlePoint, TitleRoute, TitleSsn}
+use Rattle.settings_rows.specs.declared.key.Key.TheVariants.{TitleDigits, TitlePoint, TitleBackup, TitleRoute, TitleSsn}
 use Rattle.settings_rows.specs.declared.key.Key.TheVariants.{TitleNewPlan, TitleNewNature, TitleRemove, TitleAdd}
 
 -- how the key of a timer is written
@@ -67,6 +67,7 @@ key_front (TitlePlan i) = codes "title"
 key_front (TitleNature i) = codes "title"
 key_front (TitleDigits i) = codes "title"
 key_front (TitlePoint i) = codes "title"
+key_front (TitleBackup i) = codes "title"
 key_front (TitleRoute i) = codes "title"
 key_front (TitleSsn i) = codes "title"
 key_front (TitleNewPlan i) = codes "title"
@@ -94,6 +95,7 @@ key_index (TitlePlan i) = Some i
 key_index (TitleNature i) = Some i
 key_index (TitleDigits i) = Some i
 key_index (TitlePoint i) = Some i
+key_index (TitleBackup i) = Some i
 key_index (TitleRoute i) = Some i
 key_index (TitleSsn i) = Some i
 key_index (TitleNewPlan i) = Some i
@@ -118,6 +120,7 @@ key_back (TitlePlan i) = codes ".plan"
 key_back (TitleNature i) = codes ".nature"
 key_back (TitleDigits i) = codes ".digits"
 key_back (TitlePoint i) = codes ".point"
+key_back (TitleBackup i) = codes ".backup"
 key_back (TitleRoute i) = codes ".route"
 key_back (TitleSsn i) = codes ".ssn"
 key_back (TitleNewPlan i) = codes ".new_plan"

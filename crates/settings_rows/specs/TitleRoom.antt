@@ -37,6 +37,7 @@ title_in t = record {
   nature = t.nature;
   digits = take t.len t.digits;
   point = t.point;
+  backup = t.backup;
   route = t.route;
   change = t.change;
 }
@@ -55,6 +56,7 @@ put_title t = record {
   digits = t.digits ++ replicate (TITLE_DIGITS - length t.digits) 0;
   len = length t.digits;
   point = t.point;
+  backup = t.backup;
   route = t.route;
   change = t.change;
 }

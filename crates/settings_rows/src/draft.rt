@@ -114,6 +114,8 @@ pub struct TitleDraft {
     pub digits: String,
     /// The point that such an address leads to.
     pub point: i64,
+    /// The point that it leads to while that one can't be reached, if any.
+    pub backup: Option<i64>,
     /// How it is routed there: `title` or `ssn`.
     pub route: String,
     /// The subsystem number there, if any.

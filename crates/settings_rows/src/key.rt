@@ -131,6 +131,8 @@ pub enum Key {
     TitleDigits(usize),
     /// `title[i].point`.
     TitlePoint(usize),
+    /// `title[i].backup`.
+    TitleBackup(usize),
     /// `title[i].route`.
     TitleRoute(usize),
     /// `title[i].ssn`.
@@ -182,6 +184,7 @@ impl Key {
             | Key::TitleNature(_)
             | Key::TitleDigits(_)
             | Key::TitlePoint(_)
+            | Key::TitleBackup(_)
             | Key::TitleRoute(_)
             | Key::TitleSsn(_)
             | Key::TitleNewPlan(_)
@@ -214,6 +217,7 @@ impl Key {
             | Key::TitleNature(i)
             | Key::TitleDigits(i)
             | Key::TitlePoint(i)
+            | Key::TitleBackup(i)
             | Key::TitleRoute(i)
             | Key::TitleSsn(i)
             | Key::TitleNewPlan(i)
@@ -241,6 +245,7 @@ impl Key {
             Key::TitlePlan(_) => ".plan",
             Key::TitleNature(_) => ".nature",
             Key::TitleDigits(_) => ".digits",
+            Key::TitleBackup(_) => ".backup",
             Key::TitleRoute(_) => ".route",
             Key::TitleSsn(_) => ".ssn",
             Key::TitleNewPlan(_) => ".new_plan",

@@ -1,6 +1,6 @@
 //! A translation row.
 
-ghost use Rattle.std.specs.Prelude.{◌≡◌, ◌^◌, ◌<◌, ◌≤◌, ◌↔◌, All, IsSome, IfSome, length};
+ghost use Rattle.std.specs.Prelude.{◌≡◌, ◌^◌, ◌<◌, ◌≤◌, ◌↔◌, All, IsSome, IfSome, None, Some, length};
 ghost use Rattle.settings_rows.specs.Configuration.{unchanged};
 ghost use Rattle.settings_rows.specs.Titles.{HasTitleRanges};
 
@@ -25,7 +25,8 @@ pub enum TitleRoute {
 }
 
 /// A translation row: addresses of this translation type, numbering plan and nature, and what they
-/// begin with, where they lead, and how their titles change (Q.714 §2.4).
+/// begin with, where they lead, the point that they lead to while that one can't be reached, if
+/// any, and how their titles change (Q.714 §2.4).
 #[derive(Clone, Copy)]
 pub struct TitleRow {
     translation: u8,
@@ -34,6 +35,7 @@ pub struct TitleRow {
     digits: [u8; Limits::TITLE_DIGITS],
     len: u8,
     point: PointCode,
+    backup: Option<PointCode>,
     route: TitleRoute,
     change: TitleChange,
 }
@@ -58,7 +60,7 @@ impl Model for TitleRow {
 impl TitleRow {
     /// The row of this translation type (an octet), numbering plan (0 to 15), nature of address (0 to 127) and digits
     /// (1 to 32 of them, 0 to 15 each), or `None` exactly when one of these is out of range. Addresses lead to this
-    /// point, and are routed there in this way. Their titles don't change.
+    /// point, with no backup, and are routed there in this way. Their titles don't change.
     pub fn new(
         translation: u8,
         plan: u8,
@@ -74,6 +76,7 @@ impl TitleRow {
           nature = nature;
           digits = digits.now;
           point = point;
+          backup = None;
           route = route;
           change = unchanged;
         }) }
@@ -91,9 +94,20 @@ impl TitleRow {
             digits: padded(digits),
             len: digits.len() as u8,
             point,
+            backup: None,
             route,
             change: TitleChange::none(),
         })
+    }
+
+    /// The same row, with this point as its backup.
+    pub fn with_backup(self, point: PointCode) -> TitleRow
+        ensures { result ≡ record self { backup = Some point } }
+    {
+        TitleRow {
+            backup: Some(point),
+            ..self
+        }
     }
 
     /// The same row, with this change of titles in place of its own.
@@ -141,6 +155,13 @@ impl TitleRow {
         ensures { result ≡ self.now.point }
     {
         self.point
+    }
+
+    /// The point that it leads to while that one can't be reached; `None` if there is no such point.
+    pub fn backup(&self) -> Option<PointCode>
+        ensures { result ≡ self.now.backup }
+    {
+        self.backup
     }
 
     /// How it is routed there.

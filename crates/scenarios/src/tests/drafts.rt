@@ -71,6 +71,7 @@ fn title(alloc: Global, number: u32) -> Result<TitleDraft, Fail> {
         nature: 4,
         digits: format!(in alloc; "{number}")?,
         point: 2,
+        backup: None,
         route: String::from_str(alloc, "title")?,
         ssn: None,
         change: ChangeDraft::none(alloc),

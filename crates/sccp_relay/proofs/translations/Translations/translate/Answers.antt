@@ -26,7 +26,7 @@ returns-in-Some-clause-exact c =
     let t = translated c.self.inside.rows.items c.args.key c.args.digits.now c.in-Some.count c.in-Some.lead c.self.invariant.rows
     (walked _ c.self.inside.rows.items c.args.key _ c.args.digits.now _ c.self.invariant.leads c.key_digits.ensures c.longest_behind.ensures ∙ c.in-Some.is) in
     let is : IsTranslation c.self.inside.rows.items c.args.key c.args.digits.now c.row_led.result =
-    subst (IsTranslation c.self.inside.rows.items c.args.key c.args.digits.now) (sym c.row_led.ensures) (t.row (omega (arith, c.if-lead-lt-CHANGES.true))) in
+    subst (IsTranslation c.self.inside.rows.items c.args.key c.args.digits.now) (sym c.row_led.ensures) (t.row (omega (arith, c.if-lead-lt-MORE.true))) in
     rw (← c.self.view_is) (sym (translation-is_translation c.self.inside.rows.items c.args.key c.args.digits.now c.row_led.result c.self.invariant.ordered is))
 
 pub returns-in-Some-clause-longest : goal.returns-in-Some-clause-longest
@@ -34,7 +34,7 @@ returns-in-Some-clause-longest c =
     let t = translated c.self.inside.rows.items c.args.key c.args.digits.now c.in-Some.count c.in-Some.lead c.self.invariant.rows
     (walked _ c.self.inside.rows.items c.args.key _ c.args.digits.now _ c.self.invariant.leads c.key_digits.ensures c.longest_behind.ensures ∙ c.in-Some.is) in
     let is : IsTranslation c.self.inside.rows.items c.args.key c.args.digits.now c.row_led.result =
-    subst (IsTranslation c.self.inside.rows.items c.args.key c.args.digits.now) (sym c.row_led.ensures) (t.row (omega (arith, c.if-lead-lt-CHANGES.true))) in
+    subst (IsTranslation c.self.inside.rows.items c.args.key c.args.digits.now) (sym c.row_led.ensures) (t.row (omega (arith, c.if-lead-lt-MORE.true))) in
     rw (← c.self.view_is) is
 
 pub returns-in-Some-2-clause-exact : goal.returns-in-Some-2-clause-exact
