@@ -6,6 +6,7 @@ pub mod event;
 pub mod exchange;
 pub mod frame_text;
 pub mod memory;
+mod unequipped;
 pub mod view;
 
 pub use cell_pool::Pick;

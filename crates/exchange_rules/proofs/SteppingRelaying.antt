@@ -2,10 +2,10 @@
 use Rattle.exchange_rules.proofs.Basics.{ℕ, Bool, List, Option, Some, None}
 use Rattle.exchange_rules.proofs.Definitions.{Message, Configuration, TitleEntry, Cause, NoSuchName, Outcome, Queued, Held, Local, Handled, Ignored, Refused, TitleKey, place_of, has_row, without_row, RelayedValue, relay, returned, Node, Done, with_parts, answer, refuse, own_of, in_place_of, send_udts, return_outcome, relay_by, on_unitdata, with_titles, title_refusal, add_title_unless, add_title, remove_title, WholeQueues, whole}
 use Rattle.sccp_relay.specs.Relay as relays
-use Rattle.exchange_rules.proofs.Steps.{IsOfRules, either_done-steps}
+use Rattle.exchange_rules.proofs.Steps.{either_done-steps, Deed, IsOfDeeds}
 use Rattle.exchange_rules.proofs.SteppingMessages.{transfer-steps}
 
-module _ {c : Configuration} {Own Counts : ℕ → Type 0} {R : Node WholeQueues → Node WholeQueues → Type 0} (s : IsOfRules c Own Counts R) where
+module _ {c : Configuration} {Own Counts : ℕ → Type 0} {May : Deed → Type 0} {R : Node WholeQueues → Node WholeQueues → Type 0} (s : IsOfDeeds c Own Counts May R) where
   send_udts-steps : (udts : Option (List ℕ)) (m : Message) (n : Node WholeQueues) → R n (send_udts whole c udts m n)
   send_udts-steps (Some sif) m n = transfer-steps s None (in_place_of m sif) n
   send_udts-steps None m n = s.sends.none n

@@ -67,7 +67,7 @@ relayed_in relays.Delivered outcome m = []
 relayed_in (relays.Onward sif) outcome m = taken_in outcome (in_place_of m sif)
 relayed_in (relays.Refused cause) outcome m = []
 
--- the UDTS that returns it, if one does
+-- the UDTS or XUDTS that returns it, if one does
 abbrev pub returned_in : Option (List ℕ) → Configuration → Message → Node WholeQueues → List Message
 returned_in (Some sif) c m node = entering c (in_place_of m sif) node
 returned_in None c m node = []

@@ -1,6 +1,6 @@
--- A run of the three nodes in a row of `network_rules`, over datagrams. A link between point 1, in the middle, and point 3
--- opens there by COOKIE ECHO, and then at point 3 by COOKIE ACK; a link status of point 3 crosses in a datagram that comes
--- twice.
+-- A run of the three nodes in a row of `network_rules`, over datagrams. A link between points 3 and 1, which is in the
+-- middle, opens at point 1 by COOKIE ECHO, and then at point 3 by COOKIE ACK. A link status of point 3 crosses in a
+-- datagram that comes twice.
 use Rattle.std.specs.Prelude.{◌≡◌, ◌*◌, ℕ, true, false, List, [], ◌∷◌}
 use Rattle.link.specs.declared.alignment.Alignment.{Alignment}
 use Rattle.link.specs.declared.alignment.Alignment.TheVariants.{NotAligned, Aligned}
@@ -21,8 +21,8 @@ make point = record { configuration = row point; endpoints = λ link. make_from 
 abbrev pub does : (point : ℕ) → Doing → NetworkWorld → NetworkWorld
 does point what w = after make point what w
 
--- link 0 joins points 3 and 1, and has this number at both: at the moment 10 the latest packet comes to one of them that
--- the other end put out
+-- link 0 joins points 3 and 1, and has this number at both: at the moment 10 the latest packet comes to one of them
+-- that the other end put out
 abbrev pub latest : (from : ℕ) → NetworkWorld → endpoint.Happening
 latest from w = endpoint.Came 10 address (packet_at ((w.node from).ports 0).site 0)
 

@@ -1,4 +1,4 @@
--- What the nodes of a network promise over datagrams: all that those of `network_rules` promise.
+-- What the nodes of a network promise over datagrams: what those of `network_rules` promise from their first state on.
 use Rattle.std.specs.Prelude.{◌≡◌, ℕ, true, List, Some}
 use Rattle.signalling_types.specs.declared.point.Flow.{Flow}
 use Rattle.settings_rows.specs.Configuration.{Configuration}

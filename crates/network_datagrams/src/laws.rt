@@ -55,23 +55,23 @@ pub fn nothing_is_held_in_vain()
 {}
 
 /// From end to end over datagrams: while no node may have lost a message, as many user messages entered the network, by
-/// any test, as were received at a node that they aren't to leave, as wait in nodes, and as were refused by a node on the
-/// way, which had no route for them or no room.
+/// any test, as were received at a node that they aren't to leave, as wait in nodes, and as were refused by a node on
+/// the way, which had no route for them or no room.
 pub fn each_message_is_accounted_for()
     ensures { each_message_is_accounted_for }
 {}
 
-/// So it is of the messages for one point, where all nodes have one network indicator: each that entered came there once,
-/// or waits, or was refused on the way.
+/// So it is of the messages for one point, where all nodes have one network indicator: each that entered came there
+/// once, or waits, or was refused on the way.
 pub fn messages_come_from_end_to_end()
     ensures { messages_come_from_end_to_end }
 {}
 
-/// Order over a path, over datagrams. What a node passes on stays in the order in which it came, whatever has been lost.
-/// So over a path of which each hop keeps a flow in order, and whose nodes between get the flow from the one before
-/// alone, what came to the last node is in the order in which the first accepted it; what is missing there waits at a
-/// node of the path, or was refused or ended at one between. The last hop keeps a flow that is for the last node, while
-/// neither of its nodes may have lost a message and no timer of the former ended a hold.
+/// Order over a path, over datagrams. What a node passes on stays in the order in which it came, whatever has been
+/// lost. So over a path of which each hop keeps a flow in order, and whose nodes between get the flow from the one
+/// before alone, what came to the last node is in the order in which the first accepted it; what is missing there waits
+/// at a node of the path, or was refused or ended at one between. The last hop keeps a flow that is for the last node,
+/// while neither of its nodes may have lost a message and no timer of the former ended a hold.
 pub fn paths_keep_the_order_of_their_hops()
     ensures nodes { nodes_pass_on_in_order }
     ensures paths { paths_keep_the_order_of_their_hops }

@@ -14,7 +14,7 @@ use Rattle.pair_rules.specs.Promises.{Always, BothWays}
 
 -- ---- what came of a message of SCCP
 
--- the end accepts at most the UDTS that returns one that is refused
+-- the end accepts at most the UDTS or XUDTS that returns one that is refused
 abbrev pub IsReturnedAtMost : Option (List ℕ) → Message → (accepted : List Message) → Type 0
 IsReturnedAtMost None m accepted = accepted ≡ []
 IsReturnedAtMost (Some udts) m accepted = (accepted ≡ []) ⊎ (accepted ≡ in_place_of m udts ∷ [])

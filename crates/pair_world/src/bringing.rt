@@ -144,7 +144,7 @@ fn written(settings: &Settings, rows: &Translations, message: &Msu) -> Option<Ms
     }
 }
 
-/// The UDTS that returns an SCCP message, if one does.
+/// The UDTS or XUDTS that returns an SCCP message, if one does.
 fn udts(cause: Cause, settings: &Settings, rows: &Translations, message: &Msu) -> Option<Msu>
     requires { 4 ≤ length message.now.sif }
     ensures { option_to_list result ≡

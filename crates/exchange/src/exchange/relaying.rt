@@ -56,8 +56,8 @@ impl Exchange {
         }
     }
 
-    /// Returns an SCCP message that was refused for this cause, if it should be: the UDTS is handled like any message
-    /// for another point, and dropped if it has no way to go.
+    /// Returns an SCCP message that was refused for this cause, if it should be: the UDTS or XUDTS is handled like any
+    /// message for another point, and dropped if it has no way to go.
     fn return_unitdata(&mut self, cause: Cause, message: MsuRef<'_>)
         requires { 4 ≤ length message.sif.now }
         ensures { self.new ≡ with_node self.old (rule.return_unitdata kept self.old.settings cause

@@ -1,5 +1,5 @@
 use Rattle.exchange_rules.proofs.LeftAll.{others-left, takes-leave}
-use Rattle.exchange_rules.proofs.laws.other_links_are_left.Goals as goal
+use Rattle.exchange_rules.proofs.laws.links.other_links_are_left.Goals as goal
 
 pub returns-clause-event : goal.returns-clause-event
 returns-clause-event c = others-left

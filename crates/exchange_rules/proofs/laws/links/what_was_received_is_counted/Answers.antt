@@ -1,5 +1,5 @@
 use Rattle.exchange_rules.proofs.Received.{received-counted, takes-receive, nothing-delivered}
-use Rattle.exchange_rules.proofs.laws.what_was_received_is_counted.Goals as goal
+use Rattle.exchange_rules.proofs.laws.links.what_was_received_is_counted.Goals as goal
 
 pub returns-clause-event : goal.returns-clause-event
 returns-clause-event c = received-counted

@@ -1,5 +1,5 @@
 use Rattle.exchange_rules.proofs.LastingLinks.{links-first, links-stay, l7-watches}
-use Rattle.exchange_rules.proofs.laws.links_stay_steady.Goals as goal
+use Rattle.exchange_rules.proofs.laws.links.links_stay_steady.Goals as goal
 
 pub returns-clause-first : goal.returns-clause-first
 returns-clause-first c = links-first

@@ -1,6 +1,6 @@
 use Rattle.exchange_rules.proofs.Leaving.{queued_served}
 use Rattle.exchange_rules.proofs.Giving.{routed-serve, declared-serve, anew-serve, settled-serve}
-use Rattle.exchange_rules.proofs.laws.only_links_in_service_are_given_messages.Goals as goal
+use Rattle.exchange_rules.proofs.laws.links.only_links_in_service_are_given_messages.Goals as goal
 
 pub returns-clause-queued : goal.returns-clause-queued
 returns-clause-queued c = queued_served
