@@ -12,9 +12,9 @@
 //! - `mtp3.rows`: `label`; `route NETWORK OCTETS`, what point 1 does about a SIO and SIF; `management` and `test`, SIFs
 //!   of these kinds; `number`, calls with the numbers of messages.
 //! - `sccp.rows`: `address` with its title, `unitdata`.
-//! - `titles.rows`, `full_table.rows`, `relaying.rows`: `title`, calls of a table of translation rows; `relay`, a SIF
-//!   that comes to point 1, which has subsystem 8, by that table; `extended`, the same where that point relays extended
-//!   messages and answers tests of its subsystem.
+//! - `titles.rows`, `full_table.rows`, `relaying.rows`: `title`, calls of a table of translation rows (a row that
+//!   changes titles ends in PLAN NATURE REMOVED ADDED); `relay`, a SIF that comes to point 1, which has subsystem 8, by
+//!   that table; `extended`, the same where that point relays extended messages and answers tests of its subsystem.
 //! - `tries.rows`: `trie`, calls of a trie of digits.
 //! - `sctp.rows`: `packet`.
 //! - `cookies.rows`: `mac KEY MESSAGE`, the code of a message; `tags KEY TIMES`, the first tags under a key; `sign KEY

@@ -5,7 +5,7 @@ ghost use Rattle.std.specs.Prelude.{◌<◌, ◌↔◌, All, IsTrue};
 use crate::rows::{digits, word};
 use crate::said::Said;
 use sccp_relay::{Own, Relayed, TitleKey, Translations, Trie, relay, returned};
-use settings_rows::{TitleRoute, TitleRow};
+use settings_rows::{TitleChange, TitleRoute, TitleRow};
 use signalling_types::{Cause, Limits, PointCode, Ssn};
 
 /// Makes the call of a row of a trie, and says the answer.
@@ -37,14 +37,33 @@ pub fn titles(said: &mut Said, table: &mut Translations, row: &str) {
             say_row(said, table.row(place).ok_or(Cause::NoSuchName));
         }
         ("fill", Some(key)) => fill(said, table, key),
-        ("add", Some(key)) => match new_row(key, digits, word(row, 6), word(row, 7)) {
-            Some(row) => said.show(&table.add(row)),
-            None => said.say("no row"),
-        },
+        ("add", Some(key)) => add(said, table, key, digits, row),
         ("remove", Some(key)) => said.show(&table.remove(key, digits)),
         (_, Some(key)) => say_row(said, table.translate(key, digits)),
         _ => said.say("no key"),
     }
+}
+
+/// Adds a row, with the change of titles that its words name, if any.
+fn add(said: &mut Said, table: &mut Translations, key: TitleKey, digits: &[u8], row: &str) {
+    match (
+        new_row(key, digits, word(row, 6), word(row, 7)),
+        change(row),
+    ) {
+        (Some(new), Some(change)) => said.show(&table.add(new.with_change(change))),
+        _ => said.say("no row"),
+    }
+}
+
+/// The change of titles of a row: the plan, the nature, how many digits are taken off, and those that are put on.
+fn change(row: &str) -> Option<TitleChange> {
+    if word(row, 8).is_empty() {
+        return Some(TitleChange::none());
+    }
+    let mut buffer = [0; 64];
+    let added = digits(word(row, 11), &mut buffer);
+    let (plan, nature) = (word(row, 8).parse().ok(), word(row, 9).parse().ok());
+    TitleChange::new(plan, nature, word(row, 10).parse().ok()?, added)
 }
 
 /// The key of a row: translation type, plan and nature.

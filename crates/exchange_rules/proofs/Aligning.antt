@@ -260,6 +260,7 @@ module _ (l : ℕ) where
       rerouted = λ routes n e k. same n _ refl refl;
       told = λ t n e. same n _ refl refl;
       titled = λ rows n. same n _ refl refl;
+      unequipped = λ counts n e. same n _ refl refl;
       linked = λ link x n e.
           on-link link x n _ (is-set n.parts.links link x down_link) (same-for link n.parts.timers) (λ h. waits-linked link (link_at n.parts link) x n.parts.timers e.alignment e.association e.busy h.waits);
       parted = λ link n e.

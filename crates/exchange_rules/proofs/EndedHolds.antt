@@ -183,6 +183,7 @@ module _ (May : Deed → Type 0) where
       rerouted = λ routes n e k. same n _ refl;
       told = λ t n e. same n _ refl;
       titled = λ rows n. same n _ refl;
+      unequipped = λ counts n e. same n _ refl;
       linked = λ link x n e. same n _ refl;
       parted = λ link n e. same n _ refl;
       opened = λ link n own there e f may. same n _ refl;

@@ -342,6 +342,7 @@ module _ (May : Deed → Type 0) where
       rerouted = λ routes n e k. same n _ refl refl;
       told = λ t n e. same n _ refl refl;
       titled = λ rows n. same n _ refl refl;
+      unequipped = λ counts n e. same n _ refl refl;
       linked = λ link x n e. alike link x n _ refl refl (ap is_down e.alignment);
       parted = λ link n e. alike link _ n _ refl refl refl;
       opened = λ link n own there e f may. opening link (opened (link_at n.parts link)) n _ refl refl refl may;

@@ -70,6 +70,7 @@ module _ (c : Configuration) where
     rerouted = λ routes n e k. same-parts c n _ ((places c).rerouted routes n e k) refl refl refl;
     told = λ t n e. same-parts c n _ ((places c).told t n e) refl refl refl;
     titled = λ rows n. same-parts c n _ ((places c).titled rows n) refl refl refl;
+    unequipped = λ counts n e. same-parts c n _ ((places c).unequipped counts n e) refl refl refl;
     linked = λ link x n e. same-parts c n _ ((places c).linked link x n e) refl refl refl;
     parted = λ link n e. same-parts c n _ ((places c).parted link n e) refl refl refl;
     opened = λ link n own there e f may. same-ends c n _ ((places c).opened link n own there e f tt) refl refl (timed-for link c opening n.parts.timers).endings;

@@ -12,6 +12,7 @@ pub mod Settling
 pub mod Telling
 pub mod Places
 pub mod Answering
+pub mod AbsentParts
 pub mod Leaves
 pub mod LeavingMessages
 pub mod LeavingFrames

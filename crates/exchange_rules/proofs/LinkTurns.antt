@@ -195,6 +195,7 @@ module _ (c : Configuration) where
     rerouted = λ routes n e k. bounds-as n _ refl;
     told = λ t n e. bounds-as n _ refl;
     titled = λ rows n. bounds-as n _ refl;
+    unequipped = λ counts n e. bounds-as n _ refl;
     linked = λ link x n e. bounds-as n _ refl;
     parted = λ link n e. bounds-as n _ refl;
     opened = λ link n own there e f may. record { stay = timed-within link opening n.parts.timers };

@@ -50,6 +50,7 @@ module _ (c : Configuration) (l : ℕ) where
     rerouted = λ routes n e. same-keeps l n _ refl;
     told = λ t n e. same-keeps l n _ refl;
     titled = λ rows n. same-keeps l n _ refl;
+    unequipped = λ counts n e. same-keeps l n _ refl;
     failed = λ link why st n e f. down-keeps l link _ n _ refl refl;
     dropped = λ link why n e. down-keeps l link _ n _ refl refl;
     completed = λ link number st n e f. same-keeps l n _ refl;

@@ -27,6 +27,7 @@ module _ {c : Configuration} {Own Counts : ℕ → Type 0} {R : Node WholeQueues
     rerouted = λ routes n e k. s.rerouted routes n e;
     told = s.told;
     titled = s.titled;
+    unequipped = s.unequipped;
     linked = s.linked;
     parted = s.parted;
     opened = λ link n own there e f may. s.opened link n own there e f;

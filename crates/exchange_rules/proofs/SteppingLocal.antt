@@ -1,6 +1,6 @@
 -- Messages for this point, and those that frames carry and user parts hand over: each rule is made of steps.
 use Rattle.exchange_rules.proofs.Basics.{◌≡◌, ℕ, Bool, true, false, Option, Some, None, Result, Ok, Err, refl, if◌then◌else◌, ◌&&◌, not}
-use Rattle.exchange_rules.proofs.Definitions.{Message, dpc_of, opc_of, service_indicator, is_management, Configuration, Cause, Outcome, Queued, Held, Local, Handled, Ignored, Refused, set_place, destination_place, MgmtFault, TestKind, Test, Acknowledgement, Management, TrafficRestartAllowed, ExtendedChangeoverOrder, ExtendedChangeoverAcknowledgement, EmergencyChangeoverOrder, EmergencyChangeoverAcknowledgement, ChangebackDeclaration, ChangebackAcknowledgement, TransferProhibited, TransferRestricted, TransferAllowed, RouteSetTestProhibited, RouteSetTestRestricted, LinkTestValue, read_link_test, read_management, Allowed, Restricted, Prohibited, is_outstanding, Discrimination, Node, Done, with_parts, answer, refuse, in_service, note_outcome, route_about, no_room, send, changeback_acknowledgement, freed, on_changeback_acknowledgement, sccp, is_user, is_adjacent, test_answer, link_with_code, local, do_order, do_acknowledgement, do_management, do_kind, do_test, distribute, transfer, on_unitdata, whither_goes, deliver_to, deliver, submit_to, submit, WholeQueues, whole, Procedure, Changeover, Code}
+use Rattle.exchange_rules.proofs.Definitions.{Message, dpc_of, opc_of, service_indicator, is_management, Configuration, Cause, Outcome, Queued, Held, Local, Handled, Ignored, Refused, set_place, destination_place, MgmtFault, TestKind, Test, Acknowledgement, Management, TrafficRestartAllowed, ExtendedChangeoverOrder, ExtendedChangeoverAcknowledgement, EmergencyChangeoverOrder, EmergencyChangeoverAcknowledgement, ChangebackDeclaration, ChangebackAcknowledgement, TransferProhibited, TransferRestricted, TransferAllowed, RouteSetTestProhibited, RouteSetTestRestricted, UserPartUnavailable, LinkTestValue, read_link_test, read_management, Allowed, Restricted, Prohibited, is_outstanding, Discrimination, Node, Done, with_parts, answer, refuse, in_service, note_outcome, route_about, no_room, send, changeback_acknowledgement, freed, on_changeback_acknowledgement, sccp, is_user, is_adjacent, answer_no_user_part, from_afar, test_answer, link_with_code, local, do_order, do_acknowledgement, do_management, do_kind, do_test, manage, distribute, transfer, on_unitdata, whither_goes, deliver_to, deliver, submit_to, submit, WholeQueues, whole, Procedure, Changeover, Code}
 use Rattle.std.specs.Prelude.{nat_eq}
 use Rattle.signalling_types.specs.declared.cause.Cause.TheVariants as causes
 use Rattle.signalling_types.specs.declared.notice.Notice.TheVariants as notices
@@ -11,7 +11,7 @@ use Rattle.std.specs.Option.{option_map}
 use Rattle.exchange_rules.specs.Conserving.{is_word}
 use Rattle.exchange_rules.specs.LawsOfCauses.{Word, word_read, word_to, word_of, ended_by, ordered_by}
 use Rattle.exchange_rules.proofs.Steps.{either_done-steps, Deed, LinkFails, HoldsEnd, IsOfDeeds}
-use Rattle.exchange_rules.proofs.SteppingMessages.{send_routed-steps, on_route_test-steps, on_route_status-steps, transfer-steps}
+use Rattle.exchange_rules.proofs.SteppingMessages.{answer_no_user_part-steps, send_routed-steps, on_route_test-steps, on_route_status-steps, transfer-steps}
 use Rattle.exchange_rules.proofs.SteppingRelaying.{on_unitdata-steps}
 
 -- what a word may do
@@ -20,10 +20,12 @@ pub record Allows (c : Configuration) (May : Deed → Type 0) (word : Word) : Ty
   pub fails : (link : ℕ) → ordered_by c word.point word.says ≡ Some link → May (LinkFails link reasons.Changeover)
 
 module _ {c : Configuration} {Own Counts : ℕ → Type 0} {May : Deed → Type 0} {R : Node WholeQueues → Node WholeQueues → Type 0} (s : IsOfDeeds c Own Counts May R) where
-  local-steps : (m : Message) (n : Node WholeQueues) → R n (local whole c m n).left
-  local-steps m n =
-      either_done-steps s.sends (nat_eq (service_indicator m) sccp) n (on_unitdata whole c m n) (if is_user c (service_indicator m) then answer Local n else refuse causes.NoUserPart n) (on_unitdata-steps s m n)
-      (either_done-steps s.sends (is_user c (service_indicator m)) n (answer Local n) (refuse causes.NoUserPart n) (s.sends.none n) (s.sends.none n))
+  local-steps : (from : Option ℕ) (m : Message) (n : Node WholeQueues) → R n (local whole c from m n).left
+  local-steps from m n =
+      let origin : Option ℕ = destination_place c (opc_of m) in
+      let absent : Done WholeQueues = refuse causes.NoUserPart (answer_no_user_part whole c from origin m n) in
+      either_done-steps s.sends (nat_eq (service_indicator m) sccp) n (on_unitdata whole c m n) (if is_user c (service_indicator m) then answer Local n else absent) (on_unitdata-steps s m n)
+      (either_done-steps s.sends (is_user c (service_indicator m)) n (answer Local n) absent (s.sends.none n) (answer_no_user_part-steps s from origin m n))
 
   -- ---- tests of a link
 
@@ -83,16 +85,17 @@ module _ {c : Configuration} {Own Counts : ℕ → Type 0} {May : Deed → Type 
   do_management-steps (Ok (TransferAllowed about)) point n may = on_route_status-steps s Allowed (route_about (set_place c point) (destination_place c about)) n
   do_management-steps (Ok (RouteSetTestProhibited about)) point n may = on_route_test-steps s tests.Prohibited (route_about (set_place c point) (destination_place c about)) n
   do_management-steps (Ok (RouteSetTestRestricted about)) point n may = on_route_test-steps s tests.Restricted (route_about (set_place c point) (destination_place c about)) n
+  do_management-steps (Ok (UserPartUnavailable about user_part cause)) point n may = s.sends.none n
 
   -- by whether it is management, whether it is from an adjacent point, and whether it is a test
   here-steps : (managed adjacent test : Bool) (link : ℕ) (m : Message) (n : Node WholeQueues) → in_service n.parts link ≡ true → is_adjacent c (opc_of m) ≡ adjacent
       → ((word : Word) → (if managed && (adjacent && not test) then word_read (opc_of m) (read_management m.sif) else None) ≡ Some word → Allows c May word)
       → R n (if managed then (if adjacent then (if test then do_test whole c (read_link_test m.sif) link (opc_of m) n
-      else do_management whole c (read_management m.sif) (opc_of m) n) else refuse causes.NotFromAdjacent n) else local whole c m n).left
+      else do_management whole c (read_management m.sif) (opc_of m) n) else answer (from_afar c m) n) else local whole c (Some link) m n).left
   here-steps true true true link m n e f may = do_test-steps (read_link_test m.sif) link (opc_of m) n e f
   here-steps true true false link m n e f may = do_management-steps (read_management m.sif) (opc_of m) n may
   here-steps true false test link m n e f may = s.sends.none n
-  here-steps false adjacent test link m n e f may = local-steps m n
+  here-steps false adjacent test link m n e f may = local-steps (Some link) m n
 
   distribute-steps : (link : ℕ) (m : Message) (n : Node WholeQueues) → in_service n.parts link ≡ true
       → ((word : Word) → (if is_word c m then word_read (opc_of m) (read_management m.sif) else None) ≡ Some word → Allows c May word) → R n (distribute whole c link m n).left
@@ -122,7 +125,7 @@ module _ {c : Configuration} {Own Counts : ℕ → Type 0} {May : Deed → Type 
 
   submit_to-steps : (d : Discrimination) (m : Message) (n : Node WholeQueues) → R n (submit_to whole c d m n).left
   submit_to-steps (whither.Refused cause) m n = s.sends.none n
-  submit_to-steps (whither.Here label) m n = either_done-steps s.sends (is_management m) n (refuse causes.NotInProfile n) (local whole c m n) (s.sends.none n) (local-steps m n)
+  submit_to-steps (whither.Here label) m n = either_done-steps s.sends (is_management m) n (refuse causes.NotInProfile n) (local whole c None m n) (s.sends.none n) (local-steps None m n)
   submit_to-steps (whither.Transfer label) m n =
       either_done-steps s.sends (is_management m) n (refuse causes.NotInProfile n) (transfer whole c None m n) (s.sends.none n) (transfer-steps s None m n)
 

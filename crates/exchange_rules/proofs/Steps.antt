@@ -113,6 +113,7 @@ pub record IsOfSteps (c : Configuration) (Own Counts : ℕ → Type 0) (R : Node
   pub rerouted : (routes : List (List Route)) (n : Node WholeQueues) → AreRerouted n.parts.told n.parts.routes routes → R n (with_parts n (record n.parts { routes = routes }))
   pub told : (t : ToldTable) (n : Node WholeQueues) → AreToldMore n.parts.told t → R n (with_parts n (record n.parts { told = t }))
   pub titled : (rows : List TitleEntry) (n : Node WholeQueues) → R n (with_parts n (with_titles rows n.parts))
+  pub unequipped : (counts : List ℕ) (n : Node WholeQueues) → length counts ≡ length n.parts.unequipped → R n (with_parts n (record n.parts { unequipped = counts }))
   -- ---- a link fails: in service, so that its changeover isn't complete, or on its way there
   pub failed : (link : ℕ) (why : FailureReason) (s : Standing) (n : Node WholeQueues) → in_service n.parts link ≡ true → s.incomplete ≡ true
       → R n (with_parts n (with_changeover link s (fail_link link why n.parts)))
@@ -266,6 +267,7 @@ pub record IsOfDeeds (c : Configuration) (Own Counts : ℕ → Type 0) (May : De
   pub rerouted : (routes : List (List Route)) (n : Node WholeQueues) → AreRerouted n.parts.told n.parts.routes routes → AreTestedAs n.parts routes → R n (with_parts n (record n.parts { routes = routes }))
   pub told : (t : ToldTable) (n : Node WholeQueues) → AreToldMore n.parts.told t → R n (with_parts n (record n.parts { told = t }))
   pub titled : (rows : List TitleEntry) (n : Node WholeQueues) → R n (with_parts n (with_titles rows n.parts))
+  pub unequipped : (counts : List ℕ) (n : Node WholeQueues) → length counts ≡ length n.parts.unequipped → R n (with_parts n (record n.parts { unequipped = counts }))
   pub linked : (link : ℕ) (x : Link) (n : Node WholeQueues) → IsSameLink (link_at n.parts link) x → R n (with_parts n (with_link n.parts link x))
   pub parted : (link : ℕ) (n : Node WholeQueues) → down n.parts link ≡ true → R n (with_parts n (without_association link n.parts))
   pub opened : (link : ℕ) (n : Node WholeQueues) → Counts link → is_link n.parts link ≡ true → may_open (link_at n.parts link) ≡ true

@@ -183,6 +183,7 @@ module _ (c : Configuration) where
     rerouted = λ routes n e k. rerouted-tests routes n e.size k;
     told = λ t n e. same c n _ refl refl refl;
     titled = λ rows n. same c n _ refl refl refl;
+    unequipped = λ counts n e. same c n _ refl refl refl;
     linked = λ link x n e. on-link c link x n.parts.timers n (same-for link n.parts.timers) (λ h. ap is_in_service (sym e.alignment) ∙ h);
     parted = λ link n e. on-link c link _ n.parts.timers n (same-for link n.parts.timers) (λ h. h);
     opened = λ link n own there e f may.

@@ -160,6 +160,7 @@ module _ (c : Configuration) where
     rerouted = λ routes n e k. bounds-as most n _ refl;
     told = λ t n e. bounds-as most n _ refl;
     titled = λ rows n. bounds-as most n _ refl;
+    unequipped = λ counts n e. bounds-as most n _ refl;
     linked = λ link x n e. bounds-as most n _ refl;
     parted = λ link n e. bounds-as most n _ refl;
     opened = λ link n own there e f may. bounds-same most n _ (timed-for link c opening n.parts.timers).endings;

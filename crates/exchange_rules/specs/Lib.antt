@@ -19,6 +19,7 @@ pub mod Lasting
 pub mod LawsOfReturns
 pub mod LawsOfAnswers
 pub mod LawsOfShares
+pub mod LawsOfUserParts
 pub mod LastingLinks
 pub mod LastingHolds
 pub mod TickingAlone

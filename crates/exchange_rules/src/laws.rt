@@ -38,9 +38,9 @@ pub use links::{
 };
 
 /// A refused event changes nothing, but that a refused message may be answered: one of SCCP for this point is returned,
-/// if it can be, by a UDTS or an XUDTS; and where a message in a frame found no route the point at the other end of its
-/// link is told. Of a message in a frame also what accepting that frame did stands, with a notice, and what then found
-/// room to be told.
+/// if it can be, by a UDTS or an XUDTS; where a message in a frame found no route the point at the other end of its
+/// link is told, and of one for a user part that isn't here its sender. Of a message in a frame also what accepting
+/// that frame did stands, with a notice, and what then found room to be told.
 pub fn refusals_change_nothing()
     ensures { refusals_leave }
 {}

@@ -1,5 +1,5 @@
 -- What a frame that is handed in leads to tells what it brought, and what was accepted of that.
-use Rattle.pair_rules.proofs.Basics.{◌≡◌, ◌≢◌, inl, inr, ℕ, Bool, true, false, List, [], ◌∷◌, ◌++◌, length, Option, Some, None, Ok, refl, ap, sym, subst, ◌∙◌, nat_eq, not, ◌⊎◌, if◌then◌else◌, drop, option_to_list, slice_get, ◌||◌, eq-eqb, is_some, nat_lt, Result, Err}
+use Rattle.pair_rules.proofs.Basics.{◌&&◌, ◌≡◌, ◌≢◌, inl, inr, ℕ, Bool, true, false, List, [], ◌∷◌, ◌++◌, length, Option, Some, None, Ok, refl, ap, sym, subst, ◌∙◌, nat_eq, not, ◌⊎◌, if◌then◌else◌, drop, option_to_list, slice_get, ◌||◌, eq-eqb, is_some, nat_lt, Result, Err}
 use Rattle.pair_rules.proofs.Definitions.{Label, Message, dpc_of, opc_of, flow_of, SIF_OCTETS, network_indicator, read_management, is_management, service_indicator, Cause, Outcome, Handled, Ignored, Local, Refused, Queued, Held, Configuration, TitleEntry, FrameValue, read_frame, Discrimination, Management, is_outstanding, set_place, Node, Done, answer, refuse, FrameCame, WholeQueues, whole, changeover_of, on_changeback_acknowledgement, accept_text, answered_in, brought_by, brought_here, brought_in, brought_to, taken_in, unitdata_in, distribute, do_order, do_acknowledgement, is_user, local, manage, on_management, sccp, deliver, deliver_to, whither_goes, on_unitdata, is_idle, new_message, outcome_of, receive, users_of, PairState, Streams, Delivers, DeliversStatus, after_steps, deliver_frame, first_pair, in_flight, turned, without_data, without_status}
 use Rattle.signalling_types.specs.declared.cause.Cause.TheVariants as causes
 use Rattle.sccp_relay.specs.Relay as relays
@@ -24,8 +24,8 @@ use Rattle.route_management.specs.Told.{heard, is_own_point}
 use Rattle.routes.specs.declared.route.RouteStatus.{RouteStatus}
 use Rattle.exchange_rules.specs.Routing.{facts, link_of, route_about, waits}
 use Rattle.exchange_rules.specs.Rerouting.{apply_route_status, on_route_status}
-use Rattle.exchange_rules.specs.Telling.{on_route_test}
-use Rattle.exchange_rules.specs.Messages.{cause_of, do_kind, do_management, do_test, is_adjacent, is_destination, no_room_for, offer, testing}
+use Rattle.exchange_rules.specs.Telling.{on_route_test, answer_no_user_part}
+use Rattle.exchange_rules.specs.Messages.{cause_of, do_kind, do_management, do_test, is_adjacent, is_destination, no_room_for, offer, testing, from_afar, says_unavailable}
 use Rattle.settings.specs.Readings.{destination_place}
 use Rattle.mtp3_codec.specs.declared.discrimination.Discrimination.TheVariants as whither
 use Rattle.mtp3_codec.specs.declared.fault.MgmtFault.{MgmtFault}
@@ -134,8 +134,13 @@ module _ (c : Configuration) (link : ℕ) where
   test-quiet (Some set) None test n = refused-destination
   test-quiet None None test n = refused-destination
 
+  handled-or-refused : (b : Bool) (cause : Cause) → is_other cause ≡ true → Quiet (if b then Handled else Refused cause)
+  handled-or-refused true cause e = handled
+  handled-or-refused false cause e = refused-other cause e
+
   word-quiet : (word : Management) (point : ℕ) (n : Node WholeQueues) → Quiet (on_management whole c word point n).outcome
   word-quiet says.TrafficRestartAllowed point n = ignored
+  word-quiet (says.UserPartUnavailable about user_part cause) point n = handled-or-refused c.user_part_unavailable causes.NotInProfile refl
   word-quiet (says.ExtendedChangeoverOrder slc number) point n = order-quiet _ (Some number) n
   word-quiet (says.EmergencyChangeoverOrder slc) point n = order-quiet _ None n
   word-quiet (says.ExtendedChangeoverAcknowledgement slc number) point n = answer-quiet _ (Some number) n
@@ -168,15 +173,19 @@ module _ (c : Configuration) (link : ℕ) where
   manage-quiet m n = by (is_adjacent c (opc_of m)) (nat_eq (service_indicator m) testing)
     where
       by : (adjacent test : Bool)
-          → Quiet (if adjacent then (if test then do_test whole c (read_link_test m.sif) link (opc_of m) n else do_management whole c (read_management m.sif) (opc_of m) n) else refuse causes.NotFromAdjacent n).outcome
+          → Quiet (if adjacent then (if test then do_test whole c (read_link_test m.sif) link (opc_of m) n else do_management whole c (read_management m.sif) (opc_of m) n) else answer (from_afar c m) n).outcome
       by true true = link_test-quiet (read_link_test m.sif) (opc_of m) n
       by true false = management-quiet (read_management m.sif) (opc_of m) n
-      by false test = refused-other causes.NotFromAdjacent refl
+      by false test = handled-or-refused (c.user_part_unavailable && says_unavailable m) causes.NotFromAdjacent refl
 
   -- a message by its user part
-  parted : (b : Bool) (n : Node WholeQueues) → (if b then answer Local n else refuse causes.NoUserPart n).outcome ≡ (if b then Local else Refused causes.NoUserPart)
-  parted true n = refl
-  parted false n = refl
+  parted : (b : Bool) (n o : Node WholeQueues) → (if b then answer Local n else refuse causes.NoUserPart o).outcome ≡ (if b then Local else Refused causes.NoUserPart)
+  parted true n o = refl
+  parted false n o = refl
+
+  -- one whose user part isn't here
+  abbrev absent : Message → Node WholeQueues → Node WholeQueues
+  absent m n = answer_no_user_part whole c (Some link) (destination_place c (opc_of m)) m n
 
   module _ (m : Message) (n : Node WholeQueues) where
     abbrev rows : List TitleEntry
@@ -212,13 +221,13 @@ module _ (c : Configuration) (link : ℕ) where
     is-relayed (relays.Refused cause) e = (refl, refused-for cause e)
 
     comes-of : (is_sccp : Bool)
-        → ComesOf is_sccp c rows m (if is_sccp then on_unitdata whole c m n else if is_user c (service_indicator m) then answer Local n else refuse causes.NoUserPart n).outcome
-        (if is_sccp then unitdata_in (if is_sccp then on_unitdata whole c m n else if is_user c (service_indicator m) then answer Local n else refuse causes.NoUserPart n).outcome c m n else [])
+        → ComesOf is_sccp c rows m (if is_sccp then on_unitdata whole c m n else if is_user c (service_indicator m) then answer Local n else refuse causes.NoUserPart (absent m n)).outcome
+        (if is_sccp then unitdata_in (if is_sccp then on_unitdata whole c m n else if is_user c (service_indicator m) then answer Local n else refuse causes.NoUserPart (absent m n)).outcome c m n else [])
     comes-of true = is-relayed (relays.relay (own_of c) rows m.sif) (relay-other (own_of c) rows m.sif)
-    comes-of false = (parted (is_user c (service_indicator m)) n, refl)
+    comes-of false = (parted (is_user c (service_indicator m)) n (absent m n), refl)
 
     user-tells : (b : Bool) → is_management m ≡ b → b ≡ false
-        → ComesTo c rows (if not b then m ∷ [] else []) (brought_here (if b then manage whole c link m n else local whole c m n).outcome c m n) (if b then manage whole c link m n else local whole c m n).outcome
+        → ComesTo c rows (if not b then m ∷ [] else []) (brought_here (if b then manage whole c link m n else local whole c (Some link) m n).outcome c m n) (if b then manage whole c link m n else local whole c (Some link) m n).outcome
     user-tells true e f = absurd cc
     user-tells false e f = comes-of (nat_eq (service_indicator m) sccp)
 
@@ -231,7 +240,7 @@ module _ (c : Configuration) (link : ℕ) where
         let ks : brought_here (distribute whole c link m n).outcome c m n ≡ [] =
         ap (λ (b : Bool). if b then unitdata_in (distribute whole c link m n).outcome c m n else []) (is-no-sccp m e) in
         let here : (distribute whole c link m n).outcome ≡ (manage whole c link m n).outcome =
-        ap (λ (b : Bool). (if b then manage whole c link m n else local whole c m n).outcome) e in
+        ap (λ (b : Bool). (if b then manage whole c link m n else local whole c (Some link) m n).outcome) e in
         none-tells-of e (distribute whole c link m n).outcome (brought_here (distribute whole c link m n).outcome c m n) (subst Quiet (sym here) (manage-quiet m n)) ks
 
   -- where it goes

@@ -6,9 +6,8 @@ use Rattle.std.specs.Prelude.{slice_get}
 use Rattle.settings_rows.specs.Configuration.{Configuration}
 use Rattle.m2pa_codec.specs.Frames.{FrameValue, EmptyFrame, MessageFrame, StatusFrame}
 use Rattle.changeover.specs.Changeover.{may_restart}
-use Rattle.exchange_rules.specs.State.{Happening, CameUp, WentDown, FrameCame, Submitted, Ticked, Activated, Deactivated, TitleAdded, TitleRemoved, down}
+use Rattle.exchange_rules.specs.State.{CameUp, WentDown, FrameCame, down}
 use Rattle.exchange_rules.specs.ChangingOver.{changeover_of}
-use Rattle.exchange_rules.specs.Exchange as exchange
 use Rattle.exchange_rules.specs.Exchange.{frame_to_take, wants_of}
 use Rattle.exchange_rules.specs.First.{Abstract}
 use Rattle.exchange_rules.specs.Queues.{whole}
@@ -21,90 +20,18 @@ use Rattle.network_rules.specs.Networks as networks
 use Rattle.network_rules.specs.Networks.{NetworkNode, NetworkState, Place, Step, after_step, after_steps, changed, comes_up, deliver_frame, did_here, end_of, is_led, may_open_there, opens_first, opens_second, other_end, reaches, take_frame}
 use Rattle.network_rules.proofs.Joined.{end_at, ends-are}
 use Rattle.network_rules.proofs.Places.{node-other, node-same}
-use Rattle.node_rules.specs.Worlds.{IsOwn}
 use Rattle.node_rules.proofs.Staying.{MayOpen}
 use Rattle.node_rules.proofs.Flights.{Air, Flies, Sized}
 use Rattle.node_rules.proofs.PairSteps.{emptied-here, emptied-there, set-here, set-there, sized-emptied}
 use Rattle.node_rules.proofs.PairFrames.{data-first, data-less, data-more, data-others, data-sized, framed, status-first, status-less, status-more, status-others, status-sized}
 use Rattle.node_rules.proofs.Acts.{Act, Leads, Follows, Comes, Falls, event_of, air_after, air_after_all, air_given, MayAct, MayActAll}
 use Rattle.network_datagrams.specs.NetworkWorlds.{happened}
-use Rattle.network_datagrams.proofs.Showing.{AllShow, Flight, Shows, ShowsBut, plain, settings-there, to_far, to_near}
+use Rattle.network_datagrams.proofs.Handing.{event-exchange, happened_all}
+use Rattle.network_datagrams.proofs.Showing.{Flight, Shows, ShowsBut, plain, settings-there, to_far, to_near}
 
--- ---- books after events
-
-abbrev pub happened_all : List Happening → NetworkNode → NetworkNode
-happened_all [] x = x
-happened_all (what ∷ more) x = happened_all more (happened what x)
-
--- ---- what isn't of links
-
--- what a user part, a tick or the operator does is one step
-abbrev pub own_step : Happening → pairs.Doing
-own_step (Submitted m) = pairs.Submits m
-own_step (Activated link) = pairs.Activates link
-own_step (Deactivated link) = pairs.Deactivates link
-own_step (TitleAdded row is_memory_refused) = pairs.AddsTitle row is_memory_refused
-own_step (TitleRemoved key digits) = pairs.RemovesTitle key digits
-own_step what = pairs.Ticks
-
-plain-shows : (c : Configuration) (b : NetworkNode) (air : (link : ℕ) → Flight) (x : NetworkNode) → Shows c b air x → (what : Happening)
-    → Shows c (networks.happens what b) air (networks.happens what x)
-plain-shows c b air x h what = record {
-  settings = h.settings;
-  same = ap (networks.happens what) h.same;
-  sized = h.sized;
-  flies = h.flies;
-}
-
-own-shows : (c : Configuration) (b : NetworkNode) (air : (link : ℕ) → Flight) (x : NetworkNode) → Shows c b air x → (what : Happening) → IsOwn what
-    → Shows c (happened what b) air (did_here (own_step what) x)
-own-shows c b air x h (Submitted m) own = record {
-  settings = h.settings;
-  same = ap (networks.submit m) h.same;
-  sized = h.sized;
-  flies = h.flies;
-}
-own-shows c b air x h Ticked own = plain-shows c b air x h Ticked
-own-shows c b air x h (Activated link) own = plain-shows c b air x h (Activated link)
-own-shows c b air x h (Deactivated link) own = plain-shows c b air x h (Deactivated link)
-own-shows c b air x h (TitleAdded row refused) own = plain-shows c b air x h (TitleAdded row refused)
-own-shows c b air x h (TitleRemoved key digits) own = plain-shows c b air x h (TitleRemoved key digits)
-own-shows c b air x h (CameUp link) own = absurd own
-own-shows c b air x h (WentDown link) own = absurd own
-own-shows c b air x h (FrameCame link text) own = absurd own
-
-own-is : (what : Happening) → IsOwn what → (point : ℕ) (s : NetworkState) → networks.did (own_step what) point s ≡ changed point (did_here (own_step what)) s
-own-is (Submitted m) own point s = refl
-own-is Ticked own point s = refl
-own-is (Activated link) own point s = refl
-own-is (Deactivated link) own point s = refl
-own-is (TitleAdded row refused) own point s = refl
-own-is (TitleRemoved key digits) own point s = refl
-own-is (CameUp link) own point s = absurd own
-own-is (WentDown link) own point s = absurd own
-own-is (FrameCame link text) own point s = absurd own
-
--- by one step, whatever books are those of the others
-pub own-goes : (settings : (point : ℕ) → Configuration) (books after : (point : ℕ) → NetworkNode) (air : (point link : ℕ) → Flight) (s : NetworkState) (p : ℕ) (what : Happening) → IsOwn what
-    → AllShow settings books air s → after p ≡ happened what (books p) → ((o : ℕ) → o ≢ p → after o ≡ books o)
-    → AllShow settings after air (after_step (record { point = p; what = own_step what }) s)
-own-goes settings books after air s p what own h here there =
-    subst (AllShow settings after air) (sym (own-is what own p s))
-    (record {
-      each = λ o.
-          ⊎_elim
-          (λ (e : o ≡ p). subst (λ (n : ℕ). Shows (settings n) (after n) (air n) ((changed p (did_here (own_step what)) s).node n)) (sym e) at)
-          (λ (d : o ≢ p).
-          subst (λ (b : NetworkNode). Shows (settings o) b (air o) ((changed p (did_here (own_step what)) s).node o)) (sym (there o d))
-          (subst (Shows (settings o) (books o) (air o)) (sym (node-other p o (did_here (own_step what)) s d)) (h.each o)))
-          (cases_eq o p);
-    })
-  where
-    at : Shows (settings p) (after p) (air p) ((changed p (did_here (own_step what)) s).node p)
-    at =
-        subst (λ (b : NetworkNode). Shows (settings p) b (air p) ((changed p (did_here (own_step what)) s).node p)) (sym here)
-        (subst (Shows (settings p) (happened what (books p)) (air p)) (sym (node-same p (did_here (own_step what)) s))
-        (own-shows (settings p) (books p) (air p) (s.node p) (h.each p) what own))
+pub steps-append : (list more : List Step) (s : NetworkState) → after_steps (list ++ more) s ≡ after_steps more (after_steps list s)
+steps-append [] more s = refl
+steps-append (step ∷ list) more s = steps-append list more (after_step step s)
 
 -- ---- one link: k of the node at p, and j of that at q
 
@@ -374,16 +301,6 @@ module _ (settings : (point : ℕ) → Configuration) (books : (point : ℕ) →
   act-goes (Comes m rest) b x s h may = comes-goes b m rest x s h may.1 may.0.stream
   act-goes Falls b x s h may = falls-goes b x s h
 
-  steps-append : (list more : List Step) (s : NetworkState) → after_steps (list ++ more) s ≡ after_steps more (after_steps list s)
-  steps-append [] more s = refl
-  steps-append (step ∷ list) more s = steps-append list more (after_step step s)
-
-  event-exchange : (act : Act) (b : NetworkNode) → (happened (event_of k act) b).exchange ≡ exchange.after whole (event_of k act) b.exchange
-  event-exchange Leads b = refl
-  event-exchange Follows b = refl
-  event-exchange (Comes m rest) b = refl
-  event-exchange Falls b = refl
-
   pub acts-go : (acts : List Act) (b : NetworkNode) (x : Air) (s : NetworkState) → ShowsAt b x s → MayActAll k j acts b.exchange (books q).exchange x
       → Goes (happened_all (map (event_of k) acts) b) (air_after_all acts x) s
   acts-go [] b x s h may = record { list = []; shows = h }
@@ -392,7 +309,7 @@ module _ (settings : (point : ℕ) → Configuration) (books : (point : ℕ) →
       let one : Goes b' (air_after act x) s = act-goes act b x s h may.0 in
       let more : Goes (happened_all (map (event_of k) acts) b') (air_after_all acts (air_after act x)) (after_steps one.list s) =
       acts-go acts b' (air_after act x) (after_steps one.list s) one.shows
-      (subst (λ (a : Abstract). MayActAll k j acts a (books q).exchange (air_after act x)) (sym (event-exchange act b)) may.1) in
+      (subst (λ (a : Abstract). MayActAll k j acts a (books q).exchange (air_after act x)) (sym (event-exchange (event_of k act) b)) may.1) in
       record {
         list = one.list ++ more.list;
         shows = subst (ShowsAt (happened_all (map (event_of k) acts) b') (air_after_all acts (air_after act x))) (sym (steps-append one.list more.list s)) more.shows;

@@ -1,7 +1,9 @@
 -- A node over datagrams and one of a network with frames in flight: what either is and books is the same, and in flight
 -- to the end of each link is what its association still carries.
-use Rattle.std.proofs.Common.{◌≡◌, ◌≢◌, ℕ, Bool, List, [], length, ap, sym, ◌∙◌, subst, ⊎_elim}
-use Rattle.std.proofs.lemmas.Bool.{cases_eq}
+use Rattle.std.proofs.Common.{◌≡◌, ◌≢◌, ℕ, Bool, List, [], length, nat_eq, refl, ap, sym, ◌∙◌, subst, ⊎_elim, true}
+use Rattle.std.specs.Prelude.{if◌then◌else◌}
+use Rattle.std.proofs.lemmas.Bool.{cases_eq, eq-eqb}
+use Rattle.network_rules.proofs.Places.{not-equal}
 use Rattle.settings_rows.specs.Configuration.{Configuration}
 use Rattle.sctp_moves.specs.Ends.{Message}
 use Rattle.pair_rules.specs.Pairs.{nothing_in_flight}
@@ -51,6 +53,63 @@ shows-but c b air k x h = record { settings = h.settings; same = h.same; sized =
 -- its settings, in the network
 pub settings-there : (c : Configuration) (b x : NetworkNode) → b.exchange.settings ≡ c → plain b ≡ plain x → x.exchange.settings ≡ c
 settings-there c b x e same = ap (λ (y : NetworkNode). y.exchange.settings) (sym same) ∙ e
+
+-- ---- what is on its way changes on one link
+
+pub equal : (n : ℕ) → nat_eq n n ≡ true
+equal n = eq-eqb n n refl
+
+abbrev pub with_flight : ℕ → Flight → ((link : ℕ) → Flight) → (link : ℕ) → Flight
+with_flight k f air i = if nat_eq i k then f else air i
+
+flight-here : (k : ℕ) (f : Flight) (air : (link : ℕ) → Flight) → with_flight k f air k ≡ f
+flight-here k f air = ap (λ (b : Bool). if b then f else air k) (equal k)
+
+flight-there : (k : ℕ) (f : Flight) (air : (link : ℕ) → Flight) (i : ℕ) → i ≢ k → with_flight k f air i ≡ air i
+flight-there k f air i d = ap (λ (b : Bool). if b then f else air i) (not-equal i k d)
+
+-- on the link between these two ends
+abbrev pub with_air : (p k q j : ℕ) → Air → ((point link : ℕ) → Flight) → (point link : ℕ) → Flight
+with_air p k q j x air o =
+    if nat_eq o p then with_flight k (to_near x) (air o) else (if nat_eq o q then with_flight j (to_far x) (air o) else air o)
+
+module _ (p k q j : ℕ) (apart : q ≢ p) (x : Air) (air : (point link : ℕ) → Flight) where
+  near-row : with_air p k q j x air p ≡ with_flight k (to_near x) (air p)
+  near-row = ap (λ (b : Bool). if b then with_flight k (to_near x) (air p) else (if nat_eq p q then with_flight j (to_far x) (air p) else air p)) (equal p)
+
+  far-row : with_air p k q j x air q ≡ with_flight j (to_far x) (air q)
+  far-row =
+      ap (λ (b : Bool). if b then with_flight k (to_near x) (air q) else (if nat_eq q q then with_flight j (to_far x) (air q) else air q)) (not-equal q p apart)
+      ∙ ap (λ (b : Bool). if b then with_flight j (to_far x) (air q) else air q) (equal q)
+
+  pub other-row : (o : ℕ) → o ≢ p → o ≢ q → with_air p k q j x air o ≡ air o
+  other-row o d e =
+      ap (λ (b : Bool). if b then with_flight k (to_near x) (air o) else (if nat_eq o q then with_flight j (to_far x) (air o) else air o)) (not-equal o p d)
+      ∙ ap (λ (b : Bool). if b then with_flight j (to_far x) (air o) else air o) (not-equal o q e)
+
+  pub near-air : with_air p k q j x air p k ≡ to_near x
+  near-air = ap (λ (row : (link : ℕ) → Flight). row k) near-row ∙ flight-here k (to_near x) (air p)
+
+  pub near-other : (i : ℕ) → i ≢ k → with_air p k q j x air p i ≡ air p i
+  near-other i d = ap (λ (row : (link : ℕ) → Flight). row i) near-row ∙ flight-there k (to_near x) (air p) i d
+
+  pub far-air : with_air p k q j x air q j ≡ to_far x
+  far-air = ap (λ (row : (link : ℕ) → Flight). row j) far-row ∙ flight-here j (to_far x) (air q)
+
+  pub far-other : (i : ℕ) → i ≢ j → with_air p k q j x air q i ≡ air q i
+  far-other i d = ap (λ (row : (link : ℕ) → Flight). row i) far-row ∙ flight-there j (to_far x) (air q) i d
+
+  -- on the others it stays
+  pub air-stays : (o i : ℕ) → (o ≡ p → i ≢ k) → (o ≡ q → i ≢ j) → with_air p k q j x air o i ≡ air o i
+  air-stays o i d e =
+      ⊎_elim
+      (λ (s : o ≡ p). subst (λ (n : ℕ). with_air p k q j x air n i ≡ air n i) (sym s) (near-other i (d s)))
+      (λ (f : o ≢ p).
+      ⊎_elim
+      (λ (s : o ≡ q). subst (λ (n : ℕ). with_air p k q j x air n i ≡ air n i) (sym s) (far-other i (e s)))
+      (λ (g : o ≢ q). ap (λ (row : (link : ℕ) → Flight). row i) (other-row o f g))
+      (cases_eq o q))
+      (cases_eq o p)
 
 -- ---- all nodes
 

@@ -1,2 +1,3 @@
 pub mod NetworkWorlds
 pub mod NetworkPromises
+pub mod Example

@@ -1,6 +1,10 @@
--- What the nodes of a network promise over datagrams: all that those of `network_rules` promise.
-use Rattle.std.specs.Prelude.{◌≡◌, ℕ, true, List}
+-- What the nodes of a network promise over datagrams: what those of `network_rules` promise from their first state on.
+use Rattle.std.specs.Prelude.{◌≡◌, ℕ, true, List, Some}
+use Rattle.signalling_types.specs.declared.point.Flow.{Flow}
 use Rattle.settings_rows.specs.Configuration.{Configuration}
+use Rattle.m2pa_codec.specs.Frames.{FrameValue}
+use Rattle.exchange_rules.specs.Exchange.{frame_to_take}
+use Rattle.exchange_rules.specs.Queues.{whole}
 use Rattle.sctp_ends.specs.Shown.{AreGood}
 use Rattle.pair_rules.specs.Awaiting.{HoldInNoVain}
 use Rattle.pair_rules.specs.Pairs.{PairState}
@@ -10,9 +14,11 @@ use Rattle.neighbour_rules.specs.Awaiting.{AwaitsNothingInVain}
 use Rattle.neighbour_rules.specs.Promises.{AreBooked, EachOnce, InOrder, StaysBetween}
 use Rattle.network_rules.specs.Networks.{NetworkNode, Step, after_steps, first_network}
 use Rattle.network_rules.specs.Pairs.{pair_of}
+use Rattle.network_rules.specs.Paths.{ComesInOrder, EachHopInOrder, EachOnlyPasses, KeepsInOrder, PassesInOrder}
 use Rattle.network_rules.specs.Totals.{ComeToPoint, HaveLostNothing, IsAccounted, IsJoined, is_listed}
+use Rattle.node_rules.specs.Promises.{IsShort}
 use Rattle.node_rules.specs.Worlds.{Make}
-use Rattle.network_datagrams.specs.NetworkWorlds.{NetworkWorld, Steps, last_world, new_world, shown}
+use Rattle.network_datagrams.specs.NetworkWorlds.{HasEnd, NetworkWorld, Steps, last_world, new_world, shown}
 
 abbrev pub settings_of : (make : (point : ℕ) → Make) → (point : ℕ) → Configuration
 settings_of make point = (make point).configuration
@@ -90,3 +96,33 @@ messages_come_from_end_to_end =
     ((other : ℕ) → is_listed points other ≡ true →
     (settings_of make other).network ≡ (settings_of make point).network) →
     HaveLostNothing points (shown w) → ComeToPoint points (shown w) (settings_of make point))
+
+-- ---- order over a path
+
+-- at each node, whatever has been lost
+abbrev pub nodes_pass_on_in_order : Type 0
+nodes_pass_on_in_order = Always (λ make points w. (point : ℕ) → PassesInOrder ((shown w).node point))
+
+-- over each path of which each hop keeps a flow in order
+abbrev pub paths_keep_the_order_of_their_hops : Type 0
+paths_keep_the_order_of_their_hops =
+    Always (λ make points w.
+    (flow : Flow) (first : ℕ) (rest : List ℕ) → EachHopInOrder flow (shown w) first rest →
+    EachOnlyPasses flow (shown w) first rest → ComesInOrder flow (shown w) first rest)
+
+-- as the last hop does, where the flow is for the last point
+abbrev pub last_hops_keep_flows_in_order : Type 0
+last_hops_keep_flows_in_order =
+    Always (λ make points w.
+    (near far sls : ℕ) → AreSharing (settings_of make near) (settings_of make far) →
+    LostNothing (pair_of (shown w) near far) → IsPunctual (pair_of (shown w) near far) →
+    KeepsInOrder (record { point = far; sls = sls }) (shown w) near far)
+
+-- ---- frames
+
+-- an endpoint takes each frame that a link sends next as a message, as in `node_rules`
+abbrev pub frames_are_short : Type 0
+frames_are_short =
+    Always (λ make points w.
+    (point link : ℕ) → HasEnd w point link → (frame : FrameValue) →
+    frame_to_take whole (w.node point).books.exchange link ≡ Some frame → IsShort frame)

@@ -1,6 +1,6 @@
--- A network over datagrams: a node at each point, with an endpoint of SCTP at its end of each link, and all packets that
--- any of these ever put out. What an endpoint is told and does is that of `node_rules`, and what a node books that of
--- `network_rules`.
+-- A network over datagrams: a node at each point, with an endpoint of SCTP at its end of each link, and all packets
+-- that any of these ever put out. What an endpoint is told and does is that of `node_rules`, and what a node books that
+-- of `network_rules`.
 use Rattle.std.specs.Prelude.{◌≡◌, ℕ, List, [], ◌∷◌, Option, Some, None, nat_eq, if◌then◌else◌}
 use Rattle.m2pa_codec.specs.Frames.{FrameValue, spelled}
 use Rattle.exchange_rules.specs.State.{Happening, CameUp, WentDown, FrameCame, Submitted}
@@ -15,8 +15,8 @@ use Rattle.node_rules.specs.Worlds.{Make, Port, new_port, associated, told_by, i
 
 -- ---- a node
 
--- what it is and books in a network, but for what is in flight to it: that its endpoints put out; and the endpoint of
--- each of its links
+-- its exchange and its books, as in a network of `network_rules`, but that nothing is ever in flight to it: what is,
+-- the endpoints put out; and the endpoint of each of its links
 pub record Node : Type 0 where
   pub books : NetworkNode
   pub ports : (link : ℕ) → Port
@@ -96,8 +96,8 @@ pub record HasEnd (w : NetworkWorld) (point link : ℕ) : Type 0 where
   pub there : Place
   pub is : other_end (shown w) point link ≡ Some there
 
--- as between two nodes: packets that come were put out by the other end of the link, and frames are taken only when they
--- can go out
+-- as between two nodes: packets that come were put out by the other end of the link, and frames are taken only when
+-- they can go out
 abbrev pub MayDo : (w : NetworkWorld) → (point : ℕ) → Doing → Type 0
 MayDo w point (Happens what) = IsOwn what
 MayDo w point (Associates link what) =

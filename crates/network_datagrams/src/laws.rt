@@ -1,7 +1,11 @@
 //! What the nodes of a network promise over datagrams. The statements are those of `specs/NetworkPromises.antt`.
 
+ghost use Rattle.network_datagrams.specs.Example.{Happens};
 ghost use Rattle.network_datagrams.specs.NetworkPromises.{books_are_of_the_two, each_flow_in_order, each_message_once};
 ghost use Rattle.network_datagrams.specs.NetworkPromises.{each_message_is_accounted_for, flows_stay_between};
+ghost use Rattle.network_datagrams.specs.NetworkPromises.{frames_are_short};
+ghost use Rattle.network_datagrams.specs.NetworkPromises.{last_hops_keep_flows_in_order, nodes_pass_on_in_order};
+ghost use Rattle.network_datagrams.specs.NetworkPromises.{paths_keep_the_order_of_their_hops};
 ghost use Rattle.network_datagrams.specs.NetworkPromises.{messages_come_from_end_to_end, nothing_is_awaited_in_vain};
 ghost use Rattle.network_datagrams.specs.NetworkPromises.{nothing_is_held_in_vain, runs_are_runs_of_networks};
 
@@ -51,14 +55,36 @@ pub fn nothing_is_held_in_vain()
 {}
 
 /// From end to end over datagrams: while no node may have lost a message, as many user messages entered the network, by
-/// any test, as were received at a node that they aren't to leave, as wait in nodes, and as were refused by a node on the
-/// way, which had no route for them or no room.
+/// any test, as were received at a node that they aren't to leave, as wait in nodes, and as were refused by a node on
+/// the way, which had no route for them or no room.
 pub fn each_message_is_accounted_for()
     ensures { each_message_is_accounted_for }
 {}
 
-/// So it is of the messages for one point, where all nodes have one network indicator: each that entered came there once,
-/// or waits, or was refused on the way.
+/// So it is of the messages for one point, where all nodes have one network indicator: each that entered came there
+/// once, or waits, or was refused on the way.
 pub fn messages_come_from_end_to_end()
     ensures { messages_come_from_end_to_end }
+{}
+
+/// Order over a path, over datagrams. What a node passes on stays in the order in which it came, whatever has been
+/// lost. So over a path of which each hop keeps a flow in order, and whose nodes between get the flow from the one
+/// before alone, what came to the last node is in the order in which the first accepted it; what is missing there waits
+/// at a node of the path, or was refused or ended at one between. The last hop keeps a flow that is for the last node,
+/// while neither of its nodes may have lost a message and no timer of the former ended a hold.
+pub fn paths_keep_the_order_of_their_hops()
+    ensures nodes { nodes_pass_on_in_order }
+    ensures paths { paths_keep_the_order_of_their_hops }
+    ensures last { last_hops_keep_flows_in_order }
+{}
+
+/// The next frame that a link sends has 1 to 290 octets, so an endpoint takes it as a message.
+pub fn frames_fit_an_endpoint()
+    ensures { frames_are_short }
+{}
+
+/// These laws aren't empty. Three nodes in a row keep the premises, and in a run of 11 steps a link between two of them
+/// opens at one and then at the other, and a link status crosses in a datagram that comes twice, once.
+pub fn a_link_opens_over_datagrams()
+    ensures { Happens }
 {}

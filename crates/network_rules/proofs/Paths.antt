@@ -76,7 +76,7 @@ module _ (flow : Flow) where
     five : (l c2 c1 lo w r e n c : ℕ) → l ≡ c2 + w → c2 ≡ lo + c1 → c1 ≡ r + e → lo ≡ n → l ≡ w + r + e + n
     five l c2 c1 lo w r e n c f g h i = omega (arith, f, g, h, i)
 
-    over : (first : ℕ) (rest : List ℕ) → EachHopInOrder flow w first rest → EachOnlyPasses flow w first rest → ComesInOrder flow w first rest
+    pub over : (first : ℕ) (rest : List ℕ) → EachHopInOrder flow w first rest → EachOnlyPasses flow w first rest → ComesInOrder flow w first rest
     over first [] hops only = record { left = []; order = merged-one (accepted_at first); counted = λ test. refl }
     over first (last ∷ []) hops only =
         let came : List Message = came_over flow w first last in
@@ -168,7 +168,7 @@ module _ (w : NetworkState) (near far sls : ℕ) (own : (w.node far).exchange.se
   abbrev came : List Message
   came = came_from (w.node far).exchange.settings (w.node near).exchange.settings (w.node far).arrived
 
-  hop : InOrder p → KeepsInOrder flow w near far
+  pub hop : InOrder p → KeepsInOrder flow w near far
   hop in_order =
       sym (ap (λ (k : ℕ). of_flow flow (users_to k (w.node near).accepted)) own ∙ to-point far sls (w.node near).accepted)
       ∙ in_order flow

@@ -134,7 +134,7 @@ pub fn networks_begin_anew()
 /// These laws aren't empty: three nodes in a row keep the premises, those of the whole network too. Each two neighbours
 /// share two links, and a user message that one end of the row has for the other is sent on a link that fails at both
 /// ends before it comes, on either side of the middle node. By the other links it comes to each node on its way, once;
-/// no flag is raised, and nothing waits in the end.
+/// no flag is raised, and nothing waits in the end. Each hop of its path keeps its flow in order.
 pub fn a_message_crosses_two_failures()
     ensures { CrossesTwoFailures }
 {}

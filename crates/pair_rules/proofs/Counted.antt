@@ -19,7 +19,7 @@ use Rattle.mtp3_codec.specs.declared.label.Label.{Label}
 use Rattle.sccp_relay.specs.Relay.{returned}
 use Rattle.exchange_rules.specs.Messages.{is_destination, offer, transfer, in_place_of, own_of, return_unitdata, send_udts}
 use Rattle.exchange_rules.specs.Conserving.{returned_in}
-use Rattle.exchange_rules.specs.Laws.{answered, answered_by, carried_message, noted}
+use Rattle.exchange_rules.specs.Laws.{answered, answered_by, no_part_answered, carried_message, noted}
 use Rattle.exchange_rules.specs.State.{with_node}
 use Rattle.exchange_rules.specs.Telling.{tell_owed}
 use Rattle.exchange_rules.specs.First.{Abstract, IsSound}
@@ -88,7 +88,7 @@ module _ (number : ℕ) (c : Configuration) where
       → T number c (answered cause from (Some m) c n) ≡ T number c n + users (returned_in (returned (own_of c) n.parts.titles m.sif cause) c m n)
   answered-more cause from m label n f here is =
       ap (λ (d : Discrimination). T number c (answered_by d cause from m c n)) here
-      ∙ ap (λ (b : Bool). T number c (if b then return_unitdata whole c cause m n else n)) is
+      ∙ ap (λ (b : Bool). T number c (if b then return_unitdata whole c cause m n else no_part_answered cause from m c n)) is
       ∙ udts-more (returned (own_of c) n.parts.titles m.sif cause) m n f
 
 -- ---- a submission
