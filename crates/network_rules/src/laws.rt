@@ -85,9 +85,10 @@ pub fn messages_pass_through()
     ensures { messages_pass_through }
 {}
 
-/// What a node passes on stays in the order in which it came: of the user messages, what came for another point is made
-/// up of those that it passed on and those that it refused, and what it accepted of those that it passed on and those
-/// that entered there, each in order. This holds whatever is done or lost, and however often nodes start again.
+/// A node accepts what it is to pass on in the order in which it came: of the user messages, what came for another point
+/// is made up of those that it accepted and those that it refused, and what it accepted of these and those that entered
+/// there, each in order. This holds whatever is done or lost, and however often nodes start again; in which order they
+/// leave, the hops say.
 pub fn nodes_pass_on_in_order()
     ensures each { each_node_passes_in_order }
     ensures first { books_begin_empty }
