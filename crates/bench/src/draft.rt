@@ -145,6 +145,7 @@ pub(crate) fn draft_with(alloc: Global, shape: &Shape) -> Result<Draft, AllocErr
         subsystems: Vec::new(alloc),
         extended_unitdata: false,
         subsystem_tests: false,
+        user_part_unavailable: false,
         timers: timers(),
         sets: set_drafts(alloc, set_count)?,
         links: link_drafts(alloc, shape.links, shape.sets)?,

@@ -2,7 +2,7 @@
 
 ghost use Rattle.std.specs.Prelude.{◌≤◌};
 
-use settings::{Limits, TitleDraft};
+use settings::{ChangeDraft, Limits, TitleDraft};
 use std::alloc::{AllocError, Global};
 
 /// Rows of a table that is short.
@@ -80,7 +80,9 @@ fn title(alloc: Global, digits: String, point: i64) -> Result<TitleDraft, AllocE
         nature: NATURE as i64,
         digits,
         point,
+        backup: None,
         route: format!(in alloc; "ssn")?,
         ssn: Some(SUBSYSTEM as i64),
+        change: ChangeDraft::none(alloc),
     })
 }

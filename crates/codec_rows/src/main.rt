@@ -12,9 +12,11 @@
 //! - `mtp3.rows`: `label`; `route NETWORK OCTETS`, what point 1 does about a SIO and SIF; `management` and `test`, SIFs
 //!   of these kinds; `number`, calls with the numbers of messages.
 //! - `sccp.rows`: `address` with its title, `unitdata`.
-//! - `titles.rows`, `full_table.rows`, `relaying.rows`: `title`, calls of a table of translation rows; `relay`, a SIF
-//!   that comes to point 1, which has subsystem 8, by that table; `extended`, the same where that point relays extended
-//!   messages and answers tests of its subsystem.
+//! - `titles.rows`, `full_table.rows`, `relaying.rows`: `title`, calls of a table of translation rows (a row that
+//!   changes titles ends in PLAN NATURE REMOVED ADDED, and one that `title backup` adds in its backup); `links POINT
+//!   POINT`, the points that links lead to from then on, 0 for none; `relay`, a SIF that comes to point 1, which has
+//!   subsystem 8, by that table; `extended`, the same where that point relays extended messages and answers tests of
+//!   its subsystem.
 //! - `tries.rows`: `trie`, calls of a trie of digits.
 //! - `sctp.rows`: `packet`.
 //! - `cookies.rows`: `mac KEY MESSAGE`, the code of a message; `tags KEY TIMES`, the first tags under a key; `sign KEY
@@ -50,6 +52,7 @@ fn main(rt: HostRuntime) -> io::Result<()> {
 #[derive(Drop)]
 struct Stores {
     titles: Translations,
+    points: [u16; 2],
     trie: Trie,
 }
 
@@ -58,6 +61,7 @@ fn print_file<R: Files + Print + AllocGlobal>(rt: &R, name: &str) -> io::Result<
     let text = fs::read_to_string(rt, name)?;
     let mut stores = Stores {
         titles: Translations::new(rt.alloc()),
+        points: [0; 2],
         trie: Trie::new(rt.alloc()),
     };
     for row in text.as_str().lines() {
@@ -102,8 +106,14 @@ fn say(said: &mut Said, stores: &mut Stores, row: &str) {
         "sign" => cookies::sign(said, row),
         "open" => cookies::open(said, row, octets),
         "title" => tables::titles(said, &mut stores.titles, row),
-        "relay" => tables::relayed(said, &stores.titles, octets, false),
-        "extended" => tables::relayed(said, &stores.titles, octets, true),
+        "links" => stores.points = [point(row, 1), point(row, 2)],
+        "relay" => tables::relayed(said, &stores.titles, &stores.points, octets, false),
+        "extended" => tables::relayed(said, &stores.titles, &stores.points, octets, true),
         _ => tables::digits_of(said, &mut stores.trie, row),
     }
+}
+
+/// The point of a word of a row; 0 if it is none.
+fn point(row: &str, index: usize) -> u16 {
+    word(row, index).parse().unwrap_or(0)
 }

@@ -4,9 +4,26 @@ ghost use Rattle.std.specs.Prelude.{◌<◌, ◌↔◌, All, IsTrue};
 
 use crate::rows::{digits, word};
 use crate::said::Said;
-use sccp_relay::{Own, Relayed, TitleKey, Translations, Trie, relay, returned};
-use settings_rows::{TitleRoute, TitleRow};
-use signalling_types::{Cause, Limits, PointCode, Ssn};
+use sccp_relay::{Own, Relayed, TitleKey, Translations, Trie, Ways, relay, returned};
+use settings_rows::{TitleChange, TitleRoute, TitleRow};
+use signalling_types::{Cause, Limits, PointCode, Sls, Ssn};
+
+/// The points that links lead to.
+#[derive(Clone, Copy)]
+struct Reached<'a> {
+    points: &'a [u16],
+}
+
+impl Ways for Reached<'_> {
+    ghost use Rattle.std.specs.Prelude.{nat_eq};
+    ghost use Rattle.std.specs.List.{list_any};
+
+    ghost leads = { λ reached point sls. list_any (λ other. nat_eq other point) reached.points.now };
+
+    fn lead_to(&self, point: PointCode, _sls: Sls) -> bool {
+        self.points.contains(&point.code())
+    }
+}
 
 /// Makes the call of a row of a trie, and says the answer.
 pub fn digits_of(said: &mut Said, trie: &mut Trie, row: &str) {
@@ -37,14 +54,37 @@ pub fn titles(said: &mut Said, table: &mut Translations, row: &str) {
             say_row(said, table.row(place).ok_or(Cause::NoSuchName));
         }
         ("fill", Some(key)) => fill(said, table, key),
-        ("add", Some(key)) => match new_row(key, digits, word(row, 6), word(row, 7)) {
-            Some(row) => said.show(&table.add(row)),
+        ("add", Some(key)) => add(said, table, key, digits, row),
+        ("backup", Some(key)) => match new_row(key, digits, word(row, 6), word(row, 7)) {
+            Some(new) => said.show(&table.add(backed_up(new, word(row, 8)))),
             None => said.say("no row"),
         },
         ("remove", Some(key)) => said.show(&table.remove(key, digits)),
         (_, Some(key)) => say_row(said, table.translate(key, digits)),
         _ => said.say("no key"),
     }
+}
+
+/// Adds a row, with the change of titles that its words name, if any.
+fn add(said: &mut Said, table: &mut Translations, key: TitleKey, digits: &[u8], row: &str) {
+    match (
+        new_row(key, digits, word(row, 6), word(row, 7)),
+        change(row),
+    ) {
+        (Some(new), Some(change)) => said.show(&table.add(new.with_change(change))),
+        _ => said.say("no row"),
+    }
+}
+
+/// The change of titles of a row: the plan, the nature, how many digits are taken off, and those that are put on.
+fn change(row: &str) -> Option<TitleChange> {
+    if word(row, 8).is_empty() {
+        return Some(TitleChange::none());
+    }
+    let mut buffer = [0; 64];
+    let added = digits(word(row, 11), &mut buffer);
+    let (plan, nature) = (word(row, 8).parse().ok(), word(row, 9).parse().ok());
+    TitleChange::new(plan, nature, word(row, 10).parse().ok()?, added)
 }
 
 /// The key of a row: translation type, plan and nature.
@@ -83,6 +123,14 @@ fn new_row(key: TitleKey, digits: &[u8], point: &str, ssn: &str) -> Option<Title
     TitleRow::new(key.translation, key.plan, key.nature, digits, point, route)
 }
 
+/// The row with the point of a word as its backup, if the word is one.
+fn backed_up(row: TitleRow, backup: &str) -> TitleRow {
+    match backup.parse().ok().and_then(PointCode::new) {
+        Some(point) => row.with_backup(point),
+        None => row,
+    }
+}
+
 /// Adds rows of all translation types and of all two digits until one is refused, and says how many were added.
 fn fill(said: &mut Said, table: &mut Translations, key: TitleKey) {
     for number in 0..=u16::MAX {
@@ -95,15 +143,16 @@ fn fill(said: &mut Said, table: &mut Translations, key: TitleKey) {
     }
 }
 
-/// Relays a field at point 1, which has subsystem 8, and says what goes on, or is returned. It relays extended messages
-/// and answers tests, or does neither.
-pub fn relayed(said: &mut Said, table: &Translations, sif: &[u8], extended: bool) {
+/// Relays a field at point 1, which has subsystem 8 and whose links lead to these points, and says what goes on, or is
+/// returned. It relays extended messages and answers tests, or does neither.
+pub fn relayed(said: &mut Said, table: &Translations, points: &[u16], sif: &[u8], extended: bool) {
     let mut field = [0xee; Limits::SIF_OCTETS];
     let own = Own {
         point: PointCode::of_low_bits(1),
         subsystems: &[8],
         extended,
-        tested: extended,
+        answers_tests: extended,
+        ways: Reached { points },
     };
     if sif.len() < 4 {
         return;

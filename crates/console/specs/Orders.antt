@@ -34,7 +34,8 @@ title_order_about points name verb (point ∷ behind) =
     then option_map (λ row. ToAddTitle row) (row_written points name (point ∷ behind))
     else None
 
--- the order that the words after `title` give: `add T P N DIGITS POINT ROUTE SSN` or `remove T P N DIGITS`
+-- the order that the words after `title` give: `add T P N DIGITS` with the words of the rest of the row, or
+-- `remove T P N DIGITS`
 abbrev pub title_order : PointFormat → List (List ℕ) → Option Instruction
 title_order points (verb ∷ translation ∷ plan ∷ nature ∷ digits ∷ behind) =
     option_and_then (λ name. title_order_about points name verb behind) (name_written translation plan nature digits)

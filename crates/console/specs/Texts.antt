@@ -1,7 +1,8 @@
 -- What the console shows, a line at a time, without the line feeds. Points are in the format that is asked for.
 use Rattle.std.specs.Prelude.{◌≡◌, ℕ, zero, suc, ◌+◌, Bool, true, false, ◌++◌, List, [], ◌∷◌, map, codes, decimal, slice_get, nat_lt, if◌then◌else◌, Option, Some, None}
+use Rattle.std.specs.Prelude.{not, ◌||◌, nat_eq, length, is_some}
 use Rattle.std.specs.Option.{option_map, option_and_then}
-use Rattle.settings_rows.specs.Configuration.{Configuration, TitleEntry}
+use Rattle.settings_rows.specs.Configuration.{Configuration, ChangeEntry, TitleEntry}
 use Rattle.settings_rows.specs.declared.title_row.TitleRoute.{TitleRoute}
 use Rattle.settings_rows.specs.declared.title_row.TitleRoute.TheVariants as route
 use Rattle.signalling_types.specs.Causes.{cause_number, cause_name}
@@ -137,10 +138,33 @@ abbrev pub way_text : TitleRoute → List ℕ
 way_text (route.Title ssn) = title_way_text ssn
 way_text (route.Ssn ssn) = codes " ssn " ++ decimal ssn
 
+-- a number, or - for none
+abbrev pub given_text : Option ℕ → List ℕ
+given_text (Some n) = decimal n
+given_text None = codes "-"
+
+-- digits, or - for none
+abbrev pub added_text : List ℕ → List ℕ
+added_text digits = if nat_eq (length digits) 0 then codes "-" else map digit_octet digits
+
+-- whether a row changes titles
+abbrev pub is_change : ChangeEntry → Bool
+is_change c =
+    is_some c.plan || is_some c.nature || not (nat_eq c.removed 0) || not (nat_eq (length c.added) 0)
+
+-- how a row changes titles; nothing, if it doesn't
+abbrev pub change_text : ChangeEntry → List ℕ
+change_text c =
+    if is_change c
+    then codes " changed " ++ given_text c.plan ++ codes " " ++ given_text c.nature ++ codes " " ++ decimal c.removed
+    ++ codes " " ++ added_text c.added
+    else []
+
 abbrev pub title_text : PointFormat → TitleEntry → List ℕ
 title_text points row =
     codes "title " ++ decimal row.translation ++ codes " " ++ decimal row.plan ++ codes " " ++ decimal row.nature
     ++ codes " " ++ map digit_octet row.digits ++ codes " " ++ point_text points row.point ++ way_text row.route
+    ++ change_text row.change
 
 -- the line of row k, in the order of the rows
 abbrev pub title_line : {Q : Type 0} → PointFormat → State Q → ℕ → Option (List ℕ)

@@ -4,7 +4,7 @@ use Rattle.std.specs.Prelude.{length, Option, None, Some}
 use Rattle.std.specs.List.{list_all}
 use Rattle.std.specs.Option.{option_map, option_and_then}
 use Rattle.signalling_types.specs.declared.limits.TheConstants.Limits.{TITLE_DIGITS}
-use Rattle.settings_rows.specs.Configuration.{TitleEntry}
+use Rattle.settings_rows.specs.Configuration.{ChangeEntry, TitleEntry, unchanged}
 use Rattle.settings_rows.specs.declared.title_row.TitleRoute.{TitleRoute}
 use Rattle.settings_rows.specs.declared.title_row.TitleRoute.TheVariants.{Title, Ssn}
 use Rattle.settings.specs.Checks.{is_digit}
@@ -55,12 +55,44 @@ row_leading name point route = record {
   nature = name.key.nature;
   digits = name.digits.items;
   point = point;
+  backup = None;
   route = route;
+  change = unchanged;
 }
 
--- the row of this name that these words write, with points in this format: `POINT ROUTE SSN`
-abbrev pub row_written : PointFormat → RowName → List (List ℕ) → Option TitleEntry
-row_written points name (point ∷ way ∷ ssn ∷ []) =
+-- the row of this name that these words write, with points in this format; it has no backup, and changes no titles
+abbrev pub row_of : PointFormat → RowName → (point way ssn : List ℕ) → Option TitleEntry
+row_of points name point way ssn =
     option_and_then (λ p. option_and_then (λ s. option_map (λ route. row_leading name p route) (route_named way s))
     (ssn_written ssn)) (point_in points point)
+
+-- a numbering plan or a nature of address up to the most, or - for none
+abbrev pub given_written : (most : ℕ) → List ℕ → Option (Option ℕ)
+given_written most text =
+    if bytes_eq text (codes "-") then Some None else option_map (λ n. Some n) (number_within 0 most text)
+
+-- 1 to 32 digits, or - for none
+abbrev pub added_written : List ℕ → Option (List ℕ)
+added_written text = if bytes_eq text (codes "-") then Some [] else digits_written text
+
+-- the change of titles that these words write
+abbrev pub change_written : (plan nature removed added : List ℕ) → Option ChangeEntry
+change_written plan nature removed added =
+    option_and_then (λ p. option_and_then (λ n. option_and_then (λ r. option_map (λ ds.
+    record { plan = p; nature = n; removed = r; added = ds })
+    (added_written added)) (number_within 0 TITLE_DIGITS removed)) (given_written 127 nature)) (given_written 15 plan)
+
+-- the row with the change of titles that these words write: `changed PLAN NATURE REMOVE ADD`; without words, as it is
+abbrev pub changed_by : TitleEntry → List (List ℕ) → Option TitleEntry
+changed_by row [] = Some row
+changed_by row (word ∷ plan ∷ nature ∷ removed ∷ added ∷ []) =
+    if bytes_eq word (codes "changed")
+    then option_map (λ change. record row { change = change }) (change_written plan nature removed added)
+    else None
+changed_by row _ = None
+
+-- the row of this name that these words write: `POINT ROUTE SSN`, and the words of a change, if any
+abbrev pub row_written : PointFormat → RowName → List (List ℕ) → Option TitleEntry
+row_written points name (point ∷ way ∷ ssn ∷ behind) =
+    option_and_then (λ row. changed_by row behind) (row_of points name point way ssn)
 row_written points name _ = None

@@ -24,7 +24,8 @@ pub enum Command {
     Activate,
     /// `deactivate LINK`: the link goes out of service, and can't open.
     Deactivate,
-    /// `title add T P N DIGITS POINT ROUTE SSN` or `title remove T P N DIGITS`: a translation row is added or removed.
+    /// `title add T P N DIGITS POINT ROUTE SSN`, with `changed PLAN NATURE REMOVE ADD` after it if titles change, or
+    /// `title remove T P N DIGITS`: a translation row is added or removed.
     Title,
     /// `show links`, `show routes`, `show titles` or `show notices`.
     Show,

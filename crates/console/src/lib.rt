@@ -1,6 +1,7 @@
 //! The console of a node: what it shows, line by line, and the orders that it accepts.
 #![tactic(auto)]
 
+mod change_words;
 pub mod commands;
 pub mod flags;
 mod line;

@@ -23,11 +23,11 @@ pub(crate) fn push_number(line: &mut ArrayString<LINE_OCTETS>, word: &str, numbe
     line.push_str(buffer.format(number));
 }
 
-/// Appends a word and a number of at most five decimal digits.
-pub(crate) fn push_small(line: &mut ArrayString<LINE_OCTETS>, word: &str, number: u16)
-    requires { length line.old.bytes + length word.now + 5 ≤ LINE_OCTETS }
+/// Appends a word and a number of at most three decimal digits.
+pub(crate) fn push_octet(line: &mut ArrayString<LINE_OCTETS>, word: &str, number: u8)
+    requires { length line.old.bytes + length word.now + 3 ≤ LINE_OCTETS }
     ensures text { line.new.bytes ≡ line.old.bytes ++ word.now ++ decimal number }
-    ensures short { length line.new.bytes ≤ length line.old.bytes + length word.now + 5 }
+    ensures short { length line.new.bytes ≤ length line.old.bytes + length word.now + 3 }
 {
     let mut buffer = Buffer::new();
     line.push_str(word);

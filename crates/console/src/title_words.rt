@@ -8,8 +8,9 @@ ghost use Rattle.settings.specs.Checks.{is_digit};
 ghost use Rattle.settings.specs.Meaning.{digit_of};
 ghost use Rattle.console.specs.Words.{words};
 ghost use Rattle.console.specs.TitleWords.{key_written, digits_written, name_written, ssn_written, route_named};
-ghost use Rattle.console.specs.TitleWords.{row_leading, row_written};
+ghost use Rattle.console.specs.TitleWords.{row_leading, row_of, row_written};
 
+use crate::change_words::changed_by;
 use crate::numbers::read_number;
 use crate::words::cut;
 use arrayvec::ArrayVec;
@@ -21,10 +22,10 @@ use settings::{Limits, PointCode, Ssn, TitleRoute, TitleRow};
 const LAST_TRANSLATION: u16 = 255;
 
 /// The largest numbering plan.
-const LAST_PLAN: u16 = 15;
+pub(crate) const LAST_PLAN: u16 = 15;
 
 /// The largest nature of address.
-const LAST_NATURE: u16 = 127;
+pub(crate) const LAST_NATURE: u16 = 127;
 
 /// The largest subsystem number.
 const LAST_SUBSYSTEM: u16 = 255;
@@ -53,21 +54,23 @@ pub(crate) fn read_name(
     Some(RowName { key, digits })
 }
 
-/// A row of this name, which these words complete: `POINT ROUTE SSN`, the point in this format.
-#[tactic(auto, using(crate::proofs::TitleWords::row_steps))]
+/// A row of this name, which these words complete: `POINT ROUTE SSN`, the point in this format, and the words of a
+/// change of titles, if any.
 pub(crate) fn read_row(name: &RowName, text: &[u8], points: PointFormat) -> Option<TitleRow>
     requires { HasTitleRanges name.now.key.plan name.now.key.nature name.now.digits.items }
     ensures { result ≡ row_written points name.now (words text.now) }
 {
     let (point, rest) = cut(text);
     let (route, rest) = cut(rest?);
-    match cut(rest?) {
-        (ssn, None) => row_of(name, point, route, ssn, points),
-        (_, Some(_)) => None,
+    let (ssn, rest) = cut(rest?);
+    let row = row_of(name, point, route, ssn, points)?;
+    match rest {
+        None => Some(row),
+        Some(rest) => changed_by(row, rest),
     }
 }
 
-/// A row of this name, with the words of its other values.
+/// A row of this name, with the words of its other values. It changes no titles.
 fn row_of(
     name: &RowName,
     point: &[u8],
@@ -76,7 +79,7 @@ fn row_of(
     points: PointFormat,
 ) -> Option<TitleRow>
     requires { HasTitleRanges name.now.key.plan name.now.key.nature name.now.digits.items }
-    ensures { result ≡ row_written points name.now (point.now ∷ route.now ∷ ssn.now ∷ []) }
+    ensures { result ≡ row_of points name.now point.now route.now ssn.now }
 {
     let point = parse_point(point, points)?;
     let ssn = read_ssn(ssn)?;
@@ -116,7 +119,7 @@ fn read_key(translation: &[u8], plan: &[u8], nature: &[u8]) -> Option<TitleKey>
 }
 
 /// The 1 to 32 digits of a row.
-fn read_digits(text: &[u8]) -> Option<TitleDigits>
+pub(crate) fn read_digits(text: &[u8]) -> Option<TitleDigits>
     ensures value { option_map (λ digits. digits.items) result ≡ digits_written text.now }
     ensures some { IfSome result (λ digits. 1 ≤ length digits.items) }
     ensures fits { IfSome result (λ digits. length digits.items ≤ Limits.TITLE_DIGITS) }

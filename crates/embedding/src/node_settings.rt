@@ -34,6 +34,7 @@ pub(crate) fn draft(alloc: Global) -> Result<Draft, AllocError> {
         subsystems: Vec::new(alloc),
         extended_unitdata: false,
         subsystem_tests: false,
+        user_part_unavailable: false,
         timers: timers(),
         sets,
         links,

@@ -27,8 +27,29 @@ any_room e n t k u r release pending h many sets routes shape codes holds waitin
   routes = routes ∙ h.routes;
   codes = codes;
   holds = holds;
+  unequipped = h.unequipped;
   waiting = waiting;
   pending = owes;
+}
+
+-- other counts of messages for user parts that aren't here, for as many destinations
+pub counted_room : (e : Inside) (u : List ℕ) → HasRoom e → length u ≡ length e.unequipped → HasRoom (record e { unequipped = u })
+counted_room e u h same = record {
+  lanes = h.lanes;
+  sequences = h.sequences;
+  changeovers = h.changeovers;
+  links = h.links;
+  sets = h.sets;
+  pool = h.pool;
+  notices = h.notices;
+  told = h.told;
+  few_links = h.few_links;
+  routes = h.routes;
+  codes = h.codes;
+  holds = h.holds;
+  unequipped = same ∙ h.unequipped;
+  waiting = h.waiting;
+  pending = h.pending;
 }
 
 -- links, what was told and timers change

@@ -48,9 +48,9 @@ stands-first c k h e = record {
 
 -- the parts that boot makes
 pub first-kept : (c : Configuration) (n : ℕ) (lanes : List (List Message)) (counts : List Counts) (network : Network) (told : ToldTable) (changeovers : List Standing) (codes : Codes) (holds : HoldSet)
-    (titles : List TitleEntry) (timers : Running) (notices : List Notice)
+    (titles : List TitleEntry) (unequipped : List ℕ) (timers : Running) (notices : List Notice)
     → n ≡ length c.links → lanes ≡ replicate (suc n) [] → counts ≡ replicate n kept_first → network ≡ first_network_of c → told ≡ first_told c.sets c.destinations → changeovers ≡ replicate n no_changeover
-    → codes ≡ no_codes (length c.sets) → holds ≡ no_holds n (length c.sets) (length c.destinations) → titles ≡ table_of c.titles → timers ≡ none_running (counts_in c) → notices ≡ []
+    → codes ≡ no_codes (length c.sets) → holds ≡ no_holds n (length c.sets) (length c.destinations) → titles ≡ table_of c.titles → unequipped ≡ replicate (length c.destinations) 0 → timers ≡ none_running (counts_in c) → notices ≡ []
     → record {
       settings = c;
       node = record {
@@ -63,6 +63,7 @@ pub first-kept : (c : Configuration) (n : ℕ) (lanes : List (List Message)) (co
           codes = codes;
           holds = holds;
           titles = titles;
+          unequipped = unequipped;
           timers = timers;
           notices = record { last = notices; count = 0 };
           times_lost = 0;
@@ -70,5 +71,5 @@ pub first-kept : (c : Configuration) (n : ℕ) (lanes : List (List Message)) (co
         };
       };
     } ≡ kept_of (first_state c)
-first-kept c n lanes counts network told changeovers codes holds titles timers notices e l k d w x b y r t o =
-    rw (l, k, d, w, x, b, y, r, t, o, e, map-replicate unconfirmed (length c.links) first_queue, map-replicate counts_of (length c.links) first_queue)
+first-kept c n lanes counts network told changeovers codes holds titles unequipped timers notices e l k d w x b y r u t o =
+    rw (l, k, d, w, x, b, y, r, u, t, o, e, map-replicate unconfirmed (length c.links) first_queue, map-replicate counts_of (length c.links) first_queue)

@@ -24,6 +24,7 @@ kept_in e = record {
       codes = e.changeback;
       holds = e.holds;
       titles = e.titles;
+      unequipped = e.unequipped;
       timers = e.timers;
       notices = record { last = e.notices.items; count = e.notice_count };
       times_lost = e.times_lost;
@@ -34,7 +35,7 @@ kept_in e = record {
 
 -- Held and each link have their list; each link has its numbers, its state and its changeover; links and sets are those
 -- of the settings. The pool and the notices have their room. For each set it is known what its point was told of each
--- destination. Links, routes, codes and holds have their places. Unless a release is due, each message of Held waits.
+-- destination. Links, routes, codes, holds and counts have their places. Unless a release is due, each message of Held waits.
 -- No adjacent point is owed anything except what may be pending
 pub record HasRoom (e : Inside) : Type 0 where
   pub lanes : length e.lanes.lists ≡ length e.links.links + 1
@@ -49,5 +50,6 @@ pub record HasRoom (e : Inside) : Type 0 where
   pub routes : length e.links.routes ≡ length e.settings.destinations
   pub codes : HasCodes (length e.settings.sets) e.changeback
   pub holds : HasHoldsFor e.settings e.holds
+  pub unequipped : length e.unequipped ≡ length e.settings.destinations
   pub waiting : (e.release_due || all_wait e.settings e.holds (lane_at e.lanes.lists held_lane)) ≡ true
   pub pending : OwesNoneBut (length e.settings.destinations) e.pending (facts_of e.links) e.told

@@ -36,10 +36,12 @@ mod suspending;
 mod telling;
 mod ticking;
 mod timing;
+mod user_parts;
 mod views;
 
 use crate::event::{Event, Order};
 use crate::frame_text::LONGEST_FRAME;
+use crate::unequipped::Unequipped;
 use cell_pool::CellPool;
 use changeback::Changeback;
 use changeover::Changeover;
@@ -48,6 +50,7 @@ use flow_hold::Holds;
 use link::Sequence;
 use m2pa_codec::BUFFER_OCTETS;
 use node_links::NodeLinks;
+pub use relaying::LinkWays;
 use route_management::{PendingUpdates, Told};
 use sccp_relay::Translations;
 use settings::{LinkId, Notice, Outcome, Settings};
@@ -68,6 +71,7 @@ pub struct Exchange {
     changeback: Changeback,
     holds: Holds,
     titles: Translations,
+    unequipped: Unequipped,
     timers: Timers,
     notices: HeapCircularBuffer<Notice>,
     // how many notices there ever were
@@ -93,6 +97,7 @@ impl Drop for Exchange {
             changeback: _,
             holds: _,
             titles: _,
+            unequipped: _,
             timers: _,
             notices: _,
             notice_count: _,

@@ -6,11 +6,12 @@ pub mod event;
 pub mod exchange;
 pub mod frame_text;
 pub mod memory;
+mod unequipped;
 pub mod view;
 
 pub use cell_pool::Pick;
 pub use event::{Answer, Call, Event, Order, TitleDigits};
-pub use exchange::Exchange;
+pub use exchange::{Exchange, LinkWays};
 pub use exchange_rules::Wants;
 pub use frame_text::{FrameText, LONGEST_FRAME};
 pub use m2pa_codec::{BUFFER_OCTETS, Frame, Framer, Next, decode};
@@ -19,8 +20,9 @@ pub use mtp3_codec::Label;
 pub use routes::RouteStatus;
 pub use sccp_relay::TitleKey;
 pub use settings::{
-    Cause, ChangeoverTimer, DestinationDraft, Draft, DraftFault, FailureReason, FaultKind,
-    FrameFault, Key, LateTimer, Limits, LinkDraft, LinkId, Msu, MsuRef, Notice, Outcome, PointCode,
-    SetDraft, SetId, Settings, Sls, Ssn, TimersDraft, TitleDraft, TitleRoute, TitleRow,
+    Cause, ChangeDraft, ChangeoverTimer, DestinationDraft, Draft, DraftFault, FailureReason,
+    FaultKind, FrameFault, Key, LateTimer, Limits, LinkDraft, LinkId, Msu, MsuRef, Notice, Outcome,
+    PointCode, SetDraft, SetId, Settings, Sls, Ssn, TimersDraft, TitleChange, TitleDraft,
+    TitleRoute, TitleRow,
 };
 pub use view::{LinkStanding, LinkView, NewNotices, RouteView};

@@ -260,11 +260,12 @@ module _ (l : ℕ) where
       rerouted = λ routes n e k. same n _ refl refl;
       told = λ t n e. same n _ refl refl;
       titled = λ rows n. same n _ refl refl;
+      unequipped = λ counts n e. same n _ refl refl;
       linked = λ link x n e.
           on-link link x n _ (is-set n.parts.links link x down_link) (same-for link n.parts.timers) (λ h. waits-linked link (link_at n.parts link) x n.parts.timers e.alignment e.association e.busy h.waits);
       parted = λ link n e.
           on-link link _ n _ (is-set n.parts.links link _ down_link) (same-for link n.parts.timers) (λ h. waits-parted link (link_at n.parts link) n.parts.timers e h.waits);
-      opened = λ link n own there e f.
+      opened = λ link n own there e f may.
           on-link link _ n _ (is-set n.parts.links link _ down_link) (timed-for link c opening n.parts.timers)
           (λ h. waits-opened link c (link_at n.parts link) n.parts.timers h.named (not-associated (link_at n.parts link).association (link_at n.parts link).active e) h.waits);
       stepped = λ link input step n own e k.
@@ -284,13 +285,13 @@ module _ (l : ℕ) where
           on-link link _ n _ (is-set n.parts.links link _ down_link) (timed_sending-for link c n.parts.timers)
           (λ h. waits-but_seven link c _ n.parts.timers _ (λ t g. sending-others link c t n.parts.timers h.named g)
           (waits-linked link (link_at n.parts link) _ n.parts.timers refl refl refl h.waits));
-      fails = λ link why n. fails-keeps (in_service n.parts link) link why n;
-      orders = orders-keeps;
-      acknowledges = λ link number n. acknowledges-keeps (changeover_of n.parts link).awaited link number n;
-      expires = λ its link n. expires-keeps (is_link n.parts link) its link n;
+      fails = λ link why n may up. fails-keeps (in_service n.parts link) link why n;
+      orders = λ link number n falls ends. orders-keeps link number n;
+      acknowledges = λ link number n may. acknowledges-keeps (changeover_of n.parts link).awaited link number n;
+      expires = λ its link n may. expires-keeps (is_link n.parts link) its link n;
       returns = λ before after code link other n e f. returns-keeps before after code link other n;
-      frees = λ set code n.
+      frees = λ set code n may.
           alike n _ (record { links = refl; counts = counts-clear (name.T4 set code) n.parts.timers; timers = clear-others (name.T4 set code) n.parts.timers refl });
       reroutes = reroutes-keeps;
-      lifts = λ procedure n. same n _ refl refl;
+      lifts = λ procedure n may. same n _ refl refl;
     }

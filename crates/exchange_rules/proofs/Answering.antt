@@ -1,6 +1,6 @@
 -- What answers a refused message leaves what waits in Held, and lets no adjacent point be owed more.
 use Rattle.exchange_rules.proofs.Basics.{◌≡◌, ◌+◌, ℕ, zero, suc, Bool, true, false, ◌||◌, not, cond, List, [], ◌∷◌, ◌++◌, Option, Some, None, sum_by, refl, sym, ap, ◌∙◌, arith, if◌then◌else◌, set, nat_tests, sum_by-append, sum_by-cons}
-use Rattle.exchange_rules.proofs.Definitions.{Message, dpc_of, flow_of, is_management, service_indicator, Cause, Configuration, destination_place, Discrimination, returned, Queue, first_queue, unconfirmed, owes_nothing, Node, refuse, WholeQueues, queue_at, whole, facts, link_of, no_room_for, queue_on, waits, all_wait, hold, is_destination, offer, sccp, whither_goes, own_of, in_place_of, send_udts, return_unitdata, told_below, is_all_told, answered_by, answered}
+use Rattle.exchange_rules.proofs.Definitions.{Message, dpc_of, opc_of, flow_of, is_management, service_indicator, Cause, Configuration, destination_place, Discrimination, returned, Queue, first_queue, unconfirmed, owes_nothing, Node, refuse, WholeQueues, queue_at, whole, facts, link_of, no_room_for, queue_on, waits, all_wait, hold, is_destination, offer, sccp, whither_goes, own_of, in_place_of, send_udts, return_unitdata, told_below, is_all_told, answered_by, answered, no_part_answered}
 use Rattle.std.proofs.Common.{drop}
 use Rattle.std.specs.Prelude.{nat_eq, nat_lt}
 use Rattle.signalling_types.specs.declared.cause.Cause.TheVariants as causes
@@ -8,7 +8,7 @@ use Rattle.mtp3_codec.specs.declared.discrimination.Discrimination.TheVariants a
 use Rattle.cell_pool.specs.Lanes.{managements_in}
 use Rattle.link.specs.Queue as queue
 use Rattle.exchange_rules.proofs.Lists.{map-set_alike, sum_by-map}
-use Rattle.exchange_rules.proofs.Settling.{one_more, answer_no_route-waits}
+use Rattle.exchange_rules.proofs.Settling.{one_more, answer_no_route-waits, answer_no_user_part-waits}
 
 abbrev AllWait : Configuration → Node WholeQueues → Type 0
 AllWait c n = all_wait c n.parts.holds n.queues.held ≡ true
@@ -36,10 +36,15 @@ module _ (c : Configuration) where
   send_udts-waits (Some sif) m n w = transfer_by-waits (is_destination c (dpc_of (in_place_of m sif))) (in_place_of m sif) n w
   send_udts-waits None m n w = w
 
+  no_part-waits : (cause : Cause) (from : Option ℕ) (m : Message) (n : Node WholeQueues) → AllWait c n → AllWait c (no_part_answered cause from m c n)
+  no_part-waits causes.NoUserPart from m n w = answer_no_user_part-waits c from (destination_place c (opc_of m)) m n w
+  no_part-waits cause from m n w = w
+
   answered_by-waits : (d : Discrimination) (cause : Cause) (from : Option ℕ) (m : Message) (n : Node WholeQueues) → AllWait c n → AllWait c (answered_by d cause from m c n)
   answered_by-waits (whither.Refused fault) cause from m n w = w
   answered_by-waits (whither.Here label) cause from m n w =
-      either_node (AllWait c) (nat_eq (service_indicator m) sccp) (return_unitdata whole c cause m n) n (send_udts-waits (returned (own_of c) n.parts.titles m.sif cause) m n w) w
+      either_node (AllWait c) (nat_eq (service_indicator m) sccp) (return_unitdata whole c cause m n) (no_part_answered cause from m c n)
+      (send_udts-waits (returned (own_of c n.parts) n.parts.titles m.sif cause) m n w) (no_part-waits cause from m n w)
   answered_by-waits (whither.Transfer label) causes.NoRoute from m n w = answer_no_route-waits c from (destination_place c (dpc_of m)) n w
   answered_by-waits (whither.Transfer label) cause from m n w = w
 
@@ -103,10 +108,14 @@ module _ (c : Configuration) where
   user : (indicator : ℕ) → nat_eq indicator sccp ≡ true → nat_lt indicator 2 ≡ false
   user indicator e = grind (arith, nat_tests, e)
 
+  no_part-told : (cause : Cause) (m : Message) (n : Node WholeQueues) → no_part_answered cause None m c n ≡ n
+  no_part-told causes.NoUserPart m n = refl
+  no_part-told cause m n = refl
+
   returned-told : (b : Bool) (cause : Cause) (m : Message) (n : Node WholeQueues) → nat_eq (service_indicator m) sccp ≡ b
-      → is_all_told whole c (if b then return_unitdata whole c cause m n else n) ≡ is_all_told whole c n
-  returned-told true cause m n e = send_udts-told (returned (own_of c) n.parts.titles m.sif cause) m n (user (service_indicator m) e)
-  returned-told false cause m n e = refl
+      → is_all_told whole c (if b then return_unitdata whole c cause m n else no_part_answered cause None m c n) ≡ is_all_told whole c n
+  returned-told true cause m n e = send_udts-told (returned (own_of c n.parts) n.parts.titles m.sif cause) m n (user (service_indicator m) e)
+  returned-told false cause m n e = ap (is_all_told whole c) (no_part-told cause m n)
 
   answered_by-told : (d : Discrimination) (cause : Cause) (m : Message) (n : Node WholeQueues) → is_all_told whole c (answered_by d cause None m c n) ≡ is_all_told whole c n
   answered_by-told (whither.Refused fault) cause m n = refl

@@ -44,6 +44,7 @@ stepped-places c link step p true h = record {
   told = reset_shape p.told (set_of c link) ∙ h.told;
   codes = h.codes;
   holds = h.holds;
+  unequipped = h.unequipped;
 }
 stepped-places c link step p false h = record {
   few_links = h.few_links;
@@ -53,6 +54,7 @@ stepped-places c link step p false h = record {
   told = h.told;
   codes = h.codes;
   holds = h.holds;
+  unequipped = h.unequipped;
 }
 
 pub entered_flows_held : entries_hold_changed_flows

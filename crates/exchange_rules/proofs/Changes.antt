@@ -1,6 +1,6 @@
 -- Rules that make only management, or change no queue: there are as many user messages after each as before.
 use Rattle.exchange_rules.proofs.Basics.{Bool, Err, List, None, Ok, Option, Result, Some, [], false, length, nat_lt, not, refl, suc, true, zero, ℕ, ◌&&◌, ◌∙◌, ◌∷◌, ◌≡◌, if◌then◌else◌}
-use Rattle.exchange_rules.proofs.Definitions.{is_outstanding, managements_of, action_at, Action, Expiry, Status, LinkTimer, Transition, Queue, appended, LinkStatus, LinkTestValue, MgmtFault, TestKind, Acknowledgement, Test, Management, ChangebackDeclaration, ExtendedChangeoverOrder, RouteSetTestProhibited, RouteSetTestRestricted, Owed, owed, Heard, RouteTest, Facts, status_of, RouteStatus, Allowed, Prohibited, Restricted, Configuration, Message, flow_of, is_management, Cause, FailureReason, FrameFault, Outcome, Handled, Ignored, code_for, code_in_use, declaration, freed, hold_flows, loses_flows, on_changeback_acknowledgement, take_back_each, fail_by_order, send_each, standing, begin, begin_by_peer, change_over, changing, fail, fail_by_peer, has_other, make_unavailable, leave_aside, down, in_service, is_link, link_at, do_kind, do_test, test_answer, management_to, send, send_anew, send_routed, activate, association_down, deactivate, end_association, fail_if_up, set_active, adjacent_of, entry_of, peer_of, point_of, set_of, no_room, queue_on, WholeQueues, queue_at, whole, apply_route_status, ask_again, ask_by, on_route_status, with_next_test, facts, link_of, Done, Node, answer, refuse, with_parts, act_by_status, act_by_timer, advance, enters, moved_on, on_link_status, return_if, run_out, serve_status, answer_no_route, answered_parts, inhibited, is_inhibited, may_tell, on_route_test, prohibit, send_route_status, tell_each, tell_if, tell_owed, telling, told_parts}
+use Rattle.exchange_rules.proofs.Definitions.{is_outstanding, managements_of, action_at, Action, Expiry, Status, LinkTimer, Transition, Queue, appended, LinkStatus, LinkTestValue, MgmtFault, TestKind, Acknowledgement, Test, Management, ChangebackDeclaration, ExtendedChangeoverOrder, RouteSetTestProhibited, RouteSetTestRestricted, Owed, owed, Heard, RouteTest, Facts, status_of, RouteStatus, Allowed, Prohibited, Restricted, Configuration, Message, flow_of, is_management, Cause, FailureReason, FrameFault, Outcome, Handled, Ignored, code_for, code_in_use, declaration, freed, hold_flows, loses_flows, on_changeback_acknowledgement, take_back_each, fail_by_order, send_each, standing, begin, begin_by_peer, change_over, changing, fail, fail_by_peer, has_other, make_unavailable, leave_aside, down, in_service, is_link, link_at, do_kind, do_test, test_answer, management_to, send, send_anew, send_routed, activate, association_down, deactivate, end_association, fail_if_up, set_active, adjacent_of, entry_of, peer_of, point_of, set_of, no_room, queue_on, WholeQueues, queue_at, whole, apply_route_status, ask_again, ask_by, on_route_status, with_next_test, facts, link_of, Done, Node, answer, refuse, with_parts, act_by_status, act_by_timer, advance, enters, moved_on, on_link_status, return_if, run_out, serve_status, answer_no_route, answered_parts, inhibited, is_inhibited, may_tell, on_route_test, prohibit, send_route_status, tell_each, tell_if, tell_owed, telling, told_parts, answer_no_user_part, is_unequipped_told, tell_unavailable, unavailable, unequipped_counted, UserPartUnavailable, Unequipped, opc_of, service_indicator}
 use Rattle.exchange_rules.proofs.OwnManagement.{made-management, answer-management}
 use Rattle.exchange_rules.proofs.Tallies.{no-user-behind, queue-same}
 use Rattle.link.specs.declared.action.Action.TheVariants as act
@@ -81,6 +81,15 @@ module _ (of : Message → Bool) (c : Configuration) where
       (prohibit-stand set destination n) refl
   answer_no_route-stand (Some link) None n = refl
   answer_no_route-stand None destination n = refl
+
+  pub answer_no_user_part-stand : (link origin : Option ℕ) (m : Message) (n : Node WholeQueues) → stands of (answer_no_user_part whole c link origin m n) ≡ stands of n
+  answer_no_user_part-stand (Some link) (Some origin) m n =
+      let next : Node WholeQueues = with_parts n (unequipped_counted origin n.parts) in
+      either-stand c.user_part_unavailable (tell_unavailable whole c origin m n) n (stands of n)
+      (either-stand (is_unequipped_told whole c origin n) (send_routed whole c (unavailable c m) next) next (stands of n)
+      (made-stand (opc_of m) (UserPartUnavailable c.own (service_indicator m) Unequipped) next) refl) refl
+  answer_no_user_part-stand (Some link) None m n = refl
+  answer_no_user_part-stand None origin m n = refl
 
   send_route_status-stand : (status : Option RouteStatus) (set destination : ℕ) (n : Node WholeQueues) → stands of (send_route_status whole c status set destination n) ≡ stands of n
   send_route_status-stand (Some status) set destination n =

@@ -30,8 +30,8 @@ module _ (of : Message → Bool) (c : Configuration) where
 
   -- the test by which a message is a word, once it is known to be management
   here-by : (b : Bool) (link : ℕ) (m : Message) (n : Node WholeQueues) → Fits c n → is_management m ≡ b
-      → stands of n + users_that of (brought_here (if b then manage whole c link m n else local whole c m n).outcome c m n)
-      ≡ stands of (if b then manage whole c link m n else local whole c m n).left
+      → stands of n + users_that of (brought_here (if b then manage whole c link m n else local whole c (Some link) m n).outcome c m n)
+      ≡ stands of (if b then manage whole c link m n else local whole c (Some link) m n).left
       + gone_that of (if b && (is_adjacent c (opc_of m) && not (nat_eq (service_indicator m) testing)) then gone_by_word (read_management m.sif) (opc_of m) c n else nothing_gone)
   here-by true link m n f e =
       went-alone (stands of n) (stands of (manage whole c link m n).left)
@@ -39,7 +39,7 @@ module _ (of : Message → Bool) (c : Configuration) where
       (users_that of (brought_here (manage whole c link m n).outcome c m n))
       (manage-lets of c link m n f) (nothing-here of c (manage whole c link m n).outcome m n e)
   here-by false link m n f e =
-      came-alone (stands of n) (stands of (local whole c m n).left) (users_that of (brought_here (local whole c m n).outcome c m n)) (local-brings of c m n f)
+      came-alone (stands of n) (stands of (local whole c (Some link) m n).left) (users_that of (brought_here (local whole c (Some link) m n).outcome c m n)) (local-brings of c (Some link) m n f)
 
   deliver_to-moves : (d : Discrimination) (link : ℕ) (m : Message) (n : Node WholeQueues) → Fits c n
       → stands of n + users_that of (brought_to d (deliver_to whole c d link m n).outcome c m n) ≡ stands of (deliver_to whole c d link m n).left + gone_that of (gone_by_message d c m n)

@@ -114,6 +114,7 @@ makes-steps c = record {
   rerouted = λ routes n e. same-makes n _ refl;
   told = λ t n e. same-makes n _ refl;
   titled = λ rows n. same-makes n _ refl;
+  unequipped = λ counts n e. same-makes n _ refl;
   failed = λ link why st n e f. record { made = notices.Failed link why ∷ []; by = refl };
   dropped = λ link why n e. record { made = notices.Failed link why ∷ []; by = refl };
   completed = λ link number st n e f. same-makes n _ refl;

@@ -1,7 +1,7 @@
 -- Definitions that the proofs here are about, and lemmas of the crates below.
 pub use Rattle.changeback.specs.Codes.{Codes, codes_of, free_code, is_outstanding, with_code, no_codes}
 pub use Rattle.changeover.specs.Changeover.{managements_of, accepted_count, behind, moved, in_doubt, lost, users_of, Standing, may_restart, completed, no_changeover, acknowledged, failed, begun_by_peer}
-pub use Rattle.exchange_rules.specs.Messages.{is_destination, no_room_for, offer, transfer, sccp, do_kind, do_test, test_answer, is_adjacent, local, manage, testing, do_acknowledgement, do_management, do_order, link_with_code, distribute, is_user, cause_of, link_in_set, whither_goes, deliver_to, submit, submit_to, deliver, own_of, in_place_of, send_udts, return_unitdata, add_title_unless, title_refusal, with_titles, on_unitdata, relay_by, return_outcome, return_refusal, add_title, remove_title}
+pub use Rattle.exchange_rules.specs.Messages.{is_destination, no_room_for, offer, transfer, sccp, do_kind, do_test, test_answer, is_adjacent, local, manage, testing, do_acknowledgement, do_management, do_order, link_with_code, distribute, is_user, cause_of, on_unavailable, from_afar, says_unavailable, link_in_set, whither_goes, deliver_to, submit, submit_to, deliver, own_of, in_place_of, send_udts, return_unitdata, add_title_unless, title_refusal, with_titles, on_unitdata, relay_by, return_outcome, return_refusal, add_title, remove_title}
 pub use Rattle.exchange_rules.specs.ChangingBack.{loses_flows, code_for, declare_by, hold_flows, change_back, code_in_use, declaration, freed, on_changeback_acknowledgement, if_room, procedure_by, with_flows_held, usable, take_back, changeback_acknowledgement, late_time, late_code, is_taken_back}
 unfoldable pub use Rattle.exchange_rules.specs.ChangingBack.{take_back_each}
 pub use Rattle.exchange_rules.specs.ChangingOver.{fail_by_order, send_each, complete_if, concluded, on_changeover_order, on_changeover_timer, with_changeover_acknowledged, with_expiry, judged, lifted_parts, lose, lose_each, changeover_acknowledgement, conclude, complete_by_order, acknowledge_changeover, on_changeover_acknowledgement, has_other, begin, begin_by_peer, change_over, changing, fail, fail_by_peer, make_unavailable, changeover_of, with_changeover, changeover_order, fail_link, without_tests_if_last, timed_changeover, is_of_flow, is_failed, suspended}
@@ -14,11 +14,11 @@ pub use Rattle.exchange_rules.specs.State.{Asking, AsksWants, Happens, Takes, Ha
 pub use Rattle.exchange_rules.specs.Routing.{is_held_at, is_flow_held, waits, all_wait, hold, set_of, adjacent_of, entry_of, peer_of, point_of, route_about, no_room, is_share_full, no_room_on, queue_on, facts, link_of, sets_in, goes_by, network_of}
 pub use Rattle.exchange_rules.specs.Lasting.{HasAllPlaces, after_asking, after_each, AreNoted, IsWithinLimits, new_notices_are_the_last, notices_made_are_counted, notices_keep_their_limits, losses_stay, lateness_stays, tells_of_loss, tells_of_lateness, AreFlagsRaised, notices_raise_flags, unreasonable_numbers_raise_it, HasTimersFor, places_at_first, places_stay}
 pub use Rattle.exchange_rules.specs.LastingLinks.{AreLinksSteady, IsSteady, is_l7_running, links_first_steady, links_stay_steady, l7_watches}
-pub use Rattle.exchange_rules.specs.Laws.{answered_by, answered, carried_message, accept_data, accept_frame, accept_text, GivesInService, declared_in_service, queued_anew_in_service, routed_in_service, settled_in_service, refusals_leave, queued_in_service, goes_on_by, completion_leaves_others, release_keeps_order, moved_before_held}
+pub use Rattle.exchange_rules.specs.Laws.{answered_by, answered, no_part_answered, carried_message, accept_data, accept_frame, accept_text, GivesInService, declared_in_service, queued_anew_in_service, routed_in_service, settled_in_service, refusals_leave, queued_in_service, goes_on_by, completion_leaves_others, release_keeps_order, moved_before_held}
 pub use Rattle.exchange_rules.specs.LawsOfMessages.{all_brought, all_gone, all_that_came_adds_up, brought_by_asking, gone_by_asking, takes_leave_user_messages, user_messages_are_conserved, carried_messages_have_a_fate, has_fate, submissions_have_a_fate}
 pub use Rattle.exchange_rules.specs.LawsOfLosses.{takes_flag_nothing, naming, AreAccounted, counted, events_account_for_losses, losses_of, names_a_message, names_none, others_of, released, rules_run}
 pub use Rattle.exchange_rules.specs.LawsOfReturns.{entries_hold_changed_flows, HasReturned, HasLost, IsChosen, IsReturn, flows_return_by_their_procedures, entries_are_returns, changed_flows_are_held, returns_keep_holds}
-pub use Rattle.exchange_rules.specs.Telling.{management_to, send, send_anew, send_routed, send_on, own_sio, told_below, is_all_told, answer_no_route, answered_parts, inhibited, is_inhibited, may_tell, on_route_test, prohibit, send_route_status, tell_each, tell_if, telling, told_parts, route_message, prohibit_if, answer_route_test, tell, timed_telling}
+pub use Rattle.exchange_rules.specs.Telling.{management_to, send, send_anew, send_routed, send_on, own_sio, told_below, is_all_told, answer_no_route, answer_no_user_part, is_unequipped_told, send_if, tell_unavailable, unavailable, unequipped_counted, unequipped_from, answered_parts, inhibited, is_inhibited, may_tell, on_route_test, prohibit, send_route_status, tell_each, tell_if, telling, told_parts, route_message, prohibit_if, answer_route_test, tell, timed_telling}
 pub use Rattle.exchange_rules.specs.Opening.{activate, association_down, deactivate, end_association, fail_if_up, set_active, may_open, open_link, begun, association_up, with_active, without_association}
 pub use Rattle.exchange_rules.specs.Places.{HasPlacesFor, HasHoldsFor, HasCodes}
 pub use Rattle.exchange_rules.specs.Queues.{WholeQueues, whole, queue_at, with_queue}
@@ -56,7 +56,8 @@ pub use Rattle.mtp3_codec.specs.declared.fault.MgmtFault.{MgmtFault}
 pub use Rattle.mtp3_codec.specs.declared.link_test.TestKind.{TestKind}
 pub use Rattle.mtp3_codec.specs.declared.link_test.TestKind.TheVariants.{Acknowledgement, Test}
 pub use Rattle.mtp3_codec.specs.declared.management.Management.{Management}
-pub use Rattle.mtp3_codec.specs.declared.management.Management.TheVariants.{ChangebackDeclaration, ExtendedChangeoverOrder, RouteSetTestProhibited, RouteSetTestRestricted, ChangebackAcknowledgement, EmergencyChangeoverAcknowledgement, EmergencyChangeoverOrder, ExtendedChangeoverAcknowledgement, TrafficRestartAllowed, TransferAllowed, TransferProhibited, TransferRestricted}
+pub use Rattle.mtp3_codec.specs.declared.unavailability.UnavailabilityCause.TheVariants.{Unequipped}
+pub use Rattle.mtp3_codec.specs.declared.management.Management.TheVariants.{ChangebackDeclaration, ExtendedChangeoverOrder, RouteSetTestProhibited, RouteSetTestRestricted, ChangebackAcknowledgement, EmergencyChangeoverAcknowledgement, EmergencyChangeoverOrder, ExtendedChangeoverAcknowledgement, TrafficRestartAllowed, TransferAllowed, TransferProhibited, TransferRestricted, UserPartUnavailable}
 pub use Rattle.node_links.specs.NodeLinks.{Link, is_down, is_in_service, stepped, down_link, after_failure, opened}
 pub use Rattle.route_management.proofs.Shape.{reset_shape, first_shape, told_shape}
 pub use Rattle.route_management.specs.Told.{owes_nothing, Owed, owed, is_unlike, status_to_advertise, is_reachable, owed_at, all_told, ToldTable, shape_of, is_number, is_own_point, told_at, row_of, with_told}

@@ -1,7 +1,7 @@
 -- Changeovers that are completed, by the peer's messages and by timers, and the release: how many user messages leave
 -- for good.
 use Rattle.exchange_rules.proofs.Basics.{Bool, Err, List, None, Ok, Option, Result, Some, [], ap, arith, false, nat_eq, not, refl, subst, suc, sym, true, zero, ℕ, ◌&&◌, ◌+◌, ◌∙◌, ◌∷◌, ◌≡◌, filter_agree, filter, if◌then◌else◌, is_some}
-use Rattle.exchange_rules.proofs.Definitions.{accepted_count, behind, completed, IsQueue, Queue, read_link_test, read_management, MgmtFault, Management, ChangebackAcknowledgement, ChangebackDeclaration, EmergencyChangeoverAcknowledgement, EmergencyChangeoverOrder, ExtendedChangeoverAcknowledgement, ExtendedChangeoverOrder, RouteSetTestProhibited, RouteSetTestRestricted, TrafficRestartAllowed, TransferAllowed, TransferProhibited, TransferRestricted, Allowed, Prohibited, Restricted, Configuration, Message, flow_of, opc_of, service_indicator, ChangeoverTimer, Handled, Ignored, destination_place, set_place, after_due, due_count, due_name, ticked, TimerName, complete_if, concluded, fail_by_order, on_changeover_order, on_changeover_timer, with_changeover_acknowledged, with_expiry, Gone, both_gone, gone_by_answer, gone_by_completion, gone_by_expiry, gone_by_order, gone_by_release, gone_by_tick, gone_by_timer, gone_by_timers, gone_by_word, gone_that, is_stranded, nothing_gone, standing, users_that, changeover_of, with_changeover, hold, waits, is_link, do_acknowledgement, do_management, do_order, do_test, is_adjacent, link_with_code, manage, testing, entry_of, peer_of, route_about, queue_on, WholeQueues, queue_at, whole, go, go_by, go_each, go_on, release, link_of, Found, Node, answer, refuse, with_parts, run_due, run_next, run_times, tick, with_timers}
+use Rattle.exchange_rules.proofs.Definitions.{accepted_count, behind, completed, IsQueue, Queue, read_link_test, read_management, MgmtFault, Management, ChangebackAcknowledgement, ChangebackDeclaration, EmergencyChangeoverAcknowledgement, EmergencyChangeoverOrder, ExtendedChangeoverAcknowledgement, ExtendedChangeoverOrder, RouteSetTestProhibited, RouteSetTestRestricted, TrafficRestartAllowed, TransferAllowed, TransferProhibited, TransferRestricted, Allowed, Prohibited, Restricted, Configuration, Message, flow_of, opc_of, service_indicator, ChangeoverTimer, Handled, Ignored, destination_place, set_place, after_due, due_count, due_name, ticked, TimerName, complete_if, concluded, fail_by_order, on_changeover_order, on_changeover_timer, with_changeover_acknowledged, with_expiry, Gone, both_gone, gone_by_answer, gone_by_completion, gone_by_expiry, gone_by_order, gone_by_release, gone_by_tick, gone_by_timer, gone_by_timers, gone_by_word, gone_that, is_stranded, nothing_gone, standing, users_that, changeover_of, with_changeover, hold, waits, is_link, do_acknowledgement, do_management, do_order, do_test, is_adjacent, link_with_code, manage, testing, entry_of, peer_of, route_about, queue_on, WholeQueues, queue_at, whole, go, go_by, go_each, go_on, release, link_of, Found, Node, answer, refuse, with_parts, run_due, run_next, run_times, tick, with_timers, from_afar, UserPartUnavailable}
 use Rattle.exchange_rules.proofs.Changes.{anew-stand, answered_back-stand, ask_again-stand, do_test-stand, fail_by_order-queues, made-stand, on_route_status-stand, on_route_test-stand, run_out-stand, stands}
 use Rattle.exchange_rules.proofs.Fitting.{Fits, fit-steps, handed-fit, next-fit, ticked-fit}
 use Rattle.exchange_rules.proofs.Moves.{completed-lets, queued-more}
@@ -97,10 +97,11 @@ module _ (of : Message → Bool) (c : Configuration) where
   word-lets (Ok (TransferAllowed about)) point n f = none-let (on_route_status-stand of c Allowed (route_about (set_place c point) (destination_place c about)) n)
   word-lets (Ok (RouteSetTestProhibited about)) point n f = none-let (on_route_test-stand of c tests.Prohibited (route_about (set_place c point) (destination_place c about)) n)
   word-lets (Ok (RouteSetTestRestricted about)) point n f = none-let (on_route_test-stand of c tests.Restricted (route_about (set_place c point) (destination_place c about)) n)
+  word-lets (Ok (UserPartUnavailable about user_part cause)) point n f = none-more (stands of n)
 
   manage-by : (adjacent test : Bool) (link : ℕ) (m : Message) (n : Node WholeQueues) → Fits c n
       → stands of n
-      ≡ stands of (if adjacent then (if test then do_test whole c (read_link_test m.sif) link (opc_of m) n else do_management whole c (read_management m.sif) (opc_of m) n) else refuse causes.NotFromAdjacent n).left
+      ≡ stands of (if adjacent then (if test then do_test whole c (read_link_test m.sif) link (opc_of m) n else do_management whole c (read_management m.sif) (opc_of m) n) else answer (from_afar c m) n).left
       + gone_that of (if adjacent && not test then gone_by_word (read_management m.sif) (opc_of m) c n else nothing_gone)
   manage-by true true link m n f = none-let (do_test-stand of c (read_link_test m.sif) link (opc_of m) n)
   manage-by true false link m n f = word-lets (read_management m.sif) (opc_of m) n f

@@ -39,6 +39,7 @@ dues-steps c = record {
   rerouted = λ routes n e. same-dues n _ refl;
   told = λ t n e. same-dues n _ refl;
   titled = λ rows n. same-dues n _ refl;
+  unequipped = λ counts n e. same-dues n _ refl;
   failed = λ link why st n e f. (let t = without_timers-for link n.parts.timers in record { counts = t.counts; due = t.due });
   dropped = λ link why n e. (let t = without_timers-for link n.parts.timers in record { counts = t.counts; due = t.due });
   completed = λ link number st n e f. same-dues n _ refl;

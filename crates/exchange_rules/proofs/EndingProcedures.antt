@@ -35,7 +35,7 @@ undone (Reroute destination) = refl
 own-timer : (one other : Procedure) → timer_of one ≡ timer_of other → one ≡ other
 own-timer one other e = sym (undone one) ∙ ap ended_by e ∙ undone other
 
-cases-procedure : (one other : Procedure) → (one ≡ other) ⊎ (one ≢ other)
+pub cases-procedure : (one other : Procedure) → (one ≡ other) ⊎ (one ≢ other)
 cases-procedure one other = by (hold.is_same one other) refl
   where
     by : (b : Bool) → hold.is_same one other ≡ b → (one ≡ other) ⊎ (one ≢ other)

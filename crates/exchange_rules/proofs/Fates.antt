@@ -1,6 +1,6 @@
 -- Each user message that comes is queued, held, delivered or refused.
 use Rattle.exchange_rules.proofs.Basics.{Bool, Err, None, Ok, Option, Result, Some, ap, false, nat_eq, not, refl, true, ℕ, ◌&&◌, ◌∙◌, ◌≡◌, if◌then◌else◌}
-use Rattle.exchange_rules.proofs.Definitions.{action_at, Action, UserData, SeqFault, EmptyFrame, FrameValue, MessageFrame, StatusFrame, read_frame, Discrimination, RelayedValue, relay, Configuration, Message, dpc_of, flow_of, is_management, service_indicator, Cause, FrameFault, Ignored, Local, is_destination, offer, transfer, carried_messages_have_a_fate, has_fate, submissions_have_a_fate, apply, Carrying, accept, act_by_data, carry, empty_data, handle_by, message_data, numbers, read, waits, down, is_link, link_at, distribute, is_user, local, manage, sccp, deliver_to, submit_to, whither_goes, no_room_for, WholeQueues, whole, new_at, new_by, new_of, in_place_of, on_unitdata, own_of, relay_by, link_of, Done, Node, answer, refuse, advance}
+use Rattle.exchange_rules.proofs.Definitions.{action_at, Action, UserData, SeqFault, EmptyFrame, FrameValue, MessageFrame, StatusFrame, read_frame, Discrimination, RelayedValue, relay, Configuration, Message, dpc_of, opc_of, flow_of, is_management, service_indicator, Cause, FrameFault, Ignored, Local, destination_place, answer_no_user_part, is_destination, offer, transfer, carried_messages_have_a_fate, has_fate, submissions_have_a_fate, apply, Carrying, accept, act_by_data, carry, empty_data, handle_by, message_data, numbers, read, waits, down, is_link, link_at, distribute, is_user, local, manage, sccp, deliver_to, submit_to, whither_goes, no_room_for, WholeQueues, whole, new_at, new_by, new_of, in_place_of, on_unitdata, own_of, relay_by, link_of, Done, Node, answer, refuse, advance}
 use Rattle.link.specs.declared.action.Action.TheVariants as act
 use Rattle.signalling_types.specs.declared.cause.Cause.TheVariants as causes
 use Rattle.sccp_relay.specs.Relay as relays
@@ -29,14 +29,15 @@ module _ (c : Configuration) (n : Node WholeQueues) where
   relay-fate (relays.Onward sif) m = transfer-fate None (in_place_of m sif)
   relay-fate (relays.Refused cause) m = refl
 
-  local-fate : (m : Message) → has_fate (local whole c m n).outcome ≡ true
-  local-fate m =
-      let user : Done WholeQueues = if is_user c (service_indicator m) then answer Local n else refuse causes.NoUserPart n in
-      either-fate (nat_eq (service_indicator m) sccp) (on_unitdata whole c m n) user (relay-fate (relay (own_of c) n.parts.titles m.sif) m)
-      (either-fate (is_user c (service_indicator m)) (answer Local n) (refuse causes.NoUserPart n) refl refl)
+  local-fate : (from : Option ℕ) (m : Message) → has_fate (local whole c from m n).outcome ≡ true
+  local-fate from m =
+      let absent : Done WholeQueues = refuse causes.NoUserPart (answer_no_user_part whole c from (destination_place c (opc_of m)) m n) in
+      let user : Done WholeQueues = if is_user c (service_indicator m) then answer Local n else absent in
+      either-fate (nat_eq (service_indicator m) sccp) (on_unitdata whole c m n) user (relay-fate (relay (own_of c n.parts) n.parts.titles m.sif) m)
+      (either-fate (is_user c (service_indicator m)) (answer Local n) absent refl refl)
 
   here-fate : (link : ℕ) (m : Message) → is_management m ≡ false → has_fate (distribute whole c link m n).outcome ≡ true
-  here-fate link m e = ap (λ (b : Bool). has_fate (if b then manage whole c link m n else local whole c m n).outcome) e ∙ local-fate m
+  here-fate link m e = ap (λ (b : Bool). has_fate (if b then manage whole c link m n else local whole c (Some link) m n).outcome) e ∙ local-fate (Some link) m
 
   deliver_to-fate : (d : Discrimination) (link : ℕ) (m : Message) → is_management m ≡ false → has_fate (deliver_to whole c d link m n).outcome ≡ true
   deliver_to-fate (whither.Refused cause) link m e = refl
@@ -58,7 +59,7 @@ module _ (c : Configuration) (n : Node WholeQueues) where
 
   submit_to-fate : (d : Discrimination) (m : Message) → has_fate (submit_to whole c d m n).outcome ≡ true
   submit_to-fate (whither.Refused cause) m = refl
-  submit_to-fate (whither.Here label) m = either-fate (is_management m) (refuse causes.NotInProfile n) (local whole c m n) refl (local-fate m)
+  submit_to-fate (whither.Here label) m = either-fate (is_management m) (refuse causes.NotInProfile n) (local whole c None m n) refl (local-fate None m)
   submit_to-fate (whither.Transfer label) m = either-fate (is_management m) (refuse causes.NotInProfile n) (transfer whole c None m n) refl (transfer-fate None m)
 
 -- ---- frames

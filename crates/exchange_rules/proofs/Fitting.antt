@@ -56,6 +56,7 @@ fit-steps c =
       rerouted = λ routes n e. parts-fit c n _ (s.rerouted routes n e) refl;
       told = λ t n e. parts-fit c n _ (s.told t n e) refl;
       titled = λ rows n. parts-fit c n _ (s.titled rows n) refl;
+      unequipped = λ counts n e. parts-fit c n _ (s.unequipped counts n e) refl;
       failed = λ link why st n e f. parts-fit c n _ (s.failed link why st n e f) refl;
       dropped = λ link why n e. parts-fit c n _ (s.dropped link why n e) refl;
       completed = λ link number st n e f.

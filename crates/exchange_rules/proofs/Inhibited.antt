@@ -1,6 +1,6 @@
 -- T8 of a set and a destination runs until it runs out, or its set comes back.
 use Rattle.exchange_rules.proofs.Basics.{◌≡◌, ◌≢◌, ◌⊎◌, inl, inr, ℕ, List, Bool, true, false, ◌&&◌, not, Result, Ok, Err, refl, ap, sym, subst, ◌∙◌, ⊎_elim, cases_eq, if◌then◌else◌}
-use Rattle.exchange_rules.proofs.Definitions.{Configuration, Action, Alignment, Input, Expiry, Status, UserData, Transition, action_at, LinkStatus, LinkTimer, Running, FrameFault, FrameValue, EmptyFrame, MessageFrame, StatusFrame, read_frame, FrameCame, is_in_service, Parts, Node, with_parts, answer, refuse, Ignored, link_at, in_service, set_of, has_other, step_on, begun_anew_if, moved_on, enters, advance, timed_busy, timed_busy_ended, is_running, Carrying, empty_data, message_data, numbers, act_by_data, act_by_status, serve_status, read, WholeQueues, whole}
+use Rattle.exchange_rules.proofs.Definitions.{Configuration, Action, Alignment, Input, Expiry, Status, UserData, Transition, action_at, LinkStatus, LinkTimer, Running, FrameFault, FrameValue, EmptyFrame, MessageFrame, StatusFrame, read_frame, FrameCame, is_in_service, Parts, Node, with_parts, answer, refuse, Ignored, link_at, in_service, set_of, has_other, step_on, begun_anew_if, moved_on, enters, advance, timed_busy, timed_busy_ended, is_running, Carrying, empty_data, message_data, numbers, act_by_data, act_by_status, serve_status, read, WholeQueues, whole, down}
 use Rattle.signalling_types.specs.declared.cause.Cause.TheVariants as causes
 use Rattle.signalling_types.specs.declared.notice.FailureReason.TheVariants as reasons
 use Rattle.m2pa_codec.specs.declared.status.LinkStatus.TheVariants as says
@@ -13,7 +13,7 @@ use Rattle.exchange_rules.proofs.Asked.{any}
 use Rattle.exchange_rules.proofs.ProvedFirst.{each-leads, frame-hears, kind_of, no-data, no-timer, timer-climbs}
 use Rattle.exchange_rules.proofs.ProvedEvents.{says-of}
 use Rattle.m2pa_codec.specs.Frames.{status_number}
-use Rattle.exchange_rules.proofs.Serving.{data-serves}
+use Rattle.exchange_rules.proofs.Serving.{data-serves, fails-up}
 use Rattle.exchange_rules.proofs.SettingTimers.{Sets, sets-rules}
 use Rattle.exchange_rules.proofs.SteppingEvents.{handle_by-steps, leave_aside-steps}
 use Rattle.exchange_rules.proofs.SteppingLinks.{advance-serves, advance-steps, entered-steps, stepping-there}
@@ -156,7 +156,7 @@ module _ (c : Configuration) (s d : ℕ) where
     status-runs : (a : Action) (bsn fsn : ℕ) (status : LinkStatus) (n : Node WholeQueues) → read_frame text ≡ Ok (StatusFrame bsn fsn status)
         → action_at (link_at n.parts l).alignment (Status status) ≡ a → Runs n → Runs (act_by_status whole c a l status n).left ⊎ Returns n
     status-runs act.Ignored bsn fsn status n is e r = inl r
-    status-runs act.Fail bsn fsn status n is e r = inl (runs-on n _ (rules.fails l reasons.Status n) r)
+    status-runs act.Fail bsn fsn status n is e r = inl (runs-on n _ (rules.fails l reasons.Status n tt (fails-up (link_at n.parts l).alignment (Status status) e)) r)
     status-runs (act.Go step) bsn fsn status n is e r =
         ⊎_elim (λ (h : Runs (advance whole c l step n)). inl (served-runs step.serve status (advance whole c l step n) h))
         (λ (h : Enters l step n).
@@ -167,7 +167,7 @@ module _ (c : Configuration) (s d : ℕ) where
     data-runs : (a : Action) (x : Carrying) (n : Node WholeQueues) → Carries l (FrameCame l text) → action_at (link_at n.parts l).alignment UserData ≡ a → Runs n
         → Runs (act_by_data whole c a l x n).left ⊎ Returns n
     data-runs act.Ignored x n is e r = inl r
-    data-runs act.Fail x n is e r = inl (runs-on n _ (rules.fails l reasons.Sequence n) r)
+    data-runs act.Fail x n is e r = inl (runs-on n _ (rules.fails l reasons.Sequence n tt (fails-up (link_at n.parts l).alignment UserData e)) r)
     data-runs (act.Go step) x n is e r =
         let next : Node WholeQueues = advance whole c l step n in
         ⊎_elim
@@ -176,17 +176,17 @@ module _ (c : Configuration) (s d : ℕ) where
         (λ (h : Enters l step n). inr (returns UserData step n (λ no. cc) e (λ k. inr is) h))
         (advance-runs l UserData step n e r)
 
-    read-runs : (x : Result FrameValue FrameFault) (n : Node WholeQueues) → read_frame text ≡ x → Runs n → Runs (read whole c l x n).left ⊎ Returns n
-    read-runs (Ok (EmptyFrame bsn fsn)) n e r =
+    read-runs : (x : Result FrameValue FrameFault) (n : Node WholeQueues) → read_frame text ≡ x → down n.parts l ≡ false → Runs n → Runs (read whole c l x n).left ⊎ Returns n
+    read-runs (Ok (EmptyFrame bsn fsn)) n e up r =
         data-runs (action_at (link_at n.parts l).alignment UserData) (empty_data bsn fsn) n (record { text = text; frame = EmptyFrame bsn fsn; came = refl; reads = e; carries = refl }) refl r
-    read-runs (Ok (MessageFrame bsn fsn sio sif)) n e r =
+    read-runs (Ok (MessageFrame bsn fsn sio sif)) n e up r =
         data-runs (action_at (link_at n.parts l).alignment UserData) (message_data bsn fsn sio sif) n
         (record { text = text; frame = MessageFrame bsn fsn sio sif; came = refl; reads = e; carries = refl }) refl r
-    read-runs (Ok (StatusFrame bsn fsn status)) n e r = status-runs (action_at (link_at n.parts l).alignment (Status status)) bsn fsn status n e refl r
-    read-runs (Err fault) n e r = inl (runs-on n _ (leave_aside-steps rules l fault n) r)
+    read-runs (Ok (StatusFrame bsn fsn status)) n e up r = status-runs (action_at (link_at n.parts l).alignment (Status status)) bsn fsn status n e refl r
+    read-runs (Err fault) n e up r = inl (runs-on n _ (leave_aside-steps rules l fault n up) r)
 
-    pub receive-runs : (is_there is_down : Bool) (x : Result FrameValue FrameFault) (n : Node WholeQueues) → read_frame text ≡ x → Runs n
+    pub receive-runs : (is_there is_down : Bool) (x : Result FrameValue FrameFault) (n : Node WholeQueues) → read_frame text ≡ x → down n.parts l ≡ is_down → Runs n
         → Runs (if is_there then (if is_down then answer Ignored n else read whole c l x n) else refuse causes.NoSuchName n).left ⊎ Returns n
-    receive-runs false is_down x n e r = inl r
-    receive-runs true true x n e r = inl r
-    receive-runs true false x n e r = read-runs x n e r
+    receive-runs false is_down x n e f r = inl r
+    receive-runs true true x n e f r = inl r
+    receive-runs true false x n e f r = read-runs x n e f r

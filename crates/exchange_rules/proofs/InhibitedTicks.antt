@@ -18,6 +18,7 @@ use Rattle.exchange_rules.proofs.ProvedAll.{due-climbs, no-link}
 use Rattle.exchange_rules.proofs.SteppingEvents.{IsOf, apply-steps, run_timer-steps, settled-steps}
 use Rattle.exchange_rules.proofs.SteppingFailures.{fail-links}
 use Rattle.exchange_rules.proofs.SteppingLinks.{association_up-steps, moved-at, returned-links, stepped-other}
+use Rattle.exchange_rules.proofs.Serving.{fails-up}
 use Rattle.exchange_rules.proofs.Steps.{is_of_link}
 use Rattle.exchange_rules.proofs.Tested.{serves-before}
 use Rattle.exchange_rules.proofs.TimerSettings.{cases-name}
@@ -93,7 +94,7 @@ module _ (c : Configuration) (s d : ℕ) (first : Node WholeQueues) where
     own-runs : (a : Action) (link : ℕ) (its : LinkTimer) → (its ≡ timer.L4 → is_due n.parts.timers (name.L4 link) ≡ true) → action_at (link_at n.parts link).alignment (Expiry its) ≡ a
         → Runs c s d handed → Runs c s d (act_by_timer whole c a link handed) ⊎ Proved
     own-runs act.Ignored link its due e r = inl r
-    own-runs act.Fail link its due e r = inl (runs-on c s d handed _ ((rules c s d).fails link reasons.Timer handed) r)
+    own-runs act.Fail link its due e r = inl (runs-on c s d handed _ ((rules c s d).fails link reasons.Timer handed tt (fails-up (link_at n.parts link).alignment (Expiry its) e)) r)
     own-runs (act.Go step) link its due e r =
         ⊎_elim (λ (k : Runs c s d (advance whole c link step handed)). inl k)
         (λ (k : Enters c s d link step handed).
@@ -199,11 +200,11 @@ module _ (c : Configuration) (s d : ℕ) (n : Node WholeQueues) where
       ⊎_elim (λ (k : Runs c s d (receive whole c link text n).left). inl (settled-runs (receive whole c link text n).left k))
       (λ (b : Returns c s d link text n).
       inr (inr (record { link = link; of_set = b.of_set; enters = inr (b.said, b.ready); first = ap (serves_set c n.parts) (sym b.of_set) ∙ b.first })))
-      (receive-runs c s d link text (is_link n.parts link) (down n.parts link) (read_frame text) n refl r)
+      (receive-runs c s d link text (is_link n.parts link) (down n.parts link) (read_frame text) n refl refl r)
 
   up-runs : (link : ℕ) → Runs c s d n → Runs c s d (apply whole c (CameUp link) n).left
   unfolding apply
-  up-runs link r = settled-runs (association_up whole c link n).left (runs-on c s d n _ (association_up-steps (rules c s d) link n tt) r)
+  up-runs link r = settled-runs (association_up whole c link n).left (runs-on c s d n _ (association_up-steps (rules c s d) link n tt tt) r)
 
   other-runs : (what : Happening) → ((link : ℕ) → IsOf what link → ⊥) → (what ≡ Ticked → ⊥) → Runs c s d n → Runs c s d (apply whole c what n).left
   other-runs what none unlike r = runs-on c s d n _ (apply-steps (rules c s d) what n (λ link is. absurd (none link is)) (λ link is. tt) (λ is. absurd (unlike is))) r

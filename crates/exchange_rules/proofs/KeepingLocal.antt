@@ -2,13 +2,13 @@
 -- what the rule leaves of what was kept, and it stays sound. Over any two kinds of queues P and Q of which h keeps one
 -- as the other.
 use Rattle.exchange_rules.proofs.Basics.{ℕ, Option, Some, None, Result, Ok, Err, ap, if◌then◌else◌}
-use Rattle.exchange_rules.proofs.Definitions.{Message, opc_of, is_management, service_indicator, Configuration, Local, MgmtFault, TestKind, Test, Acknowledgement, Management, TrafficRestartAllowed, TransferProhibited, TransferRestricted, TransferAllowed, RouteSetTestProhibited, RouteSetTestRestricted, ChangebackDeclaration, ChangebackAcknowledgement, ExtendedChangeoverOrder, ExtendedChangeoverAcknowledgement, EmergencyChangeoverOrder, EmergencyChangeoverAcknowledgement, LinkTestValue, read_link_test, read_management, Discrimination, set_place, destination_place, Allowed, Restricted, Prohibited, Node, Done, QueueKind, keep, answer, refuse, note_refusal, route_about, transfer, sccp, is_user, is_adjacent, link_with_code, test_answer, local, do_order, do_acknowledgement, do_management, do_kind, do_test, manage, distribute, on_unitdata, whither_goes, deliver_to, deliver, submit_to, changeback_acknowledgement}
+use Rattle.exchange_rules.proofs.Definitions.{Message, opc_of, is_management, service_indicator, Configuration, Local, MgmtFault, TestKind, Test, Acknowledgement, Management, TrafficRestartAllowed, TransferProhibited, TransferRestricted, TransferAllowed, RouteSetTestProhibited, RouteSetTestRestricted, ChangebackDeclaration, ChangebackAcknowledgement, ExtendedChangeoverOrder, ExtendedChangeoverAcknowledgement, EmergencyChangeoverOrder, EmergencyChangeoverAcknowledgement, LinkTestValue, read_link_test, read_management, Discrimination, set_place, destination_place, Allowed, Restricted, Prohibited, Node, Done, QueueKind, keep, answer, refuse, note_refusal, route_about, transfer, sccp, is_user, is_adjacent, link_with_code, test_answer, local, do_order, do_acknowledgement, do_management, do_kind, do_test, manage, distribute, on_unitdata, whither_goes, deliver_to, deliver, submit_to, changeback_acknowledgement, answer_no_user_part, from_afar, UserPartUnavailable}
 use Rattle.std.specs.Prelude.{nat_eq}
 use Rattle.signalling_types.specs.declared.cause.Cause.TheVariants as causes
 use Rattle.mtp3_codec.specs.declared.discrimination.Discrimination.TheVariants as whither
 use Rattle.route_management.specs.declared.heard.RouteTest.TheVariants as tests
 use Rattle.exchange_rules.proofs.Combining.{IsKeeping, Keeps, answered, parted, either}
-use Rattle.exchange_rules.proofs.KeepingMessages.{send_on-kept, send_routed-kept, on_route_test-kept, on_route_status-kept, transfer-kept}
+use Rattle.exchange_rules.proofs.KeepingMessages.{answer_no_user_part-kept, send_on-kept, send_routed-kept, on_route_test-kept, on_route_status-kept, transfer-kept}
 use Rattle.exchange_rules.proofs.KeepingRelaying.{on_unitdata-kept}
 use Rattle.exchange_rules.proofs.KeepingChangeover.{on_changeover_order-kept, on_changeover_acknowledgement-kept, on_changeback_acknowledgement-kept}
 
@@ -44,24 +44,28 @@ module _ {P Q : Type 0} (p : QueueKind P) (q : QueueKind Q) (h : P → Q) (IsFit
   do_management-kept (Ok (TransferAllowed about)) z n f = on_route_status-kept p q h IsFit c k Allowed (route_about (set_place c z) (destination_place c about)) n f
   do_management-kept (Ok (RouteSetTestProhibited about)) z n f = on_route_test-kept p q h IsFit c k tests.Prohibited (route_about (set_place c z) (destination_place c about)) n f
   do_management-kept (Ok (RouteSetTestRestricted about)) z n f = on_route_test-kept p q h IsFit c k tests.Restricted (route_about (set_place c z) (destination_place c about)) n f
+  do_management-kept (Ok (UserPartUnavailable about user_part cause)) z n f = parted _ n.parts n.queues f
 
   manage-kept : (l : ℕ) (m : Message) (n : Node P) → IsFit n.queues → Keeps h IsFit (manage q c l m (keep h n)) (manage p c l m n)
   manage-kept l m n f =
       let t : Done P = do_test p c (read_link_test m.sif) l (opc_of m) n in
       let r : Done P = do_management p c (read_management m.sif) (opc_of m) n in
-      either (is_adjacent c (opc_of m)) _ _ (if nat_eq (service_indicator m) 1 then t else r) (refuse causes.NotFromAdjacent n)
+      either (is_adjacent c (opc_of m)) _ _ (if nat_eq (service_indicator m) 1 then t else r) (answer (from_afar c m) n)
       (either (nat_eq (service_indicator m) 1) _ _ t r (do_test-kept (read_link_test m.sif) l (opc_of m) n f) (do_management-kept (read_management m.sif) (opc_of m) n f))
       (parted _ n.parts n.queues f)
 
-  local-kept : (m : Message) (n : Node P) → IsFit n.queues → Keeps h IsFit (local q c m (keep h n)) (local p c m n)
-  local-kept m n f =
-      let user : Done P = if is_user c (service_indicator m) then answer Local n else refuse causes.NoUserPart n in
+  local-kept : (from : Option ℕ) (m : Message) (n : Node P) → IsFit n.queues → Keeps h IsFit (local q c from m (keep h n)) (local p c from m n)
+  local-kept from m n f =
+      let origin : Option ℕ = destination_place c (opc_of m) in
+      let absent : Done P = refuse causes.NoUserPart (answer_no_user_part p c from origin m n) in
+      let user : Done P = if is_user c (service_indicator m) then answer Local n else absent in
       either (nat_eq (service_indicator m) sccp) _ _ (on_unitdata p c m n) user (on_unitdata-kept p q h IsFit c k m n f)
-      (either (is_user c (service_indicator m)) _ _ (answer Local n) (refuse causes.NoUserPart n) (parted _ n.parts n.queues f) (parted _ n.parts n.queues f))
+      (either (is_user c (service_indicator m)) _ _ (answer Local n) absent (parted _ n.parts n.queues f)
+      (answered _ _ _ (answer_no_user_part-kept p q h IsFit c k from origin m n f)))
 
   distribute-kept : (l : ℕ) (m : Message) (n : Node P) → IsFit n.queues → Keeps h IsFit (distribute q c l m (keep h n)) (distribute p c l m n)
   distribute-kept l m n f =
-      either (is_management m) _ _ (manage p c l m n) (local p c m n) (manage-kept l m n f) (local-kept m n f)
+      either (is_management m) _ _ (manage p c l m n) (local p c (Some l) m n) (manage-kept l m n f) (local-kept (Some l) m n f)
 
   deliver_to-kept : (d : Discrimination) (l : ℕ) (m : Message) (n : Node P) → IsFit n.queues → Keeps h IsFit (deliver_to q c d l m (keep h n)) (deliver_to p c d l m n)
   deliver_to-kept (whither.Refused cause) l m n f = parted _ n.parts n.queues f
@@ -77,6 +81,6 @@ module _ {P Q : Type 0} (p : QueueKind P) (q : QueueKind Q) (h : P → Q) (IsFit
   pub submit_to-kept : (d : Discrimination) (m : Message) (n : Node P) → IsFit n.queues → Keeps h IsFit (submit_to q c d m (keep h n)) (submit_to p c d m n)
   submit_to-kept (whither.Refused cause) m n f = parted _ n.parts n.queues f
   submit_to-kept (whither.Here label) m n f =
-      either (is_management m) _ _ (refuse causes.NotInProfile n) (local p c m n) (parted _ n.parts n.queues f) (local-kept m n f)
+      either (is_management m) _ _ (refuse causes.NotInProfile n) (local p c None m n) (parted _ n.parts n.queues f) (local-kept None m n f)
   submit_to-kept (whither.Transfer label) m n f =
       either (is_management m) _ _ (refuse causes.NotInProfile n) (transfer p c None m n) (parted _ n.parts n.queues f) (transfer-kept p q h IsFit c k None m n f)

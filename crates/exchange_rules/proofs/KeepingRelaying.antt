@@ -15,7 +15,7 @@ module _ {P Q : Type 0} (p : QueueKind P) (q : QueueKind Q) (h : P → Q) (IsFit
   send_udts-kept None m n f = record { same = refl; fit = f }
 
   return_outcome-kept : (o : Outcome) (m : Message) (n : Node P) → IsFit n.queues → KeepsNode h IsFit (return_outcome q c o m (keep h n)) (return_outcome p c o m n)
-  return_outcome-kept (Refused cause) m n f = send_udts-kept (returned (own_of c) n.parts.titles m.sif cause) m n f
+  return_outcome-kept (Refused cause) m n f = send_udts-kept (returned (own_of c n.parts) n.parts.titles m.sif cause) m n f
   return_outcome-kept (Queued link) m n f = record { same = refl; fit = f }
   return_outcome-kept Held m n f = record { same = refl; fit = f }
   return_outcome-kept Local m n f = record { same = refl; fit = f }
@@ -37,7 +37,7 @@ module _ {P Q : Type 0} (p : QueueKind P) (q : QueueKind Q) (h : P → Q) (IsFit
 
   pub on_unitdata-kept : (m : Message) (n : Node P) → IsFit n.queues → Keeps h IsFit (on_unitdata q c m (keep h n)) (on_unitdata p c m n)
   on_unitdata-kept m n f =
-      let v : RelayedValue = relay (own_of c) n.parts.titles m.sif in
+      let v : RelayedValue = relay (own_of c n.parts) n.parts.titles m.sif in
       return_refusal-kept m (relay_by q c v m (keep h n)) (relay_by p c v m n) (relay_by-kept v m n f)
 
 -- ---- translation rows

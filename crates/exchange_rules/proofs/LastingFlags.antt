@@ -30,6 +30,7 @@ flags-steps c = record {
   rerouted = λ routes n e. same-flags _ _ refl refl;
   told = λ t n e. same-flags _ _ refl refl;
   titled = λ rows n. same-flags _ _ refl refl;
+  unequipped = λ counts n e. same-flags _ _ refl refl;
   failed = λ link why st n e f. same-flags _ _ refl refl;
   dropped = λ link why n e. same-flags _ _ refl refl;
   completed = λ link number st n e f. same-flags _ _ refl refl;

@@ -70,9 +70,10 @@ module _ (c : Configuration) where
     rerouted = λ routes n e k. same-parts c n _ ((places c).rerouted routes n e k) refl refl refl;
     told = λ t n e. same-parts c n _ ((places c).told t n e) refl refl refl;
     titled = λ rows n. same-parts c n _ ((places c).titled rows n) refl refl refl;
+    unequipped = λ counts n e. same-parts c n _ ((places c).unequipped counts n e) refl refl refl;
     linked = λ link x n e. same-parts c n _ ((places c).linked link x n e) refl refl refl;
     parted = λ link n e. same-parts c n _ ((places c).parted link n e) refl refl refl;
-    opened = λ link n own there e f. same-ends c n _ ((places c).opened link n own there e f) refl refl (timed-for link c opening n.parts.timers).endings;
+    opened = λ link n own there e f may. same-ends c n _ ((places c).opened link n own there e f tt) refl refl (timed-for link c opening n.parts.timers).endings;
     stepped = λ link input step n own e k. same-ends c n _ ((places c).stepped link input step n own e k) refl refl (timed-for link c step n.parts.timers).endings;
     busied = λ link n own e f. same-ends c n _ ((places c).busied link n own e f) refl refl (timed_busy-for link c n.parts.timers).endings;
     resumed = λ link n own e f. same-ends c n _ ((places c).resumed link n own e f) refl refl (timed_busy_ended-for link c (whole.outstanding n.queues link) n.parts.timers).endings;
@@ -80,20 +81,20 @@ module _ (c : Configuration) where
         same-ends c n _ ((places c).accepted link d confirmed n own e f) refl refl
         (timed_confirming-for link c (link_at n.parts link).peer_busy confirmed (whole.outstanding (whole.accepted n.queues link d.fsn d.bsn (carries d)) link) n.parts.timers).endings;
     sent = λ link next n own e. same-ends c n _ ((places c).sent link next n own e) refl refl (timed_sending-for link c n.parts.timers).endings;
-    fails = λ link why n. record { places = (places c).fails link why n; ends = fails-by c (in_service n.parts link) link why n refl };
-    orders = λ link number n. record { places = (places c).orders link number n; ends = orders-stay c link number n };
-    acknowledges = λ link number n. record { places = (places c).acknowledges link number n; ends = acknowledges-by c (changeover_of n.parts link).awaited link number n };
-    expires = λ timer link n. record { places = (places c).expires timer link n; ends = expires-by c timer link n };
+    fails = λ link why n may up. record { places = (places c).fails link why n tt up; ends = fails-by c (in_service n.parts link) link why n refl };
+    orders = λ link number n falls ends. record { places = (places c).orders link number n tt tt; ends = orders-stay c link number n };
+    acknowledges = λ link number n may. record { places = (places c).acknowledges link number n tt; ends = acknowledges-by c (changeover_of n.parts link).awaited link number n };
+    expires = λ timer link n may. record { places = (places c).expires timer link n tt; ends = expires-by c timer link n };
     returns = λ before after code link other n e f.
         let k : kept.Keeps c n (hold_flows whole c before after code link other n) = (places c).returns before after code link other n e f in
         record { places = k; ends = λ h. returns-by before after code link other n (k.stay h) };
-    frees = λ set code n. record { places = (places c).frees set code n; ends = λ h. ends-all (Code set code) n.parts _ refl refl refl (λ l e. cc) (λ l e. cc) };
+    frees = λ set code n may. record { places = (places c).frees set code n tt; ends = λ h. ends-all (Code set code) n.parts _ refl refl refl (λ l e. cc) (λ l e. cc) };
     reroutes = λ destination selections n. record {
       places = (places c).reroutes destination selections n;
       ends = λ h. reroutes-by destination selections n (((places c).reroutes destination selections n).stay h);
     };
-    lifts = λ procedure n. record {
-      places = (places c).lifts procedure n;
+    lifts = λ procedure n may. record {
+      places = (places c).lifts procedure n tt;
       ends = λ h. will-stay n.parts _ (lifted-fewer n.parts.holds procedure) refl (λ timer ends e. e);
     };
   }

@@ -86,6 +86,7 @@ raised-steps c = record {
   rerouted = λ routes n e. same-raised n _ refl refl refl;
   told = λ t n e. same-raised n _ refl refl refl;
   titled = λ rows n. same-raised n _ refl refl refl;
+  unequipped = λ counts n e. same-raised n _ refl refl refl;
   failed = λ link why st n e f. noted-raised (notices.Failed link why) n _ (λ f. absurd cc) (λ f. absurd cc) refl refl refl;
   dropped = λ link why n e. noted-raised (notices.Failed link why) n _ (λ f. absurd cc) (λ f. absurd cc) refl refl refl;
   completed = λ link number st n e f. same-raised n _ refl refl refl;

@@ -44,6 +44,7 @@ module _ (c : Configuration) where
         told = h.parts.told;
         codes = h.parts.codes;
         holds = h.parts.holds;
+        unequipped = h.parts.unequipped;
       };
       queues = h.queues;
       timers = h.timers;
@@ -62,6 +63,26 @@ module _ (c : Configuration) where
         told = h.parts.told;
         codes = h.parts.codes;
         holds = h.parts.holds;
+        unequipped = h.parts.unequipped;
+      };
+      queues = h.queues;
+      timers = h.timers;
+    };
+  }
+
+  -- nor are counts, if there are as many
+  unequipped-keeps : (counts : List ℕ) (n : Node WholeQueues) → length counts ≡ length n.parts.unequipped → Keeps c n (with_parts n (record n.parts { unequipped = counts }))
+  unequipped-keeps counts n e = record {
+    stay = λ h. record {
+      parts = record {
+        few_links = h.parts.few_links;
+        links = h.parts.links;
+        changeovers = h.parts.changeovers;
+        routes = h.parts.routes;
+        told = h.parts.told;
+        codes = h.parts.codes;
+        holds = h.parts.holds;
+        unequipped = e ∙ h.parts.unequipped;
       };
       queues = h.queues;
       timers = h.timers;
@@ -81,6 +102,7 @@ module _ (c : Configuration) where
         told = h.parts.told;
         codes = h.parts.codes;
         holds = h.parts.holds;
+        unequipped = h.parts.unequipped;
       };
       queues = h.queues;
       timers = timers-fit r n.parts.timers e h.timers;
@@ -98,6 +120,7 @@ module _ (c : Configuration) where
         told = h.parts.told;
         codes = h.parts.codes;
         holds = h.parts.holds;
+        unequipped = h.parts.unequipped;
       };
       queues = h.queues;
       timers = timers-fit r n.parts.timers e h.timers;
@@ -115,6 +138,7 @@ module _ (c : Configuration) where
         told = h.parts.told;
         codes = h.parts.codes;
         holds = h.parts.holds;
+        unequipped = h.parts.unequipped;
       };
       queues = h.queues;
       timers = h.timers;
@@ -132,6 +156,7 @@ module _ (c : Configuration) where
         told = h.parts.told;
         codes = h.parts.codes;
         holds = e.fits h.parts.holds;
+        unequipped = h.parts.unequipped;
       };
       queues = h.queues;
       timers = h.timers;
@@ -149,6 +174,7 @@ module _ (c : Configuration) where
         told = h.parts.told;
         codes = with_code-fits (length c.sets) n.parts.codes set code awaited h.parts.codes;
         holds = h.parts.holds;
+        unequipped = h.parts.unequipped;
       };
       queues = h.queues;
       timers = h.timers;
@@ -167,6 +193,7 @@ module _ (c : Configuration) where
         told = f ∙ h.parts.told;
         codes = h.parts.codes;
         holds = h.parts.holds;
+        unequipped = h.parts.unequipped;
       };
       queues = h.queues;
       timers = h.timers;
@@ -196,6 +223,7 @@ places-steps c = record {
   rerouted = λ routes n e. routes-keep c routes n.parts.told n e.size refl;
   told = λ t n e. routes-keep c n.parts.routes t n refl e.shape;
   titled = titles-keep c;
+  unequipped = unequipped-keeps c;
   failed = λ link why st n e f. both-keep c _ _ _ (fallen-keeps c link why n) (changeover-keeps c link st (with_parts n (fail_link link why n.parts)));
   dropped = λ link why n e. fallen-keeps c link why n;
   completed = λ link number st n e f.
@@ -234,6 +262,7 @@ places-first c few = record {
     told = first_shape c.sets c.destinations;
     codes = no_codes-fits (length c.sets);
     holds = no_holds-fits c;
+    unequipped = length-replicate (length c.destinations) 0;
   };
   queues = length-replicate (length c.links) first_queue;
   timers = record { links = refl; sets = refl; destinations = refl };

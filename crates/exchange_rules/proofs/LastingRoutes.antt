@@ -39,6 +39,7 @@ routes-steps c = record {
   rerouted = λ routes n e. record { stay = e.own };
   told = λ t n e. record { stay = as-told n.parts.told t n e.adjacents };
   titled = λ rows n. same _ _ refl refl;
+  unequipped = λ counts n e. same _ _ refl refl;
   failed = λ link why st n e f. same _ _ refl refl;
   dropped = λ link why n e. same _ _ refl refl;
   completed = λ link number st n e f. same _ _ refl refl;

@@ -30,9 +30,10 @@ cause_in other (Refused cause) = cause
 
 -- ---- causes
 
--- whether a cause isn't that a message found no route
+-- whether a cause isn't that a message found no route, or no user part
 abbrev pub is_other : Cause → Bool
 is_other causes.NoRoute = false
+is_other causes.NoUserPart = false
 is_other cause = true
 
 -- whether a refusal, if it is one, has such a cause
@@ -71,7 +72,7 @@ pub fault_so : (fault : MgmtFault) → is_other (cause_of fault) ≡ true
 fault_so mgmt.Short = refl
 fault_so mgmt.NotInProfile = refl
 
--- where any cause but that one leaves a node as it was
+-- where any cause but those two leaves a node as it was
 pub record Stays (by : Cause → Node WholeQueues) (n : Node WholeQueues) : Type 0 where
   pub others : (cause : Cause) → is_other cause ≡ true → n ≡ by cause
 

@@ -1,7 +1,7 @@
 -- A message or a command that is refused leaves what its cause is to leave, and a message is queued on a link in
 -- service.
-use Rattle.exchange_rules.proofs.Basics.{◌≡◌, ℕ, Bool, true, false, List, Option, Some, None, Result, Ok, Err, refl, ap, sym, ◌∙◌, arith, if◌then◌else◌, nat_tests, option_and_then}
-use Rattle.exchange_rules.proofs.Definitions.{Message, dpc_of, opc_of, flow_of, is_management, service_indicator, Configuration, TitleEntry, Cause, Outcome, Local, Handled, Ignored, destination_place, set_place, RouteStatus, Allowed, Restricted, Prohibited, Heard, RouteTest, chosen_link, facts, MgmtFault, TestKind, Test, Acknowledgement, Management, TrafficRestartAllowed, TransferProhibited, TransferRestricted, TransferAllowed, RouteSetTestProhibited, RouteSetTestRestricted, ChangebackDeclaration, ChangebackAcknowledgement, ExtendedChangeoverOrder, ExtendedChangeoverAcknowledgement, EmergencyChangeoverOrder, EmergencyChangeoverAcknowledgement, LinkTestValue, read_link_test, read_management, label_at, Discrimination, Parts, Node, Done, with_parts, answer, refuse, is_link, link_at, in_service, network_of, link_of, no_room_for, is_destination, offer, transfer, send_on, send_routed, route_about, apply_route_status, on_route_status, answer_no_route, send_route_status, answer_route_test, on_route_test, changeback_acknowledgement, freed, on_changeback_acknowledgement, is_outstanding, sccp, is_user, is_adjacent, cause_of, test_answer, link_with_code, local, do_order, do_acknowledgement, do_management, do_kind, do_test, manage, distribute, deliver_to, submit_to, TitleKey, place_of, has_row, without_row, RelayedValue, relay, own_of, in_place_of, return_unitdata, return_outcome, relay_by, on_unitdata, with_titles, title_refusal, add_title_unless, add_title, remove_title, answered_by, may_open, open_link, association_up, fail_if_up, end_association, association_down, set_active, activate, deactivate, WholeQueues, whole, waits, on_changeover_acknowledgement, complete_if, with_changeover_acknowledged, fail_by_order, complete_by_order, acknowledge_changeover, changeover_of, may_restart}
+use Rattle.exchange_rules.proofs.Basics.{◌≡◌, ℕ, Bool, true, false, List, Option, Some, None, Result, Ok, Err, refl, ap, sym, ◌∙◌, ◌&&◌, arith, if◌then◌else◌, nat_tests, option_and_then}
+use Rattle.exchange_rules.proofs.Definitions.{Message, dpc_of, opc_of, flow_of, is_management, service_indicator, Configuration, TitleEntry, Cause, Outcome, Local, Handled, Ignored, destination_place, set_place, RouteStatus, Allowed, Restricted, Prohibited, Heard, RouteTest, chosen_link, facts, MgmtFault, TestKind, Test, Acknowledgement, Management, TrafficRestartAllowed, TransferProhibited, TransferRestricted, TransferAllowed, RouteSetTestProhibited, RouteSetTestRestricted, ChangebackDeclaration, ChangebackAcknowledgement, ExtendedChangeoverOrder, ExtendedChangeoverAcknowledgement, EmergencyChangeoverOrder, EmergencyChangeoverAcknowledgement, LinkTestValue, read_link_test, read_management, label_at, Discrimination, Parts, Node, Done, with_parts, answer, refuse, is_link, link_at, in_service, network_of, link_of, no_room_for, is_destination, offer, transfer, send_on, send_routed, route_about, apply_route_status, on_route_status, answer_no_route, send_route_status, answer_route_test, on_route_test, changeback_acknowledgement, freed, on_changeback_acknowledgement, is_outstanding, sccp, is_user, is_adjacent, cause_of, test_answer, link_with_code, local, do_order, do_acknowledgement, do_management, do_kind, do_test, manage, distribute, deliver_to, submit_to, TitleKey, place_of, has_row, without_row, RelayedValue, relay, own_of, in_place_of, return_unitdata, return_outcome, relay_by, on_unitdata, with_titles, title_refusal, add_title_unless, add_title, remove_title, answered_by, may_open, open_link, association_up, fail_if_up, end_association, association_down, set_active, activate, deactivate, WholeQueues, whole, waits, on_changeover_acknowledgement, complete_if, with_changeover_acknowledged, fail_by_order, complete_by_order, acknowledge_changeover, changeover_of, may_restart, answer_no_user_part, no_part_answered, UserPartUnavailable, Refused, from_afar, on_unavailable, says_unavailable}
 use Rattle.std.specs.Prelude.{nat_eq, nat_lt}
 use Rattle.signalling_types.specs.declared.point.Flow.{Flow}
 use Rattle.signalling_types.specs.declared.cause.Cause.TheVariants as causes
@@ -92,6 +92,10 @@ module _ (c : Configuration) (n : Node WholeQueues) (by : Cause → Node WholeQu
   on_route_test-leaves test None (Some place) = ignored n by
   on_route_test-leaves test set None = refused causes.UnknownDestination refl
 
+  handled_or-leaves : (b : Bool) (cause : Cause) → is_other cause ≡ true → Leaves (answer (if b then Handled else Refused cause) n) by
+  handled_or-leaves true cause e = handled n by
+  handled_or-leaves false cause e = refused cause e
+
   do_management-leaves : (r : Result Management MgmtFault) (z : ℕ) → Leaves (do_management whole c r z n) by
   do_management-leaves (Err fault) z = refused (cause_of fault) (fault_so fault)
   do_management-leaves (Ok TrafficRestartAllowed) z = ignored n by
@@ -106,14 +110,15 @@ module _ (c : Configuration) (n : Node WholeQueues) (by : Cause → Node WholeQu
   do_management-leaves (Ok (TransferAllowed about)) z = on_route_status-leaves Allowed (set_place c z) (destination_place c about)
   do_management-leaves (Ok (RouteSetTestProhibited about)) z = on_route_test-leaves tests.Prohibited (set_place c z) (destination_place c about)
   do_management-leaves (Ok (RouteSetTestRestricted about)) z = on_route_test-leaves tests.Restricted (set_place c z) (destination_place c about)
+  do_management-leaves (Ok (UserPartUnavailable about user_part cause)) z = handled_or-leaves c.user_part_unavailable causes.NotInProfile refl
 
   manage-leaves : (link : ℕ) (m : Message) → Leaves (manage whole c link m n) by
   manage-leaves link m =
       let t : Done WholeQueues = do_test whole c (read_link_test m.sif) link (opc_of m) n in
       let r : Done WholeQueues = do_management whole c (read_management m.sif) (opc_of m) n in
-      either (is_adjacent c (opc_of m)) (if nat_eq (service_indicator m) 1 then t else r) (refuse causes.NotFromAdjacent n) by
+      either (is_adjacent c (opc_of m)) (if nat_eq (service_indicator m) 1 then t else r) (answer (from_afar c m) n) by
       (either (nat_eq (service_indicator m) 1) t r by (do_test-leaves (read_link_test m.sif) link (opc_of m)) (do_management-leaves (read_management m.sif) (opc_of m)))
-      (refused _ refl)
+      (handled_or-leaves (c.user_part_unavailable && says_unavailable m) causes.NotFromAdjacent refl)
 
   pub association_up-leaves : (link : ℕ) → Leaves (association_up whole c link n) by
   association_up-leaves link =
@@ -160,8 +165,8 @@ module _ (c : Configuration) (n : Node WholeQueues) where
   -- a refused one is returned
   on_unitdata-leaves : (m : Message) → Leaves (on_unitdata whole c m n) (λ cause. return_unitdata whole c cause m n)
   on_unitdata-leaves m =
-      let d : Done WholeQueues = relay_by whole c (relay (own_of c) n.parts.titles m.sif) m n in
-      let f : Leaves d (as_it_was n) = relay_by-leaves (relay (own_of c) n.parts.titles m.sif) m in
+      let d : Done WholeQueues = relay_by whole c (relay (own_of c n.parts) n.parts.titles m.sif) m n in
+      let f : Leaves d (as_it_was n) = relay_by-leaves (relay (own_of c n.parts) n.parts.titles m.sif) m in
       record {
         left = λ cause e.
             ap (λ (o : Outcome). return_outcome whole c o m d.left) e
@@ -173,25 +178,33 @@ module _ (c : Configuration) (n : Node WholeQueues) where
   abbrev here : Message → (from : Option ℕ) → Cause → Node WholeQueues
   here m from cause = answered_by (whither.Here (label_at m.sif)) cause from m c n
 
-  -- only SCCP is answered
-  as_here : (m : Message) (from : Option ℕ) (cause : Cause) → nat_eq (service_indicator m) sccp ≡ false → n ≡ here m from cause
-  as_here m from cause e = ap (λ (b : Bool). if b then return_unitdata whole c cause m n else n) (sym e)
+  -- what answers one that isn't for SCCP
+  abbrev parted : Message → (from : Option ℕ) → Cause → Node WholeQueues
+  parted m from cause = no_part_answered cause from m c n
 
-  local-leaves : (m : Message) (from : Option ℕ) → Leaves (local whole c m n) (here m from)
+  stays_parted : (m : Message) (from : Option ℕ) (cause : Cause) → is_other cause ≡ true → n ≡ parted m from cause
+  stays_parted m from causes.NoUserPart e = absurd cc
+  stays_parted m from cause e = refl
+
+  as_here : (m : Message) (from : Option ℕ) (cause : Cause) → nat_eq (service_indicator m) sccp ≡ false → parted m from cause ≡ here m from cause
+  as_here m from cause e = ap (λ (b : Bool). if b then return_unitdata whole c cause m n else parted m from cause) (sym e)
+
+  local-leaves : (m : Message) (from : Option ℕ) → Leaves (local whole c from m n) (here m from)
   local-leaves m from =
-      let user : Done WholeQueues = if is_user c (service_indicator m) then answer Local n else refuse causes.NoUserPart n in
+      let told : Node WholeQueues = answer_no_user_part whole c from (destination_place c (opc_of m)) m n in
+      let user : Done WholeQueues = if is_user c (service_indicator m) then answer Local n else refuse causes.NoUserPart told in
       either_by (nat_eq (service_indicator m) sccp) (on_unitdata whole c m n) user (here m from)
       (λ e. left_as (on_unitdata whole c m n) (here m from) (λ cause. return_unitdata whole c cause m n)
-      (λ cause. ap (λ (b : Bool). if b then return_unitdata whole c cause m n else n) (sym e)) (on_unitdata-leaves m))
-      (λ e. left_as user (here m from) (as_it_was n) (λ cause. as_here m from cause e)
-      (either (is_user c (service_indicator m)) (answer Local n) (refuse causes.NoUserPart n) (as_it_was n) (stayed n (as_it_was n)) (left_by _ n (as_it_was n) refl)))
+      (λ cause. ap (λ (b : Bool). if b then return_unitdata whole c cause m n else parted m from cause) (sym e)) (on_unitdata-leaves m))
+      (λ e. left_as user (here m from) (parted m from) (λ cause. as_here m from cause e)
+      (either (is_user c (service_indicator m)) (answer Local n) (refuse causes.NoUserPart told) (parted m from) (stayed n (parted m from)) (left_by _ told (parted m from) refl)))
 
-  distribute-leaves : (link : ℕ) (m : Message) (from : Option ℕ) → Leaves (distribute whole c link m n) (here m from)
-  distribute-leaves link m from =
-      either_by (is_management m) (manage whole c link m n) (local whole c m n) (here m from)
-      (λ e. left_as (manage whole c link m n) (here m from) (as_it_was n) (λ cause. as_here m from cause (apart (service_indicator m) e))
-      (manage-leaves c n (as_it_was n) (untouched n) link m))
-      (λ e. local-leaves m from)
+  distribute-leaves : (link : ℕ) (m : Message) → Leaves (distribute whole c link m n) (here m (Some link))
+  distribute-leaves link m =
+      either_by (is_management m) (manage whole c link m n) (local whole c (Some link) m n) (here m (Some link))
+      (λ e. left_as (manage whole c link m n) (here m (Some link)) (parted m (Some link)) (λ cause. as_here m (Some link) cause (apart (service_indicator m) e))
+      (manage-leaves c n (parted m (Some link)) (record { others = stays_parted m (Some link) }) link m))
+      (λ e. local-leaves m (Some link))
 
   -- a message for another point
   abbrev away : Message → (from : Option ℕ) → Cause → Node WholeQueues
@@ -203,13 +216,13 @@ module _ (c : Configuration) (n : Node WholeQueues) where
 
   pub deliver_to-leaves : (d : Discrimination) (link : ℕ) (m : Message) → Leaves (deliver_to whole c d link m n) (λ cause. answered_by d cause (Some link) m c n)
   deliver_to-leaves (whither.Refused cause) link m = left_by cause n _ refl
-  deliver_to-leaves (whither.Here label) link m = distribute-leaves link m (Some link)
+  deliver_to-leaves (whither.Here label) link m = distribute-leaves link m
   deliver_to-leaves (whither.Transfer label) link m = transfer-leaves c n (away m (Some link)) (record { others = still m (Some link) }) (Some link) m refl
 
   pub submit_to-leaves : (d : Discrimination) (m : Message) → Leaves (submit_to whole c d m n) (λ cause. answered_by d cause None m c n)
   submit_to-leaves (whither.Refused cause) m = left_by cause n _ refl
   submit_to-leaves (whither.Here label) m =
-      either_by (is_management m) (refuse causes.NotInProfile n) (local whole c m n) (here m None)
+      either_by (is_management m) (refuse causes.NotInProfile n) (local whole c None m n) (here m None)
       (λ e. left_by _ n (here m None) (as_here m None causes.NotInProfile (apart (service_indicator m) e))) (λ e. local-leaves m None)
   submit_to-leaves (whither.Transfer label) m =
       either (is_management m) (refuse causes.NotInProfile n) (transfer whole c None m n) (away m None) (left_by _ n (away m None) refl)

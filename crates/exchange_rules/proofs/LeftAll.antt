@@ -35,6 +35,7 @@ module _ (dues : Bool) (c : Configuration) (l : ℕ) where
     rerouted = λ routes n e. alike dues l n _ refl refl refl (λ name h. h);
     told = λ t n e. alike dues l n _ refl refl refl (λ name h. h);
     titled = λ rows n. alike dues l n _ refl refl refl (λ name h. h);
+    unequipped = λ counts n e. alike dues l n _ refl refl refl (λ name h. h);
     failed = λ link why st n e f. failed-left dues l link why st n e;
     dropped = λ link why n e. dropped-left dues l link why n e;
     completed = λ link number st n e f. completed-left dues l link number st n e f;

@@ -12,6 +12,7 @@ pub mod Settling
 pub mod Telling
 pub mod Places
 pub mod Answering
+pub mod AbsentParts
 pub mod Leaves
 pub mod LeavingMessages
 pub mod LeavingFrames
@@ -115,3 +116,7 @@ pub mod ProvedEvents
 pub mod Inhibited
 pub mod InhibitedTicks
 pub mod InhibitedRuns
+pub mod Causes
+pub mod EndedHolds
+pub mod FailedLinks
+pub mod KeptFacts

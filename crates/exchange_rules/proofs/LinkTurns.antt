@@ -195,9 +195,10 @@ module _ (c : Configuration) where
     rerouted = λ routes n e k. bounds-as n _ refl;
     told = λ t n e. bounds-as n _ refl;
     titled = λ rows n. bounds-as n _ refl;
+    unequipped = λ counts n e. bounds-as n _ refl;
     linked = λ link x n e. bounds-as n _ refl;
     parted = λ link n e. bounds-as n _ refl;
-    opened = λ link n own there e f. record { stay = timed-within link opening n.parts.timers };
+    opened = λ link n own there e f may. record { stay = timed-within link opening n.parts.timers };
     stepped = λ link input step n own e k. record { stay = timed-within link step n.parts.timers };
     busied = λ link n own e f. record { stay = λ w. set-within link timer.L6 (without_timer link timer.L7 n.parts.timers) (stopped-within link timer.L7 n.parts.timers w) };
     resumed = λ link n own e f. record { stay = resumed-within link (whole.outstanding n.queues link) n.parts.timers };
@@ -205,14 +206,14 @@ module _ (c : Configuration) where
       stay = confirming-within (link_at n.parts link).peer_busy link confirmed (whole.outstanding (whole.accepted n.queues link d.fsn d.bsn (carries d)) link) n.parts.timers;
     };
     sent = λ link next n own e. record { stay = sending-within link n.parts.timers };
-    fails = λ link why n. bounds-kept n _ (fails-kept c (in_service n.parts link) link why n);
-    orders = λ link number n. bounds-kept n _ (orders-kept c link number n);
-    acknowledges = λ link number n. bounds-kept n _ (acknowledges-kept c (changeover_of n.parts link).awaited link number n);
-    expires = λ expiry link n. bounds-kept n _ (kept-eased n _ (expired-eased c (is_link n.parts link) expiry link n));
+    fails = λ link why n may up. bounds-kept n _ (fails-kept c (in_service n.parts link) link why n);
+    orders = λ link number n falls ends. bounds-kept n _ (orders-kept c link number n);
+    acknowledges = λ link number n may. bounds-kept n _ (acknowledges-kept c (changeover_of n.parts link).awaited link number n);
+    expires = λ expiry link n may. bounds-kept n _ (kept-eased n _ (expired-eased c (is_link n.parts link) expiry link n));
     returns = λ before after code link other n e f. bounds-kept n _ (returns-kept c before after code link other n);
-    frees = λ set code n. bounds-kept n _ (record { timers = λ its t x h. less-clear (name.T4 set code) n.parts.timers its (link-waited its t) x h });
+    frees = λ set code n may. bounds-kept n _ (record { timers = λ its t x h. less-clear (name.T4 set code) n.parts.timers its (link-waited its t) x h });
     reroutes = λ destination selections n. bounds-kept n _ (reroutes-kept c destination selections n);
-    lifts = λ procedure n. bounds-as n _ refl;
+    lifts = λ procedure n may. bounds-as n _ refl;
   }
 
   pub bounds-all : IsOfAll c Bounds

@@ -1,9 +1,9 @@
 -- Rules that take user messages in, let them go for good, or move them: how many there are after each.
 use Rattle.exchange_rules.proofs.Basics.{Bool, List, None, Option, Some, [], ap, arith, cond, false, length, nat_eq, nat_lt, refl, sum_by, sym, true, ℕ, ◌++◌, ◌+◌, ◌-◌, ◌<◌, ◌∙◌, ◌∷◌, ◌≡◌, ◌≤◌, ⊎_elim, cases_lt, nat_tests, get_or_past, sum_by-append, count_by, if◌then◌else◌, slice_set, take}
-use Rattle.exchange_rules.proofs.Definitions.{accepted_count, behind, in_doubt, lost, moved, users_of, unconfirmed-appended, IsQueue, Queue, appended, emptied, first_queue, unconfirmed, Link, down_link, is_in_service, Discrimination, RelayedValue, relay, returned, Configuration, Message, dpc_of, flow_of, is_management, service_indicator, Cause, Outcome, Handled, Held, Ignored, Local, Queued, Refused, destination_place, is_destination, offer, transfer, answered_in, brought_here, brought_to, gone_by_completion, gone_that, relayed_in, returned_in, standing, taken_in, unitdata_in, users_that, waits, in_service, is_user, local, sccp, submit, submit_to, whither_goes, no_room_for, queue_on, WholeQueues, queue_at, whole, in_place_of, on_unitdata, own_of, relay_by, return_outcome, return_unitdata, send_udts, link_of, Done, Node, Parts, answer, refuse}
+use Rattle.exchange_rules.proofs.Definitions.{accepted_count, behind, in_doubt, lost, moved, users_of, unconfirmed-appended, IsQueue, Queue, appended, emptied, first_queue, unconfirmed, Link, down_link, is_in_service, Discrimination, RelayedValue, relay, returned, Configuration, Message, dpc_of, flow_of, is_management, service_indicator, Cause, Outcome, Handled, Held, Ignored, Local, Queued, Refused, destination_place, is_destination, offer, transfer, answered_in, brought_here, brought_to, gone_by_completion, gone_that, relayed_in, returned_in, standing, taken_in, unitdata_in, users_that, waits, in_service, is_user, local, sccp, submit, submit_to, whither_goes, no_room_for, queue_on, WholeQueues, queue_at, whole, in_place_of, on_unitdata, own_of, relay_by, return_outcome, return_unitdata, send_udts, link_of, Done, Node, Parts, answer, refuse, answer_no_user_part, opc_of}
 use Rattle.changeover.proofs.Completing.{once}
 use Rattle.changeover.specs.Laws.{count_in_the_end}
-use Rattle.exchange_rules.proofs.Changes.{answer_no_route-stand, stands}
+use Rattle.exchange_rules.proofs.Changes.{answer_no_route-stand, answer_no_user_part-stand, stands}
 use Rattle.exchange_rules.proofs.Fitting.{Fits}
 use Rattle.exchange_rules.proofs.LeavingMessages.{chosen_serves, relay_by-leaves}
 use Rattle.exchange_rules.proofs.Tallies.{again, append, held-more-by, none-first, none-more, queue-more, sum-less}
@@ -74,9 +74,9 @@ module _ (of : Message → Bool) (c : Configuration) where
   return-brings : (o : Outcome) (m : Message) (n left : Node WholeQueues) → Fits c n → ((cause : Cause) → o ≡ Refused cause → left ≡ n)
       → stands of (return_outcome whole c o m left) ≡ stands of left + users_that of (answered_in o c m n)
   return-brings (Refused cause) m n left f same =
-      let more : ℕ = users_that of (returned_in (returned (own_of c) n.parts.titles m.sif cause) c m n) in
+      let more : ℕ = users_that of (returned_in (returned (own_of c n.parts) n.parts.titles m.sif cause) c m n) in
       ap (λ (x : Node WholeQueues). stands of (return_unitdata whole c cause m x)) (same cause refl)
-      ∙ udts-brings (returned (own_of c) n.parts.titles m.sif cause) m n f
+      ∙ udts-brings (returned (own_of c n.parts) n.parts.titles m.sif cause) m n f
       ∙ ap (λ (x : Node WholeQueues). stands of x + more) (sym (same cause refl))
   return-brings (Queued link) m n left f same = none-more (stands of left)
   return-brings Held m n left f same = none-more (stands of left)
@@ -90,22 +90,25 @@ module _ (of : Message → Bool) (c : Configuration) where
   unitdata-brings : (m : Message) (n : Node WholeQueues) → Fits c n
       → stands of (on_unitdata whole c m n).left ≡ stands of n + users_that of (unitdata_in (on_unitdata whole c m n).outcome c m n)
   unitdata-brings m n f =
-      let v : RelayedValue = relay (own_of c) n.parts.titles m.sif in
+      let v : RelayedValue = relay (own_of c n.parts) n.parts.titles m.sif in
       let d : Done WholeQueues = relay_by whole c v m n in
       two-more (stands of n) (users_that of (relayed_in v d.outcome m)) (users_that of (answered_in d.outcome c m n)) (stands of (return_outcome whole c d.outcome m d.left)) (stands of d.left)
       (users_that of (relayed_in v d.outcome m ++ answered_in d.outcome c m n))
       (relay-brings v m n f) (return-brings d.outcome m n d.left f (relay_by-leaves c n v m).left) (append of (relayed_in v d.outcome m) (answered_in d.outcome c m n))
 
-  local-by : (is_sccp user : Bool) (m : Message) (n : Node WholeQueues) → Fits c n
-      → stands of (if is_sccp then on_unitdata whole c m n else (if user then answer Local n else refuse causes.NoUserPart n)).left
-      ≡ stands of n + users_that of (if is_sccp then unitdata_in (if is_sccp then on_unitdata whole c m n else (if user then answer Local n else refuse causes.NoUserPart n)).outcome c m n else [])
-  local-by true user m n f = unitdata-brings m n f
-  local-by false true m n f = none-more (stands of n)
-  local-by false false m n f = none-more (stands of n)
+  abbrev absent : (from : Option ℕ) (m : Message) (n : Node WholeQueues) → Done WholeQueues
+  absent from m n = refuse causes.NoUserPart (answer_no_user_part whole c from (destination_place c (opc_of m)) m n)
 
-  pub local-brings : (m : Message) (n : Node WholeQueues) → Fits c n
-      → stands of (local whole c m n).left ≡ stands of n + users_that of (brought_here (local whole c m n).outcome c m n)
-  local-brings m n f = local-by (nat_eq (service_indicator m) sccp) (is_user c (service_indicator m)) m n f
+  local-by : (is_sccp user : Bool) (from : Option ℕ) (m : Message) (n : Node WholeQueues) → Fits c n
+      → stands of (if is_sccp then on_unitdata whole c m n else (if user then answer Local n else absent from m n)).left
+      ≡ stands of n + users_that of (if is_sccp then unitdata_in (if is_sccp then on_unitdata whole c m n else (if user then answer Local n else absent from m n)).outcome c m n else [])
+  local-by true user from m n f = unitdata-brings m n f
+  local-by false true from m n f = none-more (stands of n)
+  local-by false false from m n f = answer_no_user_part-stand of c from (destination_place c (opc_of m)) m n ∙ none-more (stands of n)
+
+  pub local-brings : (from : Option ℕ) (m : Message) (n : Node WholeQueues) → Fits c n
+      → stands of (local whole c from m n).left ≡ stands of n + users_that of (brought_here (local whole c from m n).outcome c m n)
+  local-brings from m n f = local-by (nat_eq (service_indicator m) sccp) (is_user c (service_indicator m)) from m n f
 
   -- ---- a submission
 
@@ -117,10 +120,10 @@ module _ (of : Message → Bool) (c : Configuration) where
   nothing-here o m n e = ap (λ (b : Bool). users_that of (if b then unitdata_in o c m n else [])) (no-sccp (service_indicator m) e)
 
   here-by : (b : Bool) (m : Message) (n : Node WholeQueues) → Fits c n → is_management m ≡ b
-      → stands of (if b then refuse causes.NotInProfile n else local whole c m n).left
-      ≡ stands of n + users_that of (brought_here (if b then refuse causes.NotInProfile n else local whole c m n).outcome c m n)
+      → stands of (if b then refuse causes.NotInProfile n else local whole c None m n).left
+      ≡ stands of n + users_that of (brought_here (if b then refuse causes.NotInProfile n else local whole c None m n).outcome c m n)
   here-by true m n f e = none-more (stands of n) ∙ ap (λ (k : ℕ). stands of n + k) (sym (nothing-here (Refused causes.NotInProfile) m n e))
-  here-by false m n f e = local-brings m n f
+  here-by false m n f e = local-brings None m n f
 
   submit_to-brings : (d : Discrimination) (m : Message) (n : Node WholeQueues) → Fits c n
       → stands of (submit_to whole c d m n).left ≡ stands of n + users_that of (brought_to d (submit_to whole c d m n).outcome c m n)

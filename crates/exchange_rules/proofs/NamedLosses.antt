@@ -1,7 +1,7 @@
 -- Changeovers that are completed, by the peer's messages and by timers, and the release: what each loses is named and
 -- counted.
 use Rattle.exchange_rules.proofs.Basics.{Bool, Err, List, None, Ok, Option, Result, Some, [], ap, append-nil, arith, false, filter, filter_agree, is_some, length, length-append, map, nat_eq, not, refl, suc, sym, true, zero, ℕ, ◌&&◌, ◌*◌, ◌+◌, ◌++◌, ◌∙◌, ◌∷◌, ◌≡◌, ◌≤◌, if◌then◌else◌, count_by}
-use Rattle.exchange_rules.proofs.Definitions.{AreAccounted, counted, names_a_message, names_none, note, tells_of_lateness, tells_of_loss, naming, LostUnconfirmed, completed, changeover_of, complete_by_order, concluded, judged, lose, lose_each, changeover_acknowledgement, changeback_acknowledgement, on_changeover_order, on_changeover_timer, with_changeover, with_changeover_acknowledged, with_expiry, complete_if, fail_by_order, read_link_test, read_management, MgmtFault, Management, ChangebackAcknowledgement, ChangebackDeclaration, EmergencyChangeoverAcknowledgement, EmergencyChangeoverOrder, ExtendedChangeoverAcknowledgement, ExtendedChangeoverOrder, RouteSetTestProhibited, RouteSetTestRestricted, TrafficRestartAllowed, TransferAllowed, TransferProhibited, TransferRestricted, Allowed, Prohibited, Restricted, Configuration, Message, flow_of, is_management, opc_of, service_indicator, ChangeoverTimer, Handled, Ignored, destination_place, set_place, after_due, due_count, due_name, ticked, TimerName, Gone, both_gone, gone_by_answer, gone_by_completion, gone_by_expiry, gone_by_message, gone_by_order, gone_by_tick, gone_by_timer, gone_by_timers, gone_by_word, is_stranded, nothing_gone, only_accepted, waits, is_link, do_acknowledgement, do_management, do_order, do_test, is_adjacent, link_with_code, local, manage, testing, deliver_to, route_about, WholeQueues, whole, go, go_by, go_each, go_on, link_of, Found, Node, Parts, Done, answer, refuse, with_parts, run_due, run_next, run_times, tick, with_timers, Discrimination}
+use Rattle.exchange_rules.proofs.Definitions.{AreAccounted, counted, names_a_message, names_none, note, tells_of_lateness, tells_of_loss, naming, LostUnconfirmed, completed, changeover_of, complete_by_order, concluded, judged, lose, lose_each, changeover_acknowledgement, changeback_acknowledgement, on_changeover_order, on_changeover_timer, with_changeover, with_changeover_acknowledged, with_expiry, complete_if, fail_by_order, read_link_test, read_management, MgmtFault, Management, ChangebackAcknowledgement, ChangebackDeclaration, EmergencyChangeoverAcknowledgement, EmergencyChangeoverOrder, ExtendedChangeoverAcknowledgement, ExtendedChangeoverOrder, RouteSetTestProhibited, RouteSetTestRestricted, TrafficRestartAllowed, TransferAllowed, TransferProhibited, TransferRestricted, Allowed, Prohibited, Restricted, Configuration, Message, flow_of, is_management, opc_of, service_indicator, ChangeoverTimer, Handled, Ignored, destination_place, set_place, after_due, due_count, due_name, ticked, TimerName, Gone, both_gone, gone_by_answer, gone_by_completion, gone_by_expiry, gone_by_message, gone_by_order, gone_by_tick, gone_by_timer, gone_by_timers, gone_by_word, is_stranded, nothing_gone, only_accepted, waits, is_link, do_acknowledgement, do_management, do_order, do_test, is_adjacent, link_with_code, local, manage, testing, deliver_to, route_about, WholeQueues, whole, go, go_by, go_each, go_on, link_of, Found, Node, Parts, Done, answer, refuse, with_parts, run_due, run_next, run_times, tick, with_timers, Discrimination, from_afar, UserPartUnavailable}
 use Rattle.std.proofs.lemmas.List.{map-append}
 use Rattle.exchange_rules.proofs.Departing.{go_by-strands}
 use Rattle.signalling_types.specs.declared.cause.Cause.TheVariants as causes
@@ -178,19 +178,20 @@ module _ (c : Configuration) where
   word-names (Ok (TransferAllowed about)) point n = no-word n _ (on_route_status-quiet c Allowed (route_about (set_place c point) (destination_place c about)) n)
   word-names (Ok (RouteSetTestProhibited about)) point n = one-word n _ (on_route_test-quiet c tests.Prohibited (route_about (set_place c point) (destination_place c about)) n)
   word-names (Ok (RouteSetTestRestricted about)) point n = one-word n _ (on_route_test-quiet c tests.Restricted (route_about (set_place c point) (destination_place c about)) n)
+  word-names (Ok (UserPartUnavailable about user_part cause)) point n = no-word n n (any-quiet 0 n)
 
   manage-by : (adjacent test : Bool) (link : ℕ) (m : Message) (n : Node WholeQueues)
       → Names (if adjacent && not test then gone_by_word (read_management m.sif) (opc_of m) c n else nothing_gone) 2 n
-      (if adjacent then (if test then do_test whole c (read_link_test m.sif) link (opc_of m) n else do_management whole c (read_management m.sif) (opc_of m) n) else refuse causes.NotFromAdjacent n).left
+      (if adjacent then (if test then do_test whole c (read_link_test m.sif) link (opc_of m) n else do_management whole c (read_management m.sif) (opc_of m) n) else answer (from_afar c m) n).left
   manage-by true true link m n = one-word n _ (do_test-quiet c (read_link_test m.sif) link (opc_of m) n)
   manage-by true false link m n = word-names (read_management m.sif) (opc_of m) n
   manage-by false test link m n = no-word n n (any-quiet 0 n)
 
   here-by : (management : Bool) (link : ℕ) (m : Message) (n : Node WholeQueues)
       → Names (if management && (is_adjacent c (opc_of m) && not (nat_eq (service_indicator m) testing)) then gone_by_word (read_management m.sif) (opc_of m) c n else nothing_gone) 2 n
-      (if management then manage whole c link m n else local whole c m n).left
+      (if management then manage whole c link m n else local whole c (Some link) m n).left
   here-by true link m n = manage-by (is_adjacent c (opc_of m)) (nat_eq (service_indicator m) testing) link m n
-  here-by false link m n = quiet-names 2 n _ (local-quiet c m n)
+  here-by false link m n = quiet-names 2 n _ (local-quiet c (Some link) m n)
 
   pub deliver_to-names : (d : Discrimination) (link : ℕ) (m : Message) (n : Node WholeQueues) → Names (gone_by_message d c m n) 2 n (deliver_to whole c d link m n).left
   deliver_to-names (whither.Refused cause) link m n = no-word n n (any-quiet 0 n)

@@ -8,7 +8,7 @@ use Rattle.link.specs.declared.action.LinkTimer.TheVariants as timer
 use Rattle.timers.specs.declared.name.TimerName.TheVariants as name
 use Rattle.exchange_rules.specs.Aligning.{state_of}
 use Rattle.exchange_rules.proofs.LeftAll.{but}
-use Rattle.exchange_rules.proofs.Serving.{data-serves}
+use Rattle.exchange_rules.proofs.Serving.{data-serves, fails-up, serves-up}
 use Rattle.exchange_rules.proofs.Steps.{IsOfSteps, IsOfRules, is_of_link}
 use Rattle.exchange_rules.proofs.Rules.{rules-of}
 use Rattle.exchange_rules.proofs.SteppingLinks.{advance-at, advance-serves, run_out-steps}
@@ -50,6 +50,7 @@ module _ (c : Configuration) (l : ℕ) where
     rerouted = λ routes n e. same-keeps l n _ refl;
     told = λ t n e. same-keeps l n _ refl;
     titled = λ rows n. same-keeps l n _ refl;
+    unequipped = λ counts n e. same-keeps l n _ refl;
     failed = λ link why st n e f. down-keeps l link _ n _ refl refl;
     dropped = λ link why n e. down-keeps l link _ n _ refl refl;
     completed = λ link number st n e f. same-keeps l n _ refl;
@@ -75,7 +76,7 @@ module _ (c : Configuration) (l : ℕ) where
 
   run_own-climbs : (D : Type 0) (a : Action) (its : LinkTimer) (n : Node WholeQueues) → (its ≡ timer.L4 → D) → action_at (link_at n.parts l).alignment (Expiry its) ≡ a → Climbing D n (act_by_timer whole c a l n)
   run_own-climbs D act.Ignored its n d e = keeps-climbs D l n n (same-keeps l n n refl)
-  run_own-climbs D act.Fail its n d e = keeps-climbs D l n _ (keeps.fails l reasons.Timer n)
+  run_own-climbs D act.Fail its n d e = keeps-climbs D l n _ (keeps.fails l reasons.Timer n tt (fails-up (link_at n.parts l).alignment (Expiry its) e))
   run_own-climbs D (act.Go step) its n d e =
       subst (λ (y : Alignment). Climbs D (state_of n.parts l) y) (sym (advance-at c l (Expiry its) step n e))
       (timer-climbs D its (state_of n.parts l) step.state d (each-leads (state_of n.parts l) (Expiry its) step e))
@@ -86,7 +87,7 @@ module _ (c : Configuration) (l : ℕ) where
       by : (link ≡ l) ⊎ (link ≢ l) → Climbing D n (run_out whole c link its n)
       by (inl same) =
           subst (λ (k : ℕ). Climbing D n (run_out whole c k its n)) (sym same) (run_own-climbs D (action_at (link_at n.parts l).alignment (Expiry its)) its n (d same) refl)
-      by (inr apart) = keeps-climbs D l n _ (run_out-steps keeps link its n apart)
+      by (inr apart) = keeps-climbs D l n _ (run_out-steps keeps link its n apart tt)
 
   other-climbs : (D : Type 0) (due : TimerName) (n : Node WholeQueues) → is_of_link due ≡ false → Climbing D n (run_timer whole c due n)
   other-climbs D due n e = keeps-climbs D l n _ (run_timer-steps keeps due n (λ link its f. absurd (no-link due link its e f)))
@@ -166,7 +167,7 @@ module _ (c : Configuration) (l : ℕ) where
   pub status-hears : (a : Action) (status : LinkStatus) (n : Node WholeQueues) → action_at (link_at n.parts l).alignment (Status status) ≡ a
       → Hearing (status_number status) n (act_by_status whole c a l status n).left
   status-hears act.Ignored status n e = same-hears (status_number status) (state_of n.parts l)
-  status-hears act.Fail status n e = kept-hears (status_number status) n _ (keeps.fails l reasons.Status n)
+  status-hears act.Fail status n e = kept-hears (status_number status) n _ (keeps.fails l reasons.Status n tt (fails-up (link_at n.parts l).alignment (Status status) e))
   status-hears (act.Go step) status n e =
       let next : Node WholeQueues = advance whole c l step n in
       let served : Node WholeQueues = if step.serve then serve_status whole c l status next else next in
@@ -190,11 +191,11 @@ module _ (c : Configuration) (l : ℕ) where
       let took : Node WholeQueues = accept whole c l d count n in
       both-keep l n took _ (owing-keeps d count n)
       (carry-steps keeps l d.message took (owing-serves l d.message (timed_parts c l count (whole.outstanding took.queues l) n.parts) ∙ e))
-  handle-keeps (Err fault) d n e = keeps.fails l reasons.Sequence n
+  handle-keeps (Err fault) d n e = keeps.fails l reasons.Sequence n tt (serves-up (link_at n.parts l).alignment e)
 
   pub data-hears : (a : Action) (d : Carrying) (n : Node WholeQueues) → action_at (link_at n.parts l).alignment UserData ≡ a → Hearing 0 n (act_by_data whole c a l d n).left
   data-hears act.Ignored d n e = same-hears 0 (state_of n.parts l)
-  data-hears act.Fail d n e = kept-hears 0 n _ (keeps.fails l reasons.Sequence n)
+  data-hears act.Fail d n e = kept-hears 0 n _ (keeps.fails l reasons.Sequence n tt (fails-up (link_at n.parts l).alignment UserData e))
   data-hears (act.Go step) d n e =
       let next : Node WholeQueues = advance whole c l step n in
       let done : Node WholeQueues = (handle_by whole c (numbers whole c l d next) l d next).left in

@@ -72,34 +72,34 @@ module _ (c : Configuration) (l : ℕ) (n : Node WholeQueues) where
       enters = λ f no. ⊎_elim (λ k. absurd (no k)) (λ k. inr (inr (record { text = text; frame = frame; came = refl; reads = e; carries = carries }), k.1)) (h.serves f);
     }
 
-    read-first : (r : Result FrameValue FrameFault) → read_frame text ≡ r → First (settled (read whole c l r n).left)
+    read-first : (r : Result FrameValue FrameFault) → read_frame text ≡ r → down n.parts l ≡ false → First (settled (read whole c l r n).left)
     unfolding settled
-    read-first (Ok (EmptyFrame bsn fsn)) e =
+    read-first (Ok (EmptyFrame bsn fsn)) e up =
         let m : Node WholeQueues = (act_by_data whole c (action_at (link_at n.parts l).alignment UserData) l (empty_data bsn fsn) n).left in
         data-first (EmptyFrame bsn fsn) e refl (settled m)
         (keeps-hears c l 0 n m (settled m) (data-hears c l (action_at (link_at n.parts l).alignment UserData) (empty_data bsn fsn) n refl) (settled-steps (keeps c l) m))
-    read-first (Ok (MessageFrame bsn fsn sio sif)) e =
+    read-first (Ok (MessageFrame bsn fsn sio sif)) e up =
         let m : Node WholeQueues = (act_by_data whole c (action_at (link_at n.parts l).alignment UserData) l (message_data bsn fsn sio sif) n).left in
         data-first (MessageFrame bsn fsn sio sif) e refl (settled m)
         (keeps-hears c l 0 n m (settled m) (data-hears c l (action_at (link_at n.parts l).alignment UserData) (message_data bsn fsn sio sif) n refl) (settled-steps (keeps c l) m))
-    read-first (Ok (StatusFrame bsn fsn status)) e =
+    read-first (Ok (StatusFrame bsn fsn status)) e up =
         let m : Node WholeQueues = (act_by_status whole c (action_at (link_at n.parts l).alignment (Status status)) l status n).left in
         status-first bsn fsn status e (settled m)
         (keeps-hears c l (status_number status) n m (settled m) (status-hears c l (action_at (link_at n.parts l).alignment (Status status)) status n refl) (settled-steps (keeps c l) m))
-    read-first (Err fault) e =
+    read-first (Err fault) e up =
         let m : Node WholeQueues = (leave_aside whole c l fault n).left in
-        kept-first (FrameCame l text) (settled m) (both-keep l n m (settled m) (leave_aside-steps (keeps c l) l fault n) (settled-steps (keeps c l) m))
+        kept-first (FrameCame l text) (settled m) (both-keep l n m (settled m) (leave_aside-steps (keeps c l) l fault n up) (settled-steps (keeps c l) m))
 
-    receive-first : (is_there is_down : Bool) (r : Result FrameValue FrameFault) → read_frame text ≡ r
+    receive-first : (is_there is_down : Bool) (r : Result FrameValue FrameFault) → read_frame text ≡ r → down n.parts l ≡ is_down
         → First (settled (if is_there then (if is_down then answer Ignored n else read whole c l r n) else refuse causes.NoSuchName n).left)
     unfolding settled
-    receive-first false is_down r e = kept-first (FrameCame l text) (settled n) (settled-steps (keeps c l) n)
-    receive-first true true r e = kept-first (FrameCame l text) (settled n) (settled-steps (keeps c l) n)
-    receive-first true false r e = read-first r e
+    receive-first false is_down r e f = kept-first (FrameCame l text) (settled n) (settled-steps (keeps c l) n)
+    receive-first true true r e f = kept-first (FrameCame l text) (settled n) (settled-steps (keeps c l) n)
+    receive-first true false r e f = read-first r e f
 
     frame-first : First (apply whole c (FrameCame l text) n).left
     unfolding apply settled
-    frame-first = receive-first (is_link n.parts l) (down n.parts l) (read_frame text) refl
+    frame-first = receive-first (is_link n.parts l) (down n.parts l) (read_frame text) refl refl
 
   -- ---- other events
 

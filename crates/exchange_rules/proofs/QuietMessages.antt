@@ -1,6 +1,6 @@
 -- Messages that are made here or go to other points lose nothing: how many notices each rule makes.
 use Rattle.exchange_rules.proofs.Basics.{Bool, Err, List, None, Ok, Option, Result, Some, [], arith, false, length, nat_eq, nat_lt, not, refl, true, ℕ, ◌&&◌, ◌+◌, ◌∷◌, ◌≡◌, if◌then◌else◌}
-use Rattle.exchange_rules.proofs.Definitions.{is_outstanding, LinkTestValue, MgmtFault, TestKind, Acknowledgement, Test, Owed, owed, Heard, RouteTest, status_of, RouteStatus, Allowed, Prohibited, Restricted, Configuration, Message, dpc_of, flow_of, is_management, service_indicator, Cause, Outcome, Handled, Held, Ignored, Local, Queued, Refused, Discrimination, RelayedValue, relay, returned, destination_place, is_destination, offer, transfer, local, sccp, submit, submit_to, whither_goes, is_user, in_place_of, on_unitdata, own_of, relay_by, return_outcome, send_udts, waits, forced, freed, held_by_rerouting, on_changeback_acknowledgement, prohibited_test, restricted_test, route_message, timed_status, with_status_heard, send_each, do_kind, do_test, test_answer, send, send_anew, send_routed, set_of, no_room, no_room_for, WholeQueues, whole, apply_route_status, ask_again, ask_by, on_route_status, with_next_test, facts, link_of, Done, Node, Parts, answer, refuse, with_parts, answer_no_route, answered_parts, inhibited, is_inhibited, may_tell, on_route_test, prohibit, send_route_status, tell_each, tell_if, tell_owed, told_parts}
+use Rattle.exchange_rules.proofs.Definitions.{is_outstanding, LinkTestValue, MgmtFault, TestKind, Acknowledgement, Test, Owed, owed, Heard, RouteTest, status_of, RouteStatus, Allowed, Prohibited, Restricted, Configuration, Message, dpc_of, opc_of, flow_of, is_management, service_indicator, Cause, Outcome, Handled, Held, Ignored, Local, Queued, Refused, Discrimination, RelayedValue, relay, returned, destination_place, is_destination, offer, transfer, local, sccp, submit, submit_to, whither_goes, is_user, in_place_of, on_unitdata, own_of, relay_by, return_outcome, send_udts, waits, forced, freed, held_by_rerouting, on_changeback_acknowledgement, prohibited_test, restricted_test, route_message, timed_status, with_status_heard, send_each, do_kind, do_test, test_answer, send, send_anew, send_routed, set_of, no_room, no_room_for, WholeQueues, whole, apply_route_status, ask_again, ask_by, on_route_status, with_next_test, facts, link_of, Done, Node, Parts, answer, refuse, with_parts, answer_no_route, answer_no_user_part, is_unequipped_told, tell_unavailable, unavailable, unequipped_counted, answered_parts, inhibited, is_inhibited, may_tell, on_route_test, prohibit, send_route_status, tell_each, tell_if, tell_owed, told_parts}
 use Rattle.changeback.specs.Rerouting.{rerouted}
 use Rattle.signalling_types.specs.declared.cause.Cause.TheVariants as causes
 use Rattle.signalling_types.specs.declared.notice.Notice.TheVariants as notices
@@ -57,6 +57,18 @@ module _ (c : Configuration) where
       either-quiet 1 (may_tell whole c n && not (is_inhibited set destination n.parts)) n (prohibit whole c set destination n) n (prohibit-quiet set destination n) (any-quiet 1 n)
   answer_no_route-quiet (Some link) None n = any-quiet 1 n
   answer_no_route-quiet None destination n = any-quiet 1 n
+
+  tell_unavailable-quiet : (origin : ℕ) (m : Message) (n : Node WholeQueues) → Quiet 1 n (tell_unavailable whole c origin m n)
+  tell_unavailable-quiet origin m n =
+      let next : Node WholeQueues = with_parts n (unequipped_counted origin n.parts) in
+      then-quiet 1 n next _ refl refl refl
+      (either-quiet 1 (is_unequipped_told whole c origin n) next (send_routed whole c (unavailable c m) next) next (routed-quiet (unavailable c m) next) (any-quiet 1 next))
+
+  answer_no_user_part-quiet : (link origin : Option ℕ) (m : Message) (n : Node WholeQueues) → Quiet 1 n (answer_no_user_part whole c link origin m n)
+  answer_no_user_part-quiet (Some link) (Some origin) m n =
+      either-quiet 1 c.user_part_unavailable n (tell_unavailable whole c origin m n) n (tell_unavailable-quiet origin m n) (any-quiet 1 n)
+  answer_no_user_part-quiet (Some link) None m n = any-quiet 1 n
+  answer_no_user_part-quiet None origin m n = any-quiet 1 n
 
   send_route_status-quiet : (status : Option RouteStatus) (set destination : ℕ) (n : Node WholeQueues) → Quiet 1 n (send_route_status whole c status set destination n)
   send_route_status-quiet (Some status) set destination n =
@@ -156,7 +168,7 @@ module _ (c : Configuration) where
   udts-quiet None m n = any-quiet 1 n
 
   return_outcome-quiet : (o : Outcome) (m : Message) (n : Node WholeQueues) → Quiet 1 n (return_outcome whole c o m n)
-  return_outcome-quiet (Refused cause) m n = udts-quiet (returned (own_of c) n.parts.titles m.sif cause) m n
+  return_outcome-quiet (Refused cause) m n = udts-quiet (returned (own_of c n.parts) n.parts.titles m.sif cause) m n
   return_outcome-quiet (Queued link) m n = any-quiet 1 n
   return_outcome-quiet Held m n = any-quiet 1 n
   return_outcome-quiet Local m n = any-quiet 1 n
@@ -165,18 +177,20 @@ module _ (c : Configuration) where
 
   unitdata-quiet : (m : Message) (n : Node WholeQueues) → Quiet 2 n (on_unitdata whole c m n).left
   unitdata-quiet m n =
-      let d : Done WholeQueues = relay_by whole c (relay (own_of c) n.parts.titles m.sif) m n in
-      both-quiet 1 1 n d.left _ (relay-quiet (relay (own_of c) n.parts.titles m.sif) m n) (return_outcome-quiet d.outcome m d.left)
+      let d : Done WholeQueues = relay_by whole c (relay (own_of c n.parts) n.parts.titles m.sif) m n in
+      both-quiet 1 1 n d.left _ (relay-quiet (relay (own_of c n.parts) n.parts.titles m.sif) m n) (return_outcome-quiet d.outcome m d.left)
 
-  pub local-quiet : (m : Message) (n : Node WholeQueues) → Quiet 2 n (local whole c m n).left
-  local-quiet m n =
-      either_done-quiet 2 (nat_eq (service_indicator m) sccp) n (on_unitdata whole c m n) (if is_user c (service_indicator m) then answer Local n else refuse causes.NoUserPart n) (unitdata-quiet m n)
-      (either_done-quiet 2 (is_user c (service_indicator m)) n (answer Local n) (refuse causes.NoUserPart n) (any-quiet 2 n) (any-quiet 2 n))
+  pub local-quiet : (from : Option ℕ) (m : Message) (n : Node WholeQueues) → Quiet 2 n (local whole c from m n).left
+  local-quiet from m n =
+      let origin : Option ℕ = destination_place c (opc_of m) in
+      let absent : Done WholeQueues = refuse causes.NoUserPart (answer_no_user_part whole c from origin m n) in
+      either_done-quiet 2 (nat_eq (service_indicator m) sccp) n (on_unitdata whole c m n) (if is_user c (service_indicator m) then answer Local n else absent) (unitdata-quiet m n)
+      (either_done-quiet 2 (is_user c (service_indicator m)) n (answer Local n) absent (any-quiet 2 n) (more-quiet 1 2 n _ (omega arith) (answer_no_user_part-quiet from origin m n)))
 
   submit_to-quiet : (d : Discrimination) (m : Message) (n : Node WholeQueues) → Quiet 2 n (submit_to whole c d m n).left
   submit_to-quiet (whither.Refused cause) m n = any-quiet 2 n
   submit_to-quiet (whither.Here label) m n =
-      either_done-quiet 2 (is_management m) n (refuse causes.NotInProfile n) (local whole c m n) (any-quiet 2 n) (local-quiet m n)
+      either_done-quiet 2 (is_management m) n (refuse causes.NotInProfile n) (local whole c None m n) (any-quiet 2 n) (local-quiet None m n)
   submit_to-quiet (whither.Transfer label) m n =
       either_done-quiet 2 (is_management m) n (refuse causes.NotInProfile n) (transfer whole c None m n) (any-quiet 2 n) (more-quiet 1 2 n _ (omega arith) (transfer-quiet None m n))
 

@@ -63,20 +63,20 @@ module _ (c : Configuration) (link : ℕ) where
       → received (receive_data whole c link d n).left link ≡ received n link + one_if (is_some (new_in (Some d) link c n))
   data-count d n h there = act-count (action_at (link_at n.parts link).alignment UserData) d n h there refl
 
-  frame-count : (r : Result FrameValue FrameFault) (n : Node WholeQueues) → HasAllPlaces c n → link < length c.links
+  frame-count : (r : Result FrameValue FrameFault) (n : Node WholeQueues) → HasAllPlaces c n → link < length c.links → down n.parts link ≡ false
       → received (read whole c link r n).left link ≡ received n link + one_if (is_some (new_of r link c n))
-  frame-count (Ok (EmptyFrame bsn fsn)) n h there = data-count (empty_data bsn fsn) n h there
-  frame-count (Ok (MessageFrame bsn fsn sio sif)) n h there = data-count (message_data bsn fsn sio sif) n h there
-  frame-count (Ok (StatusFrame bsn fsn status)) n h there = (on_link_status-steps (rules-of (same-steps link c)) link status n tt).same ∙ none-more (received n link)
-  frame-count (Err fault) n h there = (leave_aside-steps (rules-of (same-steps link c)) link fault n).same ∙ none-more (received n link)
+  frame-count (Ok (EmptyFrame bsn fsn)) n h there up = data-count (empty_data bsn fsn) n h there
+  frame-count (Ok (MessageFrame bsn fsn sio sif)) n h there up = data-count (message_data bsn fsn sio sif) n h there
+  frame-count (Ok (StatusFrame bsn fsn status)) n h there up = (on_link_status-steps (rules-of (same-steps link c)) link status n tt (λ e. tt)).same ∙ none-more (received n link)
+  frame-count (Err fault) n h there up = (leave_aside-steps (rules-of (same-steps link c)) link fault n up).same ∙ none-more (received n link)
 
   -- where the link is there, and isn't down
-  receive-count : (there is_down : Bool) (r : Result FrameValue FrameFault) (n : Node WholeQueues) → HasAllPlaces c n → (there ≡ true → link < length c.links)
+  receive-count : (there is_down : Bool) (r : Result FrameValue FrameFault) (n : Node WholeQueues) → HasAllPlaces c n → (there ≡ true → link < length c.links) → down n.parts link ≡ is_down
       → received (if there then (if is_down then answer Ignored n else read whole c link r n) else refuse causes.NoSuchName n).left link
       ≡ received n link + one_if (is_some (if there && not is_down then new_of r link c n else None))
-  receive-count false is_down r n h l = none-more (received n link)
-  receive-count true true r n h l = none-more (received n link)
-  receive-count true false r n h l = frame-count r n h (l refl)
+  receive-count false is_down r n h l e = none-more (received n link)
+  receive-count true true r n h l e = none-more (received n link)
+  receive-count true false r n h l e = frame-count r n h (l refl) e
 
   own-frame : (text : List ℕ) (n : Node WholeQueues) → HasAllPlaces c n
       → received (apply whole c (FrameCame link text) n).left link
@@ -85,7 +85,7 @@ module _ (c : Configuration) (link : ℕ) where
   own-frame text n h =
       (settled-steps (rules-of (same-steps link c)) (receive whole c link text n).left).same
       ∙ receive-count (is_link n.parts link) (down n.parts link) (read_frame text) n h
-      (λ e. let known : link < length n.parts.links = grind (arith, nat_tests, e) in omega (arith, known, h.parts.links))
+      (λ e. let known : link < length n.parts.links = grind (arith, nat_tests, e) in omega (arith, known, h.parts.links)) refl
 
 -- ---- any event
 

@@ -4,7 +4,7 @@ use Rattle.exchange_rules.proofs.Definitions.{Configuration, Node, with_parts, h
 use Rattle.changeback.specs.Rerouting.{held_for}
 use Rattle.timers.specs.declared.name.TimerName.TheVariants as name
 use Rattle.exchange_rules.proofs.Places.{held_for-fits, lifted-fits}
-use Rattle.exchange_rules.proofs.Steps.{IsOfSteps, IsOfRules, sends-of, not-both}
+use Rattle.exchange_rules.proofs.Steps.{IsOfSteps, IsOfRules, sends-of, not-both, lateness-other}
 use Rattle.exchange_rules.proofs.SteppingTimers.{set-timed}
 use Rattle.exchange_rules.proofs.SteppingFailures.{fail-steps, on_changeover_order-steps, on_changeover_acknowledgement-steps, on_changeover_timer-steps}
 use Rattle.exchange_rules.proofs.SteppingReturns.{freed-steps, hold_flows-steps}
@@ -22,25 +22,26 @@ module _ {c : Configuration} {Own Counts : ℕ → Type 0} {R : Node WholeQueues
     tested = s.tested;
     held = s.held;
     taken_out = s.taken_out;
-    late = λ notice n e. s.both _ _ _ (s.late n) (s.noted notice _ (record { lost = λ f. absurd (not-both notice f e); late = λ f. refl }));
+    late = λ notice n e. s.both _ _ _ (s.late n) (s.noted notice _ (record { other = lateness-other notice e; lost = λ f. absurd (not-both notice f e); late = λ f. refl }));
     timed = λ r n e k. s.timed r n e.timed;
     rerouted = λ routes n e k. s.rerouted routes n e;
     told = s.told;
     titled = s.titled;
+    unequipped = s.unequipped;
     linked = s.linked;
     parted = s.parted;
-    opened = s.opened;
+    opened = λ link n own there e f may. s.opened link n own there e f;
     stepped = λ link input step n own e k. s.stepped link input step n own e;
     busied = s.busied;
     resumed = s.resumed;
     accepted = s.accepted;
     sent = s.sent;
-    fails = fail-steps s;
-    orders = on_changeover_order-steps s;
-    acknowledges = on_changeover_acknowledgement-steps s;
-    expires = on_changeover_timer-steps s;
+    fails = λ link why n may up. fail-steps s link why n;
+    orders = λ link number n falls ends. on_changeover_order-steps s link number n;
+    acknowledges = λ link number n may. on_changeover_acknowledgement-steps s link number n;
+    expires = λ timer link n may. on_changeover_timer-steps s timer link n;
     returns = hold_flows-steps s;
-    frees = freed-steps s;
+    frees = λ set code n may. freed-steps s set code n;
     reroutes = reroutes-steps;
-    lifts = λ procedure n. s.holding _ n (record { fits = lifted-fits c n.parts.holds procedure });
+    lifts = λ procedure n may. s.holding _ n (record { fits = lifted-fits c n.parts.holds procedure });
   }

@@ -190,3 +190,29 @@ data-serves (Proving true) step e = absurd cc
 data-serves (Proving false) step e = absurd cc
 data-serves AlignedReady step e = sym (ap (λ (x : Action). is_in_service (step_in x).state) e)
 data-serves InService step e = sym (ap (λ (x : Action). is_in_service (step_in x).state) e)
+
+-- ---- a link that is down does nothing
+
+pub fails-up : (a : Alignment) (input : Input) → action_at a input ≡ Fail → is_down a ≡ false
+fails-up Down input e = absurd cc
+fails-up NotAligned input e = refl
+fails-up Aligned input e = refl
+fails-up (Proving ready) input e = refl
+fails-up AlignedReady input e = refl
+fails-up InService input e = refl
+
+pub goes-up : (a : Alignment) (input : Input) (step : Transition) → action_at a input ≡ Go step → is_down a ≡ false
+goes-up Down input step e = absurd cc
+goes-up NotAligned input step e = refl
+goes-up Aligned input step e = refl
+goes-up (Proving ready) input step e = refl
+goes-up AlignedReady input step e = refl
+goes-up InService input step e = refl
+
+pub serves-up : (a : Alignment) → is_in_service a ≡ true → is_down a ≡ false
+serves-up Down e = absurd cc
+serves-up NotAligned e = refl
+serves-up Aligned e = refl
+serves-up (Proving ready) e = refl
+serves-up AlignedReady e = refl
+serves-up InService e = refl

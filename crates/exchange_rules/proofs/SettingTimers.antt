@@ -131,9 +131,10 @@ module _ (c : Configuration) (E : ℕ → Type 0) where
       rerouted = λ routes n e k. same n _ refl;
       told = λ t n e. same n _ refl;
       titled = λ rows n. same n _ refl;
+      unequipped = λ counts n e. same n _ refl;
       linked = λ link x n e. same n _ refl;
       parted = λ link n e. same n _ refl;
-      opened = λ link n own there e f. record { timers = timed-set c E link opening n.parts.timers };
+      opened = λ link n own there e f may. record { timers = timed-set c E link opening n.parts.timers };
       stepped = λ link input step n own e k. record { timers = timed-set c E link step n.parts.timers };
       busied = λ link n own e f. record { timers = timed_busy-set c E link n.parts.timers };
       resumed = λ link n own e f. record { timers = timed_busy_ended-set c E link (whole.outstanding n.queues link) n.parts.timers };
@@ -141,14 +142,14 @@ module _ (c : Configuration) (E : ℕ → Type 0) where
         timers = timed_confirming-set c E link (link_at n.parts link).peer_busy confirmed (whole.outstanding (whole.accepted n.queues link d.fsn d.bsn (carries d)) link) n.parts.timers;
       };
       sent = λ link next n own e. record { timers = timed_sending-set c E link n.parts.timers };
-      fails = λ link why n. fails-sets (in_service n.parts link) link why n;
-      orders = orders-sets;
-      acknowledges = λ link number n. acknowledges-sets (changeover_of n.parts link).awaited link number n;
-      expires = λ timer link n. expires-sets (is_link n.parts link) timer link n;
+      fails = λ link why n may up. fails-sets (in_service n.parts link) link why n;
+      orders = λ link number n falls ends. orders-sets link number n;
+      acknowledges = λ link number n may. acknowledges-sets (changeover_of n.parts link).awaited link number n;
+      expires = λ timer link n may. expires-sets (is_link n.parts link) timer link n;
       returns = λ before after code link other n e f. returns-sets before after code link other n;
-      frees = λ set code n. record { timers = clear-set c E (name.T4 set code) n.parts.timers (λ s d e. absurd cc) };
+      frees = λ set code n may. record { timers = clear-set c E (name.T4 set code) n.parts.timers (λ s d e. absurd cc) };
       reroutes = reroutes-sets;
-      lifts = λ procedure n. same n _ refl;
+      lifts = λ procedure n may. same n _ refl;
     }
 
 module _ (c : Configuration) where

@@ -1,6 +1,6 @@
 -- What a release leaves: each message of Held waits, and if each did before, nothing changed. Telling leaves this so.
 use Rattle.exchange_rules.proofs.Basics.{◌≡◌, ℕ, Bool, true, false, ◌&&◌, not, List, [], ◌∷◌, ◌++◌, Option, Some, None, refl, ap, sym, ◌∙◌, if◌then◌else◌, append-nil, append_assoc}
-use Rattle.exchange_rules.proofs.Definitions.{Message, flow_of, Cause, Configuration, Prohibited, Owed, owed, HoldSet, Node, with_parts, WholeQueues, whole, facts, link_of, waits, all_wait, go_on, go_by, go, go_each, release, Outgoing, SendsStatus, SendsMessage, Acknowledges, SendsNothing, goes_out, after_sending, after_take, set_of, no_room, send, send_routed, route_message, told_parts, inhibited, is_inhibited, may_tell, tell, tell_if, tell_each, tell_owed, prohibit, prohibit_if, answer_no_route}
+use Rattle.exchange_rules.proofs.Definitions.{Message, flow_of, Cause, Configuration, Prohibited, Owed, owed, HoldSet, Node, with_parts, WholeQueues, whole, facts, link_of, waits, all_wait, go_on, go_by, go, go_each, release, Outgoing, SendsStatus, SendsMessage, Acknowledges, SendsNothing, goes_out, after_sending, after_take, set_of, no_room, send, send_routed, route_message, told_parts, inhibited, is_inhibited, may_tell, tell, tell_if, tell_each, tell_owed, prohibit, prohibit_if, answer_no_route, answer_no_user_part, is_unequipped_told, tell_unavailable, unavailable, unequipped_counted}
 use Rattle.std.proofs.lemmas.List.Folds.{list_all-append}
 
 -- all messages of Held wait for holds that stay as they are
@@ -111,6 +111,15 @@ module _ (c : Configuration) (holds : HoldSet) where
   turned_away-waits (Some link) None n w = w
   turned_away-waits None destination n w = w
 
+  without_part-waits : (link origin : Option ℕ) (m : Message) (n : Node WholeQueues) → Waits c holds n → Waits c holds (answer_no_user_part whole c link origin m n)
+  without_part-waits (Some link) (Some origin) m n w =
+      let next : Node WholeQueues = with_parts n (unequipped_counted origin n.parts) in
+      let still : Waits c holds next = record { same = w.same; all = w.all } in
+      either-waits c.user_part_unavailable (tell_unavailable whole c origin m n) n
+      (either-waits (is_unequipped_told whole c origin n) (send_routed whole c (unavailable c m) next) next (send_routed-waits (unavailable c m) next still) still) w
+  without_part-waits (Some link) None m n w = w
+  without_part-waits None origin m n w = w
+
 -- each message of Held waits, by the holds that the node has
 waits-by : (c : Configuration) (holds : HoldSet) (n : Node WholeQueues) → Waits c holds n → all_wait c n.parts.holds n.queues.held ≡ true
 waits-by c holds n w = ap (λ (t : HoldSet). all_wait c t n.queues.held) w.same ∙ w.all
@@ -127,3 +136,9 @@ pub answer_no_route-waits : (c : Configuration) (link destination : Option ℕ) 
 answer_no_route-waits c link destination n e =
     waits-by c n.parts.holds (answer_no_route whole c link destination n)
     (turned_away-waits c n.parts.holds link destination n (record { same = refl; all = e }))
+
+pub answer_no_user_part-waits : (c : Configuration) (link origin : Option ℕ) (m : Message) (n : Node WholeQueues) → all_wait c n.parts.holds n.queues.held ≡ true
+    → all_wait c (answer_no_user_part whole c link origin m n).parts.holds (answer_no_user_part whole c link origin m n).queues.held ≡ true
+answer_no_user_part-waits c link origin m n e =
+    waits-by c n.parts.holds (answer_no_user_part whole c link origin m n)
+    (without_part-waits c n.parts.holds link origin m n (record { same = refl; all = e }))

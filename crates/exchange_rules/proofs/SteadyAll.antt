@@ -98,6 +98,7 @@ module _ (exact : Bool) (c : Configuration) (l : ℕ) where
     rerouted = λ routes n e. alike n _ refl refl refl refl refl;
     told = λ t n e. alike n _ refl refl refl refl refl;
     titled = λ rows n. alike n _ refl refl refl refl refl;
+    unequipped = λ counts n e. alike n _ refl refl refl refl refl;
     failed = λ link why st n e f. failed-keeps exact c l link why st n f;
     dropped = λ link why n e. dropped-keeps exact c l link why n e;
     completed = λ link number st n e f. completed-keeps exact c l link number st n e f;

@@ -1,6 +1,6 @@
 -- Frames, ticks, releases, whole events, and what goes out: each is made of steps.
-use Rattle.exchange_rules.proofs.Basics.{◌≡◌, ℕ, zero, suc, Bool, true, false, List, [], ◌∷◌, Option, Some, None, Result, Ok, Err, refl, ap, ◌∙◌, if◌then◌else◌, slice_get, drop}
-use Rattle.exchange_rules.proofs.Definitions.{Message, flow_of, Configuration, Ignored, FrameFault, FrameValue, EmptyFrame, MessageFrame, StatusFrame, read_frame, LinkStatus, Action, UserData, LinkTimer, timer_name, action_at, Sending, SeqFault, TimerName, ticked, due_name, after_due, due_count, Link, down_link, is_in_service, Time, Code, Reroute, Parts, Node, with_parts, answer, refuse, is_link, link_at, down, in_service, link_of, waits, rerouting_ended, late_time, late_code, tell_owed, advance, Carrying, empty_data, message_data, owing, timed_parts, numbers, accept, carry, handle_by, act_by_data, receive_data, receive_frame, leave_aside, read, receive, with_timers, run_timer, run_due, run_next, run_times, tick, go_on, go_by, go, go_each, release, Outgoing, if_owed, message_first, status_first, without_owed, next_message, after_sending, after_take, Happening, CameUp, WentDown, FrameCame, Ticked, Submitted, Activated, Deactivated, TitleAdded, TitleRemoved, handle_event, apply, WholeQueues, whole}
+use Rattle.exchange_rules.proofs.Basics.{◌≡◌, ℕ, zero, suc, Bool, true, false, List, [], ◌∷◌, Option, Some, None, Result, Ok, Err, refl, ap, ◌∙◌, if◌then◌else◌, slice_get, drop, ◌&&◌, not}
+use Rattle.exchange_rules.proofs.Definitions.{Message, flow_of, Configuration, Ignored, FrameFault, FrameValue, EmptyFrame, MessageFrame, StatusFrame, read_frame, LinkStatus, Action, UserData, LinkTimer, timer_name, action_at, Sending, SeqFault, TimerName, ticked, due_name, after_due, due_count, Link, down_link, is_in_service, Time, Code, Reroute, Parts, Node, with_parts, answer, refuse, is_link, link_at, down, in_service, link_of, waits, late_time, late_code, tell_owed, advance, Carrying, empty_data, message_data, owing, timed_parts, numbers, accept, carry, handle_by, act_by_data, receive_data, leave_aside, read, with_timers, run_timer, run_due, run_next, run_times, tick, go_on, go_by, go, go_each, release, Outgoing, if_owed, message_first, status_first, without_owed, next_message, after_sending, after_take, Happening, CameUp, WentDown, FrameCame, Ticked, Submitted, Activated, Deactivated, TitleAdded, TitleRemoved, handle_event, apply, WholeQueues, whole, new_by, new_at, new_in, new_of, Procedure, Changeover, Status}
 use Rattle.signalling_types.specs.declared.cause.Cause.TheVariants as causes
 use Rattle.signalling_types.specs.declared.notice.Notice.TheVariants as notices
 use Rattle.signalling_types.specs.declared.notice.LateTimer.TheVariants as late_timer
@@ -11,12 +11,13 @@ use Rattle.link.specs.declared.action.Action.TheVariants as act
 use Rattle.link.specs.declared.action.LinkTimer.TheVariants as timer
 use Rattle.timers.specs.declared.name.TimerName.TheVariants as name
 use Rattle.exchange_rules.proofs.Lists.{alike-at}
-use Rattle.exchange_rules.proofs.Serving.{data-serves}
-use Rattle.exchange_rules.proofs.Steps.{IsOfRules, confirming, either_done-steps}
+use Rattle.exchange_rules.proofs.Serving.{data-serves, fails-up, serves-up}
+use Rattle.exchange_rules.proofs.Steps.{confirming, Deed, IsOfDeeds, LinkFails, HoldsEnd, anything, IsOfRules, LinkOpens}
 use Rattle.exchange_rules.proofs.SteppingMessages.{ask_again-steps, tell_owed-steps}
 use Rattle.exchange_rules.proofs.SteppingRelaying.{add_title-steps, remove_title-steps}
 use Rattle.exchange_rules.proofs.SteppingLinks.{advance-serves, advance-steps, on_link_status-steps, run_out-steps, association_up-steps, association_down-steps, activate-steps, deactivate-steps}
-use Rattle.exchange_rules.proofs.SteppingLocal.{deliver-steps, submit-steps}
+use Rattle.exchange_rules.proofs.SteppingLocal.{Allows, deliver-steps, submit-steps}
+use Rattle.exchange_rules.specs.LawsOfCauses.{Word, ended_by_timer, is_misplaced, is_misplaced_at, is_misplaced_in, is_wrong, word_heard, word_of}
 
 -- a message that came is to be acknowledged on a link that carries messages as before
 pub owing-serves : (link : ℕ) (m : Option Message) (p : Parts) → in_service (owing link m p) link ≡ in_service p link
@@ -35,86 +36,110 @@ IsOf (Deactivated link) l = ⊥
 IsOf (TitleAdded row is_memory_refused) l = ⊥
 IsOf (TitleRemoved key digits) l = ⊥
 
-module _ {c : Configuration} {Own Counts : ℕ → Type 0} {R : Node WholeQueues → Node WholeQueues → Type 0} (s : IsOfRules c Own Counts R) where
+-- what a frame may do that came by a link, but for what it says to the node
+pub record AllowsFrame (c : Configuration) (May : Deed → Type 0) (link : ℕ) (r : Result FrameValue FrameFault) (n : Node WholeQueues) : Type 0 where
+  pub wrong : is_misplaced r link c n ≡ true → May (LinkFails link reasons.Sequence)
+  pub length : r ≡ Err faults.Length → May (LinkFails link reasons.Length)
+  pub status : (bsn fsn : ℕ) (status : LinkStatus) → r ≡ Ok (StatusFrame bsn fsn status) → action_at (link_at n.parts link).alignment (Status status) ≡ act.Fail
+      → May (LinkFails link reasons.Status)
+
+-- what a timer may do
+pub record AllowsTimer (May : Deed → Type 0) (timer : TimerName) : Type 0 where
+  pub ends : (procedure : Procedure) → ended_by_timer timer ≡ Some procedure → May (HoldsEnd procedure)
+  pub fails : (link : ℕ) (its : LinkTimer) → timer ≡ timer_name link its → May (LinkFails link reasons.Timer)
+
+-- what an event may do, but for a tick
+pub record AllowsEvent (c : Configuration) (May : Deed → Type 0) (what : Happening) (n : Node WholeQueues) : Type 0 where
+  pub opens : (link : ℕ) → what ≡ CameUp link → May (LinkOpens link)
+  pub lost : (link : ℕ) → what ≡ WentDown link → May (LinkFails link reasons.Association)
+  pub ordered : (link : ℕ) → what ≡ Deactivated link → May (LinkFails link reasons.Operator)
+  pub frame : (link : ℕ) (text : List ℕ) → what ≡ FrameCame link text → AllowsFrame c May link (read_frame text) n
+  pub words : (word : Word) → word_heard what (record { settings = c; node = n }) ≡ Some word → Allows c May word
+
+module _ {c : Configuration} {Own Counts : ℕ → Type 0} {May : Deed → Type 0} {R : Node WholeQueues → Node WholeQueues → Type 0} (s : IsOfDeeds c Own Counts May R) where
   -- ---- a frame
 
-  pub carry-steps : (link : ℕ) (m : Option Message) (n : Node WholeQueues) → in_service n.parts link ≡ true → R n (carry whole c link m n).left
-  carry-steps link None n e = s.sends.none n
-  carry-steps link (Some m) n e = deliver-steps s link m n e
+  pub carry-deeds : (link : ℕ) (m : Option Message) (n : Node WholeQueues) → in_service n.parts link ≡ true → ((word : Word) → word_of c m ≡ Some word → Allows c May word)
+      → R n (carry whole c link m n).left
+  carry-deeds link None n e may = s.sends.none n
+  carry-deeds link (Some m) n e may = deliver-steps s link m n e may
 
   pub owing-steps : (link : ℕ) (m : Option Message) (n : Node WholeQueues) → R n (with_parts n (owing link m n.parts))
   owing-steps link None n = s.sends.none n
   owing-steps link (Some m) n = s.linked link (record (link_at n.parts link) { acknowledgement_owed = true }) n (record { alignment = refl; association = refl; busy = refl })
 
-  pub handle_by-steps : (answer : Result ℕ SeqFault) (link : ℕ) (d : Carrying) (n : Node WholeQueues) → Counts link → in_service n.parts link ≡ true → numbers whole c link d n ≡ answer
-      → R n (handle_by whole c answer link d n).left
-  handle_by-steps (Ok confirmed) link d n own e f =
+  pub handle_by-deeds : (answer : Result ℕ SeqFault) (link : ℕ) (d : Carrying) (n : Node WholeQueues) → Counts link → in_service n.parts link ≡ true → numbers whole c link d n ≡ answer
+      → (is_wrong answer ≡ true → May (LinkFails link reasons.Sequence)) → ((word : Word) → word_of c (new_by answer d) ≡ Some word → Allows c May word) → R n (handle_by whole c answer link d n).left
+  handle_by-deeds (Ok confirmed) link d n own e f wrong may =
       let next : Node WholeQueues = accept whole c link d confirmed n in
       s.sends.both _ _ _ (s.sends.both _ _ _ (s.accepted link d confirmed n own e f) (owing-steps link d.message (confirming c link d confirmed n)))
-      (carry-steps link d.message next (owing-serves link d.message (timed_parts c link confirmed (whole.outstanding next.queues link) n.parts) ∙ e))
-  handle_by-steps (Err fault) link d n own e f = s.fails link reasons.Sequence n
+      (carry-deeds link d.message next (owing-serves link d.message (timed_parts c link confirmed (whole.outstanding next.queues link) n.parts) ∙ e) may)
+  handle_by-deeds (Err fault) link d n own e f wrong may = s.fails link reasons.Sequence n (wrong refl) (serves-up (link_at n.parts link).alignment e)
 
-  act_by_data-steps : (a : Action) (link : ℕ) (d : Carrying) (n : Node WholeQueues) → Own link → Counts link → action_at (link_at n.parts link).alignment UserData ≡ a
+  act_by_data-deeds : (a : Action) (link : ℕ) (d : Carrying) (n : Node WholeQueues) → Own link → Counts link → action_at (link_at n.parts link).alignment UserData ≡ a
+      → (is_misplaced_at a link d c n ≡ true → May (LinkFails link reasons.Sequence)) → ((word : Word) → word_of c (new_at a link d c n) ≡ Some word → Allows c May word)
       → R n (act_by_data whole c a link d n).left
-  act_by_data-steps act.Ignored link d n own counts e = s.sends.none n
-  act_by_data-steps act.Fail link d n own counts e = s.fails link reasons.Sequence n
-  act_by_data-steps (act.Go step) link d n own counts e =
+  act_by_data-deeds act.Ignored link d n own counts e wrong may = s.sends.none n
+  act_by_data-deeds act.Fail link d n own counts e wrong may = s.fails link reasons.Sequence n (wrong refl) (fails-up (link_at n.parts link).alignment UserData e)
+  act_by_data-deeds (act.Go step) link d n own counts e wrong may =
       let next : Node WholeQueues = advance whole c link step n in
       s.sends.both _ _ _ (advance-steps s link UserData step n own e)
-      (handle_by-steps (numbers whole c link d next) link d next counts
-      (advance-serves c link UserData step n e ∙ data-serves (link_at n.parts link).alignment step e) refl)
+      (handle_by-deeds (numbers whole c link d next) link d next counts
+      (advance-serves c link UserData step n e ∙ data-serves (link_at n.parts link).alignment step e) refl wrong may)
 
-  receive_data-steps : (link : ℕ) (d : Carrying) (n : Node WholeQueues) → Own link → Counts link → R n (receive_data whole c link d n).left
-  receive_data-steps link d n own counts = act_by_data-steps (action_at (link_at n.parts link).alignment UserData) link d n own counts refl
+  receive_data-deeds : (link : ℕ) (d : Carrying) (n : Node WholeQueues) → Own link → Counts link → (is_misplaced_in (Some d) link c n ≡ true → May (LinkFails link reasons.Sequence))
+      → ((word : Word) → word_of c (new_in (Some d) link c n) ≡ Some word → Allows c May word) → R n (receive_data whole c link d n).left
+  receive_data-deeds link d n own counts wrong may = act_by_data-deeds (action_at (link_at n.parts link).alignment UserData) link d n own counts refl wrong may
 
-  receive_frame-steps : (link : ℕ) (frame : FrameValue) (n : Node WholeQueues) → Own link → Counts link → R n (receive_frame whole c link frame n).left
-  receive_frame-steps link (EmptyFrame bsn fsn) n own counts = receive_data-steps link (empty_data bsn fsn) n own counts
-  receive_frame-steps link (MessageFrame bsn fsn sio sif) n own counts = receive_data-steps link (message_data bsn fsn sio sif) n own counts
-  receive_frame-steps link (StatusFrame bsn fsn status) n own counts = on_link_status-steps s link status n own
+  pub leave_aside-deeds : (link : ℕ) (fault : FrameFault) (n : Node WholeQueues) → down n.parts link ≡ false → (fault ≡ faults.Length → May (LinkFails link reasons.Length)) → R n (leave_aside whole c link fault n).left
+  leave_aside-deeds link faults.Length n up may = s.fails link reasons.Length n (may refl) up
+  leave_aside-deeds link faults.Short n up may = s.sends.noted (notices.Frame faults.Short link) n (record { other = refl; lost = λ f. absurd cc; late = λ f. absurd cc })
+  leave_aside-deeds link faults.Version n up may = s.sends.noted (notices.Frame faults.Version link) n (record { other = refl; lost = λ f. absurd cc; late = λ f. absurd cc })
+  leave_aside-deeds link faults.Unknown n up may = s.sends.noted (notices.Frame faults.Unknown link) n (record { other = refl; lost = λ f. absurd cc; late = λ f. absurd cc })
 
-  pub leave_aside-steps : (link : ℕ) (fault : FrameFault) (n : Node WholeQueues) → R n (leave_aside whole c link fault n).left
-  leave_aside-steps link faults.Length n = s.fails link reasons.Length n
-  leave_aside-steps link faults.Short n = s.sends.noted (notices.Frame faults.Short link) n (record { lost = λ f. absurd cc; late = λ f. absurd cc })
-  leave_aside-steps link faults.Version n = s.sends.noted (notices.Frame faults.Version link) n (record { lost = λ f. absurd cc; late = λ f. absurd cc })
-  leave_aside-steps link faults.Unknown n = s.sends.noted (notices.Frame faults.Unknown link) n (record { lost = λ f. absurd cc; late = λ f. absurd cc })
+  read-deeds : (link : ℕ) (r : Result FrameValue FrameFault) (n : Node WholeQueues) → Own link → Counts link → down n.parts link ≡ false → AllowsFrame c May link r n
+      → ((word : Word) → word_of c (new_of r link c n) ≡ Some word → Allows c May word) → R n (read whole c link r n).left
+  read-deeds link (Ok (EmptyFrame bsn fsn)) n own counts up allows may = receive_data-deeds link (empty_data bsn fsn) n own counts allows.wrong may
+  read-deeds link (Ok (MessageFrame bsn fsn sio sif)) n own counts up allows may = receive_data-deeds link (message_data bsn fsn sio sif) n own counts allows.wrong may
+  read-deeds link (Ok (StatusFrame bsn fsn status)) n own counts up allows may = on_link_status-steps s link status n own (allows.status bsn fsn status refl)
+  read-deeds link (Err fault) n own counts up allows may = leave_aside-deeds link fault n up (λ e. allows.length (ap (λ (x : FrameFault). Err x) e))
 
-  read-steps : (link : ℕ) (r : Result FrameValue FrameFault) (n : Node WholeQueues) → Own link → Counts link → R n (read whole c link r n).left
-  read-steps link (Ok frame) n own counts = receive_frame-steps link frame n own counts
-  read-steps link (Err fault) n own counts = leave_aside-steps link fault n
-
-  pub receive-steps : (link : ℕ) (text : List ℕ) (n : Node WholeQueues) → Own link → Counts link → R n (receive whole c link text n).left
-  receive-steps link text n own counts =
-      either_done-steps s.sends (is_link n.parts link) n (if down n.parts link then answer Ignored n else read whole c link (read_frame text) n) (refuse causes.NoSuchName n)
-      (either_done-steps s.sends (down n.parts link) n (answer Ignored n) (read whole c link (read_frame text) n) (s.sends.none n) (read-steps link (read_frame text) n own counts))
-      (s.sends.none n)
+  receive-deeds : (there gone : Bool) (link : ℕ) (r : Result FrameValue FrameFault) (n : Node WholeQueues) → Own link → Counts link → down n.parts link ≡ gone → AllowsFrame c May link r n
+      → ((word : Word) → word_of c (if there && not gone then new_of r link c n else None) ≡ Some word → Allows c May word)
+      → R n (if there then (if gone then answer Ignored n else read whole c link r n) else refuse causes.NoSuchName n).left
+  receive-deeds false gone link r n own counts e allows may = s.sends.none n
+  receive-deeds true true link r n own counts e allows may = s.sends.none n
+  receive-deeds true false link r n own counts e allows may = read-deeds link r n own counts e allows may
 
   -- ---- timers that are due
 
-  late_time-steps : (link : ℕ) (n : Node WholeQueues) → R n (with_parts n (late_time link n.parts))
-  late_time-steps link n =
-      s.sends.both _ _ _ (s.late (notices.Late late_timer.T3 link) n refl) (s.lifts (Time link) _)
+  late_time-steps : (link : ℕ) (n : Node WholeQueues) → May (HoldsEnd (Time link)) → R n (with_parts n (late_time link n.parts))
+  late_time-steps link n may =
+      s.sends.both _ _ _ (s.late (notices.Late late_timer.T3 link) n refl) (s.lifts (Time link) _ may)
 
-  late_code-steps : (set code : ℕ) (n : Node WholeQueues) → R n (with_parts n (late_code set code n.parts))
-  late_code-steps set code n =
-      s.sends.both _ _ _ (s.late (notices.Late late_timer.T4 code) n refl) (s.lifts (Code set code) _)
+  late_code-steps : (set code : ℕ) (n : Node WholeQueues) → May (HoldsEnd (Code set code)) → R n (with_parts n (late_code set code n.parts))
+  late_code-steps set code n may =
+      s.sends.both _ _ _ (s.late (notices.Late late_timer.T4 code) n refl) (s.lifts (Code set code) _ may)
 
-  rerouting_ended-steps : (destination : ℕ) (n : Node WholeQueues) → R n (with_parts n (rerouting_ended destination n.parts))
-  rerouting_ended-steps destination n = s.lifts (Reroute destination) n
+  pub run_timer-deeds : (timer : TimerName) (n : Node WholeQueues) → ((link : ℕ) (its : LinkTimer) → timer ≡ timer_name link its → Own link) → AllowsTimer May timer → R n (run_timer whole c timer n)
+  run_timer-deeds (name.L1 link) n own may = run_out-steps s link timer.L1 n (own link timer.L1 refl) (may.fails link timer.L1 refl)
+  run_timer-deeds (name.L2 link) n own may = run_out-steps s link timer.L2 n (own link timer.L2 refl) (may.fails link timer.L2 refl)
+  run_timer-deeds (name.L3 link) n own may = run_out-steps s link timer.L3 n (own link timer.L3 refl) (may.fails link timer.L3 refl)
+  run_timer-deeds (name.L4 link) n own may = run_out-steps s link timer.L4 n (own link timer.L4 refl) (may.fails link timer.L4 refl)
+  run_timer-deeds (name.L6 link) n own may = run_out-steps s link timer.L6 n (own link timer.L6 refl) (may.fails link timer.L6 refl)
+  run_timer-deeds (name.L7 link) n own may = run_out-steps s link timer.L7 n (own link timer.L7 refl) (may.fails link timer.L7 refl)
+  run_timer-deeds (name.T1 link) n own may = s.expires changeover.T1 link n (may.ends (Changeover link) refl)
+  run_timer-deeds (name.T2 link) n own may = s.expires changeover.T2 link n (may.ends (Changeover link) refl)
+  run_timer-deeds (name.T3 link) n own may = late_time-steps link n (may.ends (Time link) refl)
+  run_timer-deeds (name.T4 set code) n own may = late_code-steps set code n (may.ends (Code set code) refl)
+  run_timer-deeds (name.T6 destination) n own may = s.lifts (Reroute destination) n (may.ends (Reroute destination) refl)
+  run_timer-deeds (name.T8 set destination) n own may = s.sends.none n
+  run_timer-deeds (name.T10 set destination) n own may = ask_again-steps s set destination n
 
-  pub run_timer-steps : (timer : TimerName) (n : Node WholeQueues) → ((link : ℕ) (its : LinkTimer) → timer ≡ timer_name link its → Own link) → R n (run_timer whole c timer n)
-  run_timer-steps (name.L1 link) n own = run_out-steps s link timer.L1 n (own link timer.L1 refl)
-  run_timer-steps (name.L2 link) n own = run_out-steps s link timer.L2 n (own link timer.L2 refl)
-  run_timer-steps (name.L3 link) n own = run_out-steps s link timer.L3 n (own link timer.L3 refl)
-  run_timer-steps (name.L4 link) n own = run_out-steps s link timer.L4 n (own link timer.L4 refl)
-  run_timer-steps (name.L6 link) n own = run_out-steps s link timer.L6 n (own link timer.L6 refl)
-  run_timer-steps (name.L7 link) n own = run_out-steps s link timer.L7 n (own link timer.L7 refl)
-  run_timer-steps (name.T1 link) n own = s.expires changeover.T1 link n
-  run_timer-steps (name.T2 link) n own = s.expires changeover.T2 link n
-  run_timer-steps (name.T3 link) n own = late_time-steps link n
-  run_timer-steps (name.T4 set code) n own = late_code-steps set code n
-  run_timer-steps (name.T6 destination) n own = rerouting_ended-steps destination n
-  run_timer-steps (name.T8 set destination) n own = s.sends.none n
-  run_timer-steps (name.T10 set destination) n own = ask_again-steps s set destination n
+  pub run_due-deeds : (timer : Option TimerName) (n : Node WholeQueues) → ((link : ℕ) (its : LinkTimer) → timer ≡ Some (timer_name link its) → Own link)
+      → ((its : TimerName) → timer ≡ Some its → AllowsTimer May its) → R n (run_due whole c timer n)
+  run_due-deeds None n own may = s.sends.none n
+  run_due-deeds (Some timer) n own may = run_timer-deeds timer n (λ link its e. own link its (ap (λ (x : TimerName). Some x) e)) (may timer refl)
 
   -- ---- release
 
@@ -166,30 +191,69 @@ module _ {c : Configuration} {Own Counts : ℕ → Type 0} {R : Node WholeQueues
   pub tick-steps : (n : Node WholeQueues) → R n (with_timers n (ticked n.parts.timers)) → ((m : Node WholeQueues) → R m (run_next whole c m)) → R n (tick whole c n).left
   tick-steps n e each = s.sends.both _ _ _ e (run_times-steps (due_count (ticked n.parts.timers)) (with_timers n (ticked n.parts.timers)) each)
 
+  handle_event-deeds : (what : Happening) (n : Node WholeQueues) → ((link : ℕ) → IsOf what link → Own link) → ((link : ℕ) → IsOf what link → Counts link)
+      → AllowsEvent c May what n → (what ≡ Ticked → R n (tick whole c n).left) → R n (handle_event whole c what n).left
+  handle_event-deeds (CameUp link) n own counts may ticks = association_up-steps s link n (counts link refl) (may.opens link refl)
+  handle_event-deeds (WentDown link) n own counts may ticks = association_down-steps s link n (may.lost link refl)
+  handle_event-deeds (FrameCame link text) n own counts may ticks =
+      receive-deeds (is_link n.parts link) (down n.parts link) link (read_frame text) n (own link refl) (counts link refl) refl (may.frame link text refl) may.words
+  handle_event-deeds Ticked n own counts may ticks = ticks refl
+  handle_event-deeds (Submitted message) n own counts may ticks = submit-steps s message n
+  handle_event-deeds (Activated link) n own counts may ticks = activate-steps s link n
+  handle_event-deeds (Deactivated link) n own counts may ticks = deactivate-steps s link n (may.ordered link refl)
+  handle_event-deeds (TitleAdded row is_memory_refused) n own counts may ticks = add_title-steps s row is_memory_refused n
+  handle_event-deeds (TitleRemoved key digits) n own counts may ticks = remove_title-steps s key digits n
+
+  pub settled-steps : (n : Node WholeQueues) → R n (tell_owed whole c (release whole c n))
+  settled-steps n = s.sends.both _ _ _ (release-steps n) (tell_owed-steps s (release whole c n))
+
+  pub apply-deeds : (what : Happening) (n : Node WholeQueues) → ((link : ℕ) → IsOf what link → Own link) → ((link : ℕ) → IsOf what link → Counts link)
+      → AllowsEvent c May what n → (what ≡ Ticked → R n (tick whole c n).left) → R n (apply whole c what n).left
+  unfolding apply
+  apply-deeds what n own counts may ticks = s.sends.both _ _ _ (handle_event-deeds what n own counts may ticks) (settled-steps (handle_event whole c what n).left)
+
+-- ---- where anything may be done
+
+module _ {c : Configuration} {Own Counts : ℕ → Type 0} {R : Node WholeQueues → Node WholeQueues → Type 0} (s : IsOfRules c Own Counts R) where
+  any_word : (word : Word) → Allows c anything word
+  any_word word = record { ends = λ procedure e. tt; fails = λ link e. tt }
+
+  any_timer : (timer : TimerName) → AllowsTimer anything timer
+  any_timer timer = record { ends = λ procedure e. tt; fails = λ link its e. tt }
+
+  any_event : (what : Happening) (n : Node WholeQueues) → AllowsEvent c anything what n
+  any_event what n = record {
+    opens = λ link e. tt;
+    lost = λ link e. tt;
+    ordered = λ link e. tt;
+    frame = λ link text e. record { wrong = λ f. tt; length = λ f. tt; status = λ bsn fsn status f g. tt };
+    words = λ word e. any_word word;
+  }
+
+  pub carry-steps : (link : ℕ) (m : Option Message) (n : Node WholeQueues) → in_service n.parts link ≡ true → R n (carry whole c link m n).left
+  carry-steps link m n e = carry-deeds s link m n e (λ word f. any_word word)
+
+  pub handle_by-steps : (answer : Result ℕ SeqFault) (link : ℕ) (d : Carrying) (n : Node WholeQueues) → Counts link → in_service n.parts link ≡ true → numbers whole c link d n ≡ answer
+      → R n (handle_by whole c answer link d n).left
+  handle_by-steps answer link d n own e f = handle_by-deeds s answer link d n own e f (λ g. tt) (λ word g. any_word word)
+
+  pub leave_aside-steps : (link : ℕ) (fault : FrameFault) (n : Node WholeQueues) → down n.parts link ≡ false → R n (leave_aside whole c link fault n).left
+  leave_aside-steps link fault n up = leave_aside-deeds s link fault n up (λ e. tt)
+
+  pub run_timer-steps : (timer : TimerName) (n : Node WholeQueues) → ((link : ℕ) (its : LinkTimer) → timer ≡ timer_name link its → Own link) → R n (run_timer whole c timer n)
+  run_timer-steps timer n own = run_timer-deeds s timer n own (any_timer timer)
+
   pub run_due-steps : (timer : Option TimerName) (n : Node WholeQueues) → ((link : ℕ) (its : LinkTimer) → timer ≡ Some (timer_name link its) → Own link)
       → R n (run_due whole c timer n)
-  run_due-steps None n own = s.sends.none n
-  run_due-steps (Some timer) n own = run_timer-steps timer n (λ link its e. own link its (ap (λ (x : TimerName). Some x) e))
+  run_due-steps timer n own = run_due-deeds s timer n own (λ its e. any_timer its)
 
   pub run_next-steps : (n : Node WholeQueues) → R n (with_timers n (after_due n.parts.timers)) → ((link : ℕ) → Own link) → R n (run_next whole c n)
   run_next-steps n e own = s.sends.both _ _ _ e (run_due-steps (due_name n.parts.timers) (with_timers n (after_due n.parts.timers)) (λ link its e. own link))
 
   pub handle_event-steps : (what : Happening) (n : Node WholeQueues) → ((link : ℕ) → IsOf what link → Own link) → ((link : ℕ) → IsOf what link → Counts link)
       → (what ≡ Ticked → R n (tick whole c n).left) → R n (handle_event whole c what n).left
-  handle_event-steps (CameUp link) n own counts ticks = association_up-steps s link n (counts link refl)
-  handle_event-steps (WentDown link) n own counts ticks = association_down-steps s link n
-  handle_event-steps (FrameCame link text) n own counts ticks = receive-steps link text n (own link refl) (counts link refl)
-  handle_event-steps Ticked n own counts ticks = ticks refl
-  handle_event-steps (Submitted message) n own counts ticks = submit-steps s message n
-  handle_event-steps (Activated link) n own counts ticks = activate-steps s link n
-  handle_event-steps (Deactivated link) n own counts ticks = deactivate-steps s link n
-  handle_event-steps (TitleAdded row is_memory_refused) n own counts ticks = add_title-steps s row is_memory_refused n
-  handle_event-steps (TitleRemoved key digits) n own counts ticks = remove_title-steps s key digits n
-
-  pub settled-steps : (n : Node WholeQueues) → R n (tell_owed whole c (release whole c n))
-  settled-steps n = s.sends.both _ _ _ (release-steps n) (tell_owed-steps s (release whole c n))
+  handle_event-steps what n own counts ticks = handle_event-deeds s what n own counts (any_event what n) ticks
 
   pub apply-steps : (what : Happening) (n : Node WholeQueues) → ((link : ℕ) → IsOf what link → Own link) → ((link : ℕ) → IsOf what link → Counts link)
       → (what ≡ Ticked → R n (tick whole c n).left) → R n (apply whole c what n).left
-  unfolding apply
-  apply-steps what n own counts ticks = s.sends.both _ _ _ (handle_event-steps what n own counts ticks) (settled-steps (handle_event whole c what n).left)
+  apply-steps what n own counts ticks = apply-deeds s what n own counts (any_event what n) ticks

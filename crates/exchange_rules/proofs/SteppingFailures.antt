@@ -104,7 +104,7 @@ module _ {c : Configuration} {Own Counts : ℕ → Type 0} {R : Node WholeQueues
   -- ---- a changeover ends
 
   lose-steps : (m : Message) (n : Node WholeQueues) → R n (with_parts n (lose LostUnconfirmed m n.parts))
-  lose-steps m n = s.both _ _ _ (s.lost n) (s.noted (notices.Lost LostUnconfirmed (flow_of m).point (flow_of m).sls) _ (record { lost = λ f. refl; late = λ f. absurd cc }))
+  lose-steps m n = s.both _ _ _ (s.lost n) (s.noted (notices.Lost LostUnconfirmed (flow_of m).point (flow_of m).sls) _ (record { other = refl; lost = λ f. refl; late = λ f. absurd cc }))
 
   lose_each-steps : (ms : List Message) (n : Node WholeQueues) → R n (with_parts n (lose_each ms n.parts))
   lose_each-steps [] n = s.none n
@@ -168,11 +168,11 @@ module _ {c : Configuration} {Own Counts : ℕ → Type 0} {R : Node WholeQueues
       → R n (complete_if whole c (changeover_of n.parts link).incomplete link None (with_parts n (with_expiry timer link n.parts)))
   expired-steps which.T1 link n =
       let noted : Node WholeQueues = with_parts n (record n.parts { notices = (with_expiry which.T1 link n.parts).notices }) in
-      s.both _ _ _ (s.noted (notices.Expired which.T1 link) n (record { lost = λ f. absurd cc; late = λ f. absurd cc }))
+      s.both _ _ _ (s.noted (notices.Expired which.T1 link) n (record { other = refl; lost = λ f. absurd cc; late = λ f. absurd cc }))
       (ended-steps (changeover_of n.parts link).incomplete link None (completed (changeover_of n.parts link)) noted refl refl (λ a. a))
   expired-steps which.T2 link n =
       let noted : Node WholeQueues = with_parts n (record n.parts { notices = (with_expiry which.T2 link n.parts).notices; times_lost = (with_expiry which.T2 link n.parts).times_lost }) in
-      s.both _ _ _ (s.both _ _ _ (s.lost n) (s.noted (notices.Expired which.T2 link) _ (record { lost = λ f. refl; late = λ f. absurd cc })))
+      s.both _ _ _ (s.both _ _ _ (s.lost n) (s.noted (notices.Expired which.T2 link) _ (record { other = refl; lost = λ f. refl; late = λ f. absurd cc })))
       (ended-steps (changeover_of n.parts link).incomplete link None (acknowledged (changeover_of n.parts link)) noted refl refl (λ a. absurd cc))
 
   pub on_changeover_timer-steps : (timer : ChangeoverTimer) (link : ℕ) (n : Node WholeQueues) → R n (on_changeover_timer whole c timer link n)

@@ -8,8 +8,8 @@ use Rattle.link.specs.declared.action.Action.TheVariants as act
 use Rattle.timers.specs.declared.name.RouteTimer.TheVariants as of_set
 use Rattle.node_links.specs.NodeLinks.{link_in}
 use Rattle.exchange_rules.proofs.TakenPairs.{take_back_each-alike}
-use Rattle.exchange_rules.proofs.Serving.{serves-in}
-use Rattle.exchange_rules.proofs.Steps.{IsOfRules, MayReturn, with_busy, without_busy, either-steps, either_done-steps}
+use Rattle.exchange_rules.proofs.Serving.{serves-in, fails-up}
+use Rattle.exchange_rules.proofs.Steps.{MayReturn, with_busy, without_busy, either_done-steps, Deed, IsOfDeeds, LinkFails, LinkOpens}
 use Rattle.exchange_rules.proofs.OwnRoutes.{rerouted-reset, reset-unsure, reset-sure}
 use Rattle.exchange_rules.proofs.SteppingTimers.{both-quiet, clear_set-quiet}
 use Rattle.exchange_rules.proofs.KeepingTests.{reset-tests}
@@ -89,7 +89,7 @@ complete st e = by st.incomplete st.awaited e
     by true awaited h = absurd cc
     by false awaited h = refl
 
-module _ {c : Configuration} {Own Counts : ℕ → Type 0} {R : Node WholeQueues → Node WholeQueues → Type 0} (s : IsOfRules c Own Counts R) where
+module _ {c : Configuration} {Own Counts : ℕ → Type 0} {May : Deed → Type 0} {R : Node WholeQueues → Node WholeQueues → Type 0} (s : IsOfDeeds c Own Counts May R) where
   -- ---- a step of an alignment
 
   set_reset-steps : (set : ℕ) (n : Node WholeQueues) → MayReturn c Own set → R n (with_parts n (with_set_reset c set n.parts))
@@ -162,55 +162,60 @@ module _ {c : Configuration} {Own Counts : ℕ → Type 0} {R : Node WholeQueues
   served-steps false link status n own e = s.sends.none n
 
   act_by_status-steps : (a : Action) (link : ℕ) (status : LinkStatus) (n : Node WholeQueues) → Own link → action_at (link_at n.parts link).alignment (Status status) ≡ a
-      → R n (act_by_status whole c a link status n).left
-  act_by_status-steps act.Ignored link status n own e = s.sends.none n
-  act_by_status-steps act.Fail link status n own e = s.fails link reasons.Status n
-  act_by_status-steps (act.Go step) link status n own e =
+      → (a ≡ act.Fail → May (LinkFails link reasons.Status)) → R n (act_by_status whole c a link status n).left
+  act_by_status-steps act.Ignored link status n own e may = s.sends.none n
+  act_by_status-steps act.Fail link status n own e may = s.fails link reasons.Status n (may refl) (fails-up (link_at n.parts link).alignment (Status status) e)
+  act_by_status-steps (act.Go step) link status n own e may =
       s.sends.both _ _ _ (advance-steps link (Status status) step n own e)
       (served-steps step.serve link status (advance whole c link step n) own
       (λ h. advance-serves c link (Status status) step n e ∙ serves-in (link_at n.parts link).alignment (Status status) step e h))
 
-  pub on_link_status-steps : (link : ℕ) (status : LinkStatus) (n : Node WholeQueues) → Own link → R n (on_link_status whole c link status n).left
-  on_link_status-steps link status n own = act_by_status-steps (action_at (link_at n.parts link).alignment (Status status)) link status n own refl
+  pub on_link_status-steps : (link : ℕ) (status : LinkStatus) (n : Node WholeQueues) → Own link → (action_at (link_at n.parts link).alignment (Status status) ≡ act.Fail → May (LinkFails link reasons.Status))
+      → R n (on_link_status whole c link status n).left
+  on_link_status-steps link status n own may = act_by_status-steps (action_at (link_at n.parts link).alignment (Status status)) link status n own refl may
 
   act_by_timer-steps : (a : Action) (link : ℕ) (timer : LinkTimer) (n : Node WholeQueues) → Own link → action_at (link_at n.parts link).alignment (Expiry timer) ≡ a
-      → R n (act_by_timer whole c a link n)
-  act_by_timer-steps act.Ignored link timer n own e = s.sends.none n
-  act_by_timer-steps act.Fail link timer n own e = s.fails link reasons.Timer n
-  act_by_timer-steps (act.Go step) link timer n own e = advance-steps link (Expiry timer) step n own e
+      → May (LinkFails link reasons.Timer) → R n (act_by_timer whole c a link n)
+  act_by_timer-steps act.Ignored link timer n own e may = s.sends.none n
+  act_by_timer-steps act.Fail link timer n own e may = s.fails link reasons.Timer n may (fails-up (link_at n.parts link).alignment (Expiry timer) e)
+  act_by_timer-steps (act.Go step) link timer n own e may = advance-steps link (Expiry timer) step n own e
 
-  pub run_out-steps : (link : ℕ) (timer : LinkTimer) (n : Node WholeQueues) → Own link → R n (run_out whole c link timer n)
-  run_out-steps link timer n own = act_by_timer-steps (action_at (link_at n.parts link).alignment (Expiry timer)) link timer n own refl
+  pub run_out-steps : (link : ℕ) (timer : LinkTimer) (n : Node WholeQueues) → Own link → May (LinkFails link reasons.Timer) → R n (run_out whole c link timer n)
+  run_out-steps link timer n own may = act_by_timer-steps (action_at (link_at n.parts link).alignment (Expiry timer)) link timer n own refl may
 
   -- ---- associations, and the operator's word
 
   opened-steps : (opens restarts : Bool) (link : ℕ) (n : Node WholeQueues) → Counts link → is_link n.parts link ≡ true → may_open (link_at n.parts link) ≡ opens
-      → may_restart (changeover_of n.parts link) ≡ restarts
+      → may_restart (changeover_of n.parts link) ≡ restarts → May (LinkOpens link)
       → R n (if opens then (if restarts then answer Handled (open_link whole c link n) else refuse causes.ChangeoverPending n) else refuse causes.LinkNotReady n).left
-  opened-steps true true link n own there e f = s.opened link n own there e (complete (changeover_of n.parts link) f)
-  opened-steps true false link n own there e f = s.sends.none n
-  opened-steps false restarts link n own there e f = s.sends.none n
+  opened-steps true true link n own there e f may = s.opened link n own there e (complete (changeover_of n.parts link) f) may
+  opened-steps true false link n own there e f may = s.sends.none n
+  opened-steps false restarts link n own there e f may = s.sends.none n
 
-  known-steps : (there : Bool) (link : ℕ) (n : Node WholeQueues) → Counts link → is_link n.parts link ≡ there
+  known-steps : (there : Bool) (link : ℕ) (n : Node WholeQueues) → Counts link → is_link n.parts link ≡ there → May (LinkOpens link)
       → R n (if there then (if may_open (link_at n.parts link)
       then (if may_restart (changeover_of n.parts link) then answer Handled (open_link whole c link n) else refuse causes.ChangeoverPending n)
       else refuse causes.LinkNotReady n) else refuse causes.NoSuchName n).left
-  known-steps true link n own e = opened-steps (may_open (link_at n.parts link)) (may_restart (changeover_of n.parts link)) link n own e refl refl
-  known-steps false link n own e = s.sends.none n
+  known-steps true link n own e may = opened-steps (may_open (link_at n.parts link)) (may_restart (changeover_of n.parts link)) link n own e refl refl may
+  known-steps false link n own e may = s.sends.none n
 
-  pub association_up-steps : (link : ℕ) (n : Node WholeQueues) → Counts link → R n (association_up whole c link n).left
-  association_up-steps link n own = known-steps (is_link n.parts link) link n own refl
+  pub association_up-steps : (link : ℕ) (n : Node WholeQueues) → Counts link → May (LinkOpens link) → R n (association_up whole c link n).left
+  association_up-steps link n own may = known-steps (is_link n.parts link) link n own refl may
 
-  fail_if_up-steps : (link : ℕ) (why : FailureReason) (n : Node WholeQueues) → R n (fail_if_up whole c link why n)
-  fail_if_up-steps link why n = either-steps s.sends (down n.parts link) n n (fail whole c link why n) (s.sends.none n) (s.fails link why n)
+  fail_if_up-steps : (link : ℕ) (why : FailureReason) (n : Node WholeQueues) → May (LinkFails link why) → R n (fail_if_up whole c link why n)
+  fail_if_up-steps link why n may = by (down n.parts link) refl
+    where
+      by : (gone : Bool) → down n.parts link ≡ gone → R n (if gone then n else fail whole c link why n)
+      by true e = s.sends.none n
+      by false e = s.fails link why n may e
 
-  pub association_down-steps : (link : ℕ) (n : Node WholeQueues) → R n (association_down whole c link n).left
-  association_down-steps link n =
+  pub association_down-steps : (link : ℕ) (n : Node WholeQueues) → May (LinkFails link reasons.Association) → R n (association_down whole c link n).left
+  association_down-steps link n may =
       let gone : Node WholeQueues = fail_if_up whole c link reasons.Association n in
       let ended : Done WholeQueues = answer Handled (end_association whole c link gone) in
       either_done-steps s.sends (is_link n.parts link) n (if (link_at n.parts link).association then ended else answer Ignored n) (refuse causes.NoSuchName n)
       (either_done-steps s.sends (link_at n.parts link).association n ended (answer Ignored n)
-      (s.sends.both _ _ _ (fail_if_up-steps link reasons.Association n)
+      (s.sends.both _ _ _ (fail_if_up-steps link reasons.Association n may)
       (s.parted link gone (failed_if_up-down c (down n.parts link) link reasons.Association n refl))) (s.sends.none n)) (s.sends.none n)
 
   pub set_active-steps : (active : Bool) (link : ℕ) (n : Node WholeQueues) → R n (set_active whole c active link n)
@@ -220,8 +225,8 @@ module _ {c : Configuration} {Own Counts : ℕ → Type 0} {R : Node WholeQueues
   activate-steps link n =
       either_done-steps s.sends (is_link n.parts link) n (answer Handled (set_active whole c true link n)) (refuse causes.NoSuchName n) (set_active-steps true link n) (s.sends.none n)
 
-  pub deactivate-steps : (link : ℕ) (n : Node WholeQueues) → R n (deactivate whole c link n).left
-  deactivate-steps link n =
+  pub deactivate-steps : (link : ℕ) (n : Node WholeQueues) → May (LinkFails link reasons.Operator) → R n (deactivate whole c link n).left
+  deactivate-steps link n may =
       let gone : Node WholeQueues = fail_if_up whole c link reasons.Operator n in
       either_done-steps s.sends (is_link n.parts link) n (answer Handled (set_active whole c false link gone)) (refuse causes.NoSuchName n)
-      (s.sends.both _ _ _ (fail_if_up-steps link reasons.Operator n) (set_active-steps false link gone)) (s.sends.none n)
+      (s.sends.both _ _ _ (fail_if_up-steps link reasons.Operator n may) (set_active-steps false link gone)) (s.sends.none n)

@@ -1,20 +1,31 @@
 -- Messages for this point, and those that frames carry and user parts hand over: each rule is made of steps.
-use Rattle.exchange_rules.proofs.Basics.{◌≡◌, ℕ, Bool, true, false, Option, Some, None, Result, Ok, Err, refl, if◌then◌else◌}
-use Rattle.exchange_rules.proofs.Definitions.{Message, dpc_of, opc_of, service_indicator, is_management, Configuration, Cause, Outcome, Queued, Held, Local, Handled, Ignored, Refused, set_place, destination_place, MgmtFault, TestKind, Test, Acknowledgement, Management, TrafficRestartAllowed, ExtendedChangeoverOrder, ExtendedChangeoverAcknowledgement, EmergencyChangeoverOrder, EmergencyChangeoverAcknowledgement, ChangebackDeclaration, ChangebackAcknowledgement, TransferProhibited, TransferRestricted, TransferAllowed, RouteSetTestProhibited, RouteSetTestRestricted, LinkTestValue, read_link_test, read_management, Allowed, Restricted, Prohibited, is_outstanding, Discrimination, Node, Done, with_parts, answer, refuse, in_service, note_outcome, route_about, no_room, send, changeback_acknowledgement, freed, on_changeback_acknowledgement, sccp, is_user, is_adjacent, test_answer, link_with_code, local, do_order, do_acknowledgement, do_management, do_kind, do_test, manage, distribute, transfer, on_unitdata, whither_goes, deliver_to, deliver, submit_to, submit, WholeQueues, whole}
+use Rattle.exchange_rules.proofs.Basics.{◌≡◌, ℕ, Bool, true, false, Option, Some, None, Result, Ok, Err, refl, if◌then◌else◌, ◌&&◌, not}
+use Rattle.exchange_rules.proofs.Definitions.{Message, dpc_of, opc_of, service_indicator, is_management, Configuration, Cause, Outcome, Queued, Held, Local, Handled, Ignored, Refused, set_place, destination_place, MgmtFault, TestKind, Test, Acknowledgement, Management, TrafficRestartAllowed, ExtendedChangeoverOrder, ExtendedChangeoverAcknowledgement, EmergencyChangeoverOrder, EmergencyChangeoverAcknowledgement, ChangebackDeclaration, ChangebackAcknowledgement, TransferProhibited, TransferRestricted, TransferAllowed, RouteSetTestProhibited, RouteSetTestRestricted, UserPartUnavailable, LinkTestValue, read_link_test, read_management, Allowed, Restricted, Prohibited, is_outstanding, Discrimination, Node, Done, with_parts, answer, refuse, in_service, note_outcome, route_about, no_room, send, changeback_acknowledgement, freed, on_changeback_acknowledgement, sccp, is_user, is_adjacent, answer_no_user_part, from_afar, test_answer, link_with_code, local, do_order, do_acknowledgement, do_management, do_kind, do_test, manage, distribute, transfer, on_unitdata, whither_goes, deliver_to, deliver, submit_to, submit, WholeQueues, whole, Procedure, Changeover, Code}
 use Rattle.std.specs.Prelude.{nat_eq}
 use Rattle.signalling_types.specs.declared.cause.Cause.TheVariants as causes
 use Rattle.signalling_types.specs.declared.notice.Notice.TheVariants as notices
+use Rattle.signalling_types.specs.declared.notice.FailureReason.TheVariants as reasons
 use Rattle.route_management.specs.declared.heard.RouteTest.TheVariants as tests
 use Rattle.mtp3_codec.specs.declared.discrimination.Discrimination.TheVariants as whither
-use Rattle.exchange_rules.proofs.Steps.{IsOfRules, either_done-steps}
-use Rattle.exchange_rules.proofs.SteppingMessages.{send_routed-steps, on_route_test-steps, on_route_status-steps, transfer-steps}
+use Rattle.std.specs.Option.{option_map}
+use Rattle.exchange_rules.specs.Conserving.{is_word}
+use Rattle.exchange_rules.specs.LawsOfCauses.{Word, word_read, word_to, word_of, ended_by, ordered_by}
+use Rattle.exchange_rules.proofs.Steps.{either_done-steps, Deed, LinkFails, HoldsEnd, IsOfDeeds}
+use Rattle.exchange_rules.proofs.SteppingMessages.{answer_no_user_part-steps, send_routed-steps, on_route_test-steps, on_route_status-steps, transfer-steps}
 use Rattle.exchange_rules.proofs.SteppingRelaying.{on_unitdata-steps}
 
-module _ {c : Configuration} {Own Counts : ℕ → Type 0} {R : Node WholeQueues → Node WholeQueues → Type 0} (s : IsOfRules c Own Counts R) where
-  local-steps : (m : Message) (n : Node WholeQueues) → R n (local whole c m n).left
-  local-steps m n =
-      either_done-steps s.sends (nat_eq (service_indicator m) sccp) n (on_unitdata whole c m n) (if is_user c (service_indicator m) then answer Local n else refuse causes.NoUserPart n) (on_unitdata-steps s m n)
-      (either_done-steps s.sends (is_user c (service_indicator m)) n (answer Local n) (refuse causes.NoUserPart n) (s.sends.none n) (s.sends.none n))
+-- what a word may do
+pub record Allows (c : Configuration) (May : Deed → Type 0) (word : Word) : Type 0 where
+  pub ends : (procedure : Procedure) → ended_by c word.point word.says ≡ Some procedure → May (HoldsEnd procedure)
+  pub fails : (link : ℕ) → ordered_by c word.point word.says ≡ Some link → May (LinkFails link reasons.Changeover)
+
+module _ {c : Configuration} {Own Counts : ℕ → Type 0} {May : Deed → Type 0} {R : Node WholeQueues → Node WholeQueues → Type 0} (s : IsOfDeeds c Own Counts May R) where
+  local-steps : (from : Option ℕ) (m : Message) (n : Node WholeQueues) → R n (local whole c from m n).left
+  local-steps from m n =
+      let origin : Option ℕ = destination_place c (opc_of m) in
+      let absent : Done WholeQueues = refuse causes.NoUserPart (answer_no_user_part whole c from origin m n) in
+      either_done-steps s.sends (nat_eq (service_indicator m) sccp) n (on_unitdata whole c m n) (if is_user c (service_indicator m) then answer Local n else absent) (on_unitdata-steps s m n)
+      (either_done-steps s.sends (is_user c (service_indicator m)) n (answer Local n) absent (s.sends.none n) (answer_no_user_part-steps s from origin m n))
 
   -- ---- tests of a link
 
@@ -35,70 +46,86 @@ module _ {c : Configuration} {Own Counts : ℕ → Type 0} {R : Node WholeQueues
 
   -- ---- management
 
-  do_order-steps : (link number : Option ℕ) (n : Node WholeQueues) → R n (do_order whole c link number n).left
-  do_order-steps (Some link) number n = s.orders link number n
-  do_order-steps None number n = s.sends.none n
+  do_order-steps : (link number : Option ℕ) (n : Node WholeQueues) → ((its : ℕ) → link ≡ Some its → May (LinkFails its reasons.Changeover))
+      → ((procedure : Procedure) → option_map Changeover link ≡ Some procedure → May (HoldsEnd procedure)) → R n (do_order whole c link number n).left
+  do_order-steps (Some link) number n fails ends = s.orders link number n (fails link refl) (ends (Changeover link) refl)
+  do_order-steps None number n fails ends = s.sends.none n
 
-  do_acknowledgement-steps : (link number : Option ℕ) (n : Node WholeQueues) → R n (do_acknowledgement whole c link number n).left
-  do_acknowledgement-steps (Some link) number n = s.acknowledges link number n
-  do_acknowledgement-steps None number n = s.sends.none n
+  do_acknowledgement-steps : (link number : Option ℕ) (n : Node WholeQueues) → ((procedure : Procedure) → option_map Changeover link ≡ Some procedure → May (HoldsEnd procedure))
+      → R n (do_acknowledgement whole c link number n).left
+  do_acknowledgement-steps (Some link) number n ends = s.acknowledges link number n (ends (Changeover link) refl)
+  do_acknowledgement-steps None number n ends = s.sends.none n
 
-  on_changeback_acknowledgement-steps : (set : Option ℕ) (code : ℕ) (n : Node WholeQueues) → R n (on_changeback_acknowledgement whole c set code n).left
-  on_changeback_acknowledgement-steps (Some set) code n =
+  on_changeback_acknowledgement-steps : (set : Option ℕ) (code : ℕ) (n : Node WholeQueues)
+      → ((procedure : Procedure) → option_map (λ (its : ℕ). Code its code) set ≡ Some procedure → May (HoldsEnd procedure)) → R n (on_changeback_acknowledgement whole c set code n).left
+  on_changeback_acknowledgement-steps (Some set) code n ends =
       either_done-steps s.sends (is_outstanding n.parts.codes set code) n (answer Handled (with_parts n (freed set code n.parts))) (answer Ignored n)
-      (s.frees set code n) (s.sends.none n)
-  on_changeback_acknowledgement-steps None code n = s.sends.none n
+      (s.frees set code n (ends (Code set code) refl)) (s.sends.none n)
+  on_changeback_acknowledgement-steps None code n ends = s.sends.none n
 
-  do_management-steps : (r : Result Management MgmtFault) (point : ℕ) (n : Node WholeQueues) → R n (do_management whole c r point n).left
-  do_management-steps (Err fault) point n = s.sends.none n
-  do_management-steps (Ok TrafficRestartAllowed) point n = s.sends.none n
-  do_management-steps (Ok (ExtendedChangeoverOrder slc number)) point n = do_order-steps (link_with_code c point slc) (Some number) n
-  do_management-steps (Ok (ExtendedChangeoverAcknowledgement slc number)) point n = do_acknowledgement-steps (link_with_code c point slc) (Some number) n
-  do_management-steps (Ok (EmergencyChangeoverOrder slc)) point n = do_order-steps (link_with_code c point slc) None n
-  do_management-steps (Ok (EmergencyChangeoverAcknowledgement slc)) point n = do_acknowledgement-steps (link_with_code c point slc) None n
-  do_management-steps (Ok (ChangebackDeclaration slc code)) point n = send_routed-steps s.sends (changeback_acknowledgement c point slc code) n
-  do_management-steps (Ok (ChangebackAcknowledgement slc code)) point n = on_changeback_acknowledgement-steps (set_place c point) code n
-  do_management-steps (Ok (TransferProhibited about)) point n = on_route_status-steps s Prohibited (route_about (set_place c point) (destination_place c about)) n
-  do_management-steps (Ok (TransferRestricted about)) point n = on_route_status-steps s Restricted (route_about (set_place c point) (destination_place c about)) n
-  do_management-steps (Ok (TransferAllowed about)) point n = on_route_status-steps s Allowed (route_about (set_place c point) (destination_place c about)) n
-  do_management-steps (Ok (RouteSetTestProhibited about)) point n = on_route_test-steps s tests.Prohibited (route_about (set_place c point) (destination_place c about)) n
-  do_management-steps (Ok (RouteSetTestRestricted about)) point n = on_route_test-steps s tests.Restricted (route_about (set_place c point) (destination_place c about)) n
+  do_management-steps : (r : Result Management MgmtFault) (point : ℕ) (n : Node WholeQueues) → ((word : Word) → word_read point r ≡ Some word → Allows c May word)
+      → R n (do_management whole c r point n).left
+  do_management-steps (Err fault) point n may = s.sends.none n
+  do_management-steps (Ok TrafficRestartAllowed) point n may = s.sends.none n
+  do_management-steps (Ok (ExtendedChangeoverOrder slc number)) point n may =
+      let may_it : Allows c May (record { point = point; says = ExtendedChangeoverOrder slc number }) = may _ refl in
+      do_order-steps (link_with_code c point slc) (Some number) n may_it.fails may_it.ends
+  do_management-steps (Ok (ExtendedChangeoverAcknowledgement slc number)) point n may =
+      do_acknowledgement-steps (link_with_code c point slc) (Some number) n (may (record { point = point; says = ExtendedChangeoverAcknowledgement slc number }) refl).ends
+  do_management-steps (Ok (EmergencyChangeoverOrder slc)) point n may =
+      let may_it : Allows c May (record { point = point; says = EmergencyChangeoverOrder slc }) = may _ refl in
+      do_order-steps (link_with_code c point slc) None n may_it.fails may_it.ends
+  do_management-steps (Ok (EmergencyChangeoverAcknowledgement slc)) point n may =
+      do_acknowledgement-steps (link_with_code c point slc) None n (may (record { point = point; says = EmergencyChangeoverAcknowledgement slc }) refl).ends
+  do_management-steps (Ok (ChangebackDeclaration slc code)) point n may = send_routed-steps s.sends (changeback_acknowledgement c point slc code) n
+  do_management-steps (Ok (ChangebackAcknowledgement slc code)) point n may =
+      on_changeback_acknowledgement-steps (set_place c point) code n (may (record { point = point; says = ChangebackAcknowledgement slc code }) refl).ends
+  do_management-steps (Ok (TransferProhibited about)) point n may = on_route_status-steps s Prohibited (route_about (set_place c point) (destination_place c about)) n
+  do_management-steps (Ok (TransferRestricted about)) point n may = on_route_status-steps s Restricted (route_about (set_place c point) (destination_place c about)) n
+  do_management-steps (Ok (TransferAllowed about)) point n may = on_route_status-steps s Allowed (route_about (set_place c point) (destination_place c about)) n
+  do_management-steps (Ok (RouteSetTestProhibited about)) point n may = on_route_test-steps s tests.Prohibited (route_about (set_place c point) (destination_place c about)) n
+  do_management-steps (Ok (RouteSetTestRestricted about)) point n may = on_route_test-steps s tests.Restricted (route_about (set_place c point) (destination_place c about)) n
+  do_management-steps (Ok (UserPartUnavailable about user_part cause)) point n may = s.sends.none n
 
-  heard-steps : (adjacent : Bool) (link : ℕ) (m : Message) (n : Node WholeQueues) → in_service n.parts link ≡ true → is_adjacent c (opc_of m) ≡ adjacent
-      → R n (if adjacent then (if nat_eq (service_indicator m) 1 then do_test whole c (read_link_test m.sif) link (opc_of m) n
-      else do_management whole c (read_management m.sif) (opc_of m) n) else refuse causes.NotFromAdjacent n).left
-  heard-steps true link m n e f =
-      either_done-steps s.sends (nat_eq (service_indicator m) 1) n (do_test whole c (read_link_test m.sif) link (opc_of m) n) (do_management whole c (read_management m.sif) (opc_of m) n)
-      (do_test-steps (read_link_test m.sif) link (opc_of m) n e f) (do_management-steps (read_management m.sif) (opc_of m) n)
-  heard-steps false link m n e f = s.sends.none n
+  -- by whether it is management, whether it is from an adjacent point, and whether it is a test
+  here-steps : (managed adjacent test : Bool) (link : ℕ) (m : Message) (n : Node WholeQueues) → in_service n.parts link ≡ true → is_adjacent c (opc_of m) ≡ adjacent
+      → ((word : Word) → (if managed && (adjacent && not test) then word_read (opc_of m) (read_management m.sif) else None) ≡ Some word → Allows c May word)
+      → R n (if managed then (if adjacent then (if test then do_test whole c (read_link_test m.sif) link (opc_of m) n
+      else do_management whole c (read_management m.sif) (opc_of m) n) else answer (from_afar c m) n) else local whole c (Some link) m n).left
+  here-steps true true true link m n e f may = do_test-steps (read_link_test m.sif) link (opc_of m) n e f
+  here-steps true true false link m n e f may = do_management-steps (read_management m.sif) (opc_of m) n may
+  here-steps true false test link m n e f may = s.sends.none n
+  here-steps false adjacent test link m n e f may = local-steps (Some link) m n
 
-  distribute-steps : (link : ℕ) (m : Message) (n : Node WholeQueues) → in_service n.parts link ≡ true → R n (distribute whole c link m n).left
-  distribute-steps link m n e =
-      either_done-steps s.sends (is_management m) n (manage whole c link m n) (local whole c m n) (heard-steps (is_adjacent c (opc_of m)) link m n e refl) (local-steps m n)
+  distribute-steps : (link : ℕ) (m : Message) (n : Node WholeQueues) → in_service n.parts link ≡ true
+      → ((word : Word) → (if is_word c m then word_read (opc_of m) (read_management m.sif) else None) ≡ Some word → Allows c May word) → R n (distribute whole c link m n).left
+  distribute-steps link m n e may = here-steps (is_management m) (is_adjacent c (opc_of m)) (nat_eq (service_indicator m) 1) link m n e refl may
 
   -- ---- messages in frames, and those that are handed over
 
-  deliver_to-steps : (d : Discrimination) (link : ℕ) (m : Message) (n : Node WholeQueues) → in_service n.parts link ≡ true → R n (deliver_to whole c d link m n).left
-  deliver_to-steps (whither.Refused cause) link m n e = s.sends.none n
-  deliver_to-steps (whither.Here label) link m n e = distribute-steps link m n e
-  deliver_to-steps (whither.Transfer label) link m n e = transfer-steps s (Some link) m n
+  deliver_to-steps : (d : Discrimination) (link : ℕ) (m : Message) (n : Node WholeQueues) → in_service n.parts link ≡ true → ((word : Word) → word_to d c m ≡ Some word → Allows c May word)
+      → R n (deliver_to whole c d link m n).left
+  deliver_to-steps (whither.Refused cause) link m n e may = s.sends.none n
+  deliver_to-steps (whither.Here label) link m n e may = distribute-steps link m n e may
+  deliver_to-steps (whither.Transfer label) link m n e may = transfer-steps s (Some link) m n
 
   note_outcome-steps : (link : ℕ) (outcome : Outcome) (n : Node WholeQueues) → R n (with_parts n (note_outcome link outcome n.parts))
-  note_outcome-steps link (Refused cause) n = s.sends.noted (notices.Refused cause link) n (record { lost = λ f. absurd cc; late = λ f. absurd cc })
+  note_outcome-steps link (Refused cause) n = s.sends.noted (notices.Refused cause link) n (record { other = refl; lost = λ f. absurd cc; late = λ f. absurd cc })
   note_outcome-steps link (Queued other) n = s.sends.none n
   note_outcome-steps link Held n = s.sends.none n
   note_outcome-steps link Local n = s.sends.none n
   note_outcome-steps link Handled n = s.sends.none n
   note_outcome-steps link Ignored n = s.sends.none n
 
-  pub deliver-steps : (link : ℕ) (m : Message) (n : Node WholeQueues) → in_service n.parts link ≡ true → R n (deliver whole c link m n).left
-  deliver-steps link m n e =
+  pub deliver-steps : (link : ℕ) (m : Message) (n : Node WholeQueues) → in_service n.parts link ≡ true → ((word : Word) → word_of c (Some m) ≡ Some word → Allows c May word)
+      → R n (deliver whole c link m n).left
+  deliver-steps link m n e may =
       let d : Done WholeQueues = deliver_to whole c (whither_goes c m) link m n in
-      s.sends.both _ _ _ (deliver_to-steps (whither_goes c m) link m n e) (note_outcome-steps link d.outcome d.left)
+      s.sends.both _ _ _ (deliver_to-steps (whither_goes c m) link m n e may) (note_outcome-steps link d.outcome d.left)
 
   submit_to-steps : (d : Discrimination) (m : Message) (n : Node WholeQueues) → R n (submit_to whole c d m n).left
   submit_to-steps (whither.Refused cause) m n = s.sends.none n
-  submit_to-steps (whither.Here label) m n = either_done-steps s.sends (is_management m) n (refuse causes.NotInProfile n) (local whole c m n) (s.sends.none n) (local-steps m n)
+  submit_to-steps (whither.Here label) m n = either_done-steps s.sends (is_management m) n (refuse causes.NotInProfile n) (local whole c None m n) (s.sends.none n) (local-steps None m n)
   submit_to-steps (whither.Transfer label) m n =
       either_done-steps s.sends (is_management m) n (refuse causes.NotInProfile n) (transfer whole c None m n) (s.sends.none n) (transfer-steps s None m n)
 

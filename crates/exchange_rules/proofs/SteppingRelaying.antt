@@ -2,16 +2,16 @@
 use Rattle.exchange_rules.proofs.Basics.{ℕ, Bool, List, Option, Some, None}
 use Rattle.exchange_rules.proofs.Definitions.{Message, Configuration, TitleEntry, Cause, NoSuchName, Outcome, Queued, Held, Local, Handled, Ignored, Refused, TitleKey, place_of, has_row, without_row, RelayedValue, relay, returned, Node, Done, with_parts, answer, refuse, own_of, in_place_of, send_udts, return_outcome, relay_by, on_unitdata, with_titles, title_refusal, add_title_unless, add_title, remove_title, WholeQueues, whole}
 use Rattle.sccp_relay.specs.Relay as relays
-use Rattle.exchange_rules.proofs.Steps.{IsOfRules, either_done-steps}
+use Rattle.exchange_rules.proofs.Steps.{either_done-steps, Deed, IsOfDeeds}
 use Rattle.exchange_rules.proofs.SteppingMessages.{transfer-steps}
 
-module _ {c : Configuration} {Own Counts : ℕ → Type 0} {R : Node WholeQueues → Node WholeQueues → Type 0} (s : IsOfRules c Own Counts R) where
+module _ {c : Configuration} {Own Counts : ℕ → Type 0} {May : Deed → Type 0} {R : Node WholeQueues → Node WholeQueues → Type 0} (s : IsOfDeeds c Own Counts May R) where
   send_udts-steps : (udts : Option (List ℕ)) (m : Message) (n : Node WholeQueues) → R n (send_udts whole c udts m n)
   send_udts-steps (Some sif) m n = transfer-steps s None (in_place_of m sif) n
   send_udts-steps None m n = s.sends.none n
 
   return-steps : (outcome : Outcome) (m : Message) (n : Node WholeQueues) → R n (return_outcome whole c outcome m n)
-  return-steps (Refused cause) m n = send_udts-steps (returned (own_of c) n.parts.titles m.sif cause) m n
+  return-steps (Refused cause) m n = send_udts-steps (returned (own_of c n.parts) n.parts.titles m.sif cause) m n
   return-steps (Queued link) m n = s.sends.none n
   return-steps Held m n = s.sends.none n
   return-steps Local m n = s.sends.none n
@@ -25,8 +25,8 @@ module _ {c : Configuration} {Own Counts : ℕ → Type 0} {R : Node WholeQueues
 
   pub on_unitdata-steps : (m : Message) (n : Node WholeQueues) → R n (on_unitdata whole c m n).left
   on_unitdata-steps m n =
-      let d : Done WholeQueues = relay_by whole c (relay (own_of c) n.parts.titles m.sif) m n in
-      s.sends.both _ _ _ (relay-steps (relay (own_of c) n.parts.titles m.sif) m n) (return-steps d.outcome m d.left)
+      let d : Done WholeQueues = relay_by whole c (relay (own_of c n.parts) n.parts.titles m.sif) m n in
+      s.sends.both _ _ _ (relay-steps (relay (own_of c n.parts) n.parts.titles m.sif) m n) (return-steps d.outcome m d.left)
 
   -- ---- translation rows
 

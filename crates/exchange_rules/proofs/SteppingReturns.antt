@@ -6,7 +6,7 @@ use Rattle.timers.specs.declared.name.TimerName.TheVariants as name
 use Rattle.node_links.proofs.Chosen.{chosen_serving}
 use Rattle.exchange_rules.proofs.Places.{with_flows-fits, lifted-fits}
 use Rattle.exchange_rules.proofs.TakenPairs.{IsAlike, take_back_each-alike}
-use Rattle.exchange_rules.proofs.Steps.{IsOfSteps, IsOfRules}
+use Rattle.exchange_rules.proofs.Steps.{IsOfSteps, Deed, IsOfDeeds}
 use Rattle.exchange_rules.proofs.SteppingTimers.{set-timed, clear-timed}
 
 -- ---- the links that lose flows
@@ -58,7 +58,7 @@ module _ {c : Configuration} {Own Counts : ℕ → Type 0} {R : Node WholeQueues
       s.both _ _ _ (s.coded set code false n)
       (s.both _ _ _ (s.holding _ _ (record { fits = lifted-fits c n.parts.holds (Code set code) })) (s.timed _ _ (clear-timed (name.T4 set code) n.parts.timers (λ l e. cc))))
 
-module _ {c : Configuration} {Own Counts : ℕ → Type 0} {R : Node WholeQueues → Node WholeQueues → Type 0} (s : IsOfRules c Own Counts R) where
+module _ {c : Configuration} {Own Counts : ℕ → Type 0} {May : Deed → Type 0} {R : Node WholeQueues → Node WholeQueues → Type 0} (s : IsOfDeeds c Own Counts May R) where
   take_back-by : (loses : Bool) (before after : Facts) (code : Option ℕ) (link other : ℕ) (n : Node WholeQueues) → in_service n.parts link ≡ true
       → (loses ≡ true → in_service n.parts other ≡ true) → R n (if loses then hold_flows whole c before after code link other n else n)
   take_back-by true before after code link other n e f = s.returns before after code link other n e (f refl)

@@ -2,12 +2,13 @@
 -- relation between two nodes that holds of each step, and of one after another, holds of every rule, every event and
 -- every take (`Stepping..`, `Rules`).
 use Rattle.exchange_rules.proofs.Basics.{◌≡◌, ◌⊎◌, ◌&&◌, not, ℕ, Bool, true, false, refl, List, [], length, Option, Some, find, if◌then◌else◌, slice_index_or, option_map}
-use Rattle.exchange_rules.proofs.Definitions.{set_timer, enters, has_other, set_of, Message, flow_of, Notice, FailureReason, Configuration, TitleEntry, Input, Go, Transition, action_at, Sending, LinkTestValue, TimerName, L7, Running, is_running, is_due, Route, RouteStatus, Allowed, leads_by, ToldTable, is_own_point, shape_of, Link, Standing, with_code, HoldSet, Parts, Node, Done, with_parts, lost_any, late_any, is_link, link_at, links_with, with_link, down, in_service, note, flagged, flagged_late, link_of, queue_on, waits, hold, is_adjacent, test_answer, changeover_of, with_changeover, fail_link, declaration, with_titles, step_on, timed_busy, timed_busy_ended, may_open, without_association, open_link, Carrying, carries, numbers, timed_parts, SendsMessage, next_message, after_sending, WholeQueues, whole, HasHoldsFor, tells_of_loss, tells_of_lateness, ChangeoverTimer, Facts, Procedure, lifted, fail, on_changeover_order, on_changeover_acknowledgement, on_changeover_timer, hold_flows, freed, held_by_rerouting}
+use Rattle.exchange_rules.proofs.Definitions.{set_timer, enters, has_other, set_of, Message, flow_of, Notice, FailureReason, Configuration, TitleEntry, Input, Go, Transition, action_at, Sending, LinkTestValue, TimerName, L7, Running, is_running, is_due, Route, RouteStatus, Allowed, leads_by, ToldTable, is_own_point, shape_of, Link, Standing, with_code, HoldSet, Parts, Node, Done, with_parts, lost_any, late_any, is_link, link_at, links_with, with_link, down, in_service, note, flagged, flagged_late, link_of, queue_on, waits, hold, is_adjacent, test_answer, changeover_of, with_changeover, fail_link, declaration, with_titles, step_on, timed_busy, timed_busy_ended, may_open, without_association, open_link, Carrying, carries, numbers, timed_parts, SendsMessage, next_message, after_sending, WholeQueues, whole, HasHoldsFor, tells_of_loss, tells_of_lateness, ChangeoverTimer, Facts, Procedure, Changeover, Code, lifted, fail, on_changeover_order, on_changeover_acknowledgement, on_changeover_timer, hold_flows, freed, held_by_rerouting}
 use Rattle.std.specs.Prelude.{map, Ok}
 use Rattle.timers.specs.declared.name.TimerName.TheVariants as name
 use Rattle.exchange_rules.proofs.TimerSettings.{AreSet}
 use Rattle.exchange_rules.specs.Testing.{is_unsure}
 use Rattle.signalling_types.specs.declared.notice.Notice.TheVariants as notices
+use Rattle.signalling_types.specs.declared.notice.FailureReason.TheVariants as reasons
 
 -- timers change, but none that watches a link: the same names exist, each L7 runs that ran, and no timer becomes due
 pub record AreTimed (r s : Running) : Type 0 where
@@ -19,8 +20,19 @@ pub record AreTimed (r s : Running) : Type 0 where
 pub record AreHeld (c : Configuration) (h g : HoldSet) : Type 0 where
   pub fits : HasHoldsFor c h → HasHoldsFor c g
 
--- a notice says of losses and of lateness what the flags say
+-- whether a notice names a link as failed
+abbrev pub is_failure : Notice → Bool
+is_failure (notices.Failed link why) = true
+is_failure (notices.Lost cause point sls) = false
+is_failure (notices.Unsent cause point) = false
+is_failure (notices.Expired timer link) = false
+is_failure (notices.Refused cause link) = false
+is_failure (notices.Frame fault link) = false
+is_failure (notices.Late timer number) = false
+
+-- a notice says of losses and of lateness what the flags say, and names no link as failed
 pub record IsTold (notice : Notice) (p : Parts) : Type 0 where
+  pub other : is_failure notice ≡ false
   pub lost : tells_of_loss notice ≡ true → lost_any p ≡ true
   pub late : tells_of_lateness notice ≡ true → late_any p ≡ true
 
@@ -101,6 +113,7 @@ pub record IsOfSteps (c : Configuration) (Own Counts : ℕ → Type 0) (R : Node
   pub rerouted : (routes : List (List Route)) (n : Node WholeQueues) → AreRerouted n.parts.told n.parts.routes routes → R n (with_parts n (record n.parts { routes = routes }))
   pub told : (t : ToldTable) (n : Node WholeQueues) → AreToldMore n.parts.told t → R n (with_parts n (record n.parts { told = t }))
   pub titled : (rows : List TitleEntry) (n : Node WholeQueues) → R n (with_parts n (with_titles rows n.parts))
+  pub unequipped : (counts : List ℕ) (n : Node WholeQueues) → length counts ≡ length n.parts.unequipped → R n (with_parts n (record n.parts { unequipped = counts }))
   -- ---- a link fails: in service, so that its changeover isn't complete, or on its way there
   pub failed : (link : ℕ) (why : FailureReason) (s : Standing) (n : Node WholeQueues) → in_service n.parts link ≡ true → s.incomplete ≡ true
       → R n (with_parts n (with_changeover link s (fail_link link why n.parts)))
@@ -173,6 +186,24 @@ not-both (notices.Frame fault link) e f = absurd cc
 not-both (notices.Failed link why) e f = absurd cc
 not-both (notices.Late timer number) e f = absurd cc
 
+pub loss-other : (notice : Notice) → tells_of_loss notice ≡ true → is_failure notice ≡ false
+loss-other (notices.Failed link why) e = absurd cc
+loss-other (notices.Lost cause point sls) e = refl
+loss-other (notices.Unsent cause point) e = refl
+loss-other (notices.Expired timer link) e = refl
+loss-other (notices.Refused cause link) e = refl
+loss-other (notices.Frame fault link) e = refl
+loss-other (notices.Late timer number) e = refl
+
+pub lateness-other : (notice : Notice) → tells_of_lateness notice ≡ true → is_failure notice ≡ false
+lateness-other (notices.Late timer number) e = refl
+lateness-other (notices.Lost cause point sls) e = absurd cc
+lateness-other (notices.Unsent cause point) e = absurd cc
+lateness-other (notices.Expired timer link) e = absurd cc
+lateness-other (notices.Refused cause link) e = absurd cc
+lateness-other (notices.Frame fault link) e = absurd cc
+lateness-other (notices.Failed link why) e = absurd cc
+
 -- R holds of the steps of which it is made that a message goes out or is dropped: what may be lost is noted and counted
 -- at once
 pub record IsOfSends (c : Configuration) (R : Node WholeQueues → Node WholeQueues → Type 0) : Type 0 where
@@ -188,7 +219,7 @@ sends-of s = record {
   both = s.both;
   routed = s.routed;
   noted = s.noted;
-  lost = λ notice n e. s.both _ _ _ (s.lost n) (s.noted notice _ (record { lost = λ f. refl; late = λ f. absurd (not-both notice e f) }));
+  lost = λ notice n e. s.both _ _ _ (s.lost n) (s.noted notice _ (record { other = loss-other notice e; lost = λ f. refl; late = λ f. absurd (not-both notice e f) }));
 }
 
 -- what is known over a set may be reset: one of its links may enter service
@@ -217,9 +248,15 @@ pub record AreTestedAs (p : Parts) (routes : List (List Route)) : Type 0 where
 pub record BeginsClean (c : Configuration) (link : ℕ) (step : Transition) (p : Parts) : Type 0 where
   pub clean : (enters link step p && not (has_other c link p)) ≡ true → (destination : ℕ) → is_unsure (status_over (set_of c link) destination p.routes) ≡ false
 
--- R holds of each step that changes none of these, and of each rule that does. So a law may see a hold and its timer as
--- one, which the steps show one after the other. Where R holds of each step, it holds of each rule (`rules-of`)
-pub record IsOfRules (c : Configuration) (Own Counts : ℕ → Type 0) (R : Node WholeQueues → Node WholeQueues → Type 0) : Type 0 where
+-- what not every event may do: a link opens, or fails for a reason, and the holds of a procedure end
+pub data Deed : Type 0 where
+  LinkOpens : (link : ℕ) → Deed
+  LinkFails : (link : ℕ) (why : FailureReason) → Deed
+  HoldsEnd : (procedure : Procedure) → Deed
+
+-- R holds of each step that changes none of these, and of each rule that does, given what may be done. So a law may see
+-- a hold and its timer as one, which the steps show one after the other
+pub record IsOfDeeds (c : Configuration) (Own Counts : ℕ → Type 0) (May : Deed → Type 0) (R : Node WholeQueues → Node WholeQueues → Type 0) : Type 0 where
   pub sends : IsOfSends c R
   pub tested : (link point : ℕ) (test : LinkTestValue) (n : Node WholeQueues) → in_service n.parts link ≡ true → is_adjacent c point ≡ true
       → R n (queue_on whole c link (test_answer c point test) n)
@@ -230,10 +267,11 @@ pub record IsOfRules (c : Configuration) (Own Counts : ℕ → Type 0) (R : Node
   pub rerouted : (routes : List (List Route)) (n : Node WholeQueues) → AreRerouted n.parts.told n.parts.routes routes → AreTestedAs n.parts routes → R n (with_parts n (record n.parts { routes = routes }))
   pub told : (t : ToldTable) (n : Node WholeQueues) → AreToldMore n.parts.told t → R n (with_parts n (record n.parts { told = t }))
   pub titled : (rows : List TitleEntry) (n : Node WholeQueues) → R n (with_parts n (with_titles rows n.parts))
+  pub unequipped : (counts : List ℕ) (n : Node WholeQueues) → length counts ≡ length n.parts.unequipped → R n (with_parts n (record n.parts { unequipped = counts }))
   pub linked : (link : ℕ) (x : Link) (n : Node WholeQueues) → IsSameLink (link_at n.parts link) x → R n (with_parts n (with_link n.parts link x))
   pub parted : (link : ℕ) (n : Node WholeQueues) → down n.parts link ≡ true → R n (with_parts n (without_association link n.parts))
   pub opened : (link : ℕ) (n : Node WholeQueues) → Counts link → is_link n.parts link ≡ true → may_open (link_at n.parts link) ≡ true
-      → (changeover_of n.parts link).incomplete ≡ false → R n (open_link whole c link n)
+      → (changeover_of n.parts link).incomplete ≡ false → May (LinkOpens link) → R n (open_link whole c link n)
   pub stepped : (link : ℕ) (input : Input) (step : Transition) (n : Node WholeQueues) → Own link → action_at (link_at n.parts link).alignment input ≡ Go step
       → BeginsClean c link step n.parts → R n (with_parts n (step_on c link step n.parts))
   pub busied : (link : ℕ) (n : Node WholeQueues) → Own link → in_service n.parts link ≡ true → (link_at n.parts link).peer_busy ≡ false
@@ -245,16 +283,23 @@ pub record IsOfRules (c : Configuration) (Own Counts : ℕ → Type 0) (R : Node
   pub sent : (link : ℕ) (next : Sending) (n : Node WholeQueues) → Own link → next_message whole c link n ≡ Some next
       → R n (after_sending whole c link n (SendsMessage next))
   -- ---- a link fails, and its changeover goes on and ends
-  pub fails : (link : ℕ) (why : FailureReason) (n : Node WholeQueues) → R n (fail whole c link why n)
-  pub orders : (link : ℕ) (number : Option ℕ) (n : Node WholeQueues) → R n (on_changeover_order whole c link number n).left
-  pub acknowledges : (link : ℕ) (number : Option ℕ) (n : Node WholeQueues) → R n (on_changeover_acknowledgement whole c link number n).left
-  pub expires : (timer : ChangeoverTimer) (link : ℕ) (n : Node WholeQueues) → R n (on_changeover_timer whole c timer link n)
+  pub fails : (link : ℕ) (why : FailureReason) (n : Node WholeQueues) → May (LinkFails link why) → down n.parts link ≡ false → R n (fail whole c link why n)
+  pub orders : (link : ℕ) (number : Option ℕ) (n : Node WholeQueues) → May (LinkFails link reasons.Changeover) → May (HoldsEnd (Changeover link)) → R n (on_changeover_order whole c link number n).left
+  pub acknowledges : (link : ℕ) (number : Option ℕ) (n : Node WholeQueues) → May (HoldsEnd (Changeover link)) → R n (on_changeover_acknowledgement whole c link number n).left
+  pub expires : (timer : ChangeoverTimer) (link : ℕ) (n : Node WholeQueues) → May (HoldsEnd (Changeover link)) → R n (on_changeover_timer whole c timer link n)
   -- ---- flows that return are held, a code is free again, flows are rerouted, and a procedure ends all its holds
   pub returns : (before after : Facts) (code : Option ℕ) (link other : ℕ) (n : Node WholeQueues) → in_service n.parts link ≡ true → in_service n.parts other ≡ true
       → R n (hold_flows whole c before after code link other n)
-  pub frees : (set code : ℕ) (n : Node WholeQueues) → R n (with_parts n (freed set code n.parts))
+  pub frees : (set code : ℕ) (n : Node WholeQueues) → May (HoldsEnd (Code set code)) → R n (with_parts n (freed set code n.parts))
   pub reroutes : (destination : ℕ) (selections : List ℕ) (n : Node WholeQueues) → R n (with_parts n (held_by_rerouting c destination selections n.parts))
-  pub lifts : (procedure : Procedure) (n : Node WholeQueues) → R n (with_parts n (record n.parts { holds = lifted n.parts.holds procedure }))
+  pub lifts : (procedure : Procedure) (n : Node WholeQueues) → May (HoldsEnd procedure) → R n (with_parts n (record n.parts { holds = lifted n.parts.holds procedure }))
+
+-- anything may be done. Where R holds of each step, it holds of each rule (`rules-of`)
+abbrev pub anything : Deed → Type 0
+anything deed = Unit {0}
+
+abbrev pub IsOfRules : (c : Configuration) (Own Counts : ℕ → Type 0) (R : Node WholeQueues → Node WholeQueues → Type 0) → Type 0
+IsOfRules c Own Counts R = IsOfDeeds c Own Counts anything R
 
 module _ {c : Configuration} {R : Node WholeQueues → Node WholeQueues → Type 0} (s : IsOfSends c R) where
   -- a test decides

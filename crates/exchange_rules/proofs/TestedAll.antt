@@ -183,9 +183,10 @@ module _ (c : Configuration) where
     rerouted = λ routes n e k. rerouted-tests routes n e.size k;
     told = λ t n e. same c n _ refl refl refl;
     titled = λ rows n. same c n _ refl refl refl;
+    unequipped = λ counts n e. same c n _ refl refl refl;
     linked = λ link x n e. on-link c link x n.parts.timers n (same-for link n.parts.timers) (λ h. ap is_in_service (sym e.alignment) ∙ h);
     parted = λ link n e. on-link c link _ n.parts.timers n (same-for link n.parts.timers) (λ h. h);
-    opened = λ link n own there e f.
+    opened = λ link n own there e f may.
         both c n (with_parts n (record n.parts { links = _; timers = _ })) _ (on-link c link (opened (link_at n.parts link)) _ n (timed-for link c opening n.parts.timers) (λ h. absurd cc)) (same c _ _ refl refl refl);
     stepped = λ link input step n own e k. stepped-test c link step n k;
     busied = λ link n own e f. on-link c link _ _ n (timed_busy-for link c n.parts.timers) (λ h. h);
@@ -196,14 +197,14 @@ module _ (c : Configuration) where
     sent = λ link next n own e.
         both c n (with_parts n (record n.parts { links = _; timers = _ })) _
         (on-link c link (record (link_at n.parts link) { acknowledgement_owed = false }) _ n (timed_sending-for link c n.parts.timers) (λ h. h)) (same c _ _ refl refl refl);
-    fails = λ link why n. fails-tests (in_service n.parts link) link why n;
-    orders = orders-tests;
-    acknowledges = λ link number n. acknowledges-tests (changeover_of n.parts link).awaited link number n;
-    expires = λ its link n. expires-tests (is_link n.parts link) its link n;
+    fails = λ link why n may up. fails-tests (in_service n.parts link) link why n;
+    orders = λ link number n falls ends. orders-tests link number n;
+    acknowledges = λ link number n may. acknowledges-tests (changeover_of n.parts link).awaited link number n;
+    expires = λ its link n may. expires-tests (is_link n.parts link) its link n;
     returns = λ before after code link other n e f. returns-tests before after code link other n;
-    frees = λ set code n.
+    frees = λ set code n may.
         let stops : Node WholeQueues = with_parts n (record n.parts { timers = clear_timer (name.T4 set code) n.parts.timers }) in
         both c n stops _ (cleared (name.T4 set code) n (λ s d e. cc)) (same c stops _ refl refl refl);
     reroutes = reroutes-tests;
-    lifts = λ procedure n. same c n _ refl refl refl;
+    lifts = λ procedure n may. same c n _ refl refl refl;
   }

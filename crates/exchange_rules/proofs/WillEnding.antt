@@ -54,11 +54,11 @@ alike-both p q r e f = record {
 pub alike-same : (p : Parts) → Alike p p
 alike-same p = record { holds = refl; changeovers = refl; timers = λ timer h. refl }
 
-losses-alike : (ms : List Message) (p : Parts) → Alike p (lose_each ms p)
+pub losses-alike : (ms : List Message) (p : Parts) → Alike p (lose_each ms p)
 losses-alike [] p = alike-same p
 losses-alike (m ∷ ms) p = (let rest = losses-alike ms _ in record { holds = rest.holds; changeovers = rest.changeovers; timers = rest.timers })
 
-judged-alike : (reasonable : Bool) (p : Parts) → Alike p (judged reasonable p)
+pub judged-alike : (reasonable : Bool) (p : Parts) → Alike p (judged reasonable p)
 judged-alike true p = alike-same p
 judged-alike false p = record { holds = refl; changeovers = refl; timers = λ timer h. refl }
 

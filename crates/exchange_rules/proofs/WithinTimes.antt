@@ -160,9 +160,10 @@ module _ (c : Configuration) where
     rerouted = λ routes n e k. bounds-as most n _ refl;
     told = λ t n e. bounds-as most n _ refl;
     titled = λ rows n. bounds-as most n _ refl;
+    unequipped = λ counts n e. bounds-as most n _ refl;
     linked = λ link x n e. bounds-as most n _ refl;
     parted = λ link n e. bounds-as most n _ refl;
-    opened = λ link n own there e f. bounds-same most n _ (timed-for link c opening n.parts.timers).endings;
+    opened = λ link n own there e f may. bounds-same most n _ (timed-for link c opening n.parts.timers).endings;
     stepped = λ link input step n own e k. bounds-same most n _ (timed-for link c step n.parts.timers).endings;
     busied = λ link n own e f. bounds-same most n _ (timed_busy-for link c n.parts.timers).endings;
     resumed = λ link n own e f. bounds-same most n _ (timed_busy_ended-for link c (whole.outstanding n.queues link) n.parts.timers).endings;
@@ -170,14 +171,14 @@ module _ (c : Configuration) where
         bounds-same most n _
         (timed_confirming-for link c (link_at n.parts link).peer_busy confirmed (whole.outstanding (whole.accepted n.queues link d.fsn d.bsn (carries d)) link) n.parts.timers).endings;
     sent = λ link next n own e. bounds-same most n _ (timed_sending-for link c n.parts.timers).endings;
-    fails = λ link why n. fails-bounds (in_service n.parts link) link why n;
-    orders = orders-bounds;
-    acknowledges = λ link number n. acknowledges-bounds (changeover_of n.parts link).awaited link number n;
-    expires = λ timer link n. bounds-eased most n _ (expired-eased c (is_link n.parts link) timer link n);
+    fails = λ link why n may up. fails-bounds (in_service n.parts link) link why n;
+    orders = λ link number n falls ends. orders-bounds link number n;
+    acknowledges = λ link number n may. acknowledges-bounds (changeover_of n.parts link).awaited link number n;
+    expires = λ timer link n may. bounds-eased most n _ (expired-eased c (is_link n.parts link) timer link n);
     returns = λ before after code link other n e f. returns-bounds before after code link other n;
-    frees = λ set code n. bounds-eased most n _ (record { timers = less-clear (name.T4 set code) n.parts.timers });
+    frees = λ set code n may. bounds-eased most n _ (record { timers = less-clear (name.T4 set code) n.parts.timers });
     reroutes = reroutes-bounds;
-    lifts = λ procedure n. bounds-as most n _ refl;
+    lifts = λ procedure n may. bounds-as most n _ refl;
   }
 
   -- a tick lowers each, and one that is handed out runs no longer

@@ -67,14 +67,14 @@ relayed_in relays.Delivered outcome m = []
 relayed_in (relays.Onward sif) outcome m = taken_in outcome (in_place_of m sif)
 relayed_in (relays.Refused cause) outcome m = []
 
--- the UDTS that returns it, if one does
+-- the UDTS or XUDTS that returns it, if one does
 abbrev pub returned_in : Option (List ℕ) → Configuration → Message → Node WholeQueues → List Message
 returned_in (Some sif) c m node = entering c (in_place_of m sif) node
 returned_in None c m node = []
 
 -- it is returned if it is refused
 abbrev pub answered_in : Outcome → Configuration → Message → Node WholeQueues → List Message
-answered_in (Refused cause) c m node = returned_in (returned (own_of c) node.parts.titles m.sif cause) c m node
+answered_in (Refused cause) c m node = returned_in (returned (own_of c node.parts) node.parts.titles m.sif cause) c m node
 answered_in (Queued link) c m node = []
 answered_in Held c m node = []
 answered_in Local c m node = []
@@ -84,7 +84,7 @@ answered_in Ignored c m node = []
 -- what an SCCP message for this point brings: itself, as it goes on, and what answers it
 abbrev pub unitdata_in : Outcome → Configuration → Message → Node WholeQueues → List Message
 unitdata_in outcome c m node =
-    relayed_in (relay (own_of c) node.parts.titles m.sif) outcome m ++ answered_in outcome c m node
+    relayed_in (relay (own_of c node.parts) node.parts.titles m.sif) outcome m ++ answered_in outcome c m node
 
 -- a message for this point brings only what SCCP makes of it
 abbrev pub brought_here : Outcome → Configuration → Message → Node WholeQueues → List Message

@@ -38,7 +38,8 @@ abbrev pub counts_in : Configuration → NodeCounts
 counts_in c = record { links = length c.links; sets = length c.sets; destinations = length c.destinations }
 
 -- every link is down; every route is allowed, and each adjacent point takes it so; no code waits for its answer, and
--- nothing is held; the translation rows are those of the settings; no timer runs, and nothing was noted
+-- nothing is held; the translation rows are those of the settings; no message came for a user part that isn't here; no
+-- timer runs, and nothing was noted
 abbrev pub first_parts : Configuration → Parts
 first_parts c = record {
   links = replicate (length c.links) down_link;
@@ -48,6 +49,7 @@ first_parts c = record {
   codes = no_codes (length c.sets);
   holds = no_holds (length c.links) (length c.sets) (length c.destinations);
   titles = table_of c.titles;
+  unequipped = replicate (length c.destinations) 0;
   timers = none_running (counts_in c);
   notices = record { last = []; count = 0 };
   times_lost = 0;

@@ -2,7 +2,7 @@
 use Rattle.settings_rows.specs.Configuration.{Configuration}
 use Rattle.std.specs.Prelude.{◌≡◌, ◌≢◌, ◌<◌, ◌&&◌, ◌++◌, ℕ, Bool, true, not, nat_eq, length, filter, Option, Some, None, Result, Ok, Err, if◌then◌else◌}
 use Rattle.signalling_types.specs.declared.cause.Cause.{Cause}
-use Rattle.signalling_types.specs.declared.cause.Cause.TheVariants.{NoRoute}
+use Rattle.signalling_types.specs.declared.cause.Cause.TheVariants.{NoRoute, NoUserPart}
 use Rattle.signalling_types.specs.declared.notice.Notice.TheVariants as notices
 use Rattle.signalling_types.specs.declared.notice.FrameFault.{FrameFault}
 use Rattle.signalling_types.specs.declared.outcome.Outcome.TheVariants.{Queued, Refused}
@@ -15,13 +15,13 @@ use Rattle.link.specs.Queue.{count_confirmed}
 use Rattle.exchange_rules.specs.State.{Parts, Node, with_node, with_parts, is_link, link_at, in_service, note, Happening, CameUp, WentDown, FrameCame, Ticked, Submitted, Activated, Deactivated, TitleAdded, TitleRemoved}
 use Rattle.link.specs.declared.action.Transition.{Transition}
 use Rattle.exchange_rules.specs.ChangingOver.{complete_if}
-use Rattle.exchange_rules.specs.Telling.{send_routed, is_all_told, answer_no_route, tell_owed}
+use Rattle.exchange_rules.specs.Telling.{send_routed, is_all_told, answer_no_route, answer_no_user_part, tell_owed}
 use Rattle.exchange_rules.specs.Frames.{advance, Carrying, numbers, accept, data_of}
 use Rattle.mtp3_codec.specs.declared.discrimination.Discrimination.{Discrimination}
 use Rattle.mtp3_codec.specs.declared.discrimination.Discrimination.TheVariants as whither
 use Rattle.exchange_rules.specs.Messages.{sccp, whither_goes, return_unitdata}
 use Rattle.std.specs.Option.{option_and_then}
-use Rattle.signalling_types.specs.Message.{Message, service_indicator, dpc_of, flow_of}
+use Rattle.signalling_types.specs.Message.{Message, service_indicator, dpc_of, opc_of, flow_of}
 use Rattle.settings.specs.Readings.{destination_place}
 use Rattle.changeover.specs.Changeover.{moved}
 use Rattle.exchange_rules.specs.Routing.{link_of, goes_by, waits}
@@ -55,13 +55,21 @@ abbrev pub carried_message : Result FrameValue FrameFault → Option Message
 carried_message (Ok frame) = option_and_then (λ d. d.message) (data_of frame)
 carried_message (Err fault) = None
 
--- what answers a message that was refused, by where it goes. One for SCCP here is returned, if it can be. If one for
--- another point came by a link and found no route, its sender is told. Nothing answers any other
+-- what answers a message that was refused here: one for a user part that isn't here, if it came by a link
+abbrev pub no_part_answered : Cause → (from : Option ℕ) → Message → Configuration → Node WholeQueues → Node WholeQueues
+no_part_answered NoUserPart from m c node =
+    answer_no_user_part whole c from (destination_place c (opc_of m)) m node
+no_part_answered cause from m c node = node
+
+-- what answers a message that was refused, by where it goes. One for SCCP here is returned, if it can be. If one that
+-- came by a link is for a user part that isn't here, or found no route to another point, its sender is told. Nothing
+-- answers any other
 abbrev pub answered_by : Discrimination → Cause → (from : Option ℕ) → Message → Configuration → Node WholeQueues
     → Node WholeQueues
 answered_by (whither.Refused fault) cause from m c node = node
 answered_by (whither.Here label) cause from m c node =
-    if nat_eq (service_indicator m) sccp then return_unitdata whole c cause m node else node
+    if nat_eq (service_indicator m) sccp then return_unitdata whole c cause m node
+    else no_part_answered cause from m c node
 answered_by (whither.Transfer label) NoRoute from m c node =
     answer_no_route whole c from (destination_place c (dpc_of m)) node
 answered_by (whither.Transfer label) cause from m c node = node

@@ -19,6 +19,7 @@ pub mod Lasting
 pub mod LawsOfReturns
 pub mod LawsOfAnswers
 pub mod LawsOfShares
+pub mod LawsOfUserParts
 pub mod LastingLinks
 pub mod LastingHolds
 pub mod TickingAlone
@@ -33,4 +34,5 @@ pub mod Receiving
 pub mod Conserving
 pub mod LawsOfMessages
 pub mod LawsOfLosses
+pub mod LawsOfCauses
 pub mod RuleExamples

@@ -1,4 +1,5 @@
--- HMRT, message routing (Q.704 §2.3): room, then Held if the flow has a hold, then a route, then the end of a queue.
+-- HMRT, message routing (Q.704 §2.3): room in the pool and in the link's share of it, then Held if the flow has a hold,
+-- then a route, then the end of a queue.
 use Rattle.std.specs.Prelude.{ℕ, Bool, true, false, Option, Some, None, is_some, if◌then◌else◌, List, ◌&&◌, nat_eq, position, Result, Ok, Err, nat_lt, length}
 use Rattle.signalling_types.specs.Message.{Message, flow_of, dpc_of, service_indicator, opc_of, is_management}
 use Rattle.settings_rows.specs.Configuration.{Configuration, TitleEntry}
@@ -8,7 +9,7 @@ use Rattle.signalling_types.specs.declared.cause.Cause.TheVariants.{UnknownDesti
 use Rattle.signalling_types.specs.declared.outcome.Outcome.TheVariants.{Queued, Held, Local, Handled, Ignored, Refused}
 use Rattle.exchange_rules.specs.State.{unless◌then◌else◌, QueueKind, Node, Done, refuse, Parts, with_parts, answer, note_refusal}
 use Rattle.exchange_rules.specs.Routing.{link_of, waits, hold, no_room, no_room_on, queue_on, route_about}
-use Rattle.exchange_rules.specs.Telling.{answer_no_route, own_sio, send_on, on_route_test}
+use Rattle.exchange_rules.specs.Telling.{answer_no_route, answer_no_user_part, own_sio, send_on, on_route_test}
 use Rattle.std.specs.Option.{option_or, option_and_then}
 use Rattle.signalling_types.specs.declared.outcome.Outcome.{Outcome}
 use Rattle.sccp_codec.specs.declared.title.TitleKey.{TitleKey}
@@ -21,7 +22,7 @@ use Rattle.mtp3_codec.specs.declared.fault.MgmtFault.TheVariants as faults
 use Rattle.mtp3_codec.specs.declared.link_test.TestKind.{TestKind}
 use Rattle.mtp3_codec.specs.declared.link_test.TestKind.TheVariants.{Test, Acknowledgement}
 use Rattle.mtp3_codec.specs.declared.management.Management.{Management}
-use Rattle.mtp3_codec.specs.declared.management.Management.TheVariants.{TrafficRestartAllowed, ExtendedChangeoverOrder, ExtendedChangeoverAcknowledgement, EmergencyChangeoverOrder, EmergencyChangeoverAcknowledgement, ChangebackDeclaration, ChangebackAcknowledgement, TransferProhibited, TransferRestricted, TransferAllowed, RouteSetTestProhibited, RouteSetTestRestricted}
+use Rattle.mtp3_codec.specs.declared.management.Management.TheVariants.{TrafficRestartAllowed, ExtendedChangeoverOrder, ExtendedChangeoverAcknowledgement, EmergencyChangeoverOrder, EmergencyChangeoverAcknowledgement, ChangebackDeclaration, ChangebackAcknowledgement, TransferProhibited, TransferRestricted, TransferAllowed, RouteSetTestProhibited, RouteSetTestRestricted, UserPartUnavailable}
 use Rattle.mtp3_codec.specs.Management.{LinkTestValue, read_link_test, spelled, answer_to, read_management}
 use Rattle.routes.specs.declared.route.RouteStatus.TheVariants as status
 use Rattle.route_management.specs.declared.heard.RouteTest.TheVariants as test
@@ -62,13 +63,14 @@ module _ {Q : Type 0} (q : QueueKind Q) (c : Configuration) where
 
 -- ---- SCRC, SCCP routing control (Q.714 §2.3, §4.2): SCCP messages for this point, and the rows that lead them on.
 
--- the point that this node is, its subsystems, and what it does for SCCP
-abbrev pub own_of : Configuration → OwnValue
-own_of c = record {
+-- the point that this node is, its subsystems, what it does for SCCP, and whether the flow to a point has a link
+abbrev pub own_of : Configuration → Parts → OwnValue
+own_of c p = record {
   point = c.own;
   subsystems = c.subsystems;
   extended = c.extended_unitdata;
-  tested = c.subsystem_tests;
+  answers_tests = c.subsystem_tests;
+  leads = λ point sls. is_some (link_of c p (record { point = point; sls = sls }));
 }
 
 -- a message in the place of another, with the same service information octet
@@ -78,14 +80,14 @@ in_place_of m sif = record m { sif = sif }
 module _ {Q : Type 0} (q : QueueKind Q) (c : Configuration) where
   -- ---- a refused message is returned
 
-  -- the UDTS that returns a message, if one does, goes the way of any message for another point; if there is no way, it
-  -- is dropped
+  -- the UDTS or XUDTS that returns a message, if one does, goes the way of any message for another point; if there is
+  -- no way, it is dropped
   abbrev pub send_udts : (udts : Option (List ℕ)) → Message → Node Q → Node Q
   send_udts (Some sif) m node = (transfer q c None (in_place_of m sif) node).left
   send_udts None m node = node
 
   abbrev pub return_unitdata : Cause → Message → Node Q → Node Q
-  return_unitdata cause m node = send_udts (returned (own_of c) node.parts.titles m.sif cause) m node
+  return_unitdata cause m node = send_udts (returned (own_of c node.parts) node.parts.titles m.sif cause) m node
 
   abbrev pub return_outcome : Outcome → Message → Node Q → Node Q
   return_outcome (Refused cause) m node = return_unitdata cause m node
@@ -109,7 +111,7 @@ module _ {Q : Type 0} (q : QueueKind Q) (c : Configuration) where
 
   -- an SCCP message for this point
   abbrev pub on_unitdata : Message → Node Q → Done Q
-  on_unitdata m node = return_refusal m (relay_by (relay (own_of c) node.parts.titles m.sif) m node)
+  on_unitdata m node = return_refusal m (relay_by (relay (own_of c node.parts) node.parts.titles m.sif) m node)
 
 -- ---- translation rows
 
@@ -155,6 +157,22 @@ is_user c service_indicator = list_any (λ user. nat_eq user service_indicator) 
 -- whether the links of some set lead to this point
 abbrev pub is_adjacent : Configuration → ℕ → Bool
 is_adjacent c point = is_some (set_place c point)
+
+-- whether a message says that a user part isn't at its sender
+abbrev pub is_unavailability : Result Management MgmtFault → Bool
+is_unavailability (Ok (UserPartUnavailable point user_part cause)) = true
+is_unavailability _ = false
+
+abbrev pub says_unavailable : Message → Bool
+says_unavailable m = nat_eq (service_indicator m) 0 && is_unavailability (read_management m.sif)
+
+-- such a message asks for nothing: its users learn of it otherwise. It is left out if this node doesn't say so itself
+abbrev pub on_unavailable : Configuration → Outcome
+on_unavailable c = if c.user_part_unavailable then Handled else Refused NotInProfile
+
+-- management and tests of a point that isn't adjacent aren't accepted, but that a user part isn't there
+abbrev pub from_afar : Configuration → Message → Outcome
+from_afar c m = if c.user_part_unavailable && says_unavailable m then Handled else Refused NotFromAdjacent
 
 -- why a management or test message that can't be read is refused
 abbrev pub cause_of : MgmtFault → Cause
@@ -216,29 +234,31 @@ module _ {Q : Type 0} (q : QueueKind Q) (c : Configuration) where
       on_route_test q c test.Prohibited (route_about (set_place c point) (destination_place c about)) node
   on_management (RouteSetTestRestricted about) point node =
       on_route_test q c test.Restricted (route_about (set_place c point) (destination_place c about)) node
+  on_management (UserPartUnavailable about user_part cause) point node = answer (on_unavailable c) node
 
   abbrev pub do_management : Result Management MgmtFault → ℕ → Node Q → Done Q
   do_management (Err fault) point node = refuse (cause_of fault) node
   do_management (Ok message) point node = on_management message point node
 
-  -- management and tests, by the link that they came by; only those of an adjacent point are accepted
+  -- management and tests, by the link that they came by
   abbrev pub manage : ℕ → Message → Node Q → Done Q
   manage link m node =
-      unless is_adjacent c (opc_of m) then refuse NotFromAdjacent node
+      unless is_adjacent c (opc_of m) then answer (from_afar c m) node
       else if nat_eq (service_indicator m) testing
       then do_test (read_link_test m.sif) link (opc_of m) node
       else do_management (read_management m.sif) (opc_of m) node
 
-  -- a message for SCCP, or for a user part
-  abbrev pub local : Message → Node Q → Done Q
-  local m node =
+  -- a message for SCCP, or for a user part, with the link that it came by, if any. The sender of one that came by a link
+  -- for a user part that isn't here is told so
+  abbrev pub local : (from : Option ℕ) → Message → Node Q → Done Q
+  local from m node =
       if nat_eq (service_indicator m) sccp then on_unitdata q c m node
       else if is_user c (service_indicator m) then answer Local node
-      else refuse NoUserPart node
+      else refuse NoUserPart (answer_no_user_part q c from (destination_place c (opc_of m)) m node)
 
   -- a message for this point, by the link that it came by
   abbrev pub distribute : ℕ → Message → Node Q → Done Q
-  distribute link m node = (if is_management m then manage link m node else local m node)
+  distribute link m node = (if is_management m then manage link m node else local (Some link) m node)
 
 -- ---- HMDC, message discrimination (Q.704 §2.4): where a message goes, and what becomes of it.
 
@@ -262,7 +282,7 @@ module _ {Q : Type 0} (q : QueueKind Q) (c : Configuration) where
   -- a submission, once it is known where it goes: management and test messages are never submitted
   abbrev pub submit_to : Discrimination → Message → Node Q → Done Q
   submit_to (whither.Refused cause) m node = refuse cause node
-  submit_to (whither.Here label) m node = (if is_management m then refuse NotInProfile node else local q c m node)
+  submit_to (whither.Here label) m node = (if is_management m then refuse NotInProfile node else local q c None m node)
   submit_to (whither.Transfer label) m node =
       (if is_management m then refuse NotInProfile node else transfer q c None m node)
 

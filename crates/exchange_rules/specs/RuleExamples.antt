@@ -58,6 +58,7 @@ settings = record {
   subsystems = [];
   extended_unitdata = false;
   subsystem_tests = false;
+  user_part_unavailable = false;
   timers = ticks;
   sets = record { name = []; adjacent = 2 } ∷ [];
   links = record { name = []; set = 0; slc = 0; share = None } ∷ [];

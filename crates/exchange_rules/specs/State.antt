@@ -49,6 +49,8 @@ pub record Parts : Type 0 where
   pub holds : HoldSet
   -- the translation rows, in their order
   pub titles : List TitleEntry
+  -- for each destination, how many messages for user parts that aren't here came from it, modulo 8
+  pub unequipped : List ℕ
   pub timers : Running
   pub notices : Noted
   -- how often a message may have been lost since the node was booted, 2 ^ 64 - 1 at most

@@ -1,6 +1,6 @@
 -- HMRT, message routing (Q.704 §2.3): management that this node makes, or that a link left over when it failed.
-use Rattle.std.specs.Prelude.{ℕ, ◌+◌, ◌*◌, Option, Some, None, Bool, ◌&&◌, ◌||◌, not, nat_lt, List, [], ◌∷◌, Result, Ok, Err, if◌then◌else◌}
-use Rattle.signalling_types.specs.Message.{Message, dpc_of, flow_of}
+use Rattle.std.specs.Prelude.{ℕ, ◌+◌, ◌*◌, ◌%◌, nat_eq, slice_index_or, slice_set, Option, Some, None, Bool, ◌&&◌, ◌||◌, not, nat_lt, List, [], ◌∷◌, Result, Ok, Err, if◌then◌else◌}
+use Rattle.signalling_types.specs.Message.{Message, dpc_of, flow_of, opc_of, service_indicator}
 use Rattle.settings_rows.specs.Configuration.{Configuration}
 use Rattle.signalling_types.specs.declared.cause.Cause.{Cause}
 use Rattle.signalling_types.specs.declared.cause.Cause.TheVariants.{NoRoute}
@@ -11,7 +11,8 @@ use Rattle.exchange_rules.specs.State.{◌▷◌, QueueKind, Parts, Node, with_p
 use Rattle.exchange_rules.specs.Routing.{link_of, no_room, queue_on, facts, set_of, adjacent_of, point_of}
 use Rattle.signalling_types.specs.declared.outcome.Outcome.{Outcome}
 use Rattle.signalling_types.specs.declared.outcome.Outcome.TheVariants.{Handled, Ignored}
-use Rattle.mtp3_codec.specs.declared.management.Management.TheVariants.{TransferProhibited, TransferRestricted, TransferAllowed}
+use Rattle.mtp3_codec.specs.declared.management.Management.TheVariants.{TransferProhibited, TransferRestricted, TransferAllowed, UserPartUnavailable}
+use Rattle.mtp3_codec.specs.declared.unavailability.UnavailabilityCause.TheVariants.{Unequipped}
 use Rattle.timers.specs.declared.name.TimerName.TheVariants.{T8}
 use Rattle.timers.specs.Timers.{Running, set_timer, is_running}
 use Rattle.routes.specs.declared.route.RouteStatus.{RouteStatus}
@@ -93,6 +94,26 @@ answered_parts set destination status p = record p { told = with_told set destin
 abbrev pub is_inhibited : (set destination : ℕ) → Parts → Bool
 is_inhibited set destination p = is_running (T8 set destination) p.timers || is_own_point p.told set destination
 
+-- ---- TSFC, signalling traffic flow control (Q.704 §11.2.7): messages for user parts that aren't here.
+
+-- of so many such messages from one point the first is answered
+abbrev pub answered_once_in : ℕ
+answered_once_in = 8
+
+-- how many of them came from a destination, modulo that
+abbrev pub unequipped_from : (origin : ℕ) → Parts → ℕ
+unequipped_from origin p = slice_index_or p.unequipped origin 0
+
+-- one more came from there
+abbrev pub unequipped_counted : (origin : ℕ) → Parts → Parts
+unequipped_counted origin p = record p {
+  unequipped = slice_set p.unequipped origin ((unequipped_from origin p + 1) % answered_once_in);
+}
+
+-- what its sender is told: this point doesn't have the user part
+abbrev pub unavailable : Configuration → Message → Message
+unavailable c m = management_to c (opc_of m) (UserPartUnavailable c.own (service_indicator m) Unequipped)
+
 module _ {Q : Type 0} (q : QueueKind Q) (c : Configuration) where
   -- whether the node has few enough management messages
   abbrev pub may_tell : Node Q → Bool
@@ -137,6 +158,28 @@ module _ {Q : Type 0} (q : QueueKind Q) (c : Configuration) where
   answer_no_route (Some link) (Some destination) node = prohibit_if (set_of c link) destination node
   answer_no_route (Some link) None node = node
   answer_no_route None destination node = node
+
+  -- ---- a message for a user part that isn't here
+
+  -- whether one from this destination is answered
+  abbrev pub is_unequipped_told : (origin : ℕ) → Node Q → Bool
+  is_unequipped_told origin node = may_tell node && nat_eq (unequipped_from origin node.parts) 0
+
+  abbrev pub send_if : Bool → Message → Node Q → Node Q
+  send_if is_told m node = if is_told then send_routed q c m node else node
+
+  -- it is counted, whether it is answered or not
+  abbrev pub tell_unavailable : (origin : ℕ) → Message → Node Q → Node Q
+  tell_unavailable origin m node =
+      with_parts node (unequipped_counted origin node.parts)
+      ▷ send_if (is_unequipped_told origin node) (unavailable c m)
+
+  -- the link that it came by, if any, and its origin, if that is a destination
+  abbrev pub answer_no_user_part : (link origin : Option ℕ) → Message → Node Q → Node Q
+  answer_no_user_part (Some link) (Some origin) m node =
+      if c.user_part_unavailable then tell_unavailable origin m node else node
+  answer_no_user_part (Some link) None m node = node
+  answer_no_user_part None origin m node = node
 
   -- ---- tests
 

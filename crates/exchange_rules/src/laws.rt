@@ -1,41 +1,46 @@
 //! Laws of the abstract exchange.
 
-ghost use Rattle.exchange_rules.specs.Laws.{refusals_leave, nothing_taken_leaves, queued_in_service};
-ghost use Rattle.exchange_rules.specs.Laws.{routed_in_service, declared_in_service, queued_anew_in_service};
-ghost use Rattle.exchange_rules.specs.Laws.{first_is_told, events_tell_all, takes_owe_nothing, settled_in_service};
+ghost use Rattle.exchange_rules.specs.Laws.{refusals_leave, nothing_taken_leaves};
+ghost use Rattle.exchange_rules.specs.Laws.{first_is_told, events_tell_all, takes_owe_nothing};
 ghost use Rattle.exchange_rules.specs.Laws.{completion_leaves_others, release_keeps_order, moved_before_held};
-ghost use Rattle.exchange_rules.specs.LastingLinks.{links_first_steady, links_stay_steady, l7_watches};
 ghost use Rattle.exchange_rules.specs.LastingHolds.{holds_stay_timed, every_hold_has_its_timer_or_its_word};
 ghost use Rattle.exchange_rules.specs.TickingAlone.{ticks_end_holds_where_it_is_quiet, ticks_end_all_holds};
-ghost use Rattle.exchange_rules.specs.Touching.{other_links_are_left, takes_leave_other_queues};
 ghost use Rattle.exchange_rules.specs.LastingMessages.{first_is_onward, messages_stay_onward};
 ghost use Rattle.exchange_rules.specs.LastingRoutes.{own_routes_stay_allowed};
 ghost use Rattle.exchange_rules.specs.LoneRoutes.{flows_stay_on_their_set, the_set_decides_its_flows};
-ghost use Rattle.exchange_rules.specs.Receiving.{received_is_counted, takes_receive_nothing, nothing_new_is_delivered};
 ghost use Rattle.exchange_rules.specs.LawsOfMessages.{user_messages_are_conserved, takes_leave_user_messages};
 ghost use Rattle.exchange_rules.specs.LawsOfMessages.{all_that_came_adds_up};
 ghost use Rattle.exchange_rules.specs.LawsOfMessages.{carried_messages_have_a_fate, submissions_have_a_fate};
 ghost use Rattle.exchange_rules.specs.LawsOfLosses.{events_account_for_losses, takes_flag_nothing, management_is_named};
+ghost use Rattle.exchange_rules.specs.LawsOfCauses.{holds_end_so, takes_leave_holds};
 ghost use Rattle.exchange_rules.specs.Lasting.{places_at_first, places_stay, notices_keep_their_limits};
 ghost use Rattle.exchange_rules.specs.Lasting.{no_flag_at_first, losses_stay, lateness_stays};
 ghost use Rattle.exchange_rules.specs.Lasting.{notices_raise_flags, unreasonable_numbers_raise_it};
 ghost use Rattle.exchange_rules.specs.Lasting.{notices_made_are_counted, new_notices_are_the_last};
 ghost use Rattle.exchange_rules.specs.TimerSettings.{events_set_timers_to_their_settings, timers_keep_their_settings};
 ghost use Rattle.exchange_rules.specs.TimerSettings.{takes_set_timers_to_their_settings};
-ghost use Rattle.exchange_rules.specs.Aligning.{links_are_proved_first, links_have_their_timers};
 ghost use Rattle.exchange_rules.specs.Testing.{unsure_routes_are_tested, tests_are_repeated};
 ghost use Rattle.exchange_rules.specs.LawsOfFailures.{failures_hold_their_flows, failures_by_peer_hold_their_flows};
 ghost use Rattle.exchange_rules.specs.LawsOfFailures.{idle_failures_hold_nothing, idle_failures_by_peer_hold_nothing};
 ghost use Rattle.exchange_rules.specs.LawsOfReturns.{entries_hold_changed_flows, changed_flows_are_held};
-ghost use Rattle.exchange_rules.specs.LawsOfAnswers.{wanted_links_open, queued_stands_last, t8_lasts};
+ghost use Rattle.exchange_rules.specs.LawsOfAnswers.{queued_stands_last, t8_lasts};
 ghost use Rattle.exchange_rules.specs.LawsOfAnswers.{one_answer_within_t8, t8_runs_its_time, takes_leave_t8};
 ghost use Rattle.exchange_rules.specs.LawsOfReturns.{returns_keep_holds};
 ghost use Rattle.exchange_rules.specs.LawsOfReturns.{flows_return_by_their_procedures, entries_are_returns};
 ghost use Rattle.exchange_rules.specs.LawsOfShares.{full_shares_refuse, others_know_no_shares};
 
-/// A refused event changes nothing, but that a refused message may be answered: a UDT for this point is returned, and
-/// where a message in a frame found no route the point at the other end of its link is told. Of a message in a frame
-/// also what accepting that frame did stands, with a notice, and what then found room to be told.
+pub mod links;
+
+pub use links::{
+    links_are_proved_before_they_enter_service, links_have_the_timers_of_their_states,
+    links_open_where_they_want_to, links_stay_steady, links_that_fail_are_named,
+    only_links_in_service_are_given_messages, other_links_are_left, what_was_received_is_counted,
+};
+
+/// A refused event changes nothing, but that a refused message may be answered: one of SCCP for this point is returned,
+/// if it can be, by a UDTS or an XUDTS; where a message in a frame found no route the point at the other end of its
+/// link is told, and of one for a user part that isn't here its sender. Of a message in a frame also what accepting
+/// that frame did stands, with a notice, and what then found room to be told.
 pub fn refusals_change_nothing()
     ensures { refusals_leave }
 {}
@@ -51,22 +56,6 @@ pub fn only_what_finds_no_room_is_owed()
 /// A take that gives nothing changes nothing.
 pub fn taking_nothing_changes_nothing()
     ensures { nothing_taken_leaves }
-{}
-
-/// The link that an answer Queued names is in service. So is each whose queue changes as management made here goes out,
-/// as a link declares that it is back, as a completion queues management of another link anew, and at the end of each
-/// event, as messages are released and adjacent points are told.
-pub fn only_links_in_service_are_given_messages()
-    ensures queued { queued_in_service }
-    ensures routed { routed_in_service }
-    ensures declared { declared_in_service }
-    ensures anew { queued_anew_in_service }
-    ensures settled { settled_in_service }
-{}
-
-/// A link wants to open exactly where its association, if it came up, would be taken.
-pub fn links_open_where_they_want_to()
-    ensures { wanted_links_open }
 {}
 
 /// A message for another point is refused ShareFull exactly if it is a user message that has a known destination, finds
@@ -168,31 +157,6 @@ pub fn flags_never_fall()
     ensures number { unreasonable_numbers_raise_it }
 {}
 
-/// Each link is steady, at first, and whatever happens and whatever is taken: its counts are in order, it is down while
-/// it has no association or its changeover isn't complete, and out of service messages stand in its queue only until
-/// its changeover is complete. L7 of it runs exactly while it is in service, its peer isn't busy, and something that
-/// was sent isn't confirmed.
-pub fn links_stay_steady()
-    ensures first { links_first_steady }
-    ensures always { links_stay_steady }
-    ensures watched { l7_watches }
-{}
-
-/// Each link has the timer of its state, whatever happens and whatever is taken. L2 runs just while it isn't aligned,
-/// L3 while it is, L4 while it is proved, and L1 while it is ready and its peer isn't; and L6 while it is in service
-/// and its peer is busy. So no link waits without a timer on its way into service, and none fails by a timer of another
-/// state.
-pub fn links_have_the_timers_of_their_states()
-    ensures { links_have_their_timers }
-{}
-
-/// A link is proved before it enters service (Q.703 §7). It begins to align only as its association comes up, and is
-/// aligned only by its peer's Alignment. Only its peer's Proving begins its proving, and only L4 ends it. It enters
-/// service then, if its peer was ready, or later by its peer's Ready or User Data, and never else.
-pub fn links_are_proved_before_they_enter_service()
-    ensures { links_are_proved_first }
-{}
-
 /// Every hold has its timer or its word, whatever happens and whatever is taken. The changeover that holds a flow isn't
 /// complete; T4 of a code that holds one runs, T3 of a link that holds one by time, and T6 of a destination whose flows
 /// are rerouted. While a changeover isn't complete T1 runs, or the answer to its order is awaited; and while that is
@@ -200,6 +164,16 @@ pub fn links_are_proved_before_they_enter_service()
 pub fn every_hold_has_its_timer_or_its_word()
     ensures stays { holds_stay_timed }
     ensures always { every_hold_has_its_timer_or_its_word }
+{}
+
+/// A hold ends only by its word, or as a timer of it runs out. A procedure that holds a flow before an event, and
+/// doesn't hold it after, is a changeover, and its peer ordered that or answered the order, or T1 or T2 of the link ran
+/// out (Q.704 §5.4 to §5.7); or a code, and the answer to its declaration came, or T4 ran out (§6.3); or it holds by
+/// time, and T3 ran out (§6.4); or a rerouting, and T6 ran out (§8.2). The words are those of the message that a frame
+/// newly carries, if an adjacent point sent it. No other event ends a hold, and no take does.
+pub fn holds_end_by_word_or_timer()
+    ensures event { holds_end_so }
+    ensures take { takes_leave_holds }
 {}
 
 /// Each timer is set to the ticks that the settings give it, whatever happens and whatever is taken: after an event or
@@ -219,18 +193,6 @@ pub fn timers_are_set_to_their_settings()
 pub fn ticks_end_all_holds()
     ensures quiet { ticks_end_holds_where_it_is_quiet }
     ensures always { ticks_end_all_holds }
-{}
-
-/// An event leaves each link that it isn't about: messages go behind the link's queue while it is in service, or a
-/// completion empties that queue, only where the link's changeover wasn't complete before, or the link fails by this
-/// event. Out of service the link stays so, and no message goes there: its queue stays as it is, unless its changeover
-/// is completed. A take touches no other link's queue.
-///
-/// An event is about a link if its association comes up, a frame came by it, or one of its timers L1 to L7 runs out:
-/// only such events take it into service.
-pub fn other_links_are_left()
-    ensures event { other_links_are_left }
-    ensures take { takes_leave_other_queues }
 {}
 
 /// No message for this point stands in Held or in a queue, at first, and whatever happens and whatever is taken: such a
@@ -263,23 +225,14 @@ pub fn flows_to_a_point_stay_on_its_only_set()
     ensures decided { the_set_decides_its_flows }
 {}
 
-/// What was received on a link rises by one exactly where a frame newly carries a message there, and by nothing else. A
-/// frame newly carries none if its link is down, if it can't be read, or if one of its numbers is wrong; then it
-/// delivers none.
-pub fn what_was_received_is_counted()
-    ensures event { received_is_counted }
-    ensures take { takes_receive_nothing }
-    ensures none { nothing_new_is_delivered }
-{}
-
 /// No user message is doubled, and none goes unseen: by any test, as many as stood in Held and in queues before an
 /// event, and as it brings, stand there after it, were accepted by a peer, or are named as lost.
 ///
 /// It brings the message that came or was submitted where its outcome is that this is queued or held, and no other: a
 /// message for another point as it came, an SCCP message for this point as its relay writes it. And it brings the UDTS
-/// that returns a refused one, where that finds its way. A peer accepts messages by the numbers of its User Data,
-/// oldest first, and by the number of its changeover. Those are lost that a completion leaves in doubt, and that have
-/// no route when they are released.
+/// or XUDTS that returns a refused one, where that finds its way. A peer accepts messages by the numbers of its User
+/// Data, oldest first, and by the number of its changeover. Those are lost that a completion leaves in doubt, and that
+/// have no route when they are released.
 ///
 /// This holds of every node that has all its places and whose links are steady, so of every one that comes of the
 /// first. A take changes no such number. So whatever happens and whatever is taken, all that ever came in stands, was
@@ -299,8 +252,12 @@ pub fn user_messages_are_conserved()
 /// release finds without a route. Each T3 and each T4 that runs out, and so ends holds, makes a notice of lateness
 /// (Late), and nothing else does. It counts a possible loss for each of its notices that tells of one (Lost, Unsent,
 /// Expired of T2) and for each completion without a reasonable number, and no other; and a possible lateness for each
-/// notice of one. How many notices of other kinds it makes has a bound. A take counts neither. Management that finds no
-/// room or no link is named with why (Unsent), and counts; any other goes to the end of a queue.
+/// notice of one. How many notices of other kinds it makes has a bound. A take counts neither.
+///
+/// Management is sent in three ways: on the link of its flow, on a given link, and, queued anew, on the link of its
+/// flow without a look at room. In each it goes to the end of that link's queue; or it finds no room or no link, and is
+/// named with why (Unsent), and counts. This is said of each way, not of whole events. A changeback declaration is sent
+/// in none of them: where it finds no room it isn't made (`flows_return_by_the_procedures_of_their_links`).
 pub fn what_is_lost_is_named()
     ensures event { events_account_for_losses }
     ensures management { management_is_named }

@@ -6,7 +6,9 @@ use Rattle.mtp3_codec.specs.declared.fault.MgmtFault.TheVariants.{Short}
 use Rattle.mtp3_codec.specs.declared.link_test.TestKind.{TestKind}
 use Rattle.mtp3_codec.specs.declared.link_test.TestKind.TheVariants.{Test, Acknowledgement}
 use Rattle.mtp3_codec.specs.declared.management.Management.{Management}
-use Rattle.mtp3_codec.specs.declared.management.Management.TheVariants.{ExtendedChangeoverOrder, ExtendedChangeoverAcknowledgement, ChangebackDeclaration, ChangebackAcknowledgement, EmergencyChangeoverOrder, EmergencyChangeoverAcknowledgement, TransferProhibited, TransferRestricted, TransferAllowed, RouteSetTestProhibited, RouteSetTestRestricted, TrafficRestartAllowed}
+use Rattle.mtp3_codec.specs.declared.unavailability.UnavailabilityCause.{UnavailabilityCause}
+use Rattle.mtp3_codec.specs.declared.unavailability.UnavailabilityCause.TheVariants.{Unknown, Unequipped, Inaccessible}
+use Rattle.mtp3_codec.specs.declared.management.Management.TheVariants.{ExtendedChangeoverOrder, ExtendedChangeoverAcknowledgement, ChangebackDeclaration, ChangebackAcknowledgement, EmergencyChangeoverOrder, EmergencyChangeoverAcknowledgement, TransferProhibited, TransferRestricted, TransferAllowed, RouteSetTestProhibited, RouteSetTestRestricted, TrafficRestartAllowed, UserPartUnavailable}
 use Rattle.signalling_types.specs.Message.{label_number, Message, dpc_of, network_indicator}
 use Rattle.mtp3_codec.specs.declared.label.Label.{Label}
 use Rattle.signalling_types.specs.declared.cause.Cause.{Cause}
@@ -40,6 +42,20 @@ point_in (low ∷ high ∷ rest) = Ok ((low + high * 2 ^ 8) % 2 ^ 14)
 abbrev pub point_octets : ℕ → List ℕ
 point_octets point = point % 2 ^ 8 ∷ point / 2 ^ 8 ∷ []
 
+-- why a user part is unavailable, by its code; the codes from 3 on are spare, and say no more than that it is
+abbrev pub cause_code : UnavailabilityCause → ℕ
+cause_code Unknown = 0
+cause_code Unequipped = 1
+cause_code Inaccessible = 2
+
+abbrev pub cause_of_code : ℕ → UnavailabilityCause
+cause_of_code code = if code == 1 then Unequipped else if code == 2 then Inaccessible else Unknown
+
+-- a user part and why it is unavailable before the fields: the part's service indicator in the low half of an octet, the
+-- cause in the high half
+abbrev pub part_octet : ℕ → UnavailabilityCause → ℕ
+part_octet user_part cause = user_part + cause_code cause * 16
+
 -- ---- The octet after the label, which says what kind of message it is (Q.704 §15.3, Q.707 §5).
 
 -- the group H0 in the low half, the message H1 in the high half
@@ -72,6 +88,7 @@ management_heading (TransferAllowed point) = heading 4 5
 management_heading (RouteSetTestProhibited point) = heading 5 1
 management_heading (RouteSetTestRestricted point) = heading 5 2
 management_heading TrafficRestartAllowed = heading 7 1
+management_heading (UserPartUnavailable point user_part cause) = heading 10 1
 
 -- ---- The routing label: where a message goes, where it comes from, and how it chooses its link (Q.704 §2.2).
 

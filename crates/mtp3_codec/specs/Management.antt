@@ -1,10 +1,10 @@
 -- Management messages: messages of service indicator 0 (Q.704 §15, Q.2210 §10).
-use Rattle.std.specs.Prelude.{ℕ, ⊤, ◌<◌, ◌^◌, ◌==◌, if◌then◌else◌, List, [], ◌∷◌, ◌++◌, drop, Result, Ok, Err, ◌*◌, ◌/◌, nat_lt, length, take, Option, Some, None}
-use Rattle.mtp3_codec.specs.Headings.{label_at, label_octets, number_in, number_octets, changeback_code_in, point_in, point_octets, heading, management_heading, kind_of, kind_heading}
+use Rattle.std.specs.Prelude.{ℕ, ⊤, ◌<◌, ◌^◌, ◌==◌, if◌then◌else◌, List, [], ◌∷◌, ◌++◌, drop, Result, Ok, Err, ◌*◌, ◌/◌, ◌%◌, nat_lt, length, take, Option, Some, None}
+use Rattle.mtp3_codec.specs.Headings.{label_at, label_octets, number_in, number_octets, changeback_code_in, point_in, point_octets, cause_of_code, part_octet, heading, management_heading, kind_of, kind_heading}
 use Rattle.mtp3_codec.specs.declared.fault.MgmtFault.{MgmtFault}
 use Rattle.mtp3_codec.specs.declared.fault.MgmtFault.TheVariants.{Short, NotInProfile}
 use Rattle.mtp3_codec.specs.declared.management.Management.{Management}
-use Rattle.mtp3_codec.specs.declared.management.Management.TheVariants.{ExtendedChangeoverOrder, ExtendedChangeoverAcknowledgement, ChangebackDeclaration, ChangebackAcknowledgement, EmergencyChangeoverOrder, EmergencyChangeoverAcknowledgement, TransferProhibited, TransferRestricted, TransferAllowed, RouteSetTestProhibited, RouteSetTestRestricted, TrafficRestartAllowed}
+use Rattle.mtp3_codec.specs.declared.management.Management.TheVariants.{ExtendedChangeoverOrder, ExtendedChangeoverAcknowledgement, ChangebackDeclaration, ChangebackAcknowledgement, EmergencyChangeoverOrder, EmergencyChangeoverAcknowledgement, TransferProhibited, TransferRestricted, TransferAllowed, RouteSetTestProhibited, RouteSetTestRestricted, TrafficRestartAllowed, UserPartUnavailable}
 use Rattle.mtp3_codec.specs.declared.link_test.TestKind.{TestKind}
 use Rattle.mtp3_codec.specs.declared.link_test.TestKind.TheVariants.{Acknowledgement}
 
@@ -12,6 +12,14 @@ use Rattle.mtp3_codec.specs.declared.link_test.TestKind.TheVariants.{Acknowledge
 abbrev pub with_field : (ℕ → Management) → Result ℕ MgmtFault → Result Management MgmtFault
 with_field message (Ok field) = Ok (message field)
 with_field message (Err fault) = Err fault
+
+-- the fields of a user part unavailable: the point, then the part and the cause
+abbrev pub unavailable_in : List ℕ → Result Management MgmtFault
+unavailable_in [] = Err Short
+unavailable_in (low ∷ []) = Err Short
+unavailable_in (low ∷ high ∷ []) = Err Short
+unavailable_in (low ∷ high ∷ octet ∷ rest) =
+    with_field (λ point. UserPartUnavailable point (octet % 16) (cause_of_code (octet / 16))) (point_in (low ∷ high ∷ []))
 
 -- the message of a heading, of the link code in the label, and of the fields after the heading; what is after the
 -- fields is ignored
@@ -29,6 +37,7 @@ message_of octet slc fields =
     else if octet == heading 5 1 then with_field RouteSetTestProhibited (point_in fields)
     else if octet == heading 5 2 then with_field RouteSetTestRestricted (point_in fields)
     else if octet == heading 7 1 then Ok TrafficRestartAllowed
+    else if octet == heading 10 1 then unavailable_in fields
     else Err NotInProfile
 
 -- after the label: the heading, and what belongs to it
@@ -54,9 +63,10 @@ link_code_of (TransferAllowed point) = 0
 link_code_of (RouteSetTestProhibited point) = 0
 link_code_of (RouteSetTestRestricted point) = 0
 link_code_of TrafficRestartAllowed = 0
+link_code_of (UserPartUnavailable point user_part cause) = 0
 
 -- the fields of a message: the number of the last message that its sender accepted, a changeback code, the point code
--- that it is about, or nothing
+-- that it is about, a user part there and why it is unavailable, or nothing
 abbrev pub field_octets : Management → List ℕ
 field_octets (ExtendedChangeoverOrder slc number) = number_octets number
 field_octets (ExtendedChangeoverAcknowledgement slc number) = number_octets number
@@ -70,6 +80,7 @@ field_octets (TransferAllowed point) = point_octets point
 field_octets (RouteSetTestProhibited point) = point_octets point
 field_octets (RouteSetTestRestricted point) = point_octets point
 field_octets TrafficRestartAllowed = []
+field_octets (UserPartUnavailable point user_part cause) = point_octets point ++ part_octet user_part cause ∷ []
 
 -- the one text that is written of a message from one point to another
 abbrev pub management_octets : (dpc opc : ℕ) → Management → List ℕ
@@ -77,8 +88,8 @@ management_octets dpc opc message =
     label_octets (record { dpc = dpc; opc = opc; sls = link_code_of message })
     ++ management_heading message ∷ field_octets message
 
--- the ranges of what a message names: a link code of four bits, a number of 24, a changeback code of eight, and a point
--- code of 14
+-- the ranges of what a message names: a link code of four bits, a number of 24, a changeback code of eight, a point
+-- code of 14, and a user part of four
 abbrev pub IsManagement : Management → Type 0
 IsManagement (ExtendedChangeoverOrder slc number) = (slc < 2 ^ 4) × (number < 2 ^ 24)
 IsManagement (ExtendedChangeoverAcknowledgement slc number) = (slc < 2 ^ 4) × (number < 2 ^ 24)
@@ -92,6 +103,7 @@ IsManagement (TransferAllowed point) = point < 2 ^ 14
 IsManagement (RouteSetTestProhibited point) = point < 2 ^ 14
 IsManagement (RouteSetTestRestricted point) = point < 2 ^ 14
 IsManagement TrafficRestartAllowed = ⊤
+IsManagement (UserPartUnavailable point user_part cause) = (point < 2 ^ 14) × (user_part < 2 ^ 4)
 
 -- ---- Link tests and their answers: messages of service indicator 1 (Q.707 §5).
 

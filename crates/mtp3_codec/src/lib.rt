@@ -8,6 +8,8 @@ mod fields;
 pub mod label;
 pub mod link_test;
 pub mod management;
+pub mod unavailability;
+pub mod user_part;
 mod writing;
 
 pub use discrimination::{Discrimination, discriminate};
@@ -15,3 +17,5 @@ pub use fault::MgmtFault;
 pub use label::Label;
 pub use link_test::{ANSWER_OCTETS, LinkTest, TestKind};
 pub use management::{MANAGEMENT_OCTETS, Management};
+pub use unavailability::UnavailabilityCause;
+pub use user_part::UserPart;

@@ -2,13 +2,14 @@
 
 ghost use Rattle.std.specs.Prelude.{◌≡◌, ◌≤◌, ◌<◌, ◌^◌, ℕ, Ok, Some, length, take};
 ghost use Rattle.mtp3_codec.specs.Headings.{label_in, management_heading};
-ghost use Rattle.mtp3_codec.specs.Management.{link_code_of, management_octets, message_of, read_management, IsManagement};
+ghost use Rattle.mtp3_codec.specs.Management.{link_code_of, management_octets, message_of, read_management, unavailable_in, IsManagement};
 ghost use Rattle.mtp3_codec.specs.declared.management.Management.{Management};
 
-use crate::Label;
 use crate::fault::MgmtFault;
 use crate::fields::{changeback_code_in, number_in, number_octets, point_in, point_octets};
+use crate::unavailability::{UnavailabilityCause, part_octet, part_of_octet};
 use crate::writing::write_at;
+use crate::{Label, UserPart};
 use signalling_types::{Number24, PointCode, Sls};
 
 /// Octets of a management message, at most: label, heading, and the longest fields.
@@ -38,6 +39,8 @@ const ROUTE_SET_TEST_PROHIBITED: u8 = 0x15;
 const ROUTE_SET_TEST_RESTRICTED: u8 = 0x25;
 
 const TRAFFIC_RESTART_ALLOWED: u8 = 0x17;
+
+const USER_PART_UNAVAILABLE: u8 = 0x1a;
 
 /// A management message: a message of service indicator 0 (Q.704 §15). A signalling link code names a link of the set
 /// between the two points; a point code names the destination that the message is about.
@@ -69,15 +72,17 @@ pub enum Management {
     RouteSetTestRestricted(PointCode),
     /// TRA: the adjacent point has restarted (Q.704 §9, §15.12).
     TrafficRestartAllowed,
+    /// UPU: this point has no such user part for the receiver's messages, and why (Q.704 §11.2.7, §15.17).
+    UserPartUnavailable(PointCode, UserPart, UnavailabilityCause),
 }
 
 impl Management {
     /// The message of a signalling information field.
     ///
     /// Short if there is no heading after the label; otherwise NotInProfile if the node leaves out messages of this
-    /// heading; otherwise Short if too few octets follow: a number has three, a point code two, a changeback code one.
-    /// What follows the fields of a message is ignored, and so are the two top bits of a point code and the label's
-    /// selection in a message without a link code.
+    /// heading; otherwise Short if too few octets follow: a number has three, a point code two, a changeback code one,
+    /// and a user part with its cause one. What follows the fields of a message is ignored, and so are the two top bits
+    /// of a point code and the label's selection in a message without a link code. A spare cause is unknown.
     pub fn read(sif: &[u8]) -> Result<Management, MgmtFault>
         ensures { result ≡ read_management sif.now }
     {
@@ -117,6 +122,7 @@ impl Management {
             ROUTE_SET_TEST_PROHIBITED => Ok(Management::RouteSetTestProhibited(point_in(fields)?)),
             ROUTE_SET_TEST_RESTRICTED => Ok(Management::RouteSetTestRestricted(point_in(fields)?)),
             TRAFFIC_RESTART_ALLOWED => Ok(Management::TrafficRestartAllowed),
+            USER_PART_UNAVAILABLE => unavailable_in(fields),
             _ => Err(MgmtFault::NotInProfile),
         }
     }
@@ -147,6 +153,10 @@ impl Management {
             | Management::TransferAllowed(point)
             | Management::RouteSetTestProhibited(point)
             | Management::RouteSetTestRestricted(point) => write_at(out, at, &point_octets(*point)),
+            Management::UserPartUnavailable(point, part, cause) => {
+                let at = write_at(out, at, &point_octets(*point));
+                write_at(out, at, &[part_octet(*part, *cause)])
+            }
             Management::EmergencyChangeoverOrder(_)
             | Management::EmergencyChangeoverAcknowledgement(_)
             | Management::TrafficRestartAllowed => at,
@@ -174,6 +184,7 @@ impl Management {
             Management::RouteSetTestProhibited(_) => ROUTE_SET_TEST_PROHIBITED,
             Management::RouteSetTestRestricted(_) => ROUTE_SET_TEST_RESTRICTED,
             Management::TrafficRestartAllowed => TRAFFIC_RESTART_ALLOWED,
+            Management::UserPartUnavailable(_, _, _) => USER_PART_UNAVAILABLE,
         }
     }
 
@@ -193,9 +204,22 @@ impl Management {
             | Management::TransferAllowed(_)
             | Management::RouteSetTestProhibited(_)
             | Management::RouteSetTestRestricted(_)
-            | Management::TrafficRestartAllowed => no_link_code(),
+            | Management::TrafficRestartAllowed
+            | Management::UserPartUnavailable(_, _, _) => no_link_code(),
         }
     }
+}
+
+/// The user part unavailable of the fields after its heading.
+fn unavailable_in(fields: &[u8]) -> Result<Management, MgmtFault>
+    ensures { result ≡ unavailable_in fields.now }
+{
+    let [low, high, octet, ..] = *fields else {
+        return Err(MgmtFault::Short);
+    };
+    let (part, cause) = part_of_octet(octet);
+    let point = point_in(&[low, high])?;
+    Ok(Management::UserPartUnavailable(point, part, cause))
 }
 
 /// What is in the place of a link code in a message that has none.

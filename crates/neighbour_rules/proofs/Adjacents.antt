@@ -45,6 +45,7 @@ points-steps c = record {
   rerouted = λ routes n e. record { same = refl };
   told = λ t n e. record { same = e.adjacents };
   titled = λ rows n. record { same = refl };
+  unequipped = λ counts n e. record { same = refl };
   failed = λ link why st n e f. record { same = refl };
   dropped = λ link why n e. record { same = refl };
   completed = λ link number st n e f. record { same = refl };

@@ -141,7 +141,7 @@ module _ (c z : Configuration) (j : Joint c z) where
     Comes r = Passes c z j (at c z j w n [] []) (read_as w booked n link text r)
 
     aside : (fault : FrameFault) → Passes c z j (at c z j w n [] []) (at c z j w (with_parts n (note (notices.Frame fault link) n.parts)) [] [])
-    aside fault = noted-passes c z j w n [] [] (note (notices.Frame fault link) n.parts).notices ((fit-steps c).noted (notices.Frame fault link) n (record { lost = λ f. absurd cc; late = λ f. absurd cc }))
+    aside fault = noted-passes c z j w n [] [] (note (notices.Frame fault link) n.parts).notices ((fit-steps c).noted (notices.Frame fault link) n (record { other = refl; lost = λ f. absurd cc; late = λ f. absurd cc }))
 
     none-booked : (o : Node WholeQueues) → Passes c z j (at c z j w n [] []) (at c z j w o [] []) → Passes c z j (at c z j w n [] []) (at c z j (accepting c z j w []) o [] [])
     none-booked o p = passes-both c z j _ _ _ p (none-accepted c z j w o)

@@ -61,6 +61,7 @@ based-steps c = record {
   rerouted = λ routes n e. same-queues n _ refl;
   told = λ t n e. same-queues n _ refl;
   titled = λ rows n. same-queues n _ refl;
+  unequipped = λ counts n e. same-queues n _ refl;
   failed = λ link why st n e f. same-queues n _ refl;
   dropped = λ link why n e. same-queues n _ refl;
   completed = λ link number st n e f. one-queue link (emptied (queue_at n.queues link)) n _ refl (λ b. refl);

@@ -1,5 +1,6 @@
 -- What an event brings in, a submission, a message that passes through, or what SCCP makes of one for this point: by
 -- moves.
+use Rattle.signalling_types.specs.Message.{opc_of}
 use Rattle.pair_rules.proofs.Basics.{◌≡◌, ◌≢◌, ◌⊎◌, inl, inr, ◌≤◌, ◌<◌, ℕ, Bool, true, false, not, ◌&&◌, ◌||◌, List, [], ◌∷◌, ◌++◌, length, Option, Some, None, refl, ap, sym, subst, ◌∙◌, nat_eq, nat_lt, arith, if◌then◌else◌, is_some, nat_tests, append-nil, ⊎_elim, cases_eq, eq-eqb, slice_index_or}
 use Rattle.std.proofs.lemmas.List.Quantifiers.{position-Some}
 use Rattle.pair_rules.proofs.Definitions.{Message, flow_of, is_management, dpc_of, service_indicator, network_indicator, SIF_OCTETS, Cause, Outcome, Handled, Held, Ignored, Local, Queued, Refused, Configuration, DestinationEntry, TitleEntry, IsWell, IsDestination, Discrimination, Label, Saying, UserMessage, is_user_message, destination_place, is_user, local, on_unitdata, sccp, Node, Done, answer, refuse, WholeQueues, whole, no_room_for, all_wait, waits, submit_to, whither_goes, link_of, comes-here}
@@ -9,7 +10,7 @@ use Rattle.mtp3_codec.specs.declared.discrimination.Discrimination.TheVariants a
 use Rattle.sccp_relay.specs.Relay as relays
 use Rattle.exchange_rules.specs.Messages.{is_destination, offer, transfer, in_place_of, own_of, relay_by, return_outcome, send_udts}
 use Rattle.exchange_rules.specs.Conserving.{answered_in, brought_here, brought_to, relayed_in, returned_in, taken_in, unitdata_in}
-use Rattle.exchange_rules.specs.Telling.{answer_no_route}
+use Rattle.exchange_rules.specs.Telling.{answer_no_route, answer_no_user_part}
 use Rattle.exchange_rules.proofs.Basics.{eqb-true}
 use Rattle.exchange_rules.proofs.LeavingMessages.{relay_by-leaves}
 use Rattle.pair_moves.specs.Moves as moves
@@ -23,7 +24,7 @@ use Rattle.neighbour_rules.proofs.World.{is_between, is_for_either, says_by, say
 use Rattle.neighbour_rules.proofs.Good.{IsAccepted, Joint, Passes, accepted, at, passes-both, passes-none}
 use Rattle.neighbour_rules.proofs.Messages.{free-user, keeping, making, onto, says-user}
 use Rattle.neighbour_rules.proofs.Made.{not-same}
-use Rattle.neighbour_rules.proofs.Telling.{answer_no_route-passes}
+use Rattle.neighbour_rules.proofs.Telling.{answer_no_route-passes, answer_no_user_part-passes}
 
 -- a message that goes on isn't for this point
 decided-away : (long short ours own : Bool) (its label : Label) → decided long short ours own its ≡ whither.Transfer label → own ≡ false
@@ -180,6 +181,9 @@ module _ (c z : Configuration) (j : Joint c z) where
     abbrev rows : List TitleEntry
     rows = n.parts.titles
 
+    abbrev own : relays.OwnValue
+    own = own_of c n.parts
+
     -- where it is refused, which left the node as it was, or told that there is no route
     returning : (out : Message) (o : Outcome) (left : Node WholeQueues) → ((cause : Cause) → o ≡ Refused cause → left ≡ n)
         → Passes c z j (at c z j w n [] []) (at c z j (accepting w (taken_in o out)) left [] [])
@@ -188,7 +192,7 @@ module _ (c z : Configuration) (j : Joint c z) where
         subst (λ (x : Node WholeQueues).
         Passes c z j (at c z j w n [] []) (at c z j (accepting w (answered_in (Refused cause) c m n)) (return_outcome whole c (Refused cause) m x) [] []))
         (sym (same cause refl))
-        (answered (relays.returned (own_of c) rows m.sif cause) (λ sif e. returned-fits (own_of c) rows m.sif cause sif e))
+        (answered (relays.returned own rows m.sif cause) (λ sif e. returned-fits own rows m.sif cause sif e))
     returning out (Queued link) left same p = p
     returning out Held left same p = p
     returning out Local left same p = p
@@ -198,29 +202,35 @@ module _ (c z : Configuration) (j : Joint c z) where
     abbrev relayed : relays.RelayedValue → Done WholeQueues
     relayed v = relay_by whole c v m n
 
-    relayed-passes : (v : relays.RelayedValue) → relays.relay (own_of c) rows m.sif ≡ v
+    relayed-passes : (v : relays.RelayedValue) → relays.relay own rows m.sif ≡ v
         → Passes c z j (at c z j w n [] [])
         (at c z j (accepting w (relayed_in v (relayed v).outcome m ++ answered_in (relayed v).outcome c m n)) (return_outcome whole c (relayed v).outcome m (relayed v).left) [] [])
     relayed-passes relays.Delivered e = none-accepted w n
     relayed-passes (relays.Onward sif) e =
         returning (in_place_of m sif) (relayed (relays.Onward sif)).outcome (relayed (relays.Onward sif)).left (relay_by-leaves c n (relays.Onward sif) m).left
-        (written sif (onward-fits (own_of c) rows m.sif sif e))
-    relayed-passes (relays.Refused cause) e = answered (relays.returned (own_of c) rows m.sif cause) (λ sif e. returned-fits (own_of c) rows m.sif cause sif e)
+        (written sif (onward-fits own rows m.sif sif e))
+    relayed-passes (relays.Refused cause) e = answered (relays.returned own rows m.sif cause) (λ sif e. returned-fits own rows m.sif cause sif e)
 
     pub unitdata-passes : Passes c z j (at c z j w n [] []) (at c z j (accepting w (unitdata_in (on_unitdata whole c m n).outcome c m n)) (on_unitdata whole c m n).left [] [])
-    unitdata-passes = relayed-passes (relays.relay (own_of c) rows m.sif) refl
+    unitdata-passes = relayed-passes (relays.relay own rows m.sif) refl
 
     -- a message for SCCP, or for a user part
-    pub local-passes : Passes c z j (at c z j w n [] []) (at c z j (accepting w (brought_here (local whole c m n).outcome c m n)) (local whole c m n).left [] [])
-    local-passes = by (nat_eq (service_indicator m) sccp) (is_user c (service_indicator m))
+    pub local-passes : (from : Option ℕ) → Passes c z j (at c z j w n [] []) (at c z j (accepting w (brought_here (local whole c from m n).outcome c m n)) (local whole c from m n).left [] [])
+    local-passes from = by (nat_eq (service_indicator m) sccp) (is_user c (service_indicator m))
       where
+        origin : Option ℕ
+        origin = destination_place c (opc_of m)
+
+        absent : Node WholeQueues
+        absent = answer_no_user_part whole c from origin m n
+
         by : (is_sccp listed : Bool) → Passes c z j (at c z j w n [] [])
             (at c z j
-            (accepting w (if is_sccp then unitdata_in (if is_sccp then on_unitdata whole c m n else (if listed then answer Local n else refuse causes.NoUserPart n)).outcome c m n else []))
-            (if is_sccp then on_unitdata whole c m n else (if listed then answer Local n else refuse causes.NoUserPart n)).left [] [])
+            (accepting w (if is_sccp then unitdata_in (if is_sccp then on_unitdata whole c m n else (if listed then answer Local n else refuse causes.NoUserPart absent)).outcome c m n else []))
+            (if is_sccp then on_unitdata whole c m n else (if listed then answer Local n else refuse causes.NoUserPart absent)).left [] [])
         by true listed = unitdata-passes
         by false true = none-accepted w n
-        by false false = none-accepted w n
+        by false false = passes-both c z j _ _ _ (answer_no_user_part-passes c z j w [] [] from origin m n) (none-accepted w absent)
 
   -- ---- a message that goes on
 
@@ -248,11 +258,11 @@ module _ (c z : Configuration) (j : Joint c z) where
   submitted (whither.Here label) w n m e wait = by (is_management m) refl
     where
       by : (b : Bool) → is_management m ≡ b → Passes c z j (at c z j w n [] [])
-          (at c z j (accepting w (brought_here (if b then refuse causes.NotInProfile n else local whole c m n).outcome c m n)) (if b then refuse causes.NotInProfile n else local whole c m n).left [] [])
+          (at c z j (accepting w (brought_here (if b then refuse causes.NotInProfile n else local whole c None m n).outcome c m n)) (if b then refuse causes.NotInProfile n else local whole c None m n).left [] [])
       by true f =
           subst (λ (s : Bool). Passes c z j (at c z j w n [] []) (at c z j (accepting w (if s then unitdata_in (Refused causes.NotInProfile) c m n else [])) n [] []))
           (sym (is-no-sccp m f)) (none-accepted w n)
-      by false f = local-passes w n m f (here-network c m label e) wait
+      by false f = local-passes w n m f (here-network c m label e) wait None
   submitted (whither.Transfer label) w n m e wait = by (is_management m) refl
     where
       by : (b : Bool) → is_management m ≡ b → Passes c z j (at c z j w n [] [])

@@ -90,7 +90,7 @@ module _ (c z : Configuration) (j : Joint c z) where
   flagging w n link = record {
     goes = λ g. goes-lost (says_of c.own z.own) _ _ (flagged-beyond n g.counted);
     good = λ g. record {
-      fits = ((fit-steps c).both _ _ _ ((fit-steps c).lost n) ((fit-steps c).noted (notices.Expired timer.T2 link) (with_parts n (flagged n.parts)) (record { lost = λ f. refl; late = λ f. absurd cc }))).stay g.fits;
+      fits = ((fit-steps c).both _ _ _ ((fit-steps c).lost n) ((fit-steps c).noted (notices.Expired timer.T2 link) (with_parts n (flagged n.parts)) (record { other = refl; lost = λ f. refl; late = λ f. absurd cc }))).stay g.fits;
       route = g.route;
       unawaited = g.unawaited;
       silent = g.silent;
@@ -109,7 +109,7 @@ module _ (c z : Configuration) (j : Joint c z) where
   expiry-passes timer.T1 w n link there =
       let noted : Node WholeQueues = with_parts n (record n.parts { notices = (with_expiry timer.T1 link n.parts).notices }) in
       passes-both c z j _ _ _
-      (noted-passes c z j w n [] [] (with_expiry timer.T1 link n.parts).notices ((fit-steps c).noted (notices.Expired timer.T1 link) n (record { lost = λ f. absurd cc; late = λ f. absurd cc })))
+      (noted-passes c z j w n [] [] (with_expiry timer.T1 link n.parts).notices ((fit-steps c).noted (notices.Expired timer.T1 link) n (record { other = refl; lost = λ f. absurd cc; late = λ f. absurd cc })))
       (t1-ends (changeover_of n.parts link).incomplete w noted link refl there)
   expiry-passes timer.T2 w n link there =
       let noted : Node WholeQueues = with_parts n (record n.parts { notices = (with_expiry timer.T2 link n.parts).notices; times_lost = (with_expiry timer.T2 link n.parts).times_lost }) in

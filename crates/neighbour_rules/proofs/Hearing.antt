@@ -1,6 +1,7 @@
 -- A message that came is looked at, whether it is the other node's or passes by: by moves.
+use Rattle.exchange_rules.specs.Messages.{from_afar}
 use Rattle.pair_rules.proofs.Basics.{append-nil, ◌≡◌, ◌<◌, ◌≤◌, ◌&&◌, ◌||◌, ℕ, Bool, true, false, not, List, [], ◌∷◌, ◌++◌, length, Option, Some, Result, Ok, inr, refl, ap, sym, subst, ◌∙◌, nat_eq, nat_lt, arith, nat_tests, if◌then◌else◌, is_some, eq-eqb}
-use Rattle.pair_rules.proofs.Definitions.{Message, SIF_OCTETS, is_management, service_indicator, network_indicator, dpc_of, opc_of, Configuration, Discrimination, Label, Management, MgmtFault, read_management, Node, Done, refuse, in_service, set_of, WholeQueues, whole, distribute, manage, local, do_management, do_order, do_acknowledgement, do_test, is_adjacent, testing, on_management, on_changeback_acknowledgement, deliver, deliver_to, whither_goes, link_with_code, all_wait, brought_here, brought_to, unitdata_in, Order, Answer, Saying, UserMessage}
+use Rattle.pair_rules.proofs.Definitions.{Message, SIF_OCTETS, is_management, service_indicator, network_indicator, dpc_of, opc_of, Configuration, Discrimination, Label, Management, MgmtFault, read_management, Node, Done, refuse, in_service, set_of, WholeQueues, whole, distribute, manage, local, do_management, do_order, do_acknowledgement, do_test, is_adjacent, testing, on_management, on_changeback_acknowledgement, deliver, deliver_to, whither_goes, link_with_code, all_wait, brought_here, brought_to, unitdata_in, Order, Answer, Saying, UserMessage, answer}
 use Rattle.mtp3_codec.specs.Headings.{label_at}
 use Rattle.mtp3_codec.specs.Management.{read_link_test}
 use Rattle.mtp3_codec.specs.declared.discrimination.Discrimination.TheVariants as whither
@@ -154,9 +155,9 @@ module _ (c z : Configuration) (j : Joint c z) where
   pub word-left : (link : ℕ) (m : Message) (n : Node WholeQueues) (word : Management) → is_management m ≡ true → service_indicator m ≡ 0 → opc_of m ≡ z.own → read_management m.sif ≡ Ok word
       → distribute whole c link m n ≡ on_management whole c word z.own n
   word-left link m n word e si from f =
-      ap (λ (b : Bool). if b then manage whole c link m n else local whole c m n) e
+      ap (λ (b : Bool). if b then manage whole c link m n else local whole c (Some link) m n) e
       ∙ ap (λ (point : ℕ). from_point point) from
-      ∙ ap (λ (o : Option ℕ). if is_some o then tested (nat_eq (service_indicator m) testing) else refuse causes.NotFromAdjacent n) j.shares.near_leads.adjacent
+      ∙ ap (λ (o : Option ℕ). if is_some o then tested (nat_eq (service_indicator m) testing) else answer (from_afar c m) n) j.shares.near_leads.adjacent
       ∙ ap tested (ap (λ (k : ℕ). nat_eq k testing) si)
       ∙ ap (λ (r : Result Management MgmtFault). do_management whole c r z.own n) f
     where
@@ -164,7 +165,7 @@ module _ (c z : Configuration) (j : Joint c z) where
       from_point point =
           if is_adjacent c point
           then (if nat_eq (service_indicator m) testing then do_test whole c (read_link_test m.sif) link point n else do_management whole c (read_management m.sif) point n)
-          else refuse causes.NotFromAdjacent n
+          else answer (from_afar c m) n
 
       tested : Bool → Done WholeQueues
       tested b = (if b then do_test whole c (read_link_test m.sif) link z.own n else do_management whole c (read_management m.sif) z.own n)
@@ -187,7 +188,7 @@ module _ (c z : Configuration) (j : Joint c z) where
         let ks : brought_here (done (whither.Here label)).outcome c m n ≡ [] =
         ap (λ (b : Bool). if b then unitdata_in (done (whither.Here label)).outcome c m n else []) (is-no-sccp m e) in
         subst (λ (xs : List Message). Passes c z j before (at c z j (accepting c z j w xs) (done (whither.Here label)).left [] [])) (sym ks)
-        (subst (λ (b : Bool). Passes c z j before (at c z j (accepting c z j w []) (if b then manage whole c link m n else local whole c m n).left [] [])) (sym e)
+        (subst (λ (b : Bool). Passes c z j before (at c z j (accepting c z j w []) (if b then manage whole c link m n else local whole c (Some link) m n).left [] [])) (sym e)
         (passes-both c z j _ _ _ p (none-accepted c z j w (manage whole c link m n).left)))
 
     -- one that passes by
@@ -220,8 +221,8 @@ module _ (c z : Configuration) (j : Joint c z) where
         by false f =
             subst (λ (b : Bool).
             Passes c z j before
-            (at c z j (accepting c z j w (brought_here (if b then manage whole c link m n else local whole c m n).outcome c m n)) (if b then manage whole c link m n else local whole c m n).left [] []))
-            (sym f) (local-passes c z j w n m f (here-network c m label e) wait)
+            (at c z j (accepting c z j w (brought_here (if b then manage whole c link m n else local whole c (Some link) m n).outcome c m n)) (if b then manage whole c link m n else local whole c (Some link) m n).left [] []))
+            (sym f) (local-passes c z j w n m f (here-network c m label e) wait (Some link))
 
     pub past-passes : read m ≡ Other → length m.sif ≤ SIF_OCTETS → Passes c z j before (left (whither_goes c m))
     past-passes says short = past-by (whither_goes c m) refl says short
@@ -316,9 +317,9 @@ module _ (c z : Configuration) (j : Joint c z) where
         subst (λ (d : Discrimination). Passes c z j came (brought d)) (sym is.here)
         (subst (λ (b : Bool).
         Passes c z j came
-        (at c z j (bringing c z j w (m ∷ []) (brought_here (if b then manage whole c link m n else local whole c m n).outcome c m n)) (if b then manage whole c link m n else local whole c m n).left [] []))
+        (at c z j (bringing c z j w (m ∷ []) (brought_here (if b then manage whole c link m n else local whole c (Some link) m n).outcome c m n)) (if b then manage whole c link m n else local whole c (Some link) m n).left [] []))
         (sym is.user)
-        (passes-both c z j _ _ _ (handing w n m [] is.user is.to) (local-passes c z j (receiving c z j w (m ∷ [])) n m is.user (here-network c m is.label is.here) wait)))
+        (passes-both c z j _ _ _ (handing w n m [] is.user is.to) (local-passes c z j (receiving c z j w (m ∷ [])) n m is.user (here-network c m is.label is.here) wait (Some link))))
 
     made-passes : IsMade z c j.shares.far_set m → Passes c z j came (brought (whither_goes c m))
     made-passes is =

@@ -1,4 +1,6 @@
 -- What a node that leads to one point alone accepts is for that point, and is a user message.
+use Rattle.signalling_types.specs.Message.{opc_of}
+use Rattle.exchange_rules.specs.Telling.{answer_no_user_part}
 use Rattle.pair_rules.proofs.Basics.{◌≡◌, ◌≢◌, ◌⊎◌, inl, inr, ◌<◌, ◌&&◌, suc, ℕ, Bool, true, false, not, List, [], ◌∷◌, length, Option, Some, None, is_some, nat_eq, refl, ap, sym, subst, ◌∙◌, arith, All, if◌then◌else◌, slice_index_or, eq-eqb}
 use Rattle.std.proofs.lemmas.List.Elements.{All-append, All-cons, All-nil}
 use Rattle.std.proofs.lemmas.List.Quantifiers.{position-Some}
@@ -86,7 +88,7 @@ module _ (c : Configuration) (far : ℕ) (only : HasOnly c far) where
     returned-in None = none
 
     answered-in : (o : Outcome) → Are (answered_in o c m n)
-    answered-in (Refused cause) = returned-in (returned (own_of c) n.parts.titles m.sif cause)
+    answered-in (Refused cause) = returned-in (returned (own_of c n.parts) n.parts.titles m.sif cause)
     answered-in (Queued link) = none
     answered-in Held = none
     answered-in Local = none
@@ -100,15 +102,15 @@ module _ (c : Configuration) (far : ℕ) (only : HasOnly c far) where
 
     unitdata-in : Are (unitdata_in (on_unitdata whole c m n).outcome c m n)
     unitdata-in =
-        let v : RelayedValue = relay (own_of c) n.parts.titles m.sif in
+        let v : RelayedValue = relay (own_of c n.parts) n.parts.titles m.sif in
         All-append (IsUserMessageTo far) (relayed_in v (relay_by whole c v m n).outcome m) (answered_in (relay_by whole c v m n).outcome c m n)
         (relayed-in v) (answered-in (relay_by whole c v m n).outcome)
 
-    local-in : Are (brought_here (local whole c m n).outcome c m n)
-    local-in = by (nat_eq (service_indicator m) sccp) (is_user c (service_indicator m))
+    local-in : (from : Option ℕ) → Are (brought_here (local whole c from m n).outcome c m n)
+    local-in from = by (nat_eq (service_indicator m) sccp) (is_user c (service_indicator m))
       where
         by : (is_sccp listed : Bool) → Are
-            (if is_sccp then unitdata_in (if is_sccp then on_unitdata whole c m n else (if listed then answer Local n else refuse causes.NoUserPart n)).outcome c m n else [])
+            (if is_sccp then unitdata_in (if is_sccp then on_unitdata whole c m n else (if listed then answer Local n else refuse causes.NoUserPart (answer_no_user_part whole c from (destination_place c (opc_of m)) m n))).outcome c m n else [])
         by true listed = unitdata-in
         by false listed = none
 
@@ -118,9 +120,9 @@ module _ (c : Configuration) (far : ℕ) (only : HasOnly c far) where
 
   -- ---- a submission
 
-  here : (m : Message) (n : Node WholeQueues) (b : Bool) → is_management m ≡ b → Are (brought_here (if b then refuse causes.NotInProfile n else local whole c m n).outcome c m n)
+  here : (m : Message) (n : Node WholeQueues) (b : Bool) → is_management m ≡ b → Are (brought_here (if b then refuse causes.NotInProfile n else local whole c None m n).outcome c m n)
   here m n true e = no-management (Refused causes.NotInProfile) m n e
-  here m n false e = local-in m e n
+  here m n false e = local-in m e n None
 
   there : (m : Message) (n : Node WholeQueues) (b : Bool) → is_management m ≡ b → Are (taken_in (if b then refuse causes.NotInProfile n else transfer whole c None m n).outcome m)
   there m n true e = none
@@ -133,9 +135,9 @@ module _ (c : Configuration) (far : ℕ) (only : HasOnly c far) where
 
   -- ---- a frame
 
-  distributed : (link : ℕ) (m : Message) (n : Node WholeQueues) (b : Bool) → is_management m ≡ b → Are (brought_here (if b then manage whole c link m n else local whole c m n).outcome c m n)
+  distributed : (link : ℕ) (m : Message) (n : Node WholeQueues) (b : Bool) → is_management m ≡ b → Are (brought_here (if b then manage whole c link m n else local whole c (Some link) m n).outcome c m n)
   distributed link m n true e = no-management (manage whole c link m n).outcome m n e
-  distributed link m n false e = local-in m e n
+  distributed link m n false e = local-in m e n (Some link)
 
   -- one that came from the other end isn't for that
   turned-away : (link : ℕ) (m : Message) (n : Node WholeQueues) → dpc_of m ≢ far → Are (taken_in (transfer whole c (Some link) m n).outcome m)
@@ -171,7 +173,7 @@ module _ (c : Configuration) (far : ℕ) (only : HasOnly c far) (n : Node WholeQ
       by None e = All-nil (IsUserMessageTo far)
       by (Some m) e =
           subst (λ (o : Outcome). All (IsUserMessageTo far) (brought_to (whither_goes c m) o c m (accept_text link (read_frame text) a))) (sym (outcome-same c (FrameCame link text) n))
-          (received-as c link m (λ o x. All (IsUserMessageTo far) (brought_to (whither_goes c m) o c m x)) (λ x. delivered-to c far only (whither_goes c m) link m x (apart m e)) text n e)
+          (received-as c link m (λ d x. All (IsUserMessageTo far) (brought_to (whither_goes c m) d.outcome c m x)) (λ x. delivered-to c far only (whither_goes c m) link m x (apart m e)) text n e)
 
 -- ---- a message that the other end has for this one
 

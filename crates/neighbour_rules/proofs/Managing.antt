@@ -1,10 +1,10 @@
 -- Link tests, and management that passes by, as it comes to a node: by moves.
-use Rattle.pair_rules.proofs.Basics.{suc, ◌≡◌, ◌≢◌, ◌<◌, ◌≤◌, ◌+◌, ◌^◌, ◌/◌, ◌&&◌, ℕ, Bool, true, false, List, [], ◌∷◌, length, Option, Some, None, Result, Ok, Err, refl, ap, sym, subst, ◌∙◌, nat_eq, nat_lt, arith, nat_tests, drop, take, if◌then◌else◌, option_and_then, slice_index_or, ⊎_elim, cases_eq}
+use Rattle.pair_rules.proofs.Basics.{suc, ◌≡◌, ◌≢◌, ◌<◌, ◌≤◌, ◌+◌, ◌^◌, ◌/◌, ◌%◌, ◌&&◌, ℕ, Bool, true, false, List, [], ◌∷◌, length, Option, Some, None, Result, Ok, Err, refl, ap, sym, subst, ◌∙◌, nat_eq, nat_lt, arith, nat_tests, drop, take, if◌then◌else◌, option_and_then, slice_index_or, ⊎_elim, cases_eq}
 use Rattle.pair_rules.proofs.Definitions.{Message, SIF_OCTETS, flow_of, is_management, opc_of, service_indicator, Cause, Handled, Ignored, Configuration, LinkEntry, SetEntry, set_place, destination_place, Management, MgmtFault, read_management, Node, answer, refuse, with_parts, in_service, set_of, link_of, no_room, send, queue_on, link_with_code, is_outstanding, freed, on_changeback_acknowledgement, on_management, do_management, do_order, do_acknowledgement, do_test, manage, testing, is_adjacent, WholeQueues, whole, StaysFit, fit-steps, Saying}
 use Rattle.std.proofs.lemmas.List.{length-drop, length-take}
 use Rattle.std.proofs.lemmas.List.Quantifiers.{position-Some}
-use Rattle.mtp3_codec.specs.Headings.{changeback_code_in, kind_of, label_at, number_in, point_in}
-use Rattle.mtp3_codec.specs.Management.{LinkTestValue, link_code_of, message_of, message_in, pattern_in, read_link_test, test_in, test_of_kind, with_field}
+use Rattle.mtp3_codec.specs.Headings.{cause_of_code, changeback_code_in, kind_of, label_at, number_in, point_in}
+use Rattle.mtp3_codec.specs.Management.{LinkTestValue, link_code_of, message_of, message_in, pattern_in, read_link_test, test_in, test_of_kind, with_field, unavailable_in}
 use Rattle.mtp3_codec.specs.declared.fault.MgmtFault.TheVariants as faults
 use Rattle.mtp3_codec.specs.declared.link_test.TestKind.{TestKind}
 use Rattle.mtp3_codec.specs.declared.link_test.TestKind.TheVariants.{Test, Acknowledgement}
@@ -12,7 +12,7 @@ use Rattle.mtp3_codec.specs.declared.management.Management.TheVariants as says
 use Rattle.routes.specs.declared.route.RouteStatus.TheVariants.{Allowed, Restricted, Prohibited}
 use Rattle.route_management.specs.declared.heard.RouteTest.TheVariants as tests
 use Rattle.signalling_types.specs.declared.cause.Cause.TheVariants as causes
-use Rattle.exchange_rules.specs.Messages.{do_kind, link_in_set, test_answer}
+use Rattle.exchange_rules.specs.Messages.{do_kind, link_in_set, test_answer, from_afar}
 use Rattle.exchange_rules.specs.Routing.{adjacent_of, route_about}
 use Rattle.exchange_rules.proofs.Basics.{eqb-true}
 use Rattle.exchange_rules.proofs.OwnManagement.{answer-management}
@@ -51,6 +51,13 @@ coded-field : (word : ℕ → Management) (r : Result ℕ MgmtFault) → ((field
 coded-field word (Ok field) h = coded-ok (word field) (h field)
 coded-field word (Err fault) h = coded-err fault
 
+coded-unavailable : (fields : List ℕ) → IsCoded (unavailable_in fields)
+coded-unavailable [] = coded-err faults.Short
+coded-unavailable (low ∷ []) = coded-err faults.Short
+coded-unavailable (low ∷ high ∷ []) = coded-err faults.Short
+coded-unavailable (low ∷ high ∷ octet ∷ rest) =
+    coded-field (λ point. says.UserPartUnavailable point (octet % 16) (cause_of_code (octet / 16))) (point_in (low ∷ high ∷ [])) (λ k. omega arith)
+
 coded-message : (octet slc : ℕ) (fields : List ℕ) → slc < 2 ^ 4 → IsCoded (message_of octet slc fields)
 coded-message octet slc fields h =
     coded-if _ _ _ (coded-field (says.ExtendedChangeoverOrder slc) (number_in fields) (λ k. h))
@@ -64,7 +71,8 @@ coded-message octet slc fields h =
     (coded-if _ _ _ (coded-field says.TransferAllowed (point_in fields) (λ k. omega arith))
     (coded-if _ _ _ (coded-field says.RouteSetTestProhibited (point_in fields) (λ k. omega arith))
     (coded-if _ _ _ (coded-field says.RouteSetTestRestricted (point_in fields) (λ k. omega arith))
-    (coded-if _ _ _ (coded-ok says.TrafficRestartAllowed (omega arith)) (coded-err faults.NotInProfile))))))))))))
+    (coded-if _ _ _ (coded-ok says.TrafficRestartAllowed (omega arith))
+    (coded-if _ _ _ (coded-unavailable fields) (coded-err faults.NotInProfile)))))))))))))
 
 coded-in : (slc : ℕ) (octets : List ℕ) → slc < 2 ^ 4 → IsCoded (message_in slc octets)
 coded-in slc [] h = coded-err faults.Short
@@ -205,6 +213,7 @@ module _ (c z : Configuration) (j : Joint c z) where
 
     past : (word : Management) (point : ℕ) (n : Node WholeQueues) → point < 2 ^ 14 → link_code_of word < 2 ^ 4 → point ≢ z.own → KnowsPoints c n → Pass n (on_management whole c word point n).left
     past says.TrafficRestartAllowed point n fits coded d knows = none n
+    past (says.UserPartUnavailable about user_part cause) point n fits coded d knows = none n
     past (says.ExtendedChangeoverOrder slc number) point n fits coded d knows = order-past (link_with_code c point slc) point slc (Some number) n refl d
     past (says.EmergencyChangeoverOrder slc) point n fits coded d knows = order-past (link_with_code c point slc) point slc None n refl d
     past (says.ExtendedChangeoverAcknowledgement slc number) point n fits coded d knows = answer-past (link_with_code c point slc) point slc (Some number) n refl d
@@ -221,6 +230,7 @@ module _ (c z : Configuration) (j : Joint c z) where
 
     plain : (word : Management) (point : ℕ) (n : Node WholeQueues) → management_says word ≡ Other → KnowsPoints c n → Pass n (on_management whole c word point n).left
     plain says.TrafficRestartAllowed point n e knows = none n
+    plain (says.UserPartUnavailable about user_part cause) point n e knows = none n
     plain (says.ExtendedChangeoverOrder slc number) point n e knows = absurd cc
     plain (says.EmergencyChangeoverOrder slc) point n e knows = absurd cc
     plain (says.ExtendedChangeoverAcknowledgement slc number) point n e knows = absurd cc
@@ -253,7 +263,7 @@ module _ (c z : Configuration) (j : Joint c z) where
         plain-indicator f = grind (arith, nat_tests, management, f)
 
         by : (adjacent test : Bool) → is_adjacent c (opc_of m) ≡ adjacent → nat_eq (service_indicator m) testing ≡ test
-            → Pass n (if adjacent then (if test then do_test whole c (read_link_test m.sif) link (opc_of m) n else do_management whole c (read_management m.sif) (opc_of m) n) else refuse causes.NotFromAdjacent n).left
+            → Pass n (if adjacent then (if test then do_test whole c (read_link_test m.sif) link (opc_of m) n else do_management whole c (read_management m.sif) (opc_of m) n) else answer (from_afar c m) n).left
         by true true e f = test-passes (read_link_test m.sif) link (opc_of m) n serves e (λ test h. answer-short c (opc_of m) m.sif test short h)
         by true false e f = managed (read_management m.sif) (opc_of m) n fits (coded-read m.sif) (λ same. says same (plain-indicator f)) knows
         by false test e f = none n

@@ -30,6 +30,7 @@ management-word (says.ExtendedChangeoverAcknowledgement slc number) = refl
 management-word (says.ChangebackDeclaration slc code) = refl
 management-word (says.ChangebackAcknowledgement slc code) = refl
 management-word says.TrafficRestartAllowed = refl
+management-word (says.UserPartUnavailable point user_part cause) = refl
 management-word (says.EmergencyChangeoverOrder slc) = refl
 management-word (says.EmergencyChangeoverAcknowledgement slc) = refl
 management-word (says.TransferProhibited point) = refl

@@ -1,13 +1,15 @@
 -- What a frame that is handed in leads to tells what it brought, and what was accepted of that.
-use Rattle.pair_rules.proofs.Basics.{◌≡◌, ◌≢◌, inl, inr, ℕ, Bool, true, false, List, [], ◌∷◌, ◌++◌, length, Option, Some, None, Ok, refl, ap, sym, subst, ◌∙◌, nat_eq, not, ◌⊎◌, if◌then◌else◌, drop, option_to_list, slice_get, ◌||◌, eq-eqb, is_some, nat_lt, Result, Err}
+use Rattle.pair_rules.proofs.Basics.{◌&&◌, ◌≡◌, ◌≢◌, inl, inr, ℕ, Bool, true, false, List, [], ◌∷◌, ◌++◌, length, Option, Some, None, Ok, refl, ap, sym, subst, ◌∙◌, nat_eq, not, ◌⊎◌, if◌then◌else◌, drop, option_to_list, slice_get, ◌||◌, eq-eqb, is_some, nat_lt, Result, Err}
 use Rattle.pair_rules.proofs.Definitions.{Label, Message, dpc_of, opc_of, flow_of, SIF_OCTETS, network_indicator, read_management, is_management, service_indicator, Cause, Outcome, Handled, Ignored, Local, Refused, Queued, Held, Configuration, TitleEntry, FrameValue, read_frame, Discrimination, Management, is_outstanding, set_place, Node, Done, answer, refuse, FrameCame, WholeQueues, whole, changeover_of, on_changeback_acknowledgement, accept_text, answered_in, brought_by, brought_here, brought_in, brought_to, taken_in, unitdata_in, distribute, do_order, do_acknowledgement, is_user, local, manage, on_management, sccp, deliver, deliver_to, whither_goes, on_unitdata, is_idle, new_message, outcome_of, receive, users_of, PairState, Streams, Delivers, DeliversStatus, after_steps, deliver_frame, first_pair, in_flight, turned, without_data, without_status}
 use Rattle.signalling_types.specs.declared.cause.Cause.TheVariants as causes
 use Rattle.sccp_relay.specs.Relay as relays
 use Rattle.sccp_relay.specs.Relay.{returned}
 use Rattle.exchange_rules.specs.Messages.{transfer, in_place_of, own_of, relay_by}
 use Rattle.exchange_rules.specs.Conserving.{relayed_in, returned_in}
+use Rattle.exchange_rules.specs.Exchange.{after}
 use Rattle.exchange_rules.specs.First.{Abstract}
 use Rattle.exchange_rules.proofs.Received.{nothing-delivered}
+use Rattle.exchange_rules.proofs.KeptFacts.{own-same, deliver-facts, after-facts}
 use Rattle.exchange_rules.specs.Laws.{carried_message}
 use Rattle.exchange_rules.proofs.CarriedMessages.{new-carried}
 use Rattle.pair_rules.specs.Deliveries.{ComesOf, ComesTo, GoesOn, IsQuiet, IsRefused, IsRelayed, IsReturnedAtMost, Tells, deliveries_tell}
@@ -24,8 +26,8 @@ use Rattle.route_management.specs.Told.{heard, is_own_point}
 use Rattle.routes.specs.declared.route.RouteStatus.{RouteStatus}
 use Rattle.exchange_rules.specs.Routing.{facts, link_of, route_about, waits}
 use Rattle.exchange_rules.specs.Rerouting.{apply_route_status, on_route_status}
-use Rattle.exchange_rules.specs.Telling.{on_route_test}
-use Rattle.exchange_rules.specs.Messages.{cause_of, do_kind, do_management, do_test, is_adjacent, is_destination, no_room_for, offer, testing}
+use Rattle.exchange_rules.specs.Telling.{on_route_test, answer_no_user_part}
+use Rattle.exchange_rules.specs.Messages.{cause_of, do_kind, do_management, do_test, is_adjacent, is_destination, no_room_for, offer, testing, from_afar, says_unavailable}
 use Rattle.settings.specs.Readings.{destination_place}
 use Rattle.mtp3_codec.specs.declared.discrimination.Discrimination.TheVariants as whither
 use Rattle.mtp3_codec.specs.declared.fault.MgmtFault.{MgmtFault}
@@ -134,8 +136,13 @@ module _ (c : Configuration) (link : ℕ) where
   test-quiet (Some set) None test n = refused-destination
   test-quiet None None test n = refused-destination
 
+  handled-or-refused : (b : Bool) (cause : Cause) → is_other cause ≡ true → Quiet (if b then Handled else Refused cause)
+  handled-or-refused true cause e = handled
+  handled-or-refused false cause e = refused-other cause e
+
   word-quiet : (word : Management) (point : ℕ) (n : Node WholeQueues) → Quiet (on_management whole c word point n).outcome
   word-quiet says.TrafficRestartAllowed point n = ignored
+  word-quiet (says.UserPartUnavailable about user_part cause) point n = handled-or-refused c.user_part_unavailable causes.NotInProfile refl
   word-quiet (says.ExtendedChangeoverOrder slc number) point n = order-quiet _ (Some number) n
   word-quiet (says.EmergencyChangeoverOrder slc) point n = order-quiet _ None n
   word-quiet (says.ExtendedChangeoverAcknowledgement slc number) point n = answer-quiet _ (Some number) n
@@ -168,15 +175,19 @@ module _ (c : Configuration) (link : ℕ) where
   manage-quiet m n = by (is_adjacent c (opc_of m)) (nat_eq (service_indicator m) testing)
     where
       by : (adjacent test : Bool)
-          → Quiet (if adjacent then (if test then do_test whole c (read_link_test m.sif) link (opc_of m) n else do_management whole c (read_management m.sif) (opc_of m) n) else refuse causes.NotFromAdjacent n).outcome
+          → Quiet (if adjacent then (if test then do_test whole c (read_link_test m.sif) link (opc_of m) n else do_management whole c (read_management m.sif) (opc_of m) n) else answer (from_afar c m) n).outcome
       by true true = link_test-quiet (read_link_test m.sif) (opc_of m) n
       by true false = management-quiet (read_management m.sif) (opc_of m) n
-      by false test = refused-other causes.NotFromAdjacent refl
+      by false test = handled-or-refused (c.user_part_unavailable && says_unavailable m) causes.NotFromAdjacent refl
 
   -- a message by its user part
-  parted : (b : Bool) (n : Node WholeQueues) → (if b then answer Local n else refuse causes.NoUserPart n).outcome ≡ (if b then Local else Refused causes.NoUserPart)
-  parted true n = refl
-  parted false n = refl
+  parted : (b : Bool) (n o : Node WholeQueues) → (if b then answer Local n else refuse causes.NoUserPart o).outcome ≡ (if b then Local else Refused causes.NoUserPart)
+  parted true n o = refl
+  parted false n o = refl
+
+  -- one whose user part isn't here
+  abbrev absent : Message → Node WholeQueues → Node WholeQueues
+  absent m n = answer_no_user_part whole c (Some link) (destination_place c (opc_of m)) m n
 
   module _ (m : Message) (n : Node WholeQueues) where
     abbrev rows : List TitleEntry
@@ -194,10 +205,13 @@ module _ (c : Configuration) (link : ℕ) where
     returned-at-most (Some sif) = taken-at-most (transfer whole c None (in_place_of m sif) n).outcome (in_place_of m sif)
     returned-at-most None = refl
 
-    refused-for : (cause : Cause) → is_other cause ≡ true → IsRefused c rows cause m (answered_in (Refused cause) c m n)
-    refused-for cause e = record { other = other-cause cause e; returned = returned-at-most (returned (own_of c) rows m.sif cause) }
+    abbrev own : relays.OwnValue
+    own = own_of c n.parts
 
-    goes-on : (sif : List ℕ) (o : Outcome) → is_way_on o ≡ true → GoesOn sif c rows m o (taken_in o (in_place_of m sif) ++ answered_in o c m n)
+    refused-for : (cause : Cause) → is_other cause ≡ true → IsRefused own rows cause m (answered_in (Refused cause) c m n)
+    refused-for cause e = record { other = other-cause cause e; returned = returned-at-most (returned own rows m.sif cause) }
+
+    goes-on : (sif : List ℕ) (o : Outcome) → is_way_on o ≡ true → GoesOn sif own rows m o (taken_in o (in_place_of m sif) ++ answered_in o c m n)
     goes-on sif (Queued link) e = refl
     goes-on sif Held e = refl
     goes-on sif (Refused cause) e = refused-for cause e
@@ -206,33 +220,33 @@ module _ (c : Configuration) (link : ℕ) where
     goes-on sif Ignored e = absurd cc
 
     is-relayed : (v : relays.RelayedValue) → is_relay_other v ≡ true
-        → IsRelayed v c rows m (relay_by whole c v m n).outcome (relayed_in v (relay_by whole c v m n).outcome m ++ answered_in (relay_by whole c v m n).outcome c m n)
+        → IsRelayed v own rows m (relay_by whole c v m n).outcome (relayed_in v (relay_by whole c v m n).outcome m ++ answered_in (relay_by whole c v m n).outcome c m n)
     is-relayed relays.Delivered e = (refl, refl)
     is-relayed (relays.Onward sif) e = goes-on sif (transfer whole c None (in_place_of m sif) n).outcome (transfer-other c (in_place_of m sif) n)
     is-relayed (relays.Refused cause) e = (refl, refused-for cause e)
 
     comes-of : (is_sccp : Bool)
-        → ComesOf is_sccp c rows m (if is_sccp then on_unitdata whole c m n else if is_user c (service_indicator m) then answer Local n else refuse causes.NoUserPart n).outcome
-        (if is_sccp then unitdata_in (if is_sccp then on_unitdata whole c m n else if is_user c (service_indicator m) then answer Local n else refuse causes.NoUserPart n).outcome c m n else [])
-    comes-of true = is-relayed (relays.relay (own_of c) rows m.sif) (relay-other (own_of c) rows m.sif)
-    comes-of false = (parted (is_user c (service_indicator m)) n, refl)
+        → ComesOf is_sccp own c rows m (if is_sccp then on_unitdata whole c m n else if is_user c (service_indicator m) then answer Local n else refuse causes.NoUserPart (absent m n)).outcome
+        (if is_sccp then unitdata_in (if is_sccp then on_unitdata whole c m n else if is_user c (service_indicator m) then answer Local n else refuse causes.NoUserPart (absent m n)).outcome c m n else [])
+    comes-of true = is-relayed (relays.relay own rows m.sif) (relay-other own rows m.sif)
+    comes-of false = (parted (is_user c (service_indicator m)) n (absent m n), refl)
 
     user-tells : (b : Bool) → is_management m ≡ b → b ≡ false
-        → ComesTo c rows (if not b then m ∷ [] else []) (brought_here (if b then manage whole c link m n else local whole c m n).outcome c m n) (if b then manage whole c link m n else local whole c m n).outcome
+        → ComesTo own c rows (if not b then m ∷ [] else []) (brought_here (if b then manage whole c link m n else local whole c (Some link) m n).outcome c m n) (if b then manage whole c link m n else local whole c (Some link) m n).outcome
     user-tells true e f = absurd cc
     user-tells false e f = comes-of (nat_eq (service_indicator m) sccp)
 
-    none-tells-of : is_management m ≡ true → (o : Outcome) (ms : List Message) → Quiet o → ms ≡ [] → ComesTo c rows (users_of (m ∷ [])) ms o
-    none-tells-of e o ms q k = subst (λ (xs : List Message). ComesTo c rows xs ms o) (sym (ap (λ (b : Bool). if not b then m ∷ [] else []) e)) (accepts-nothing o ms q k)
+    none-tells-of : (x : relays.OwnValue) → is_management m ≡ true → (o : Outcome) (ms : List Message) → Quiet o → ms ≡ [] → ComesTo x c rows (users_of (m ∷ [])) ms o
+    none-tells-of x e o ms q k = subst (λ (xs : List Message). ComesTo x c rows xs ms o) (sym (ap (λ (b : Bool). if not b then m ∷ [] else []) e)) (accepts-nothing o ms q k)
 
     -- management here is quiet, and brings nothing
-    here-tells : is_management m ≡ true → ComesTo c rows (users_of (m ∷ [])) (brought_here (distribute whole c link m n).outcome c m n) (distribute whole c link m n).outcome
-    here-tells e =
+    here-tells : (x : relays.OwnValue) → is_management m ≡ true → ComesTo x c rows (users_of (m ∷ [])) (brought_here (distribute whole c link m n).outcome c m n) (distribute whole c link m n).outcome
+    here-tells x e =
         let ks : brought_here (distribute whole c link m n).outcome c m n ≡ [] =
         ap (λ (b : Bool). if b then unitdata_in (distribute whole c link m n).outcome c m n else []) (is-no-sccp m e) in
         let here : (distribute whole c link m n).outcome ≡ (manage whole c link m n).outcome =
-        ap (λ (b : Bool). (if b then manage whole c link m n else local whole c m n).outcome) e in
-        none-tells-of e (distribute whole c link m n).outcome (brought_here (distribute whole c link m n).outcome c m n) (subst Quiet (sym here) (manage-quiet m n)) ks
+        ap (λ (b : Bool). (if b then manage whole c link m n else local whole c (Some link) m n).outcome) e in
+        none-tells-of x e (distribute whole c link m n).outcome (brought_here (distribute whole c link m n).outcome c m n) (subst Quiet (sym here) (manage-quiet m n)) ks
 
   -- where it goes
   whither-other : (m : Message) (cause : Cause) → whither_goes c m ≡ whither.Refused cause → is_other cause ≡ true
@@ -245,20 +259,20 @@ module _ (c : Configuration) (link : ℕ) where
       by false false true true e = absurd cc
       by false false true false e = absurd cc
 
-  transfer-tells : (m : Message) (n : Node WholeQueues) → is_management m ≡ true → is_destination c (dpc_of m) ≡ false
-      → ComesTo c n.parts.titles (users_of (m ∷ [])) (taken_in (transfer whole c (Some link) m n).outcome m) (transfer whole c (Some link) m n).outcome
-  transfer-tells m n e away =
+  transfer-tells : (x : relays.OwnValue) (m : Message) (n : Node WholeQueues) → is_management m ≡ true → is_destination c (dpc_of m) ≡ false
+      → ComesTo x c n.parts.titles (users_of (m ∷ [])) (taken_in (transfer whole c (Some link) m n).outcome m) (transfer whole c (Some link) m n).outcome
+  transfer-tells x m n e away =
       let into : Done WholeQueues = offer whole c (no_room_for whole c m n) (waits c n.parts.holds m) (link_of c n.parts (flow_of m)) (Some link) m n in
       let gone : (transfer whole c (Some link) m n).outcome ≡ Refused causes.UnknownDestination =
       ap (λ (b : Bool). (if b then into else refuse causes.UnknownDestination n).outcome) away in
-      subst (λ (o : Outcome). ComesTo c n.parts.titles (users_of (m ∷ [])) (taken_in o m) o) (sym gone)
-      (none-tells-of m n e (Refused causes.UnknownDestination) [] refused-destination refl)
+      subst (λ (o : Outcome). ComesTo x c n.parts.titles (users_of (m ∷ [])) (taken_in o m) o) (sym gone)
+      (none-tells-of m n x e (Refused causes.UnknownDestination) [] refused-destination refl)
 
-  managed-tells : (d : Discrimination) (m : Message) (n : Node WholeQueues) → whither_goes c m ≡ d → is_management m ≡ true → is_destination c (dpc_of m) ≡ false
-      → ComesTo c n.parts.titles (users_of (m ∷ [])) (brought_to d (deliver_to whole c d link m n).outcome c m n) (deliver_to whole c d link m n).outcome
-  managed-tells (whither.Refused cause) m n f e away = none-tells-of m n e (Refused cause) [] (refused-other cause (whither-other m cause f)) refl
-  managed-tells (whither.Here label) m n f e away = here-tells m n e
-  managed-tells (whither.Transfer label) m n f e away = transfer-tells m n e away
+  managed-tells : (x : relays.OwnValue) (d : Discrimination) (m : Message) (n : Node WholeQueues) → whither_goes c m ≡ d → is_management m ≡ true → is_destination c (dpc_of m) ≡ false
+      → ComesTo x c n.parts.titles (users_of (m ∷ [])) (brought_to d (deliver_to whole c d link m n).outcome c m n) (deliver_to whole c d link m n).outcome
+  managed-tells x (whither.Refused cause) m n f e away = none-tells-of m n x e (Refused cause) [] (refused-other cause (whither-other m cause f)) refl
+  managed-tells x (whither.Here label) m n f e away = here-tells m n x e
+  managed-tells x (whither.Transfer label) m n f e away = transfer-tells x m n e away
 
 module _ (c z : Configuration) (g : AreJoined c z) (f : AreFacing c z) (link : ℕ) where
   only : HasOnly c z.own
@@ -293,19 +307,29 @@ module _ (c z : Configuration) (g : AreJoined c z) (f : AreFacing c z) (link : �
       by (Some place) e = absurd (not-own z m b.onward (only (dpc_of m) place e))
       by None e = ap is_some e
 
+  -- by where the links lead after it
   deliver-tells : (m : Message) → Has m → (n : Node WholeQueues)
-      → ComesTo c n.parts.titles (users_of (m ∷ [])) (brought_to (whither_goes c m) (deliver whole c link m n).outcome c m n) (deliver whole c link m n).outcome
+      → ComesTo (own_of c (deliver whole c link m n).left.parts) c n.parts.titles (users_of (m ∷ [])) (brought_to (whither_goes c m) (deliver whole c link m n).outcome c m n)
+      (deliver whole c link m n).outcome
   deliver-tells m b n = by (is_management m) refl
     where
+      left : Node WholeQueues
+      left = (deliver whole c link m n).left
+
       by : (managed : Bool) → is_management m ≡ managed
-          → ComesTo c n.parts.titles (users_of (m ∷ [])) (brought_to (whither_goes c m) (deliver whole c link m n).outcome c m n) (deliver whole c link m n).outcome
-      by true e = managed-tells c link (whither_goes c m) m n refl e (apart m b.bound)
+          → ComesTo (own_of c left.parts) c n.parts.titles (users_of (m ∷ [])) (brought_to (whither_goes c m) (deliver whole c link m n).outcome c m n) (deliver whole c link m n).outcome
+      by true e = managed-tells c link (own_of c left.parts) (whither_goes c m) m n refl e (apart m b.bound)
       by false e =
           let here = user-here m e (its-point z c.own far-only m b.bound.known e) b.sent in
-          subst (λ (x : Discrimination). ComesTo c n.parts.titles (users_of (m ∷ [])) (brought_to x (deliver_to whole c x link m n).outcome c m n) (deliver_to whole c x link m n).outcome)
+          let same : own_of c left.parts ≡ own_of c n.parts = own-same c left n (deliver-facts c link m here.0 n e here.1) in
+          subst (λ (x : relays.OwnValue).
+          ComesTo x c n.parts.titles (users_of (m ∷ [])) (brought_to (whither_goes c m) (deliver whole c link m n).outcome c m n) (deliver whole c link m n).outcome)
+          (sym same)
+          (subst (λ (x : Discrimination).
+          ComesTo (own_of c n.parts) c n.parts.titles (users_of (m ∷ [])) (brought_to x (deliver_to whole c x link m n).outcome c m n) (deliver_to whole c x link m n).outcome)
           (sym here.1)
-          (subst (λ (xs : List Message). ComesTo c n.parts.titles xs (brought_here (distribute whole c link m n).outcome c m n) (distribute whole c link m n).outcome)
-          (ap (λ (x : Bool). if not x then m ∷ [] else []) refl) (user-tells c link m n (is_management m) refl e))
+          (subst (λ (xs : List Message). ComesTo (own_of c n.parts) c n.parts.titles xs (brought_here (distribute whole c link m n).outcome c m n) (distribute whole c link m n).outcome)
+          (ap (λ (x : Bool). if not x then m ∷ [] else []) refl) (user-tells c link m n (is_management m) refl e)))
 
   -- it is the message in the frame
   same-carried : (frame : FrameValue) (m : Message) → IsFlying z c f.far_set frame → carried_message (Ok frame) ≡ Some m → Has m
@@ -330,7 +354,7 @@ module _ (c z : Configuration) (g : AreJoined c z) (f : AreFacing c z) (link : �
     -- what it newly carries, and what that came to
     abbrev Came : Option Message → Type 0
     Came o =
-        ComesTo c n.parts.titles (users_of (option_to_list o)) (brought_by o (outcome_of whole (FrameCame link text) there) c (accept_text link (read_frame text) there))
+        ComesTo (own_of c (after whole (FrameCame link text) there).node.parts) c n.parts.titles (users_of (option_to_list o)) (brought_by o (outcome_of whole (FrameCame link text) there) c (accept_text link (read_frame text) there))
         (outcome_of whole (FrameCame link text) there)
 
     none-came : new_message link text there ≡ None → Came None
@@ -340,10 +364,15 @@ module _ (c z : Configuration) (g : AreJoined c z) (f : AreFacing c z) (link : �
     data-came frame reads flying None e = none-came e
     data-came frame reads flying (Some m) e =
         let left : Node WholeQueues = accept_text link (read_frame text) there in
-        subst (λ (o : Outcome). ComesTo c n.parts.titles (users_of (m ∷ [])) (brought_by (Some m) o c left) o) (sym (outcome-same c (FrameCame link text) n))
-        (subst (λ (rows : List TitleEntry). ComesTo c rows (users_of (m ∷ [])) (brought_by (Some m) (receive whole c link text n).outcome c left) (receive whole c link text n).outcome)
+        let d : Done WholeQueues = receive whole c link text n in
+        let out : Node WholeQueues = (after whole (FrameCame link text) there).node in
+        subst (λ (x : relays.OwnValue). ComesTo x c n.parts.titles (users_of (m ∷ [])) (brought_by (Some m) (outcome_of whole (FrameCame link text) there) c left) (outcome_of whole (FrameCame link text) there))
+        (sym (own-same c out d.left (after-facts c (FrameCame link text) n)))
+        (subst (λ (o : Outcome). ComesTo (own_of c d.left.parts) c n.parts.titles (users_of (m ∷ [])) (brought_by (Some m) o c left) o) (sym (outcome-same c (FrameCame link text) n))
+        (subst (λ (rows : List TitleEntry). ComesTo (own_of c d.left.parts) c rows (users_of (m ∷ [])) (brought_by (Some m) d.outcome c left) d.outcome)
         (accepted-titles c link (read_frame text) n)
-        (received-as c link m (λ o x. ComesTo c x.parts.titles (users_of (m ∷ [])) (brought_to (whither_goes c m) o c m x) o) (deliver-tells m (came-between frame m reads flying e)) text n e))
+        (received-as c link m (λ d x. ComesTo (own_of c d.left.parts) c x.parts.titles (users_of (m ∷ [])) (brought_to (whither_goes c m) d.outcome c m x) d.outcome)
+        (deliver-tells m (came-between frame m reads flying e)) text n e)))
 
     status-came : (frame : FrameValue) → read_frame text ≡ Ok frame → IsTelling frame → (o : Option Message) → new_message link text there ≡ o → Came o
     status-came frame reads says None e = none-came e
@@ -364,26 +393,27 @@ module _ (c z : Configuration) (g : AreJoined c z) (f : AreFacing c z) (p : Pair
   a = p.near.exchange
 
   -- what was received and accepted by something that came to this
-  abbrev TellsAt : Configuration → (received accepted : List Message) → Outcome → Type 0
-  TellsAt x received accepted outcome = ComesTo x a.node.parts.titles (drop (length p.near.received) received) (drop (length p.near.accepted) accepted) outcome
+  abbrev TellsAt : relays.OwnValue → Configuration → (received accepted : List Message) → Outcome → Type 0
+  TellsAt own x received accepted outcome = ComesTo own x a.node.parts.titles (drop (length p.near.received) received) (drop (length p.near.accepted) accepted) outcome
 
   -- whichever frame comes, and what it leaves in flight
   came-tells : (text : List ℕ) → Came c z g f link a.node text (new_message link text (record { settings = c; node = a.node }))
-      → TellsAt a.settings (p.near.received ++ users_of (option_to_list (new_message link text a))) (p.near.accepted ++ brought_in (FrameCame link text) a) (outcome_of whole (FrameCame link text) a)
+      → TellsAt (own_of a.settings (after whole (FrameCame link text) a).node.parts) a.settings (p.near.received ++ users_of (option_to_list (new_message link text a))) (p.near.accepted ++ brought_in (FrameCame link text) a) (outcome_of whole (FrameCame link text) a)
   came-tells text h =
       subst (λ (x : Configuration).
       let b : Abstract = record { settings = x; node = a.node } in
-      TellsAt x (p.near.received ++ users_of (option_to_list (new_message link text b))) (p.near.accepted ++ brought_in (FrameCame link text) b) (outcome_of whole (FrameCame link text) b))
+      TellsAt (own_of x (after whole (FrameCame link text) b).node.parts) x (p.near.received ++ users_of (option_to_list (new_message link text b))) (p.near.accepted ++ brought_in (FrameCame link text) b) (outcome_of whole (FrameCame link text) b))
       (sym s.near_settings)
       (let b : Abstract = record { settings = c; node = a.node } in
       let ms : List Message = users_of (option_to_list (new_message link text b)) in
+      let own : relays.OwnValue = own_of c (after whole (FrameCame link text) b).node.parts in
       let ks : List Message = brought_in (FrameCame link text) b in
-      subst (λ (xs : List Message). ComesTo c a.node.parts.titles xs (drop (length p.near.accepted) (p.near.accepted ++ ks)) (outcome_of whole (FrameCame link text) b)) (sym (drop-before p.near.received ms))
-      (subst (λ (xs : List Message). ComesTo c a.node.parts.titles ms xs (outcome_of whole (FrameCame link text) b)) (sym (drop-before p.near.accepted ks)) h))
+      subst (λ (xs : List Message). ComesTo own c a.node.parts.titles xs (drop (length p.near.accepted) (p.near.accepted ++ ks)) (outcome_of whole (FrameCame link text) b)) (sym (drop-before p.near.received ms))
+      (subst (λ (xs : List Message). ComesTo own c a.node.parts.titles ms xs (outcome_of whole (FrameCame link text) b)) (sym (drop-before p.near.accepted ks)) h))
 
-  none-tells : TellsAt a.settings p.near.received p.near.accepted Ignored
-  none-tells =
-      subst (λ (xs : List Message). ComesTo a.settings a.node.parts.titles xs (drop (length p.near.accepted) p.near.accepted) Ignored) (sym (drop-all p.near.received))
+  none-tells : (own : relays.OwnValue) → TellsAt own a.settings p.near.received p.near.accepted Ignored
+  none-tells own =
+      subst (λ (xs : List Message). ComesTo own a.settings a.node.parts.titles xs (drop (length p.near.accepted) p.near.accepted) Ignored) (sym (drop-all p.near.received))
       (accepts-nothing Ignored (drop (length p.near.accepted) p.near.accepted) ignored (drop-all p.near.accepted))
 
   pub delivery-tells : Tells (Delivers link) p
@@ -393,8 +423,8 @@ module _ (c z : Configuration) (g : AreJoined c z) (f : AreFacing c z) (p : Pair
       left = without_data link p.near.incoming
 
       by : (o : Option (List ℕ)) → slice_get (in_flight p.near.incoming.user_data link) 0 ≡ o
-          → TellsAt a.settings (deliver_frame o link left p).left.near.received (deliver_frame o link left p).left.near.accepted (deliver_frame o link left p).outcome
-      by None e = none-tells
+          → TellsAt (own_of a.settings (deliver_frame o link left p).left.near.exchange.node.parts) a.settings (deliver_frame o link left p).left.near.received (deliver_frame o link left p).left.near.accepted (deliver_frame o link left p).outcome
+      by None e = none-tells (own_of a.settings a.node.parts)
       by (Some text) e =
           let frames : List FrameValue = s.to_near.user_data link in
           let first : IsFirst frames (in_flight p.near.incoming.user_data link) text = first-frame frames (in_flight p.near.incoming.user_data link) text (s.near_texts.user_data.each link) e in
@@ -408,8 +438,8 @@ module _ (c z : Configuration) (g : AreJoined c z) (f : AreFacing c z) (p : Pair
       left = without_status link p.near.incoming
 
       by : (o : Option (List ℕ)) → slice_get (in_flight p.near.incoming.statuses link) 0 ≡ o
-          → TellsAt a.settings (deliver_frame o link left p).left.near.received (deliver_frame o link left p).left.near.accepted (deliver_frame o link left p).outcome
-      by None e = none-tells
+          → TellsAt (own_of a.settings (deliver_frame o link left p).left.near.exchange.node.parts) a.settings (deliver_frame o link left p).left.near.received (deliver_frame o link left p).left.near.accepted (deliver_frame o link left p).outcome
+      by None e = none-tells (own_of a.settings a.node.parts)
       by (Some text) e =
           let frames : List FrameValue = s.to_near.statuses link in
           let first : IsFirst frames (in_flight p.near.incoming.statuses link) text = first-frame frames (in_flight p.near.incoming.statuses link) text (s.near_texts.statuses.each link) e in

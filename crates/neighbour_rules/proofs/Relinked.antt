@@ -50,7 +50,7 @@ module _ (c z : Configuration) (j : Joint c z) where
   pub note_outcome-passes : (o : Outcome) (link : ℕ) (w : World) (n : Node WholeQueues) (arrived loose : List Message)
       → Passes c z j (at c z j w n arrived loose) (at c z j w (with_parts n (note_outcome link o n.parts)) arrived loose)
   note_outcome-passes (Refused cause) link w n arrived loose =
-      noted-passes w n arrived loose _ ((fit-steps c).noted (notices.Refused cause link) n (record { lost = λ f. absurd cc; late = λ f. absurd cc }))
+      noted-passes w n arrived loose _ ((fit-steps c).noted (notices.Refused cause link) n (record { other = refl; lost = λ f. absurd cc; late = λ f. absurd cc }))
   note_outcome-passes (Queued other) link w n arrived loose = passes-none c z j (at c z j w n arrived loose)
   note_outcome-passes Held link w n arrived loose = passes-none c z j (at c z j w n arrived loose)
   note_outcome-passes Local link w n arrived loose = passes-none c z j (at c z j w n arrived loose)

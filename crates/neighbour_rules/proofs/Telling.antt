@@ -1,9 +1,15 @@
 -- What adjacent points are told of routes passes by: by moves.
 use Rattle.pair_rules.proofs.Basics.{◌≡◌, ℕ, Bool, true, false, not, ◌&&◌, List, [], ◌∷◌, Option, Some, None, refl, if◌then◌else◌}
 use Rattle.pair_rules.proofs.Definitions.{Message, Configuration, Node, with_parts, WholeQueues, whole, facts, set_of, is_management, fit-steps, send_routed, RouteStatus}
+use Rattle.mtp3_codec.specs.declared.management.Management.{Management}
+use Rattle.mtp3_codec.specs.declared.management.Management.TheVariants.{UserPartUnavailable}
+use Rattle.mtp3_codec.specs.declared.unavailability.UnavailabilityCause.TheVariants.{Unequipped}
+use Rattle.signalling_types.specs.Message.{opc_of, service_indicator}
+use Rattle.std.proofs.Common.{arith}
+use Rattle.exchange_rules.proofs.Basics.{length-set, ◌<◌, ◌^◌}
 use Rattle.routes.specs.declared.route.RouteStatus.TheVariants.{Prohibited}
 use Rattle.route_management.specs.Told.{Owed, owed}
-use Rattle.exchange_rules.specs.Telling.{answer_no_route, inhibited, is_inhibited, may_tell, prohibit, route_message, tell, tell_each, tell_if, tell_owed, telling, told_parts}
+use Rattle.exchange_rules.specs.Telling.{answer_no_route, answer_no_user_part, is_unequipped_told, tell_unavailable, unavailable, unequipped_counted, inhibited, is_inhibited, may_tell, prohibit, route_message, tell, tell_each, tell_if, tell_owed, telling, told_parts}
 use Rattle.exchange_rules.specs.Routing.{adjacent_of, point_of}
 use Rattle.exchange_rules.proofs.MadeManagement.{made-management}
 use Rattle.exchange_rules.proofs.SteppingMessages.{told_parts-steps, inhibited-steps}
@@ -12,7 +18,7 @@ use Rattle.pair_rules.proofs.World.{World}
 use Rattle.neighbour_rules.proofs.Good.{Joint, Passes, at, passes-both, passes-none}
 use Rattle.neighbour_rules.proofs.Messages.{making, send_routed-passes}
 use Rattle.neighbour_rules.proofs.Unseen.{aside-passes}
-use Rattle.neighbour_rules.proofs.Made.{route-brief, route-other}
+use Rattle.neighbour_rules.proofs.Made.{made-brief, plain-other, route-brief, route-other}
 
 module _ (c z : Configuration) (j : Joint c z) (w : World) (arrived rest : List Message) where
   abbrev Pass : Node WholeQueues → Node WholeQueues → Type 0
@@ -62,3 +68,25 @@ module _ (c z : Configuration) (j : Joint c z) (w : World) (arrived rest : List 
       either (may_tell whole c n && not (is_inhibited its destination n.parts)) n (prohibit whole c its destination n) (prohibit-passes its destination n)
   answer_no_route-passes (Some link) None n = passes-none c z j (at c z j w n arrived rest)
   answer_no_route-passes None destination n = passes-none c z j (at c z j w n arrived rest)
+
+  -- a message for a user part that isn't here
+  telling-unavailable : (m : Message) (n : Node WholeQueues) → Pass n (send_routed whole c (unavailable c m) n)
+  telling-unavailable m n =
+      let word : Management = UserPartUnavailable c.own (service_indicator m) Unequipped in
+      let fits : opc_of m < 2 ^ 14 = omega arith in
+      let small : service_indicator m < 2 ^ 4 = omega arith in
+      passes-both c z j _ _ _
+      (making c z j w n arrived (unavailable c m) rest (plain-other c z j (opc_of m) word fits (j.near_well.own, small) refl) (made-brief c z j (opc_of m) word))
+      (send_routed-passes c z j w n arrived (unavailable c m) rest (made-management c j.near_well (opc_of m) word))
+
+  tell_unavailable-passes : (origin : ℕ) (m : Message) (n : Node WholeQueues) → Pass n (tell_unavailable whole c origin m n)
+  tell_unavailable-passes origin m n =
+      let next : Node WholeQueues = with_parts n (unequipped_counted origin n.parts) in
+      both _ _ _
+      (aside-passes c z j w n arrived rest (unequipped_counted origin n.parts) ((fit-steps c).unequipped _ n (length-set n.parts.unequipped origin _)) refl refl refl refl refl refl (λ e. e))
+      (either (is_unequipped_told whole c origin n) next (send_routed whole c (unavailable c m) next) (telling-unavailable m next))
+
+  pub answer_no_user_part-passes : (link origin : Option ℕ) (m : Message) (n : Node WholeQueues) → Pass n (answer_no_user_part whole c link origin m n)
+  answer_no_user_part-passes (Some link) (Some origin) m n = either c.user_part_unavailable n (tell_unavailable whole c origin m n) (tell_unavailable-passes origin m n)
+  answer_no_user_part-passes (Some link) None m n = passes-none c z j (at c z j w n arrived rest)
+  answer_no_user_part-passes None origin m n = passes-none c z j (at c z j w n arrived rest)

@@ -185,7 +185,8 @@ did_between (pairs.OpensSecond link) p =
 abbrev pub did : Doing → PairState → Turn
 did (Does what) p = did_between what p
 did (OpensElsewhere link) p = takes_elsewhere (leads_elsewhere p link) false (CameUp link) p
-did (HearsElsewhere link text) p = takes_elsewhere (leads_elsewhere p link) (speaks_for_either p text) (FrameCame link text) p
+did (HearsElsewhere link text) p =
+    takes_elsewhere (leads_elsewhere p link) (speaks_for_either p text) (FrameCame link text) p
 
 -- what becomes of a step
 abbrev pub turn : Step → PairState → Turn

@@ -26,6 +26,7 @@ near_settings = record {
   subsystems = [];
   extended_unitdata = false;
   subsystem_tests = false;
+  user_part_unavailable = false;
   timers = ticks;
   sets = record { name = 97 ∷ []; adjacent = 3 } ∷ record { name = 98 ∷ []; adjacent = 2 } ∷ [];
   links =

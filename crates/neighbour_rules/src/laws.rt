@@ -125,8 +125,8 @@ pub fn nothing_is_held_in_vain()
 /// handed in comes to Local exactly if what the end received grew by a message of a user part that its settings list,
 /// or by one of SCCP for a subsystem there; to NoUserPart exactly if it grew by one of another part; and to Queued or
 /// Held exactly if it grew by one of SCCP that goes on by its title. What the end accepted then grew by that message as
-/// its relay wrote it, and by nothing else. If one of SCCP is refused, it grew by the UDTS that returns it, or by
-/// nothing; otherwise it didn't grow (Q.704 §2.4, Q.714 §2.3, §4.2). This holds whether or not a message may be lost.
+/// its relay wrote it, and by nothing else. If one of SCCP is refused, it grew by the UDTS or XUDTS that returns it, or
+/// by nothing; otherwise it didn't grow (Q.704 §2.4, Q.714 §2.3, §4.2). This holds whether or not a message may be lost.
 pub fn deliveries_tell_what_came()
     ensures { deliveries_tell }
 {}

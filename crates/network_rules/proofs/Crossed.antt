@@ -1,6 +1,6 @@
 -- What the run shows in which a message crosses two failures, by computation.
-use Rattle.pair_rules.proofs.Basics.{◌≡◌, ℕ, Bool, false, true, List, [], ◌∷◌, None, ap, refl, ◌∙◌}
-use Rattle.pair_rules.proofs.Definitions.{Message, set_timer, start_unless_running, clear_timer, clear_set, due_name, after_due, due_count, first_sets, choice_among, link_by, any_flow, flows, lost_any, late_any, whole, apply, outcome_of, Submitted, take_back_each, in_flight, is_down_at}
+use Rattle.pair_rules.proofs.Basics.{◌≡◌, ℕ, Bool, false, true, List, [], ◌∷◌, ◌++◌, None, ap, map, refl, sym, ◌∙◌}
+use Rattle.pair_rules.proofs.Definitions.{Message, flow_of, set_timer, start_unless_running, clear_timer, clear_set, due_name, after_due, due_count, first_sets, choice_among, link_by, any_flow, flows, lost_any, late_any, whole, apply, outcome_of, Submitted, take_back_each, in_flight, is_down_at}
 use Rattle.timers.specs.Timers.{names_of}
 use Rattle.routes.specs.Routes.{links_below}
 use Rattle.route_management.specs.Told.{owes_nothing}
@@ -10,9 +10,12 @@ use Rattle.changeback.specs.Return.{changes_of, changes}
 use Rattle.signalling_types.specs.declared.outcome.Outcome.TheVariants.{Queued}
 use Rattle.exchange_rules.specs.Conserving.{standing}
 use Rattle.exchange_rules.specs.Telling.{tell_owed}
+use Rattle.pair_rules.specs.Promises.{of_flow}
 use Rattle.neighbour_rules.specs.ThirdNode.{the_message}
 use Rattle.network_rules.specs.Networks.{Arrival, NetworkNode, NetworkState, end_of}
+use Rattle.network_rules.specs.Paths.{KeepsInOrder, OnlyPasses, came_over, waits_over}
 use Rattle.network_rules.specs.TwoFailures.{CrossesTwoFailures, IsDone, come, its_text, users_come}
+use Rattle.network_rules.proofs.LaidOut.{network_of}
 use Rattle.network_rules.proofs.Offering.{offered, outcome-is, third}
 use Rattle.network_rules.proofs.RowSettings.{first-sharing, joined, of-three, points, second-sharing, well}
 use Rattle.network_rules.proofs.TwoFailures.{come-is, come_from, failed-is, failed_from, failed_on-is, failed_on_from, first_three, moved-is, moved_from, moved_on-is, moved_on_from, passed-is, passed_from, sent-is, sent_from, sent_on-is, sent_on_from, served-is, served_from, third-settings, third-unheld}
@@ -115,6 +118,52 @@ done x arrivals accepted entered e = record {
   none_waits = ap (λ (s : Shown). s.waiting) e;
 }
 
+-- ---- its path
+
+came-first : came_over (flow_of the_message) (network_of (come_from first_three)) 3 1 ≡ the_message ∷ []
+unfolding apply tell_owed first_sets links_below status_of set_timer clear_timer start_unless_running clear_set due_name after_due due_count names_of choice_among link_by changes_of changes take_back_each owes_nothing any_flow flows rerouted
+came-first = refl
+
+came-next : came_over (flow_of the_message) (network_of (come_from first_three)) 1 2 ≡ the_message ∷ []
+unfolding apply tell_owed first_sets links_below status_of set_timer clear_timer start_unless_running clear_set due_name after_due due_count names_of choice_among link_by changes_of changes take_back_each owes_nothing any_flow flows rerouted
+came-next = refl
+
+waits-first : waits_over (flow_of the_message) (network_of (come_from first_three)) 3 1 ≡ []
+unfolding apply tell_owed first_sets links_below status_of set_timer clear_timer start_unless_running clear_set due_name after_due due_count names_of choice_among link_by changes_of changes take_back_each owes_nothing any_flow flows rerouted
+waits-first = refl
+
+waits-next : waits_over (flow_of the_message) (network_of (come_from first_three)) 1 2 ≡ []
+unfolding apply tell_owed first_sets links_below status_of set_timer clear_timer start_unless_running clear_set due_name after_due due_count names_of choice_among link_by changes_of changes take_back_each owes_nothing any_flow flows rerouted
+waits-next = refl
+
+all-first : of_flow (flow_of the_message) (map (λ a. a.message) (come_from first_three).first.arrived) ≡ the_message ∷ []
+unfolding apply tell_owed first_sets links_below status_of set_timer clear_timer start_unless_running clear_set due_name after_due due_count names_of choice_among link_by changes_of changes take_back_each owes_nothing any_flow flows rerouted
+all-first = refl
+
+of-both : (accepted came waits : List Message) → accepted ≡ the_message ∷ [] → came ≡ the_message ∷ [] → waits ≡ [] → of_flow (flow_of the_message) accepted ≡ came ++ waits
+of-both accepted came waits e f g =
+    ap (of_flow (flow_of the_message)) e ∙ sym (ap (λ (ms : List Message). ms ++ waits) f ∙ ap (λ (ms : List Message). the_message ∷ ms) g)
+
+keeps-first : KeepsInOrder (flow_of the_message) come 3 1
+keeps-first =
+    of-both (come.node 3).accepted (came_over (flow_of the_message) come 3 1) (waits_over (flow_of the_message) come 3 1) (ap (λ (s : Shown). s.accepted) third-is)
+    (ap (λ (w : NetworkState). came_over (flow_of the_message) w 3 1) come-is ∙ came-first)
+    (ap (λ (w : NetworkState). waits_over (flow_of the_message) w 3 1) come-is ∙ waits-first)
+
+keeps-next : KeepsInOrder (flow_of the_message) come 1 2
+keeps-next =
+    of-both (come.node 1).accepted (came_over (flow_of the_message) come 1 2) (waits_over (flow_of the_message) come 1 2) (ap (λ (s : Shown). s.accepted) near-is)
+    (ap (λ (w : NetworkState). came_over (flow_of the_message) w 1 2) come-is ∙ came-next)
+    (ap (λ (w : NetworkState). waits_over (flow_of the_message) w 1 2) come-is ∙ waits-next)
+
+passes-first : OnlyPasses (flow_of the_message) come 3 1
+passes-first = record {
+  comes =
+      ap (λ (w : NetworkState). of_flow (flow_of the_message) (map (λ a. a.message) (w.node 1).arrived)) come-is ∙ all-first
+      ∙ sym (ap (λ (w : NetworkState). came_over (flow_of the_message) w 3 1) come-is ∙ came-first);
+  enters = ap (of_flow (flow_of the_message)) (ap (λ (s : Shown). s.entered) near-is);
+}
+
 pub crosses : CrossesTwoFailures
 crosses = record {
   points = points;
@@ -144,6 +193,8 @@ crosses = record {
   third_accepted = ap (λ (s : Shown). s.accepted) third-is;
   near_accepted = ap (λ (s : Shown). s.accepted) near-is;
   far_accepted = ap (λ (s : Shown). s.accepted) far-is;
+  hops = (keeps-first, (keeps-next, tt));
+  passes_only = (passes-first, tt);
   third_done = done (come.node 3) [] (the_message ∷ []) (the_message ∷ []) third-is;
   near_done = done (come.node 1) (its_arrival ∷ []) (the_message ∷ []) [] near-is;
   far_done = done (come.node 2) (its_arrival ∷ []) [] [] far-is;

@@ -119,6 +119,7 @@ module _ (c z : Configuration) (j : Joint c z) where
   declares-word (Ok (kinds.RouteSetTestProhibited point)) e = absurd cc
   declares-word (Ok (kinds.RouteSetTestRestricted point)) e = absurd cc
   declares-word (Ok kinds.TrafficRestartAllowed) e = absurd cc
+  declares-word (Ok (kinds.UserPartUnavailable point user_part cause)) e = absurd cc
   declares-word (Err fault) e = absurd cc
 
   managed : (indicator : ℕ) (b : Bool) → (nat_eq indicator 0 && b) ≡ true → nat_lt indicator 2 ≡ true

@@ -12,7 +12,7 @@ pub record Three : Type 0 where
   pub third : NetworkNode
   pub others : ℕ → NetworkNode
 
-abbrev at_point : (one two three : Bool) → Three → (point : ℕ) → NetworkNode
+abbrev pub at_point : (one two three : Bool) → Three → (point : ℕ) → NetworkNode
 at_point true two three t point = t.first
 at_point false true three t point = t.second
 at_point false false true t point = t.third

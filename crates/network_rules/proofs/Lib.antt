@@ -40,9 +40,15 @@ pub mod News
 pub mod OneStep
 pub mod Accounted
 pub mod ToPoint
+pub mod Merged
+pub mod PassedOn
+pub mod Paths
 pub mod LaidOut
 pub mod Unheld
 pub mod RowSettings
 pub mod Offering
+pub mod Renewed
 pub mod TwoFailures
 pub mod Crossed
+pub mod AfterRestart
+pub mod CameAfter

@@ -1,6 +1,6 @@
 -- What an event lets go of queues: what a frame confirms, and what a word of the peer says that it received; else a changeover ends with no reasonable number.
 use Rattle.exchange_rules.proofs.Basics.{◌≡◌, ◌<◌, ◌&&◌, ℕ, Bool, true, false, not, List, [], Option, Some, None, Result, Ok, Err, refl, subst, arith, if◌then◌else◌, nat_eq}
-use Rattle.exchange_rules.proofs.Definitions.{Message, is_management, opc_of, service_indicator, Configuration, Management, TrafficRestartAllowed, ExtendedChangeoverOrder, ExtendedChangeoverAcknowledgement, EmergencyChangeoverOrder, EmergencyChangeoverAcknowledgement, ChangebackDeclaration, ChangebackAcknowledgement, TransferProhibited, TransferRestricted, TransferAllowed, RouteSetTestProhibited, RouteSetTestRestricted, MgmtFault, Discrimination, Allowed, Restricted, Prohibited, Node, Done, with_parts, answer, refuse, WholeQueues, whole, destination_place, set_place, link_with_code, route_about, is_adjacent, testing, read_link_test, read_management}
+use Rattle.exchange_rules.proofs.Definitions.{Message, is_management, opc_of, service_indicator, Configuration, Management, TrafficRestartAllowed, ExtendedChangeoverOrder, ExtendedChangeoverAcknowledgement, EmergencyChangeoverOrder, EmergencyChangeoverAcknowledgement, ChangebackDeclaration, ChangebackAcknowledgement, TransferProhibited, TransferRestricted, TransferAllowed, RouteSetTestProhibited, RouteSetTestRestricted, MgmtFault, Discrimination, Allowed, Restricted, Prohibited, Node, Done, with_parts, answer, refuse, WholeQueues, whole, destination_place, set_place, link_with_code, route_about, is_adjacent, testing, read_link_test, read_management, from_afar, UserPartUnavailable}
 use Rattle.exchange_rules.proofs.Definitions.{Gone, nothing_gone, gone_by_completion, gone_by_order, gone_by_answer, gone_by_word, gone_by_message, gone_by_new}
 use Rattle.exchange_rules.proofs.Definitions.{complete_if, concluded, fail_by_order, on_changeover_order, changeover_acknowledgement, changeover_of, with_changeover, completed, with_changeover_acknowledged, do_order, do_acknowledgement, do_management, do_test, manage, local, deliver_to, carry, whither_goes, changeback_acknowledgement, send_routed, note_refusal}
 use Rattle.exchange_rules.specs.Conserving.{is_word}
@@ -130,6 +130,7 @@ module _ (c : Configuration) (fits : MayMake c) where
   word-does (Ok (TransferAllowed about)) point n said = passing n _ (status-keeps c any_message f r Allowed (route_about (set_place c point) (destination_place c about)) n)
   word-does (Ok (RouteSetTestProhibited about)) point n said = passing n _ (test-keeps c any_message f r tests.Prohibited (route_about (set_place c point) (destination_place c about)) n)
   word-does (Ok (RouteSetTestRestricted about)) point n said = passing n _ (test-keeps c any_message f r tests.Restricted (route_about (set_place c point) (destination_place c about)) n)
+  word-does (Ok (UserPartUnavailable about user_part cause)) point n said = idle n
 
   abbrev word_of : Message → Result Management MgmtFault
   word_of m = read_management m.sif
@@ -137,7 +138,7 @@ module _ (c : Configuration) (fits : MayMake c) where
   manage-by : {Said : (link number : ℕ) → Type 0} (adjacent test : Bool) (link : ℕ) (m : Message) (n : Node WholeQueues)
       → ((adjacent && not test) ≡ true → (k number : ℕ) → IsWord c (opc_of m) k number (word_of m) → Said k number)
       → Does Said n.queues
-      (if adjacent then (if test then do_test whole c (read_link_test m.sif) link (opc_of m) n else do_management whole c (word_of m) (opc_of m) n) else refuse causes.NotFromAdjacent n).left
+      (if adjacent then (if test then do_test whole c (read_link_test m.sif) link (opc_of m) n else do_management whole c (word_of m) (opc_of m) n) else answer (from_afar c m) n).left
       (if adjacent && not test then gone_by_word (word_of m) (opc_of m) c n else nothing_gone)
   manage-by true true link m n said = passing n _ (do_test-keeps c any_message f r (read_link_test m.sif) link (opc_of m) n)
   manage-by true false link m n said = word-does (word_of m) (opc_of m) n (said refl)
@@ -154,7 +155,7 @@ module _ (c : Configuration) (fits : MayMake c) where
   heard-word false d e g = e
 
   here-by : (b : Bool) (link : ℕ) (m : Message) (n : Node WholeQueues) → is_management m ≡ b → (label : Label) → whither_goes c m ≡ whither.Here label
-      → Does (Says (Some m)) n.queues (if b then manage whole c link m n else local whole c m n).left
+      → Does (Says (Some m)) n.queues (if b then manage whole c link m n else local whole c (Some link) m n).left
       (if b && (is_adjacent c (opc_of m) && not (nat_eq (service_indicator m) testing)) then gone_by_word (word_of m) (opc_of m) c n else nothing_gone)
   here-by true link m n e label here =
       manage-by (is_adjacent c (opc_of m)) (nat_eq (service_indicator m) testing) link m n
@@ -166,7 +167,7 @@ module _ (c : Configuration) (fits : MayMake c) where
         heard = heard-word (is_management m) (is_adjacent c (opc_of m) && not (nat_eq (service_indicator m) testing)) e heard;
         word = word;
       })
-  here-by false link m n e label here = passing n _ (local-keeps c any_message f r m n e)
+  here-by false link m n e label here = passing n _ (local-keeps c any_message f r (Some link) m n e)
 
   deliver_to-does : (d : Discrimination) (link : ℕ) (m : Message) (n : Node WholeQueues) → whither_goes c m ≡ d → Does (Says (Some m)) n.queues (deliver_to whole c d link m n).left (gone_by_message d c m n)
   deliver_to-does (whither.Refused cause) link m n e = idle n

@@ -1,9 +1,9 @@
 -- Whatever happens at a node, what then stands in its queues and in Held stood there before, was made there, is a user message, or came by the frame: so what
 -- is fine of all these is fine of all that stands there.
-use Rattle.exchange_rules.proofs.Basics.{◌<◌, ◌^◌, ◌≡◌, ◌&&◌, ℕ, zero, suc, Bool, true, false, not, List, [], ◌∷◌, ◌++◌, Option, Some, None, Result, Ok, Err, refl, ◌∙◌, if◌then◌else◌, nat_eq, nat_lt, length, list_all, and_from as pair}
+use Rattle.exchange_rules.proofs.Basics.{◌<◌, ◌^◌, ◌%◌, arith, ◌≡◌, ◌&&◌, ℕ, zero, suc, Bool, true, false, not, List, [], ◌∷◌, ◌++◌, Option, Some, None, Result, Ok, Err, refl, ◌∙◌, if◌then◌else◌, nat_eq, nat_lt, length, list_all, and_from as pair}
 use Rattle.std.proofs.lemmas.List.Folds.{list_all-append}
 use Rattle.exchange_rules.proofs.Definitions.{Message, is_management, dpc_of, flow_of, service_indicator, Configuration, Cause, Management, ExtendedChangeoverOrder, ChangebackDeclaration, RouteSetTestProhibited, RouteSetTestRestricted, LinkTestValue, RelayedValue, relay, returned, FailureReason, LinkStatus, LinkTimer, Transition, Expiry, Facts, RouteStatus, Allowed, Restricted, Prohibited, RouteTest, Heard, Owed, Node, Done, Parts, with_parts, answer, refuse, WholeQueues, whole, queue_on, hold, declaration, test_answer, link_of, no_room, no_room_for, waits, is_destination, destination_place, link_at, down, in_service, set_of, peer_of, point_of, adjacent_of, telling, entry_of, facts, owed}
-use Rattle.exchange_rules.proofs.Definitions.{send, send_routed, send_anew, send_each, transfer, offer, route_message, told_parts, tell, tell_if, tell_each, tell_owed, may_tell, inhibited, is_inhibited, prohibit, answer_no_route, answered_parts, send_route_status, on_route_test, on_route_status, apply_route_status, ask_by, ask_again, with_next_test, prohibited_test, restricted_test, status_of, management_to, own_of, in_place_of, send_udts, return_outcome, relay_by, on_unitdata}
+use Rattle.exchange_rules.proofs.Definitions.{send, send_routed, send_anew, send_each, transfer, offer, route_message, told_parts, tell, tell_if, tell_each, tell_owed, may_tell, inhibited, is_inhibited, prohibit, answer_no_route, answered_parts, send_route_status, on_route_test, on_route_status, apply_route_status, ask_by, ask_again, with_next_test, prohibited_test, restricted_test, status_of, management_to, own_of, in_place_of, send_udts, return_outcome, relay_by, on_unitdata, answer_no_user_part, is_unequipped_told, tell_unavailable, unavailable, unequipped_counted, UserPartUnavailable, Unequipped, opc_of}
 use Rattle.exchange_rules.proofs.Definitions.{is_user, sccp, local, make_unavailable, begin, change_over, fail, begin_by_peer, fail_by_peer, fail_by_order, changeover_order, changing, has_other}
 use Rattle.exchange_rules.proofs.Definitions.{hold_flows, code_in_use, code_for, take_back_each, loses_flows, advance, moved_on, return_if, enters, serve_status, act_by_status, act_by_timer, run_out, action_at}
 use Rattle.exchange_rules.proofs.Settling.{left-true, right-true}
@@ -31,6 +31,12 @@ pub record IsPassing (c : Configuration) (fine : Message → Bool) (R : Node Who
   pub both : (n m o : Node WholeQueues) → R n m → R m o → R n o
   pub queued : (link : ℕ) (m : Message) (n : Node WholeQueues) → fine m ≡ true → R n (queue_on whole c link m n)
   pub held : (m : Message) (n : Node WholeQueues) → fine m ≡ true → R n (hold whole m n)
+
+low-bits : (n : ℕ) → n % 2 ^ 14 < 2 ^ 14
+low-bits n = omega arith
+
+pub opc-fits : (m : Message) → opc_of m < 2 ^ 14
+opc-fits m = low-bits _
 
 module _ (fine : Message → Bool) where
   abbrev pub AllFine : List Message → Type 0
@@ -101,6 +107,18 @@ module _ (c : Configuration) (fine : Message → Bool) (f : IsFine c fine) {R : 
   no_route-keeps (Some link) None n = stays n
   no_route-keeps None destination n = stays n
 
+  -- whoever sent it
+  no_part-keeps : (link origin : Option ℕ) (m : Message) (n : Node WholeQueues) → R n (answer_no_user_part whole c link origin m n)
+  no_part-keeps (Some link) (Some origin) m n =
+      let next : Node WholeQueues = with_parts n (unequipped_counted origin n.parts) in
+      either c.user_part_unavailable n (tell_unavailable whole c origin m n) n
+      (r.both n next _ (r.same n next refl)
+      (either (is_unequipped_told whole c origin n) next (send_routed whole c (unavailable c m) next) next
+      (routed (unavailable c m) next (f.made (opc_of m) (UserPartUnavailable c.own (service_indicator m) Unequipped) (opc-fits m))) (stays next)))
+      (stays n)
+  no_part-keeps (Some link) None m n = stays n
+  no_part-keeps None origin m n = stays n
+
   route_status-keeps : (status : Option RouteStatus) (set destination : ℕ) (n : Node WholeQueues) → R n (send_route_status whole c status set destination n)
   route_status-keeps (Some status) set destination n = routed-with (route_message c set destination status) n (answered_parts set destination status n.parts) (f.made (adjacent_of c set) (telling status (point_of c destination)) (f.adjacent set))
   route_status-keeps None set destination n = stays n
@@ -152,7 +170,7 @@ module _ (c : Configuration) (fine : Message → Bool) (f : IsFine c fine) {R : 
   udts-keeps None m n e = stays n
 
   return-keeps : (outcome : Outcome) (m : Message) (n : Node WholeQueues) → is_management m ≡ false → R n (return_outcome whole c outcome m n)
-  return-keeps (Refused cause) m n e = udts-keeps (returned (own_of c) n.parts.titles m.sif cause) m n e
+  return-keeps (Refused cause) m n e = udts-keeps (returned (own_of c n.parts) n.parts.titles m.sif cause) m n e
   return-keeps (Queued link) m n e = stays n
   return-keeps Held m n e = stays n
   return-keeps Local m n e = stays n
@@ -166,13 +184,15 @@ module _ (c : Configuration) (fine : Message → Bool) (f : IsFine c fine) {R : 
 
   unitdata-keeps : (m : Message) (n : Node WholeQueues) → is_management m ≡ false → R n (on_unitdata whole c m n).left
   unitdata-keeps m n e =
-      let d : Done WholeQueues = relay_by whole c (relay (own_of c) n.parts.titles m.sif) m n in
-      r.both n d.left _ (relay-keeps (relay (own_of c) n.parts.titles m.sif) m n e) (return-keeps d.outcome m d.left e)
+      let d : Done WholeQueues = relay_by whole c (relay (own_of c n.parts) n.parts.titles m.sif) m n in
+      r.both n d.left _ (relay-keeps (relay (own_of c n.parts) n.parts.titles m.sif) m n e) (return-keeps d.outcome m d.left e)
 
-  pub local-keeps : (m : Message) (n : Node WholeQueues) → is_management m ≡ false → R n (local whole c m n).left
-  local-keeps m n e =
-      either_done (nat_eq (service_indicator m) sccp) n (on_unitdata whole c m n) (if is_user c (service_indicator m) then answer Local n else refuse causes.NoUserPart n) (unitdata-keeps m n e)
-      (either_done (is_user c (service_indicator m)) n (answer Local n) (refuse causes.NoUserPart n) (stays n) (stays n))
+  pub local-keeps : (from : Option ℕ) (m : Message) (n : Node WholeQueues) → is_management m ≡ false → R n (local whole c from m n).left
+  local-keeps from m n e =
+      let origin : Option ℕ = destination_place c (opc_of m) in
+      let absent : Done WholeQueues = refuse causes.NoUserPart (answer_no_user_part whole c from origin m n) in
+      either_done (nat_eq (service_indicator m) sccp) n (on_unitdata whole c m n) (if is_user c (service_indicator m) then answer Local n else absent) (unitdata-keeps m n e)
+      (either_done (is_user c (service_indicator m)) n (answer Local n) absent (stays n) (no_part-keeps from origin m n))
 
   -- ---- a link fails, and its changeover goes on and ends
 

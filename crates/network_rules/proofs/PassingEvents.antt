@@ -1,6 +1,6 @@
 -- So it is with every event, and with every frame that goes out.
 use Rattle.exchange_rules.proofs.Basics.{◌<◌, ◌^◌, ◌%◌, arith, ◌≡◌, ℕ, zero, suc, Bool, true, false, List, Option, Some, None, Result, Ok, Err, refl, ap, ◌∙◌, if◌then◌else◌, nat_eq, list_all}
-use Rattle.exchange_rules.proofs.Definitions.{Message, is_management, opc_of, service_indicator, Configuration, NoSuchName, Management, TrafficRestartAllowed, ExtendedChangeoverOrder, ExtendedChangeoverAcknowledgement, EmergencyChangeoverOrder, EmergencyChangeoverAcknowledgement, ChangebackDeclaration, ChangebackAcknowledgement, TransferProhibited, TransferRestricted, TransferAllowed, RouteSetTestProhibited, RouteSetTestRestricted, MgmtFault, Discrimination, UserData, Status, Allowed, Restricted, Prohibited, Node, Done, answer, refuse, WholeQueues, queue_at, whole, Queue, first_queue, accept_answer, to_send, SeqFault, carries, destination_place, set_place, is_link, link_at, down, route_about}
+use Rattle.exchange_rules.proofs.Definitions.{Message, is_management, opc_of, service_indicator, Configuration, NoSuchName, Management, TrafficRestartAllowed, ExtendedChangeoverOrder, ExtendedChangeoverAcknowledgement, EmergencyChangeoverOrder, EmergencyChangeoverAcknowledgement, ChangebackDeclaration, ChangebackAcknowledgement, TransferProhibited, TransferRestricted, TransferAllowed, RouteSetTestProhibited, RouteSetTestRestricted, MgmtFault, Discrimination, UserData, Status, Allowed, Restricted, Prohibited, Node, Done, answer, refuse, WholeQueues, queue_at, whole, Queue, first_queue, accept_answer, to_send, SeqFault, carries, destination_place, set_place, is_link, link_at, down, route_about, from_afar, UserPartUnavailable}
 use Rattle.exchange_rules.proofs.Definitions.{tell_owed, title_refusal}
 use Rattle.exchange_rules.proofs.Definitions.{is_adjacent, local, do_test, do_order, do_acknowledgement, do_management, link_with_code, manage, deliver_to, deliver, whither_goes, changeback_acknowledgement, changeover_of}
 use Rattle.exchange_rules.proofs.Definitions.{advance, action_at, Carrying, empty_data, message_data, numbers, accept, carry, handle_by, act_by_data, receive_frame, read, receive, FrameValue, EmptyFrame, MessageFrame, StatusFrame, read_frame, carried_message, may_open, open_link, may_restart, association_up}
@@ -21,15 +21,9 @@ use Rattle.mtp3_codec.specs.Management.{read_link_test, read_management}
 use Rattle.route_management.specs.declared.heard.RouteTest.TheVariants as tests
 use Rattle.link.specs.declared.action.LinkTimer.TheVariants as its
 use Rattle.signalling_types.specs.declared.notice.ChangeoverTimer.TheVariants as changeover
-use Rattle.network_rules.proofs.Passing.{IsFine, IsPassing, either_done, stays, routed, test-keeps, status-keeps, ask-keeps, transfer-keeps, local-keeps, fail-keeps, advance-keeps, by_status-keeps, run_out-keeps}
+use Rattle.network_rules.proofs.Passing.{IsFine, IsPassing, opc-fits, either_done, stays, routed, test-keeps, status-keeps, ask-keeps, transfer-keeps, local-keeps, fail-keeps, advance-keeps, by_status-keeps, run_out-keeps}
 use Rattle.network_rules.proofs.PassingLinks.{do_test-keeps, confirmed-keeps, submit_to-keeps, aside-keeps, down-keeps, activate-keeps, deactivate-keeps, added-keeps, removed-keeps, go_each-keeps, settles}
 use Rattle.network_rules.proofs.Fine.{Keeps, keeping, same, and-then, queue-keeps, order-keeps, acknowledged-keeps, expired-keeps}
-
-low-bits : (n : ℕ) → n % 2 ^ 14 < 2 ^ 14
-low-bits n = omega arith
-
-opc-fits : (m : Message) → opc_of m < 2 ^ 14
-opc-fits m = low-bits _
 
 module _ (c : Configuration) (fine : Message → Bool) (f : IsFine c fine) where
   abbrev K : (n m : Node WholeQueues) → Type 0
@@ -68,18 +62,19 @@ module _ (c : Configuration) (fine : Message → Bool) (f : IsFine c fine) where
   management-keeps (Ok (TransferAllowed about)) point n fits = status-keeps c fine f r Allowed (route_about (set_place c point) (destination_place c about)) n
   management-keeps (Ok (RouteSetTestProhibited about)) point n fits = test-keeps c fine f r tests.Prohibited (route_about (set_place c point) (destination_place c about)) n
   management-keeps (Ok (RouteSetTestRestricted about)) point n fits = test-keeps c fine f r tests.Restricted (route_about (set_place c point) (destination_place c about)) n
+  management-keeps (Ok (UserPartUnavailable about user_part cause)) point n fits = stay n
 
   manage-keeps : (link : ℕ) (m : Message) (n : Node WholeQueues) → K n (manage whole c link m n).left
   manage-keeps link m n =
       either_done c fine f r (is_adjacent c (opc_of m)) n
-      (if nat_eq (service_indicator m) 1 then do_test whole c (read_link_test m.sif) link (opc_of m) n else do_management whole c (read_management m.sif) (opc_of m) n) (refuse causes.NotFromAdjacent n)
+      (if nat_eq (service_indicator m) 1 then do_test whole c (read_link_test m.sif) link (opc_of m) n else do_management whole c (read_management m.sif) (opc_of m) n) (answer (from_afar c m) n)
       (either_done c fine f r (nat_eq (service_indicator m) 1) n (do_test whole c (read_link_test m.sif) link (opc_of m) n) (do_management whole c (read_management m.sif) (opc_of m) n)
       (do_test-keeps c fine f r (read_link_test m.sif) link (opc_of m) n) (management-keeps (read_management m.sif) (opc_of m) n (opc-fits m)))
       (stay n)
 
-  distribute-keeps : (b : Bool) (link : ℕ) (m : Message) (n : Node WholeQueues) → is_management m ≡ b → K n (if b then manage whole c link m n else local whole c m n).left
+  distribute-keeps : (b : Bool) (link : ℕ) (m : Message) (n : Node WholeQueues) → is_management m ≡ b → K n (if b then manage whole c link m n else local whole c (Some link) m n).left
   distribute-keeps true link m n e = manage-keeps link m n
-  distribute-keeps false link m n e = local-keeps c fine f r m n e
+  distribute-keeps false link m n e = local-keeps c fine f r (Some link) m n e
 
   deliver_to-keeps : (d : Discrimination) (link : ℕ) (m : Message) (n : Node WholeQueues) → fine m ≡ true → K n (deliver_to whole c d link m n).left
   deliver_to-keeps (whither.Refused cause) link m n e = stay n

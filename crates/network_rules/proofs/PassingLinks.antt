@@ -39,7 +39,7 @@ module _ (c : Configuration) (fine : Message → Bool) (f : IsFine c fine) {R : 
 
   pub submit_to-keeps : (d : Discrimination) (m : Message) (n : Node WholeQueues) → R n (submit_to whole c d m n).left
   submit_to-keeps (whither.Refused cause) m n = stays c fine f r n
-  submit_to-keeps (whither.Here label) m n = submitted-keeps (is_management m) (refuse causes.NotInProfile n) (local whole c m n) m n refl (stays c fine f r n) (local-keeps c fine f r m n)
+  submit_to-keeps (whither.Here label) m n = submitted-keeps (is_management m) (refuse causes.NotInProfile n) (local whole c None m n) m n refl (stays c fine f r n) (local-keeps c fine f r None m n)
   submit_to-keeps (whither.Transfer label) m n =
       submitted-keeps (is_management m) (refuse causes.NotInProfile n) (transfer whole c None m n) m n refl (stays c fine f r n) (λ e. transfer-keeps c fine f r None m n (f.users m e))
 

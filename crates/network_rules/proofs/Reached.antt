@@ -86,12 +86,12 @@ stays-before base times later below on s =
 
 -- ---- a network after changes
 
-change-keeps : (change : Change) (w : NetworkState) (other : ℕ) → ((after_change change w).node other).exchange.settings ≡ (w.node other).exchange.settings
+pub change-keeps : (change : Change) (w : NetworkState) (other : ℕ) → ((after_change change w).node other).exchange.settings ≡ (w.node other).exchange.settings
 change-keeps (Steps step) w other = did-keeps step.what step.point w other
 change-keeps (Restarts point) w other = changed-keeps point restarted w (λ x. refl) other
 change-keeps (GivesUp point link) w other = changed-keeps point (given_up link) w (λ x. refl) other
 
-changes-keep : (changes : List Change) (w : NetworkState) (other : ℕ) → ((after_all changes w).node other).exchange.settings ≡ (w.node other).exchange.settings
+pub changes-keep : (changes : List Change) (w : NetworkState) (other : ℕ) → ((after_all changes w).node other).exchange.settings ≡ (w.node other).exchange.settings
 changes-keep [] w other = refl
 changes-keep (change ∷ changes) w other = changes-keep changes (after_change change w) other ∙ change-keeps change w other
 

@@ -193,6 +193,7 @@ module _ (c : Configuration) (set point destination : ℕ) (leads : LeadsAlone c
     rerouted = λ routes n e. record { stay = λ h. record { ways = e.ways ∙ h.ways; adjacents = h.adjacents; own = e.own h.own; queues = h.queues } };
     told = λ t n e. same-lone n _ refl e.adjacents refl;
     titled = λ rows n. same-lone n _ refl refl refl;
+    unequipped = λ counts n e. same-lone n _ refl refl refl;
     failed = λ link why st n e f. same-lone n _ refl refl refl;
     dropped = λ link why n e. same-lone n _ refl refl refl;
     completed = λ link number st n e f. queue-lone n _ link (emptied (queue_at n.queues link)) refl refl refl (λ h away. refl);

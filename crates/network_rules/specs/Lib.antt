@@ -4,4 +4,6 @@ pub mod Links
 pub mod Transit
 pub mod Totals
 pub mod Anew
+pub mod Paths
 pub mod TwoFailures
+pub mod AfterRestart

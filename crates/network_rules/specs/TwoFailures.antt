@@ -1,7 +1,7 @@
 -- A run of three nodes in a row, of which each two neighbours share two links. A message that one end of the row has
 -- for the other is sent on a link that fails, on either side of the middle node. It comes by the other links, once.
 use Rattle.std.specs.Prelude.{◌≡◌, ℕ, false, true, nat_eq, not, List, [], ◌∷◌, ◌++◌, filter, None, if◌then◌else◌}
-use Rattle.signalling_types.specs.Message.{is_management}
+use Rattle.signalling_types.specs.Message.{flow_of, is_management}
 use Rattle.signalling_types.specs.declared.outcome.Outcome.TheVariants.{Queued}
 use Rattle.settings_rows.specs.Configuration.{Configuration}
 use Rattle.m2pa_codec.specs.Frames.{MessageFrame, spelled}
@@ -17,6 +17,7 @@ use Rattle.neighbour_rules.specs.ThirdNode.{the_message}
 use Rattle.network_rules.specs.Networks.{Arrival, NetworkNode, NetworkState, Place, Step, after_steps, end_of, first_network}
 use Rattle.network_rules.specs.Pairs.{AreTheirPoints, AreWellOrAlone}
 use Rattle.network_rules.specs.Totals.{HaveLostNothing, IsJoined}
+use Rattle.network_rules.specs.Paths.{EachHopInOrder, EachOnlyPasses}
 
 -- a point at an end of the row, with two links to point 1, by which it reaches the other end too
 abbrev pub end_settings : (own other : ℕ) → Configuration
@@ -209,6 +210,9 @@ pub record CrossesTwoFailures : Type 0 where
   pub third_accepted : (come.node 3).accepted ≡ the_message ∷ []
   pub near_accepted : (come.node 1).accepted ≡ the_message ∷ []
   pub far_accepted : (come.node 2).accepted ≡ []
+  -- each hop keeps its flow in order, and at point 1 it comes from point 3 alone
+  pub hops : EachHopInOrder (flow_of the_message) come 3 (1 ∷ 2 ∷ [])
+  pub passes_only : EachOnlyPasses (flow_of the_message) come 3 (1 ∷ 2 ∷ [])
   -- no flag is raised, nothing was refused, and nothing waits any more
   pub third_done : IsDone (come.node 3)
   pub near_done : IsDone (come.node 1)

@@ -2,12 +2,15 @@
 //! steps from newly booted exchanges on. The steps are those of `specs/Networks.antt`. Each function says its law by
 //! its contract, and does nothing.
 
+ghost use Rattle.network_rules.specs.AfterRestart.{ComesAfterRestart};
 ghost use Rattle.network_rules.specs.Anew.{neighbours_begin_anew, nobody_ever_speaks_for_another};
 ghost use Rattle.network_rules.specs.Anew.{destinations_begin_anew, networks_begin_anew, networks_begin_quietly};
 ghost use Rattle.network_rules.specs.Links.{frames_carry, moves_are_lacked, none_is_left, words_are_final};
 ghost use Rattle.network_rules.specs.Pairs.{books_are_of_the_two, each_flow_in_order, each_message_once};
 ghost use Rattle.network_rules.specs.Pairs.{flows_stay_between, nothing_is_awaited_in_vain, nothing_is_held_in_vain};
 ghost use Rattle.network_rules.specs.Pairs.{nobody_speaks_for_another, runs_are_runs_of_neighbours};
+ghost use Rattle.network_rules.specs.Paths.{books_begin_empty, each_node_passes_in_order, last_hops_begin_anew};
+ghost use Rattle.network_rules.specs.Paths.{last_hops_keep_flows_in_order, paths_keep_the_order_of_their_hops};
 ghost use Rattle.network_rules.specs.Totals.{each_message_is_accounted_for, messages_come_from_end_to_end};
 ghost use Rattle.network_rules.specs.Transit.{messages_pass_through};
 ghost use Rattle.network_rules.specs.TwoFailures.{CrossesTwoFailures};
@@ -116,6 +119,26 @@ pub fn messages_pass_through()
     ensures { messages_pass_through }
 {}
 
+/// A node accepts what it is to pass on in the order in which it came: of the user messages, what came for another point
+/// is made up of those that it accepted and those that it refused, and what it accepted of these and those that entered
+/// there, each in order. This holds whatever is done or lost, and however often nodes start again; in which order they
+/// leave, the hops say.
+pub fn nodes_pass_on_in_order()
+    ensures each { each_node_passes_in_order }
+    ensures first { books_begin_empty }
+{}
+
+/// So the order of a flow over a path is that of its hops. If each hop keeps it, as two neighbours do for the messages
+/// for either of them, and the nodes between get the flow from the one before alone, then what came to the last node is
+/// in the order in which the first accepted it; what is missing there waits at a node of the path, or was refused or
+/// ended at one between. The last hop does keep a flow that is for the last node, while neither of its nodes may have
+/// lost a message and no timer of the former ended a hold.
+pub fn paths_keep_the_order_of_their_hops()
+    ensures paths { paths_keep_the_order_of_their_hops }
+    ensures last { last_hops_keep_flows_in_order }
+    ensures anew { last_hops_begin_anew }
+{}
+
 /// From end to end, over any number of nodes, each of which reaches its adjacent points by one set alone and all others
 /// by whatever routes: while none of them may have lost a message, as many user messages entered the network, by any
 /// test, as were received at a node that they aren't to leave, as wait in nodes, and as were refused by a node on the
@@ -146,7 +169,14 @@ pub fn networks_begin_anew()
 /// These laws aren't empty: three nodes in a row keep the premises, those of the whole network too. Each two neighbours
 /// share two links, and a user message that one end of the row has for the other is sent on a link that fails at both
 /// ends before it comes, on either side of the middle node. By the other links it comes to each node on its way, once;
-/// no flag is raised, and nothing waits in the end.
+/// no flag is raised, and nothing waits in the end. Each hop of its path keeps its flow in order.
 pub fn a_message_crosses_two_failures()
     ensures { CrossesTwoFailures }
+{}
+
+/// Nor are those that begin anew: the middle one of three nodes in a row starts again, by which both others lose
+/// messages. Then the network is quiet, and a user message comes from end to end, once; no node counts one loss more, and
+/// nothing waits in the end.
+pub fn a_message_comes_after_a_restart()
+    ensures { ComesAfterRestart }
 {}

@@ -1,7 +1,10 @@
--- Something happens to the endpoint of a link: the pair goes on by what it tells.
-use Rattle.std.proofs.Common.{◌≡◌, ◌≢◌, ◌⊎◌, inl, inr, ℕ, suc, arith, Bool, true, false, ◌&&◌, List, [], ◌∷◌, ◌++◌, Option, Some, None, length, refl, ap, sym, ◌∙◌, subst, drop, take}
+-- Something happens to the endpoint of a link: what it tells is what the link does, act by act.
+use Rattle.std.proofs.Common.{◌≡◌, ◌≢◌, ◌⊎◌, inl, inr, ℕ, suc, arith, Bool, true, false, ◌&&◌, List, [], ◌∷◌, ◌++◌, Option, Some, None, length, map, refl, ap, sym, ◌∙◌, subst, drop, take}
 use Rattle.std.proofs.lemmas.List.{length-map}
 use Rattle.std.specs.Prelude.{if◌then◌else◌}
+use Rattle.exchange_rules.specs.Exchange as rules
+use Rattle.exchange_rules.specs.Queues.{whole}
+use Rattle.exchange_rules.specs.State as exchange
 use Rattle.exchange_rules.specs.State.{CameUp, Parts, is_link, link_at, down}
 use Rattle.exchange_rules.specs.Opening.{wanted}
 use Rattle.exchange_rules.specs.Exchange.{wants_of}
@@ -26,17 +29,13 @@ use Rattle.sctp_ends.specs.Worlds as ends
 use Rattle.sctp_ends.proofs.Alike.{Outcome, sound-on}
 use Rattle.sctp_ends.proofs.Pass.{happens}
 use Rattle.sctp_ends.proofs.World.{heeds, site-after}
-use Rattle.settings_rows.specs.Configuration.{Configuration}
-use Rattle.pair_rules.specs.Pairs.{PairState}
-use Rattle.neighbour_rules.proofs.Sharing.{AreFacing}
-use Rattle.node_rules.specs.Worlds.{Books, Port, Node, happened, handed_all, wished, wish_left, MayAssociate}
+use Rattle.exchange_rules.specs.First.{Abstract}
+use Rattle.node_rules.specs.Worlds.{Port, Node, wished, wish_left, MayAssociate}
 use Rattle.node_rules.proofs.Staying.{MayOpen}
-use Rattle.node_rules.proofs.Lines.{Ends}
-use Rattle.node_rules.proofs.Flights.{Air, Shows, with_air, air-here, Reaches, reaches-on}
-use Rattle.node_rules.proofs.PairSteps.{up-first, up-second}
-use Rattle.node_rules.proofs.Telling.{NoUp, heard_in, told-heads, opened-same, told-long, Shape, nothing, serving, rising, shape-of, opens-plain, aborts-plain, flushes-plain, aborts-idle}
+use Rattle.node_rules.proofs.Flights.{Air}
+use Rattle.node_rules.proofs.Telling.{NoUp, heard_in, after_events, events_told, told-heads, opened-same, told-long, Shape, nothing, serving, rising, shape-of, opens-plain, aborts-plain, flushes-plain, aborts-idle}
 use Rattle.node_rules.proofs.Linked.{AreFramed, framed-front, framed-air, firsts, latest_sent, latest_received, air_of, Linked, StaysSo, is-present, is-calm, IsJoint, is-joint, ahead-none, split, drop-none}
-use Rattle.node_rules.proofs.Walk.{leaves, told-walk}
+use Rattle.node_rules.proofs.Acts.{Act, Leads, Follows, event_of, air_after, air_after_all, MayActAll, acts_told, told-air, told-may, told-events}
 
 -- ---- a link that wants to open may open
 
@@ -107,19 +106,19 @@ ends-or (ShutsDown now) = inr (λ o w. refl)
 ends-or (Flushes now) = inr (λ o w. refl)
 
 -- what is asked of a happening (`MayAssociate`), in one
-pub record MayCome (k : ℕ) (books : Books) (other : ends.Site) (what : Happening) (wish : Wish) : Type 0 where
+pub record MayCome (k : ℕ) (near : Abstract) (other : ends.Site) (what : Happening) (wish : Wish) : Type 0 where
   pub driven : IsDriven what
   pub heeded : ends.MayHappen other what
   -- where it begins a try, the link wants one, and none is up
-  pub asked : begins what ≡ true → (wants_of books.exchange k ≡ Open) × (wish ≢ Served)
+  pub asked : begins what ≡ true → (wants_of near k ≡ Open) × (wish ≢ Served)
   -- where Up may be told, too
   pub looked : (more : List Told) → (m : ends.Make) (s : State) → (after m.settings m.secrets what s).told ≡ Up ∷ more → wish_by_call what wish ≡ Seeking →
-      (begins what ≡ false) × (wants_of books.exchange k ≡ Open)
+      (begins what ≡ false) × (wants_of near k ≡ Open)
 
 no-up : (ts more : List Told) → ts ≡ Up ∷ more → NoUp ts → ⊥
 no-up ts more e h = subst NoUp e h
 
-pub may-come : (other : ends.Site) (n : Node) (k : ℕ) (what : Happening) → MayAssociate other k what n → MayCome k n.books other what (n.ports k).wish
+pub may-come : (other : ends.Site) (n : Node) (k : ℕ) (what : Happening) → MayAssociate other k what n → MayCome k n.books.exchange other what (n.ports k).wish
 may-come other n k (Opens now active) h = record {
   driven = tt;
   heeded = tt;
@@ -145,11 +144,12 @@ may-come other n k (Flushes now) h = record {
 
 -- ---- where it goes
 
-pub record Went (k j : ℕ) (m o : ends.Make) (s t : Port) (near near' far : Books) (a : Air) : Type 0 where
-  pub air : Air
-  pub linked : Linked k j m o s t near' far air
-  pub reaches : (c v : Configuration) (f : AreFacing c v) (both : Ends c v f k j) (others : ℕ → ℕ → Air) (p : PairState) → Shows c v f near far (with_air k a others) p
-      → Reaches c v f near' far (with_air k air others) p
+-- by these acts, whose events are what was told
+pub record Went (k j : ℕ) (m o : ends.Make) (s t : Port) (near far : Abstract) (ts : List Told) (a : Air) : Type 0 where
+  pub acts : List Act
+  pub may : MayActAll k j acts near far a
+  pub told : map (event_of k) acts ≡ events_told k ts
+  pub linked : Linked k j m o s t (after_events (events_told k ts) near) far (air_after_all acts a)
 
 pub no-epochs : (x : End) → ties x ≡ [] → length x.epochs ≡ 0
 no-epochs x e = sym (length-map x.epochs tie) ∙ ap (λ (ts : List Tie). length ts) e
@@ -169,7 +169,7 @@ nothing-behind : (ms ns : List Message) → ms ++ ns ≡ [] → ns ≡ []
 nothing-behind [] ns e = e
 nothing-behind (m ∷ ms) ns e = absurd (let no : m ∷ (ms ++ ns) ≡ [] = e in cc)
 
-module _ (k j : ℕ) (m o : ends.Make) (good : AreGood m.secrets) (s t : Port) (near far : Books) (a : Air) (h : Linked k j m o s t near far a)
+module _ (k j : ℕ) (m o : ends.Make) (good : AreGood m.secrets) (s t : Port) (near far : Abstract) (a : Air) (h : Linked k j m o s t near far a)
     (what : Happening) (may : MayCome k near t.site what s.wish) where
   abbrev d : Done
   d = after m.settings m.secrets what s.site.state
@@ -216,8 +216,8 @@ module _ (k j : ℕ) (m o : ends.Make) (good : AreGood m.secrets) (s t : Port) (
   abbrev port : Wish → Port
   port w = record { site = ends.happened m what s.site; wish = w }
 
-  linked-so : (st : Standing) (w : Wish) (after-it : Books) → wish_after d.told from ≡ Some w → Stands st l h.y → AreFramed (latest_sent l)
-      → (IsReady l h.y → MayOpen k after-it.exchange.node.parts) → (w ≡ Seeking → MayOpen k after-it.exchange.node.parts)
+  linked-so : (st : Standing) (w : Wish) (after-it : Abstract) → wish_after d.told from ≡ Some w → Stands st l h.y → AreFramed (latest_sent l)
+      → (IsReady l h.y → MayOpen k after-it.node.parts) → (w ≡ Seeking → MayOpen k after-it.node.parts)
       → Linked k j m o (port w) t after-it far (air_of st l h.y)
   linked-so st w after-it e j framed ready seeks = record {
     x = l;
@@ -252,18 +252,18 @@ module _ (k j : ℕ) (m o : ends.Make) (good : AreGood m.secrets) (s t : Port) (
   seeking-or Served e = inr (λ q. let no : Served ≡ Seeking = sym e ∙ q in absurd cc)
 
   -- nothing changed at the exchange
-  ready-still : IsReady l h.y → MayOpen k near.exchange.node.parts
+  ready-still : IsReady l h.y → MayOpen k near.node.parts
   ready-still q = by (begins-or (begins what) refl) (seeking-or s.wish refl) where
-    by : (begins what ≡ true) ⊎ (begins what ≡ false) → (s.wish ≡ Seeking) ⊎ (s.wish ≡ Seeking → ⊥) → MayOpen k near.exchange.node.parts
-    by (inl b) w = wants-may k near.exchange.node.parts (may.asked b).0
+    by : (begins what ≡ true) ⊎ (begins what ≡ false) → (s.wish ≡ Seeking) ⊎ (s.wish ≡ Seeking → ⊥) → MayOpen k near.node.parts
+    by (inl b) w = wants-may k near.node.parts (may.asked b).0
     by (inr b) (inl w) = h.near_seeks w
     by (inr b) (inr w) =
         h.near_ready (ready-quiet h.x h.y r.list r.moves (r.quiet b) (is-calm m o h.x s h.near_shown h.near_right h.near_fits w) q)
 
-  seeks-still : from ≡ Seeking → MayOpen k near.exchange.node.parts
+  seeks-still : from ≡ Seeking → MayOpen k near.node.parts
   seeks-still e = by (begins-or (begins what) refl) where
-    by : (begins what ≡ true) ⊎ (begins what ≡ false) → MayOpen k near.exchange.node.parts
-    by (inl b) = wants-may k near.exchange.node.parts (may.asked b).0
+    by : (begins what ≡ true) ⊎ (begins what ≡ false) → MayOpen k near.node.parts
+    by (inl b) = wants-may k near.node.parts (may.asked b).0
     by (inr b) = h.near_seeks (sym (same-call what s.wish b) ∙ e)
 
   -- of what was on its way to the near end, what was told is gone
@@ -293,36 +293,35 @@ module _ (k j : ℕ) (m o : ends.Make) (good : AreGood m.secrets) (s t : Port) (
   air-kept NearAhead e = ap (λ (ms : List Message). record { to_near = []; to_far = ms; near_follows = false; far_follows = true }) (sym e)
   air-kept FarAhead e = refl
 
-  -- no Up, and only what was on its way
-  plain-reaches : NoUp d.told → (air_of h.standing h.x h.y).to_near ≡ heard_in d.told ++ (air_of h.standing l h.y).to_near
-      → (c v : Configuration) (f : AreFacing c v) (both : Ends c v f k j) (others : ℕ → ℕ → Air) (p : PairState) → Shows c v f near far (with_air k a others) p
-      → Reaches c v f (handed_all k d.told near) far (with_air k (air_of h.standing l h.y) others) p
-  plain-reaches q e c v f both others p z =
-      let rest : List Message = (air_of h.standing l h.y).to_near in
-      let framed : AreFramed (heard_in d.told) = framed-front (heard_in d.told) rest (subst AreFramed e (framed-air h.standing h.x h.y h.far_framed)) in
-      let is : record a { to_near = rest } ≡ air_of h.standing l h.y =
-      ap (λ (b : Air). record b { to_near = rest }) h.air_is ∙ air-kept h.standing (sent-same q) in
-      subst (λ (b : Air). Reaches c v f (handed_all k d.told near) far (with_air k b others) p) is
-      (told-walk c v f k j both far others d.told q near a rest p framed (ap (λ (b : Air). b.to_near) h.air_is ∙ e) z)
+  abbrev left : Abstract
+  left = after_events (events_told k d.told) near
 
+  -- no Up, and only what was on its way
   plain-went : (w : Wish) → wish_after d.told from ≡ Some w → NoUp d.told
       → (air_of h.standing h.x h.y).to_near ≡ heard_in d.told ++ (air_of h.standing l h.y).to_near
-      → (IsReady l h.y → MayOpen k (handed_all k d.told near).exchange.node.parts) → (w ≡ Seeking → MayOpen k (handed_all k d.told near).exchange.node.parts)
-      → Went k j m o (port w) t near (handed_all k d.told near) far a
-  plain-went w e q f ready seeks = record {
-    air = air_of h.standing l h.y;
-    linked = linked-so h.standing w (handed_all k d.told near) e (stays q).0 (subst AreFramed (sym (sent-same q)) h.near_framed) ready seeks;
-    reaches = plain-reaches q f;
-  }
+      → (IsReady l h.y → MayOpen k left.node.parts) → (w ≡ Seeking → MayOpen k left.node.parts) → Went k j m o (port w) t near far d.told a
+  plain-went w e q f ready seeks =
+      let rest : List Message = (air_of h.standing l h.y).to_near in
+      let framed : AreFramed (heard_in d.told) = framed-front (heard_in d.told) rest (subst AreFramed f (framed-air h.standing h.x h.y h.far_framed)) in
+      let comes : a.to_near ≡ heard_in d.told ++ rest = ap (λ (b : Air). b.to_near) h.air_is ∙ f in
+      let is : air_after_all (acts_told d.told rest) a ≡ air_of h.standing l h.y =
+      told-air d.told q rest a comes ∙ ap (λ (b : Air). record b { to_near = rest }) h.air_is ∙ air-kept h.standing (sent-same q) in
+      record {
+        acts = acts_told d.told rest;
+        may = told-may k j d.told q rest near far a framed comes;
+        told = told-events k d.told q rest framed;
+        linked = subst (λ (b : Air). Linked k j m o (port w) t left far b) (sym is)
+            (linked-so h.standing w left e (stays q).0 (subst AreFramed (sym (sent-same q)) h.near_framed) ready seeks);
+      }
 
   -- ---- it tells nothing, but for Failed
 
-  quiet-went : (w : Wish) → wish_after d.told from ≡ Some w → NoUp d.told → heard_in d.told ≡ [] → handed_all k d.told near ≡ near → (w ≡ Seeking → from ≡ Seeking)
-      → Went k j m o (port w) t near (handed_all k d.told near) far a
+  quiet-went : (w : Wish) → wish_after d.told from ≡ Some w → NoUp d.told → heard_in d.told ≡ [] → events_told k d.told ≡ [] → (w ≡ Seeking → from ≡ Seeking)
+      → Went k j m o (port w) t near far d.told a
   quiet-went w e q none same seeks =
       plain-went w e q (air-told q (λ z. none) h.standing (λ z. none) h.stands (stays q).0)
-      (λ z. subst (λ (b : Books). MayOpen k b.exchange.node.parts) (sym same) (ready-still z))
-      (λ z. subst (λ (b : Books). MayOpen k b.exchange.node.parts) (sym same) (seeks-still (seeks z)))
+      (λ z. subst (λ (es : List exchange.Happening). MayOpen k (after_events es near).node.parts) (sym same) (ready-still z))
+      (λ z. subst (λ (es : List exchange.Happening). MayOpen k (after_events es near).node.parts) (sym same) (seeks-still (seeks z)))
 
   -- ---- an association is up
 
@@ -346,7 +345,7 @@ module _ (k j : ℕ) (m o : ends.Make) (good : AreGood m.secrets) (s t : Port) (
         (ready-quiet h.x h.y r.list r.moves (r.quiet b) (subst IsCalm (sym (present e).up) tt) q)
 
   serving-went : (w : Wish) → wish_after d.told from ≡ Some w → NoUp d.told → from ≡ Served → (w ≡ Seeking → ⊥)
-      → Went k j m o (port w) t near (handed_all k d.told near) far a
+      → Went k j m o (port w) t near far d.told a
   serving-went w e q f seeks =
       plain-went w e q (air-told q (λ z. absurd (not-none f z)) h.standing (λ z. absurd (not-behind f z)) h.stands (stays q).0)
       (λ z. absurd (served-unready f z)) (λ z. absurd (seeks z))
@@ -354,7 +353,7 @@ module _ (k j : ℕ) (m o : ends.Make) (good : AreGood m.secrets) (s t : Port) (
   -- ---- an association comes up
 
   module _ (more : List Told) (is : d.told ≡ Up ∷ more) (q : NoUp more) (w : Wish) (e : wish_after d.told from ≡ Some w) (f : from ≡ Seeking) (seeks : w ≡ Seeking → ⊥) where
-    looked : (begins what ≡ false) × (wants_of near.exchange k ≡ Open)
+    looked : (begins what ≡ false) × (wants_of near k ≡ Open)
     looked = may.looked more m s.site.state is f
 
     lists-now : received_in l ≡ heard_in more ∷ received_in h.x
@@ -371,75 +370,67 @@ module _ (k j : ℕ) (m o : ends.Make) (good : AreGood m.secrets) (s t : Port) (
         one-opens h.standing h.x h.y r.list h.sound r.moves
         (sym (long l) ∙ ap (λ (ls : List (List Message)). length ls) lists-now ∙ ap suc (long h.x)) h.stands
 
-    abbrev books : Books
-    books = handed_all k more (happened (CameUp k) near)
-
-    books-are : books ≡ handed_all k d.told near
-    books-are = ap (λ (ts : List Told). handed_all k ts near) (sym is)
-
-    rose : (st : Standing) → Stands st l h.y → Linked k j m o (port w) t (handed_all k d.told near) far (air_of st l h.y)
+    rose : (st : Standing) → Stands st l h.y → Linked k j m o (port w) t left far (air_of st l h.y)
     rose st j =
-        linked-so st w (handed_all k d.told near) e j (subst AreFramed (sym sent-now) tt)
+        linked-so st w left e j (subst AreFramed (sym sent-now) tt)
         (λ z. absurd (one.spent (r.quiet looked.0) z)) (λ z. absurd (seeks z))
+
+    -- Up is told first
+    told-up : (act : Act) → event_of k act ≡ CameUp k → (rest : List Message) → AreFramed (heard_in more)
+        → map (event_of k) (act ∷ acts_told more rest) ≡ events_told k d.told
+    told-up act same rest framed =
+        ap (λ (what : exchange.Happening). what ∷ map (event_of k) (acts_told more rest)) same
+        ∙ ap (λ (es : List exchange.Happening). CameUp k ∷ es) (told-events k more q rest framed)
+        ∙ ap (events_told k) (sym is)
 
     -- first
     abbrev led-air : Air
-    led-air = record { to_near = []; to_far = []; near_follows = false; far_follows = true }
+    led-air = air_after Leads a
 
-    led : IsAhead l h.y → IsReady h.y h.x → Went k j m o (port w) t near (handed_all k d.told near) far a
-    led alone ready = record {
-      air = air_of NearAhead l h.y;
-      linked = rose NearAhead alone;
-      reaches = λ c v g both others p z.
-          let none : heard_in more ≡ [] = sym received-now ∙ ahead-none l h.y sound alone in
-          let up : Reaches c v g (happened (CameUp k) near) far (with_air k led-air others) p =
-          leaves c v g k j both far others (happened (CameUp k) near) a led-air p
-          (up-first c v g near far (with_air k a others) p z k j both looked.1 (h.far_ready ready)) in
-          let walk : Reaches c v g books far (with_air k led-air others) p =
-          reaches-on c v g (happened (CameUp k) near) far books far (with_air k led-air others) (with_air k led-air others) p up
-          (λ y. told-walk c v g k j both far others more q (happened (CameUp k) near) led-air [] _ (subst AreFramed (sym none) tt)
-          (ap (λ (ms : List Message). ms ++ []) (sym none)) y) in
-          let air-is : led-air ≡ air_of NearAhead l h.y =
-          ap (λ (ms : List Message). record { to_near = []; to_far = ms; near_follows = false; far_follows = true }) (sym sent-now) in
-          subst (λ (b : Books). Reaches c v g b far (with_air k (air_of NearAhead l h.y) others) p) books-are
-          (subst (λ (b : Air). Reaches c v g books far (with_air k b others) p) air-is walk);
-    }
+    led : IsAhead l h.y → IsReady h.y h.x → Went k j m o (port w) t near far d.told a
+    led alone ready =
+        let none : heard_in more ≡ [] = sym received-now ∙ ahead-none l h.y sound alone in
+        let framed : AreFramed (heard_in more) = subst AreFramed (sym none) tt in
+        let comes : led-air.to_near ≡ heard_in more ++ [] = ap (λ (ms : List Message). ms ++ []) (sym none) in
+        let air-is : air_after_all (acts_told more []) led-air ≡ air_of NearAhead l h.y =
+        told-air more q [] led-air comes
+        ∙ ap (λ (ms : List Message). record { to_near = []; to_far = ms; near_follows = false; far_follows = true }) (sym sent-now) in
+        record {
+          acts = Leads ∷ acts_told more [];
+          may = ((looked.1, h.far_ready ready), told-may k j more q [] (rules.after whole (CameUp k) near) far led-air framed comes);
+          told = told-up Leads refl [] framed;
+          linked = subst (λ (b : Air). Linked k j m o (port w) t left far b) (sym air-is) (rose NearAhead alone);
+        }
 
     -- second
     abbrev followed-air : Air
-    followed-air = record { to_near = latest_sent h.y; to_far = []; near_follows = false; far_follows = false }
+    followed-air = air_after Follows a
 
-    followed : h.standing ≡ FarAhead → AreJoined l h.y → Went k j m o (port w) t near (handed_all k d.told near) far a
-    followed st-is joined = record {
-      air = air_of Joined l h.y;
-      linked = rose Joined joined;
-      reaches = λ c v g both others p z.
-          let was : a ≡ air_of FarAhead h.x h.y = h.air_is ∙ ap (λ (st : Standing). air_of st h.x h.y) st-is in
-          let here : with_air k a others k j ≡ air_of FarAhead h.x h.y = air-here k a others j ∙ was in
-          let risen : Reaches c v g (happened (CameUp k) near) far (with_air k (record (with_air k a others k j) { near_follows = false }) (with_air k a others)) p =
-          up-second c v g near far (with_air k a others) p z k j both looked.1 (ap (λ (b : Air). b.near_follows) here) in
-          let up : Reaches c v g (happened (CameUp k) near) far (with_air k followed-air others) p =
-          leaves c v g k j both far others (happened (CameUp k) near) a followed-air p
-          (subst (λ (b : Air). Reaches c v g (happened (CameUp k) near) far (with_air k (record b { near_follows = false }) (with_air k a others)) p) here risen) in
-          let rest : List Message = drop (length (latest_received l)) (latest_sent h.y) in
-          let i : IsJoint l h.y = is-joint l h.y sound joined in
-          let apart : latest_sent h.y ≡ heard_in more ++ rest =
-          split [] (heard_in more) (latest_sent h.y) (subst (λ (ms : List Message). ms ≡ take (length ms) (latest_sent h.y)) received-now i.received)
-          ∙ ap (λ (ms : List Message). heard_in more ++ drop (length ms) (latest_sent h.y)) (sym received-now) in
-          let framed : AreFramed (heard_in more) = framed-front (heard_in more) rest (subst AreFramed apart h.far_framed) in
-          let walk : Reaches c v g books far (with_air k (record followed-air { to_near = rest }) others) p =
-          reaches-on c v g (happened (CameUp k) near) far books far (with_air k followed-air others) (with_air k (record followed-air { to_near = rest }) others) p up
-          (λ y. told-walk c v g k j both far others more q (happened (CameUp k) near) followed-air rest _ framed apart y) in
-          let air-is : record followed-air { to_near = rest } ≡ air_of Joined l h.y =
-          ap (λ (ms : List Message). record { to_near = rest; to_far = ms; near_follows = false; far_follows = false })
-          (sym (ap (λ (ms : List Message). drop (length (latest_received h.y)) ms) sent-now ∙ drop-none (length (latest_received h.y)))) in
-          subst (λ (b : Books). Reaches c v g b far (with_air k (air_of Joined l h.y) others) p) books-are
-          (subst (λ (b : Air). Reaches c v g books far (with_air k b others) p) air-is walk);
-    }
+    followed : h.standing ≡ FarAhead → AreJoined l h.y → Went k j m o (port w) t near far d.told a
+    followed st-is joined =
+        let was : a ≡ air_of FarAhead h.x h.y = h.air_is ∙ ap (λ (st : Standing). air_of st h.x h.y) st-is in
+        let rest : List Message = drop (length (latest_received l)) (latest_sent h.y) in
+        let i : IsJoint l h.y = is-joint l h.y sound joined in
+        let apart : latest_sent h.y ≡ heard_in more ++ rest =
+        split [] (heard_in more) (latest_sent h.y) (subst (λ (ms : List Message). ms ≡ take (length ms) (latest_sent h.y)) received-now i.received)
+        ∙ ap (λ (ms : List Message). heard_in more ++ drop (length ms) (latest_sent h.y)) (sym received-now) in
+        let framed : AreFramed (heard_in more) = framed-front (heard_in more) rest (subst AreFramed apart h.far_framed) in
+        let comes : followed-air.to_near ≡ heard_in more ++ rest = ap (λ (b : Air). b.to_near) was ∙ apart in
+        let air-is : air_after_all (acts_told more rest) followed-air ≡ air_of Joined l h.y =
+        told-air more q rest followed-air comes
+        ∙ ap (λ (b : Air). record { to_near = rest; to_far = b.to_far; near_follows = false; far_follows = b.far_follows }) was
+        ∙ ap (λ (ms : List Message). record { to_near = rest; to_far = ms; near_follows = false; far_follows = false })
+        (sym (ap (λ (ms : List Message). drop (length (latest_received h.y)) ms) sent-now ∙ drop-none (length (latest_received h.y)))) in
+        record {
+          acts = Follows ∷ acts_told more rest;
+          may = ((looked.1, ap (λ (b : Air). b.near_follows) was), told-may k j more q rest (rules.after whole (CameUp k) near) far followed-air framed comes);
+          told = told-up Follows refl rest framed;
+          linked = subst (λ (b : Air). Linked k j m o (port w) t left far b) (sym air-is) (rose Joined joined);
+        }
 
-    rising-went : Went k j m o (port w) t near (handed_all k d.told near) far a
+    rising-went : Went k j m o (port w) t near far d.told a
     rising-went = by one.opening where
-      by : Opening h.standing h.x h.y l → Went k j m o (port w) t near (handed_all k d.told near) far a
+      by : Opening h.standing h.x h.y l → Went k j m o (port w) t near far d.told a
       by (follows st-is j) = followed st-is j
       by (leads j ready) = led j ready
 
@@ -449,17 +440,17 @@ module _ (k j : ℕ) (m o : ends.Make) (good : AreGood m.secrets) (s t : Port) (
   wish-is None e x = absurd x
   wish-is (Some w) e x = (w, e)
 
-  shaped : (w : Wish) → wish_after d.told from ≡ Some w → Shape d.told from w → Went k j m o (port w) t near (handed_all k d.told near) far a
-  shaped w e (nothing q none same seeks) = quiet-went w e q none (same k near) seeks
+  shaped : (w : Wish) → wish_after d.told from ≡ Some w → Shape d.told from w → Went k j m o (port w) t near far d.told a
+  shaped w e (nothing q none same seeks) = quiet-went w e q none (same k) seeks
   shaped w e (serving q f seeks) = serving-went w e q f seeks
   shaped w e (rising more is q f seeks) = rising-went more is q w e f seeks
 
-  told-goes : (w : Wish) → wish_after d.told from ≡ Some w → Went k j m o (port w) t near (handed_all k d.told near) far a
+  told-goes : (w : Wish) → wish_after d.told from ≡ Some w → Went k j m o (port w) t near far d.told a
   told-goes w e = shaped w e (shape-of d.told from w e)
 
   -- it wants none any more
-  idle-linked : (w : Wish) (b : Air) → Fits (Some Idle) d.left → Linked k j m o (port w) t (handed_all k d.told near) far b
-      → Linked k j m o (port Idle) t (handed_all k d.told near) far b
+  idle-linked : (w : Wish) (b : Air) → Fits (Some Idle) d.left → Linked k j m o (port w) t left far b
+      → Linked k j m o (port Idle) t left far b
   idle-linked w b x g = record {
     x = g.x;
     y = g.y;
@@ -481,19 +472,19 @@ module _ (k j : ℕ) (m o : ends.Make) (good : AreGood m.secrets) (s t : Port) (
     far_seeks = g.far_seeks;
   }
 
-  idle-goes : (w : Wish) → Fits (Some Idle) d.left → Went k j m o (port w) t near (handed_all k d.told near) far a
-      → Went k j m o (port Idle) t near (handed_all k d.told near) far a
-  idle-goes w x g = record { air = g.air; linked = idle-linked w g.air x g.linked; reaches = g.reaches }
+  idle-goes : (w : Wish) → Fits (Some Idle) d.left → Went k j m o (port w) t near far d.told a
+      → Went k j m o (port Idle) t near far d.told a
+  idle-goes w x g = record { acts = g.acts; may = g.may; told = g.told; linked = idle-linked w (air_after_all g.acts a) x g.linked }
 
-  pub goes : Went k j m o (record { site = ends.happened m what s.site; wish = wish_left what (wish_after d.told from) s.wish }) t near (handed_all k d.told near) far a
+  pub goes : Went k j m o (record { site = ends.happened m what s.site; wish = wish_left what (wish_after d.told from) s.wish }) t near far d.told a
   goes = by (ends-or what) (wish-is (wish_after d.told from) refl fits) where
     by : (what ≡ Aborts) ⊎ ((o : Option Wish) (w : Wish) → wish_left what o w ≡ wished o w) → (w : Wish) × (wish_after d.told from ≡ Some w)
-        → Went k j m o (port (wish_left what (wish_after d.told from) s.wish)) t near (handed_all k d.told near) far a
+        → Went k j m o (port (wish_left what (wish_after d.told from) s.wish)) t near far d.told a
     by (inr same) w =
-        subst (λ (v : Wish). Went k j m o (port v) t near (handed_all k d.told near) far a)
+        subst (λ (v : Wish). Went k j m o (port v) t near far d.told a)
         (sym (same (wish_after d.told from) s.wish ∙ ap (λ (v : Option Wish). wished v s.wish) w.1)) (told-goes w.0 w.1)
     by (inl is) w =
-        subst (λ (v : Wish). Went k j m o (port v) t near (handed_all k d.told near) far a)
+        subst (λ (v : Wish). Went k j m o (port v) t near far d.told a)
         (ap (λ (z : Happening). wish_left z (wish_after d.told from) s.wish) (sym is))
         (idle-goes w.0 (subst (λ (z : Happening). Fits (Some Idle) (after m.settings m.secrets z s.site.state).left) (sym is) (aborts-idle m.settings m.secrets s.site.state))
         (told-goes w.0 w.1))

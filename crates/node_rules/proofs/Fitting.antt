@@ -102,7 +102,7 @@ module _ (c z : Configuration) (set link : ℕ) (a : Abstract) (queued : Each (I
       let stands : slice_get q.all q.sent ≡ Some next.message = queued-is _ (forward_number q q.sent) (slice_get q.all q.sent) next sending in
       short-enough c z set next.message (each-get (IsSent c z set) q.all q.sent next.message queued stands)
 
-  taken-short : (frame : FrameValue) → frame_to_take whole a link ≡ Some frame → IsShort frame
+  pub taken-short : (frame : FrameValue) → frame_to_take whole a link ≡ Some frame → IsShort frame
   taken-short frame e =
       from-out (whole.last_accepted a.node.queues link) (whole.last_sent a.node.queues link) (goes_out whole a.settings link a.node) sends-short frame e
 

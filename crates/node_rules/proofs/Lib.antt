@@ -7,6 +7,7 @@ pub mod PairFrames
 pub mod PairEvents
 pub mod Telling
 pub mod Linked
+pub mod Acts
 pub mod Walk
 pub mod Associating
 pub mod Sending

@@ -21,7 +21,8 @@ use Rattle.sctp_moves.proofs.Openings.{Latest, latest-of}
 use Rattle.sctp_ends.specs.Shown.{Stage, Off, Waiting, Echoing, There, stage_of, IsIn, IsPresent}
 use Rattle.sctp_ends.specs.Theorems.{ShowsSite, received_in, sent_in}
 use Rattle.sctp_ends.specs.Worlds as ends
-use Rattle.node_rules.specs.Worlds.{Books, Port, m2pa}
+use Rattle.exchange_rules.specs.First.{Abstract}
+use Rattle.node_rules.specs.Worlds.{Port, m2pa}
 use Rattle.node_rules.proofs.Staying.{MayOpen}
 use Rattle.node_rules.proofs.Flights.{Air, turned_air}
 
@@ -87,9 +88,8 @@ framed-air FarAhead x y h = h
 
 -- ---- a link
 
--- `s` and `t` are the ports of the link at both ends, where it has the numbers `k` and `j`, and whose exchanges have
--- these books
-pub record Linked (k j : ℕ) (m o : ends.Make) (s t : Port) (near far : Books) (a : Air) : Type 0 where
+-- `s` and `t` are the ports of the link at both ends, where it has the numbers `k` and `j`, of these exchanges
+pub record Linked (k j : ℕ) (m o : ends.Make) (s t : Port) (near far : Abstract) (a : Air) : Type 0 where
   pub x : End
   pub y : End
   pub sound : IsSound x y
@@ -105,12 +105,12 @@ pub record Linked (k j : ℕ) (m o : ends.Make) (s t : Port) (near far : Books) 
   pub near_framed : AreFramed (latest_sent x)
   pub far_framed : AreFramed (latest_sent y)
   -- while the other end may open first, the link may open here; and so it may while one is wanted
-  pub near_ready : IsReady x y → MayOpen k near.exchange.node.parts
-  pub far_ready : IsReady y x → MayOpen j far.exchange.node.parts
-  pub near_seeks : s.wish ≡ Seeking → MayOpen k near.exchange.node.parts
-  pub far_seeks : t.wish ≡ Seeking → MayOpen j far.exchange.node.parts
+  pub near_ready : IsReady x y → MayOpen k near.node.parts
+  pub far_ready : IsReady y x → MayOpen j far.node.parts
+  pub near_seeks : s.wish ≡ Seeking → MayOpen k near.node.parts
+  pub far_seeks : t.wish ≡ Seeking → MayOpen j far.node.parts
 
-pub turned-linked : (k j : ℕ) (m o : ends.Make) (s t : Port) (near far : Books) (a : Air) → Linked k j m o s t near far a
+pub turned-linked : (k j : ℕ) (m o : ends.Make) (s t : Port) (near far : Abstract) (a : Air) → Linked k j m o s t near far a
     → Linked j k o m t s far near (turned_air a)
 turned-linked k j m o s t near far a h = record {
   x = h.y;
@@ -133,9 +133,9 @@ turned-linked k j m o s t near far a h = record {
   far_seeks = h.near_seeks;
 }
 
--- the books change, and the link may open there as before
-pub linked-as : (k j : ℕ) (m o : ends.Make) (s t : Port) (near near' far : Books) (a : Air)
-    → (MayOpen k near.exchange.node.parts → MayOpen k near'.exchange.node.parts) → Linked k j m o s t near far a → Linked k j m o s t near' far a
+-- the exchange changes, and the link may open there as before
+pub linked-as : (k j : ℕ) (m o : ends.Make) (s t : Port) (near near' far : Abstract) (a : Air)
+    → (MayOpen k near.node.parts → MayOpen k near'.node.parts) → Linked k j m o s t near far a → Linked k j m o s t near' far a
 linked-as k j m o s t near near' far a f h = record {
   x = h.x;
   y = h.y;

@@ -49,20 +49,20 @@ texts-append s (x ∷ ms) m = by (nat_eq x.stream s) (texts-append s ms m) where
 module _ (n k : ℕ) (k-in : k < n) (s : Streams) (following : List Bool) (sized : Sized n s following) where
   -- it is one text shorter
   module _ (m : Message) (rest : List Message) (follows : Bool) (f : Flies k s following (m ∷ rest) follows) where
-    data-first : m.stream ≡ 1 → in_flight s.user_data k ≡ m.octets ∷ texts 1 rest
+    pub data-first : m.stream ≡ 1 → in_flight s.user_data k ≡ m.octets ∷ texts 1 rest
     data-first one = f.user_data ∙ on-stream 1 1 m rest one refl
 
-    status-first : m.stream ≡ 0 → in_flight s.statuses k ≡ m.octets ∷ texts 0 rest
+    pub status-first : m.stream ≡ 0 → in_flight s.statuses k ≡ m.octets ∷ texts 0 rest
     status-first zero-is = f.statuses ∙ on-stream 0 0 m rest zero-is refl
 
-    data-less : m.stream ≡ 1 → Flies k (without_data k s) following rest follows
+    pub data-less : m.stream ≡ 1 → Flies k (without_data k s) following rest follows
     data-less one = record {
       statuses = f.statuses ∙ off-stream 0 1 m rest one refl;
       user_data = set-here n k k-in s.user_data (drop 1 (in_flight s.user_data k)) [] sized.user_data ∙ ap (λ (xs : List (List ℕ)). drop 1 xs) (data-first one);
       may = f.may;
     }
 
-    status-less : m.stream ≡ 0 → Flies k (without_status k s) following rest follows
+    pub status-less : m.stream ≡ 0 → Flies k (without_status k s) following rest follows
     status-less zero-is = record {
       statuses = set-here n k k-in s.statuses (drop 1 (in_flight s.statuses k)) [] sized.statuses ∙ ap (λ (xs : List (List ℕ)). drop 1 xs) (status-first zero-is);
       user_data = f.user_data ∙ off-stream 1 0 m rest zero-is refl;
@@ -71,7 +71,7 @@ module _ (n k : ℕ) (k-in : k < n) (s : Streams) (following : List Bool) (sized
 
   -- it is one text longer
   module _ (m : Message) (to : List Message) (follows : Bool) (f : Flies k s following to follows) where
-    data-more : m.stream ≡ 1 → Flies k (behind_data m.octets k s) following (to ++ m ∷ []) follows
+    pub data-more : m.stream ≡ 1 → Flies k (behind_data m.octets k s) following (to ++ m ∷ []) follows
     data-more one = record {
       statuses = f.statuses ∙ sym (append-nil (texts 0 to))
           ∙ ap (λ (xs : List (List ℕ)). texts 0 to ++ xs) (sym (off-stream 0 1 m [] one refl)) ∙ sym (texts-append 0 to m);
@@ -80,7 +80,7 @@ module _ (n k : ℕ) (k-in : k < n) (s : Streams) (following : List Bool) (sized
       may = f.may;
     }
 
-    status-more : m.stream ≡ 0 → Flies k (behind_statuses m.octets k s) following (to ++ m ∷ []) follows
+    pub status-more : m.stream ≡ 0 → Flies k (behind_statuses m.octets k s) following (to ++ m ∷ []) follows
     status-more zero-is = record {
       statuses = set-here n k k-in s.statuses (in_flight s.statuses k ++ m.octets ∷ []) [] sized.statuses ∙ ap (λ (xs : List (List ℕ)). xs ++ m.octets ∷ []) f.statuses
           ∙ ap (λ (xs : List (List ℕ)). texts 0 to ++ xs) (sym (on-stream 0 0 m [] zero-is refl)) ∙ sym (texts-append 0 to m);
@@ -98,16 +98,16 @@ module _ (k : ℕ) (s : Streams) (following : List Bool) (new : List (List ℕ))
   abbrev with-statuses : Streams
   with-statuses = record s { statuses = slice_set s.statuses k new }
 
-  data-sized : (n : ℕ) → Sized n s following → Sized n with-data following
+  pub data-sized : (n : ℕ) → Sized n s following → Sized n with-data following
   data-sized n y = record { statuses = y.statuses; user_data = length-set s.user_data k new ∙ y.user_data; may = y.may }
 
-  status-sized : (n : ℕ) → Sized n s following → Sized n with-statuses following
+  pub status-sized : (n : ℕ) → Sized n s following → Sized n with-statuses following
   status-sized n y = record { statuses = length-set s.statuses k new ∙ y.statuses; user_data = y.user_data; may = y.may }
 
-  data-others : (i : ℕ) (to : List Message) (follows : Bool) → i ≢ k → Flies i s following to follows → Flies i with-data following to follows
+  pub data-others : (i : ℕ) (to : List Message) (follows : Bool) → i ≢ k → Flies i s following to follows → Flies i with-data following to follows
   data-others i to follows d f = record { statuses = f.statuses; user_data = set-there s.user_data k new [] i d ∙ f.user_data; may = f.may }
 
-  status-others : (i : ℕ) (to : List Message) (follows : Bool) → i ≢ k → Flies i s following to follows → Flies i with-statuses following to follows
+  pub status-others : (i : ℕ) (to : List Message) (follows : Bool) → i ≢ k → Flies i s following to follows → Flies i with-statuses following to follows
   status-others i to follows d f = record { statuses = set-there s.statuses k new [] i d ∙ f.statuses; user_data = f.user_data; may = f.may }
 
 -- the message that a frame is

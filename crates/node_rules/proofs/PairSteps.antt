@@ -112,21 +112,21 @@ set-there xs k x d j e = get_or-set_other xs k j x d e
 
 -- an association comes up: nothing is in flight to the end of a link any more
 module _ (n k : ℕ) (k-in : k < n) (s : Streams) (f : List Bool) (b : Bool) (z : Sized n s f) where
-  sized-emptied : Sized n (emptied k s) (slice_set f k b)
+  pub sized-emptied : Sized n (emptied k s) (slice_set f k b)
   sized-emptied = record {
     statuses = length-set s.statuses k [] ∙ z.statuses;
     user_data = length-set s.user_data k [] ∙ z.user_data;
     may = length-set f k b ∙ z.may;
   }
 
-  emptied-here : Flies k (emptied k s) (slice_set f k b) [] b
+  pub emptied-here : Flies k (emptied k s) (slice_set f k b) [] b
   emptied-here = record {
     statuses = set-here n k k-in s.statuses [] [] z.statuses;
     user_data = set-here n k k-in s.user_data [] [] z.user_data;
     may = set-here n k k-in f b false z.may;
   }
 
-  emptied-there : (j : ℕ) (to : List Message) (follows : Bool) → j ≢ k → Flies j s f to follows → Flies j (emptied k s) (slice_set f k b) to follows
+  pub emptied-there : (j : ℕ) (to : List Message) (follows : Bool) → j ≢ k → Flies j s f to follows → Flies j (emptied k s) (slice_set f k b) to follows
   emptied-there j to follows d y = record {
     statuses = set-there s.statuses k [] [] j d ∙ y.statuses;
     user_data = set-there s.user_data k [] [] j d ∙ y.user_data;

@@ -6,11 +6,12 @@ use Rattle.std.specs.Prelude.{if◌then◌else◌}
 use Rattle.settings_rows.specs.Configuration.{Configuration}
 use Rattle.m2pa_codec.specs.Frames.{FrameValue, spelled}
 use Rattle.exchange_rules.specs.State.{CameUp, WentDown, FrameCame, Happening, Ticked, Submitted, Activated, Deactivated, TitleAdded, TitleRemoved}
-use Rattle.exchange_rules.specs.Exchange.{frame_to_take}
+use Rattle.exchange_rules.specs.Exchange.{frame_to_take, taken}
+use Rattle.exchange_rules.specs.First.{Abstract}
 use Rattle.exchange_rules.specs.Queues.{whole}
 use Rattle.exchange_rules.proofs.Lists.{each-replicate}
 use Rattle.exchange_rules.proofs.SteppingEvents.{IsOf}
-use Rattle.sctp_rules.specs.State.{Told, Up, Heard, Down, Failed}
+use Rattle.sctp_rules.specs.State.{Told}
 use Rattle.sctp_rules.specs.Endpoint as endpoint
 use Rattle.sctp_rules.specs.Wishing.{Idle, Seeking}
 use Rattle.sctp_rules.proofs.Passing.{none-right}
@@ -34,6 +35,9 @@ use Rattle.node_rules.proofs.Whole.{first-whole}
 use Rattle.node_rules.proofs.Flights.{Air, turned_air, Flies, Sized, Shows, with_air, dids, each-link, Reaches, turned-shows}
 use Rattle.node_rules.proofs.PairEvents.{own-happens, brings, goes-elsewhere}
 use Rattle.node_rules.proofs.Linked.{Linked, turned-linked, linked-as}
+use Rattle.node_rules.proofs.Telling.{after_events, events_told}
+use Rattle.node_rules.proofs.Acts.{event_of, air_after_all, air_given, told-stays}
+use Rattle.node_rules.proofs.Walk.{happened_all, handed-happened, happened-exchange, acts-reach, frame-reaches}
 use Rattle.node_rules.proofs.Associating.{Went, goes, may-come}
 use Rattle.node_rules.proofs.Sending.{sends}
 
@@ -43,7 +47,7 @@ pub record Meets (near far : Make) (f : AreFacing near.configuration far.configu
   pub air : ℕ → ℕ → Air
   pub shows : Shows near.configuration far.configuration f w.near.books w.far.books air p
   pub linked : (k j : ℕ) → Ends near.configuration far.configuration f k j
-      → Linked k j (near.endpoints k) (far.endpoints j) (w.near.ports k) (w.far.ports j) w.near.books w.far.books (air k j)
+      → Linked k j (near.endpoints k) (far.endpoints j) (w.near.ports k) (w.far.ports j) w.near.books.exchange w.far.books.exchange (air k j)
 
 abbrev pub turned_pair : PairState → PairState
 turned_pair p = record { near = p.far; far = p.near }
@@ -58,23 +62,9 @@ turned-meets near far f w p h = record {
   air = λ j k. turned_air (h.air k j);
   shows = turned-shows near.configuration far.configuration f w.near.books w.far.books h.air p h.shows;
   linked = λ j k e.
-      turned-linked k j (near.endpoints k) (far.endpoints j) (w.near.ports k) (w.far.ports j) w.near.books w.far.books (h.air k j)
+      turned-linked k j (near.endpoints k) (far.endpoints j) (w.near.ports k) (w.far.ports j) w.near.books.exchange w.far.books.exchange (h.air k j)
       (h.linked k j (turned-ends far.configuration near.configuration (back near far f) j k e));
 }
-
--- ---- other links stay
-
-handed-stays : (j k : ℕ) → k ≢ j → (ts : List Told) (b : Books) → MayOpen j b.exchange.node.parts → MayOpen j (handed_all k ts b).exchange.node.parts
-handed-stays j k d [] b h = h
-handed-stays j k d (Up ∷ more) b h =
-    handed-stays j k d more (happened (CameUp k) b) ((events-stay b.exchange.settings j (CameUp k) b.exchange.node (λ link of q. d (sym of ∙ q))).stay h)
-handed-stays j k d (Down why ∷ more) b h =
-    handed-stays j k d more (happened (WentDown k) b) ((events-stay b.exchange.settings j (WentDown k) b.exchange.node (λ link of q. of)).stay h)
-handed-stays j k d (Failed why ∷ more) b h = handed-stays j k d more b h
-handed-stays j k d (Heard m ∷ more) b h = handed-stays j k d more (handed k (Heard m) b) (by (is_frame m)) where
-  by : (f : Bool) → MayOpen j (if f then happened (FrameCame k m.octets) b else b).exchange.node.parts
-  by true = (events-stay b.exchange.settings j (FrameCame k m.octets) b.exchange.node (λ link of q. d (sym of ∙ q))).stay h
-  by false = h
 
 -- with what is in the air of a link, nothing changes
 shows-on : (c z : Configuration) (f : AreFacing c z) (near far : Books) (air : ℕ → ℕ → Air) (k j : ℕ) → Ends c z f k j → (p : PairState) → Shows c z f near far air p
@@ -122,22 +112,22 @@ module _ (near far : Make) (f : AreFacing near.configuration far.configuration) 
         unlike m n d = grind (arith, nat_tests, d)
 
   module _ (w : World) (p : PairState) (h : Meets near far f w p) where
-    one-goes : (k j : ℕ) (e : Ends c z f k j) (port : Port) (books : Books)
-        → Went k j (near.endpoints k) (far.endpoints j) port (w.far.ports j) w.near.books books w.far.books (h.air k j)
+    one-goes : (k j : ℕ) (e : Ends c z f k j) (port : Port) (books : Books) (x : Air)
+        → Linked k j (near.endpoints k) (far.endpoints j) port (w.far.ports j) books.exchange w.far.books.exchange x
+        → (Shows c z f w.near.books w.far.books (with_air k (h.air k j) h.air) p → Reaches c z f books w.far.books (with_air k x h.air) p)
         → ((i : ℕ) → k ≢ i → MayOpen i w.near.books.exchange.node.parts → MayOpen i books.exchange.node.parts)
         → Reached near far f (record w { near = record { books = books; ports = port-at k port w.near.ports } }) p
-    one-goes k j e port books went stay =
-        let here : Shows c z f w.near.books w.far.books (with_air k (h.air k j) h.air) p =
-        shows-on c z f w.near.books w.far.books h.air k j e p h.shows in
-        let r : Reaches c z f books w.far.books (with_air k went.air h.air) p = went.reaches c z f e h.air p here in
+    one-goes k j e port books x linked reaches stay =
+        let r : Reaches c z f books w.far.books (with_air k x h.air) p =
+        reaches (shows-on c z f w.near.books w.far.books h.air k j e p h.shows) in
         record {
           list = r.list;
           meets = record {
-            air = with_air k went.air h.air;
+            air = with_air k x h.air;
             shows = r.shows;
-            linked = each-port (λ (i o : ℕ) (q : Port) (x : Air). Linked i o (near.endpoints i) (far.endpoints o) q (w.far.ports o) books w.far.books x) k j e port w.near.ports went.air h.air
-                went.linked
-                (λ i o l d. linked-as i o (near.endpoints i) (far.endpoints o) (w.near.ports i) (w.far.ports o) w.near.books books w.far.books (h.air i o) (stay i (λ q. d (sym q))) (h.linked i o l));
+            linked = each-port (λ (i o : ℕ) (q : Port) (y : Air). Linked i o (near.endpoints i) (far.endpoints o) q (w.far.ports o) books.exchange w.far.books.exchange y) k j e port w.near.ports x h.air
+                linked
+                (λ i o l d. linked-as i o (near.endpoints i) (far.endpoints o) (w.near.ports i) (w.far.ports o) w.near.books.exchange books.exchange w.far.books.exchange (h.air i o) (stay i (λ q. d (sym q))) (h.linked i o l));
           };
         }
 
@@ -150,7 +140,7 @@ module _ (near far : Make) (f : AreFacing near.configuration far.configuration) 
       meets = record {
         air = h.air;
         shows = r.shows;
-        linked = λ i o l. linked-as i o (near.endpoints i) (far.endpoints o) (w.near.ports i) (w.far.ports o) w.near.books books w.far.books (h.air i o) (stay i o l) (h.linked i o l);
+        linked = λ i o l. linked-as i o (near.endpoints i) (far.endpoints o) (w.near.ports i) (w.far.ports o) w.near.books.exchange books.exchange w.far.books.exchange (h.air i o) (stay i o l) (h.linked i o l);
       };
     }
 
@@ -162,10 +152,27 @@ module _ (near far : Make) (f : AreFacing near.configuration far.configuration) 
       sends-if k j l None e can = record { list = []; meets = h }
       sends-if k j l (Some frame) e can =
           let b : Books = w.near.books in
-          one-goes k j l (associated near k (endpoint.Sends (worlds.message_of (spelled frame))) w.near) _
-          (sends k j (near.endpoints k) (far.endpoints j) (good k) (w.near.ports k) (w.far.ports j) b w.far.books (h.air k j) (h.linked k j l) frame e (can frame e)
+          one-goes k j l (associated near k (endpoint.Sends (worlds.message_of (spelled frame))) w.near) (record b { exchange = taken whole b.exchange k }) (air_given frame (h.air k j))
+          (sends k j (near.endpoints k) (far.endpoints j) (good k) (w.near.ports k) (w.far.ports j) b.exchange w.far.books.exchange (h.air k j) (h.linked k j l) frame e (can frame e)
           (λ m. (takes-stay b.exchange.settings k k b.exchange.node).stay m))
+          (λ y. frame-reaches c z f k j l w.far.books h.air frame b (h.air k j) p e y)
           (λ i d m. (takes-stay b.exchange.settings i k b.exchange.node).stay m)
+
+      -- what an endpoint told is handed in
+      told-goes : (k j : ℕ) (l : Ends c z f k j) (port : Port) (ts : List Told)
+          → Went k j (near.endpoints k) (far.endpoints j) port (w.far.ports j) w.near.books.exchange w.far.books.exchange ts (h.air k j)
+          → Reached near far f (record w { near = record { books = handed_all k ts w.near.books; ports = port-at k port w.near.ports } }) p
+      told-goes k j l port ts went =
+          let b : Books = w.near.books in
+          let x : Air = air_after_all went.acts (h.air k j) in
+          let same : happened_all (map (event_of k) went.acts) b ≡ handed_all k ts b =
+          ap (λ (es : List Happening). happened_all es b) went.told ∙ sym (handed-happened k ts b) in
+          let exchange : after_events (events_told k ts) b.exchange ≡ (handed_all k ts b).exchange =
+          sym (ap (λ (v : Books). v.exchange) (handed-happened k ts b) ∙ happened-exchange (events_told k ts) b) in
+          one-goes k j l port (handed_all k ts b) x
+          (subst (λ (v : Abstract). Linked k j (near.endpoints k) (far.endpoints j) port (w.far.ports j) v w.far.books.exchange x) exchange went.linked)
+          (λ y. subst (λ (v : Books). Reaches c z f v w.far.books (with_air k x h.air) p) same (acts-reach c z f k j l w.far.books h.air went.acts b (h.air k j) p went.may y))
+          (λ i d m. subst (λ (v : Abstract). MayOpen i v.node.parts) exchange (told-stays i k d ts b.exchange m))
 
       brings-it : (what : Happening) → MayBring c z what → Reached near far f (record w { near = record w.near { books = happened_elsewhere what w.near.books } }) p
       brings-it what may =
@@ -200,10 +207,9 @@ module _ (near far : Make) (f : AreFacing near.configuration far.configuration) 
           (λ i o l m. (events-stay b.exchange.settings i what b.exchange.node (own-of what i may)).stay m)
       near-step (Associates k what) may =
           let l : Ends c z f k may.0.there = ends-of c z f k may.0.there may.0.is in
-          one-goes k may.0.there l (associated near k what w.near) (handed_all k (told_by near k what w.near) w.near.books)
-          (goes k may.0.there (near.endpoints k) (far.endpoints may.0.there) (good k) (w.near.ports k) (w.far.ports may.0.there) w.near.books w.far.books (h.air k may.0.there) (h.linked k may.0.there l) what
+          told-goes k may.0.there l (associated near k what w.near) (told_by near k what w.near)
+          (goes k may.0.there (near.endpoints k) (far.endpoints may.0.there) (good k) (w.near.ports k) (w.far.ports may.0.there) w.near.books.exchange w.far.books.exchange (h.air k may.0.there) (h.linked k may.0.there l) what
           (may-come (w.far.ports may.0.there).site w.near k what may.1))
-          (λ i d m. handed-stays i k d (told_by near k what w.near) w.near.books m)
       near-step (Sends k) may =
           sends-if k may.0.there (ends-of c z f k may.0.there may.0.is) (frame_to_take whole w.near.books.exchange k) refl may.1
       near-step (Brings what) may = brings-it what may
@@ -263,21 +269,21 @@ module _ (near far : Make) (f : AreFacing near.configuration far.configuration) 
 
 -- ---- the first
 
-none-flies : (n k : ℕ) → Flies k (pairs.nothing_in_flight n) (replicate n false) [] false
+pub none-flies : (n k : ℕ) → Flies k (pairs.nothing_in_flight n) (replicate n false) [] false
 none-flies n k = record {
   statuses = each-replicate (λ (xs : List (List ℕ)). xs ≡ []) n k [] refl;
   user_data = each-replicate (λ (xs : List (List ℕ)). xs ≡ []) n k [] refl;
   may = each-replicate (λ (b : Bool). b ≡ false) n k false refl;
 }
 
-sized : (n : ℕ) → Sized n (pairs.nothing_in_flight n) (replicate n false)
+pub sized : (n : ℕ) → Sized n (pairs.nothing_in_flight n) (replicate n false)
 sized n = record { statuses = length-replicate n []; user_data = length-replicate n []; may = length-replicate n false }
 
 abbrev no-air : Air
 no-air = record { to_near = []; to_far = []; near_follows = false; far_follows = false }
 
 -- no endpoint has done anything
-first-linked : (k j : ℕ) (m o : ends.Make) (near far : Books) → Linked k j m o (worlds.new_port m) (worlds.new_port o) near far no-air
+pub first-linked : (k j : ℕ) (m o : ends.Make) (near far : Abstract) → Linked k j m o (worlds.new_port m) (worlds.new_port o) near far no-air
 first-linked k j m o near far = record {
   x = new_end;
   y = new_end;
@@ -317,7 +323,7 @@ first-runs near far f = record {
           first-whole near.configuration far.configuration (new_world near far).near.books (new_world near far).far.books
           (record { near_accepted = refl; near_received = refl; far_accepted = refl; far_received = refl });
     };
-    linked = λ k j e. first-linked k j (near.endpoints k) (far.endpoints j) (new_world near far).near.books (new_world near far).far.books;
+    linked = λ k j e. first-linked k j (near.endpoints k) (far.endpoints j) (new_world near far).near.books.exchange (new_world near far).far.books.exchange;
   };
 }
 

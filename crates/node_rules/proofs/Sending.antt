@@ -1,4 +1,4 @@
--- A frame is taken, and given to the endpoint of its link: the pair has it in the air.
+-- A frame is taken, and given to the endpoint of its link: it is on its way then.
 use Rattle.std.proofs.Common.{◌≡◌, ◌⊎◌, inl, inr, ℕ, suc, arith, Bool, true, false, ◌&&◌, List, [], ◌∷◌, ◌++◌, Some, length, map, refl, ap, sym, ◌∙◌, subst, drop}
 use Rattle.std.proofs.lemmas.List.{length-map}
 use Rattle.std.specs.Prelude.{if◌then◌else◌}
@@ -26,13 +26,14 @@ use Rattle.sctp_ends.specs.Worlds as ends
 use Rattle.sctp_ends.proofs.Alike.{Outcome, sound-on}
 use Rattle.sctp_ends.proofs.Pass.{happens}
 use Rattle.sctp_ends.proofs.World.{site-after}
-use Rattle.node_rules.specs.Worlds.{Books, Port, m2pa, stream_of, message_of, wished}
+use Rattle.exchange_rules.specs.First.{Abstract}
+use Rattle.node_rules.specs.Worlds.{Port, stream_of, message_of, wished}
 use Rattle.node_rules.proofs.Staying.{MayOpen}
-use Rattle.node_rules.proofs.Flights.{Air, with_air, air-here, Reaches}
-use Rattle.node_rules.proofs.PairFrames.{goes-out}
+use Rattle.node_rules.proofs.Flights.{Air}
+use Rattle.node_rules.proofs.PairFrames.{framed}
 use Rattle.node_rules.proofs.Linked.{AreFramed, framed-behind, firsts, latest_sent, latest_received, air_of, Linked, StaysSo, IsJoint, is-joint, drop-within}
-use Rattle.node_rules.proofs.Associating.{Went, no-epochs}
-use Rattle.node_rules.proofs.Walk.{leaves}
+use Rattle.node_rules.proofs.Acts.{air_given}
+use Rattle.node_rules.proofs.Associating.{no-epochs}
 
 established-there : (p : Phase) → is_established p ≡ true → stage_of p ≡ There
 established-there phases.Closed e = absurd cc
@@ -65,14 +66,14 @@ framed-is (EmptyFrame bsn fsn) = inr refl
 framed-is (MessageFrame bsn fsn sio sif) = inr refl
 framed-is (StatusFrame bsn fsn status) = inl refl
 
-module _ (k j : ℕ) (m o : ends.Make) (good : AreGood m.secrets) (s t : Port) (near far : Books) (a : Air) (h : Linked k j m o s t near far a)
-    (frame : FrameValue) (next : frame_to_take whole near.exchange k ≡ Some frame) (may : may_send (message_of (spelled frame)) s.site.state ≡ true)
-    (stays-open : MayOpen k near.exchange.node.parts → MayOpen k (taken whole near.exchange k).node.parts) where
+module _ (k j : ℕ) (m o : ends.Make) (good : AreGood m.secrets) (s t : Port) (near far : Abstract) (a : Air) (h : Linked k j m o s t near far a)
+    (frame : FrameValue) (next : frame_to_take whole near k ≡ Some frame) (may : may_send (message_of (spelled frame)) s.site.state ≡ true)
+    (stays-open : MayOpen k near.node.parts → MayOpen k (taken whole near k).node.parts) where
   abbrev given : outgoing.Message
   given = message_of (spelled frame)
 
   abbrev text : Message
-  text = record { stream = stream_of (spelled frame); protocol = m2pa; octets = spelled frame }
+  text = framed frame
 
   abbrev d : Done
   d = after m.settings m.secrets (Sends given) s.site.state
@@ -149,9 +150,6 @@ module _ (k j : ℕ) (m o : ends.Make) (good : AreGood m.secrets) (s t : Port) (
   air-more NearAhead j = ap (λ (ms : List Message). record { to_near = []; to_far = ms; near_follows = false; far_follows = true }) (sym latest-more)
   air-more FarAhead j = absurd (j.down present.up)
 
-  abbrev books : Books
-  books = record near { exchange = taken whole near.exchange k }
-
   abbrev port : Port
   port = record { site = ends.happened m (Sends given) s.site; wish = wished (wish_after d.told s.wish) s.wish }
 
@@ -164,34 +162,24 @@ module _ (k j : ℕ) (m o : ends.Make) (good : AreGood m.secrets) (s t : Port) (
       (subst (λ (ts : List Told). Fits (wish_after ts s.wish) d.left) told-none
       (happening-fits m.settings m.secrets (Sends given) s.site.state s.wish h.near_right h.near_fits))
 
-  pub sends : Went k j m o port t near books far a
+  pub sends : Linked k j m o port t (taken whole near k) far (air_given frame a)
   sends = record {
-    air = air_of h.standing l h.y;
-    linked = record {
-      x = l;
-      y = h.y;
-      sound = sound;
-      near_shown = site-after m.secrets o.secrets m.settings h.y h.x (Sends given) s.site h.near_shown r;
-      far_shown = h.far_shown;
-      standing = h.standing;
-      stands = stays.0;
-      near_right = still-right m.settings m.secrets (Sends given) s.site.state h.near_right;
-      far_right = h.far_right;
-      near_fits = fits;
-      far_fits = h.far_fits;
-      air_is = refl;
-      near_framed = subst AreFramed (sym latest-more) (framed-behind (latest_sent h.x) (text ∷ []) h.near_framed (record { protocol = refl; stream = framed-is frame }, tt));
-      far_framed = h.far_framed;
-      near_ready = λ q. absurd (not-ready q);
-      far_ready = λ q. h.far_ready (ready-all-before h.x h.y r.list h.sound r.moves q);
-      near_seeks = λ e. stays-open (h.near_seeks (sym wish-same ∙ e));
-      far_seeks = h.far_seeks;
-    };
-    reaches = λ c v g both others p z.
-        let here : with_air k a others k j ≡ air_of h.standing h.x h.y = air-here k a others j ∙ h.air_is in
-        let out : Reaches c v g books far (with_air k (record (with_air k a others k j) { to_far = (with_air k a others k j).to_far ++ text ∷ [] }) (with_air k a others)) p =
-        goes-out c v g near far (with_air k a others) p z k j both frame next in
-        leaves c v g k j both far others books a (air_of h.standing l h.y) p
-        (subst (λ (b : Air). Reaches c v g books far (with_air k b (with_air k a others)) p)
-        (ap (λ (b : Air). record b { to_far = b.to_far ++ text ∷ [] }) here ∙ air-more h.standing h.stands) out);
+    x = l;
+    y = h.y;
+    sound = sound;
+    near_shown = site-after m.secrets o.secrets m.settings h.y h.x (Sends given) s.site h.near_shown r;
+    far_shown = h.far_shown;
+    standing = h.standing;
+    stands = stays.0;
+    near_right = still-right m.settings m.secrets (Sends given) s.site.state h.near_right;
+    far_right = h.far_right;
+    near_fits = fits;
+    far_fits = h.far_fits;
+    air_is = ap (air_given frame) h.air_is ∙ air-more h.standing h.stands;
+    near_framed = subst AreFramed (sym latest-more) (framed-behind (latest_sent h.x) (text ∷ []) h.near_framed (record { protocol = refl; stream = framed-is frame }, tt));
+    far_framed = h.far_framed;
+    near_ready = λ q. absurd (not-ready q);
+    far_ready = λ q. h.far_ready (ready-all-before h.x h.y r.list h.sound r.moves q);
+    near_seeks = λ e. stays-open (h.near_seeks (sym wish-same ∙ e));
+    far_seeks = h.far_seeks;
   }

@@ -148,6 +148,7 @@ module _ (c : Configuration) (l : ℕ) where
     rerouted = λ routes n e. alike n _ refl refl;
     told = λ t n e. alike n _ refl refl;
     titled = λ rows n. alike n _ refl refl;
+    unequipped = λ counts n e. alike n _ refl refl;
     failed = λ link why s n e f. record {
       stay = λ h. record {
         down = set-at IsDown n.parts.links link l _ down_link (λ q. absurd (serving link n e q h)) h.down;

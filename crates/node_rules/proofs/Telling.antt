@@ -12,7 +12,11 @@ use Rattle.sctp_rules.specs.Endpoint.{Opens, Aborts, Flushes, after}
 use Rattle.sctp_rules.specs.Wishing.{Fits, Wish, Idle, Seeking, Served, wish_after}
 use Rattle.sctp_moves.specs.Ends.{Message}
 use Rattle.sctp_ends.specs.Told.{text_told, told_by, opened_by}
-use Rattle.node_rules.specs.Worlds.{Books, handed_all}
+use Rattle.exchange_rules.specs.State as exchange
+use Rattle.exchange_rules.specs.Exchange as rules
+use Rattle.exchange_rules.specs.First.{Abstract}
+use Rattle.exchange_rules.specs.Queues.{whole}
+use Rattle.node_rules.specs.Worlds.{is_frame}
 
 abbrev pub NoUp : List Told → Type 0
 NoUp [] = Unit {0}
@@ -27,6 +31,19 @@ heard_in (Up ∷ more) = heard_in more
 heard_in (Heard m ∷ more) = text_told m ∷ heard_in more
 heard_in (Down why ∷ more) = heard_in more
 heard_in (Failed why ∷ more) = heard_in more
+
+-- what it tells, as events of the exchange
+abbrev pub events_told : (link : ℕ) → List Told → List exchange.Happening
+events_told link [] = []
+events_told link (Up ∷ more) = exchange.CameUp link ∷ events_told link more
+events_told link (Heard m ∷ more) = if is_frame m then exchange.FrameCame link m.octets ∷ events_told link more else events_told link more
+events_told link (Down why ∷ more) = exchange.WentDown link ∷ events_told link more
+events_told link (Failed why ∷ more) = events_told link more
+
+-- an exchange after events
+abbrev pub after_events : List exchange.Happening → Abstract → Abstract
+after_events [] x = x
+after_events (what ∷ more) x = after_events more (rules.after whole what x)
 
 -- ---- what is told, association by association
 
@@ -60,7 +77,7 @@ told-long ts h (l ∷ ls) = ap (λ (ks : List (List Message)). length ks) (told-
 
 -- what was told where one was wanted as `from` says, and is as `to` says then
 pub data Shape (ts : List Told) (from to : Wish) : Type 0 where
-  nothing : NoUp ts → heard_in ts ≡ [] → ((link : ℕ) (b : Books) → handed_all link ts b ≡ b) → (to ≡ Seeking → from ≡ Seeking) → Shape ts from to
+  nothing : NoUp ts → heard_in ts ≡ [] → ((link : ℕ) → events_told link ts ≡ []) → (to ≡ Seeking → from ≡ Seeking) → Shape ts from to
   serving : NoUp ts → from ≡ Served → (to ≡ Seeking → ⊥) → Shape ts from to
   rising : (more : List Told) → ts ≡ Up ∷ more → NoUp more → from ≡ Seeking → (to ≡ Seeking → ⊥) → Shape ts from to
 
@@ -95,10 +112,10 @@ from-served (Failed why ∷ more) w e = never w e
 failed-alone : (why : Loss) (more : List Told) (w : Wish) → more ≡ [] → w ≡ Idle → Shape (Failed why ∷ more) Seeking w
 failed-alone why more w e f =
     subst (λ (ts : List Told). Shape (Failed why ∷ ts) Seeking w) (sym e)
-    (nothing tt refl (λ link b. refl) (λ q. absurd (not-seeking w (inr f) q)))
+    (nothing tt refl (λ link. refl) (λ q. absurd (not-seeking w (inr f) q)))
 
 from-seeking : (ts : List Told) (w : Wish) → wish_after ts Seeking ≡ Some w → Shape ts Seeking w
-from-seeking [] w e = nothing tt refl (λ link b. refl) (λ q. refl)
+from-seeking [] w e = nothing tt refl (λ link. refl) (λ q. refl)
 from-seeking (Up ∷ more) w e = let s = from-served more w e in rising more refl s.0 refl (not-seeking w s.1)
 from-seeking (Heard m ∷ more) w e = never w e
 from-seeking (Down why ∷ more) w e = never w e
@@ -108,7 +125,7 @@ pub shape-of : (ts : List Told) (from to : Wish) → wish_after ts from ≡ Some
 shape-of ts Idle to e =
     let i = from-idle ts to e in
     subst (λ (us : List Told). Shape us Idle to) (sym i.0)
-    (nothing tt refl (λ link b. refl) (λ q. absurd (not-seeking to (inr i.1) q)))
+    (nothing tt refl (λ link. refl) (λ q. absurd (not-seeking to (inr i.1) q)))
 shape-of ts Seeking to e = from-seeking ts to e
 shape-of ts Served to e = let s = from-served ts to e in serving s.0 refl (not-seeking to s.1)
 

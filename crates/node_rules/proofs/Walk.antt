@@ -1,24 +1,23 @@
--- What an endpoint tells, handed in event by event, is steps of a pair.
-use Rattle.std.proofs.Common.{◌≡◌, ◌≢◌, ◌⊎◌, inl, inr, ℕ, Bool, true, List, [], ◌∷◌, ◌++◌, refl, ap, sym, ◌∙◌, subst, nat_eq, ⊎_elim}
+-- What a link between the nodes does, act by act, is steps of a pair.
+use Rattle.std.proofs.Common.{◌≡◌, ◌≢◌, ◌⊎◌, inl, inr, ℕ, Bool, true, false, List, [], ◌∷◌, Some, map, refl, ap, sym, ◌∙◌, subst, ⊎_elim}
 use Rattle.std.proofs.lemmas.Bool.{cases_eq}
-use Rattle.std.proofs.lemmas.Bool.Decides.{nat_tests}
-use Rattle.std.proofs.Common.{arith}
 use Rattle.std.specs.Prelude.{if◌then◌else◌}
-use Rattle.exchange_rules.specs.State.{WentDown, FrameCame}
-use Rattle.sctp_receiving.specs.Pieces as pieces
+use Rattle.exchange_rules.specs.State.{Happening, CameUp, WentDown, FrameCame}
+use Rattle.exchange_rules.specs.Exchange.{frame_to_take, taken}
+use Rattle.exchange_rules.specs.Queues.{whole}
+use Rattle.m2pa_codec.specs.Frames.{FrameValue}
 use Rattle.sctp_rules.specs.State.{Told, Up, Heard, Down, Failed}
-use Rattle.sctp_moves.specs.Ends.{Message}
-use Rattle.sctp_ends.specs.Told.{text_told}
 use Rattle.settings_rows.specs.Configuration.{Configuration}
 use Rattle.pair_rules.specs.Pairs.{PairState}
 use Rattle.neighbour_rules.proofs.Sharing.{AreFacing}
-use Rattle.node_rules.specs.Worlds.{Books, happened, handed, handed_all, m2pa, is_frame}
+use Rattle.node_rules.specs.Worlds.{Books, happened, handed_all, is_frame}
 use Rattle.node_rules.proofs.Lines.{Ends}
 use Rattle.node_rules.proofs.Flights.{Air, Flies, Shows, with_air, air-here, air-other, Reaches, by-none, reaches-on}
-use Rattle.node_rules.proofs.PairFrames.{data-comes, status-comes}
+use Rattle.node_rules.proofs.PairSteps.{up-first, up-second}
+use Rattle.node_rules.proofs.PairFrames.{data-comes, goes-out, status-comes}
 use Rattle.node_rules.proofs.PairEvents.{went-down}
-use Rattle.node_rules.proofs.Telling.{NoUp, heard_in}
-use Rattle.node_rules.proofs.Linked.{IsFramed, AreFramed}
+use Rattle.node_rules.proofs.Telling.{after_events, events_told}
+use Rattle.node_rules.proofs.Acts.{Act, Leads, Follows, Comes, Falls, event_of, air_after, air_after_all, air_given, MayAct, MayActAll}
 
 -- ---- what is in the air, link by link
 
@@ -48,6 +47,28 @@ twice k x y air i o =
     (λ (d : i ≢ k). air-other k y (with_air k x air) i o d ∙ air-other k x air i o d ∙ sym (air-other k y air i o d))
     (cases_eq i k)
 
+-- ---- books after events
+
+abbrev pub happened_all : List Happening → Books → Books
+happened_all [] b = b
+happened_all (what ∷ more) b = happened_all more (happened what b)
+
+pub handed-happened : (k : ℕ) (ts : List Told) (b : Books) → handed_all k ts b ≡ happened_all (events_told k ts) b
+handed-happened k [] b = refl
+handed-happened k (Up ∷ more) b = handed-happened k more (happened (CameUp k) b)
+handed-happened k (Down why ∷ more) b = handed-happened k more (happened (WentDown k) b)
+handed-happened k (Failed why ∷ more) b = handed-happened k more b
+handed-happened k (Heard m ∷ more) b = by (is_frame m) (λ c. handed-happened k more c) where
+  by : (f : Bool) → ((c : Books) → handed_all k more c ≡ happened_all (events_told k more) c)
+      → handed_all k more (if f then happened (FrameCame k m.octets) b else b)
+      ≡ happened_all (if f then FrameCame k m.octets ∷ events_told k more else events_told k more) b
+  by true on = on (happened (FrameCame k m.octets) b)
+  by false on = on b
+
+pub happened-exchange : (list : List Happening) (b : Books) → (happened_all list b).exchange ≡ after_events list b.exchange
+happened-exchange [] b = refl
+happened-exchange (what ∷ more) b = happened-exchange more (happened what b)
+
 -- ---- one link
 
 module _ (c z : Configuration) (a : AreFacing c z) (k j : ℕ) (l : Ends c z a k j) (far : Books) (air : ℕ → ℕ → Air) where
@@ -62,46 +83,44 @@ module _ (c z : Configuration) (a : AreFacing c z) (k j : ℕ) (l : Ends c z a k
   pub leaves : (near : Books) (x y : Air) (p : PairState) → Reaches c z a near far (with_air k y (with_air k x air)) p → ReachesAt near y p
   leaves near x y p r = reaches-as c z a near far _ _ p (λ i o. twice k x y air i o) r
 
-  is-frame : (m : pieces.Message) → IsFramed (text_told m) → is_frame m ≡ true
-  is-frame m h = same m.protocol h.protocol where
-    same : (p : ℕ) → p ≡ m2pa → nat_eq p m2pa ≡ true
-    same p e = grind (arith, nat_tests, e)
+  here : (x : Air) → with_air k x air k j ≡ x
+  here x = air-here k x air j
 
-  handed-frame : (m : pieces.Message) (near : Books) → IsFramed (text_told m) → handed k (Heard m) near ≡ happened (FrameCame k m.octets) near
-  handed-frame m near h = ap (λ (b : Bool). if b then happened (FrameCame k m.octets) near else near) (is-frame m h)
+  -- what it leaves is said of what is in the air on that link
+  leaves-by : (near : Books) (x : Air) (p : PairState) (change : Air → Air)
+      → Reaches c z a near far (with_air k (change (with_air k x air k j)) (with_air k x air)) p → ReachesAt near (change x) p
+  leaves-by near x p change r =
+      leaves near x (change x) p (subst (λ (y : Air). Reaches c z a near far (with_air k (change y) (with_air k x air)) p) (here x) r)
 
-  come : (near : Books) (x : Air) (m : pieces.Message) (rest : List Message) (p : PairState) → IsFramed (text_told m) → x.to_near ≡ text_told m ∷ rest
-      → ShowsAt near x p → ReachesAt (happened (FrameCame k m.octets) near) (record x { to_near = rest }) p
-  come near x m rest p f e h = by f.stream where
-    here : with_air k x air k j ≡ x
-    here = air-here k x air j
-
-    there : (with_air k x air k j).to_near ≡ text_told m ∷ rest
-    there = ap (λ (b : Air). b.to_near) here ∙ e
-
-    same : (b : Air) → b ≡ x → Reaches c z a (happened (FrameCame k m.octets) near) far (with_air k (record b { to_near = rest }) (with_air k x air)) p
-        → ReachesAt (happened (FrameCame k m.octets) near) (record x { to_near = rest }) p
-    same b q r =
-        leaves (happened (FrameCame k m.octets) near) x (record x { to_near = rest }) p
-        (subst (λ (y : Air). Reaches c z a (happened (FrameCame k m.octets) near) far (with_air k (record y { to_near = rest }) (with_air k x air)) p) q r)
+  act-reaches : (act : Act) (near : Books) (x : Air) (p : PairState) → MayAct k j act near.exchange far.exchange x → ShowsAt near x p
+      → ReachesAt (happened (event_of k act) near) (air_after act x) p
+  act-reaches Leads near x p may h =
+      leaves (happened (CameUp k) near) x (air_after Leads x) p (up-first c z a near far (with_air k x air) p h k j l may.0 may.1)
+  act-reaches Follows near x p may h =
+      leaves-by (happened (CameUp k) near) x p (air_after Follows)
+      (up-second c z a near far (with_air k x air) p h k j l may.0 (ap (λ (y : Air). y.near_follows) (here x) ∙ may.1))
+  act-reaches (Comes m rest) near x p may h = by may.0.stream where
+    there : (with_air k x air k j).to_near ≡ m ∷ rest
+    there = ap (λ (y : Air). y.to_near) (here x) ∙ may.1
 
     by : (m.stream ≡ 0) ⊎ (m.stream ≡ 1) → ReachesAt (happened (FrameCame k m.octets) near) (record x { to_near = rest }) p
-    by (inl zero-is) = same (with_air k x air k j) here (status-comes c z a near far (with_air k x air) p h k j l (text_told m) rest there zero-is)
-    by (inr one-is) = same (with_air k x air k j) here (data-comes c z a near far (with_air k x air) p h k j l (text_told m) rest there one-is)
+    by (inl zero-is) =
+        leaves-by (happened (FrameCame k m.octets) near) x p (air_after (Comes m rest)) (status-comes c z a near far (with_air k x air) p h k j l m rest there zero-is)
+    by (inr one-is) =
+        leaves-by (happened (FrameCame k m.octets) near) x p (air_after (Comes m rest)) (data-comes c z a near far (with_air k x air) p h k j l m rest there one-is)
+  act-reaches Falls near x p may h = went-down c z a near far (with_air k x air) p h k
 
-  -- messages of the association that is up, and Down
-  pub told-walk : (ts : List Told) → NoUp ts → (near : Books) (x : Air) (rest : List Message) (p : PairState) → AreFramed (heard_in ts)
-      → x.to_near ≡ heard_in ts ++ rest → ShowsAt near x p → ReachesAt (handed_all k ts near) (record x { to_near = rest }) p
-  told-walk [] up near x rest p f e h =
-      subst (λ (r : List Message). ReachesAt near (record x { to_near = r }) p) e (by-none c z a near far (with_air k x air) p h)
-  told-walk (Up ∷ more) up near x rest p f e h = absurd up
-  told-walk (Down why ∷ more) up near x rest p f e h =
-      reaches-on c z a (happened (WentDown k) near) far (handed_all k more (happened (WentDown k) near)) far _ _ p
-      (went-down c z a near far (with_air k x air) p h k)
-      (λ s. told-walk more up (happened (WentDown k) near) x rest _ f e s)
-  told-walk (Failed why ∷ more) up near x rest p f e h = told-walk more up near x rest p f e h
-  told-walk (Heard m ∷ more) up near x rest p f e h =
-      subst (λ (b : Books). ReachesAt (handed_all k more b) (record x { to_near = rest }) p) (sym (handed-frame m near f.0))
-      (reaches-on c z a (happened (FrameCame k m.octets) near) far (handed_all k more (happened (FrameCame k m.octets) near)) far _ _ p
-      (come near x m (heard_in more ++ rest) p f.0 e h)
-      (λ s. told-walk more up (happened (FrameCame k m.octets) near) (record x { to_near = heard_in more ++ rest }) rest _ f.1 refl s))
+  pub acts-reach : (acts : List Act) (near : Books) (x : Air) (p : PairState) → MayActAll k j acts near.exchange far.exchange x → ShowsAt near x p
+      → ReachesAt (happened_all (map (event_of k) acts) near) (air_after_all acts x) p
+  acts-reach [] near x p may h = by-none c z a near far (with_air k x air) p h
+  acts-reach (act ∷ acts) near x p may h =
+      let near' : Books = happened (event_of k act) near in
+      reaches-on c z a near' far (happened_all (map (event_of k) acts) near') far (with_air k (air_after act x) air) (with_air k (air_after_all acts (air_after act x)) air) p
+      (act-reaches act near x p may.0 h) (λ s. acts-reach acts near' (air_after act x) _ may.1 s)
+
+  -- a frame goes out
+  pub frame-reaches : (frame : FrameValue) (near : Books) (x : Air) (p : PairState) → frame_to_take whole near.exchange k ≡ Some frame → ShowsAt near x p
+      → ReachesAt (record near { exchange = taken whole near.exchange k }) (air_given frame x) p
+  frame-reaches frame near x p next h =
+      leaves-by (record near { exchange = taken whole near.exchange k }) x p (air_given frame)
+      (goes-out c z a near far (with_air k x air) p h k j l frame next)

@@ -1,6 +1,6 @@
 -- A frame that newly carries a message: what it leads to, and the node that the message comes to.
 use Rattle.pair_rules.proofs.Basics.{◌≡◌, ◌&&◌, ℕ, zero, suc, Bool, true, false, not, List, length, Option, Some, None, Result, Ok, Err, refl, subst, ◌∙◌, if◌then◌else◌, sym}
-use Rattle.pair_rules.proofs.Definitions.{Message, Outcome, Ignored, Configuration, TitleEntry, FrameValue, EmptyFrame, MessageFrame, StatusFrame, read_frame, Action, UserData, action_at, SeqFault, Facts, Node, answer, refuse, down, is_link, link_at, WholeQueues, whole, Carrying, accept, accept_data, accept_frame, accept_text, act_by_data, carry, data_of, empty_data, handle_by, message_data, numbers, read, receive, receive_frame, deliver, new_at, new_by, new_in, new_message, new_of, advance, begun_anew_if, enters, return_if, step_on, loses_flows, hold_flows, code_for, take_back_each, count_confirmed, facts, owing, Parts, with_parts, has_other}
+use Rattle.pair_rules.proofs.Definitions.{Message, Ignored, Configuration, TitleEntry, FrameValue, EmptyFrame, MessageFrame, StatusFrame, read_frame, Action, UserData, action_at, SeqFault, Facts, Node, Done, answer, refuse, down, is_link, link_at, WholeQueues, whole, Carrying, accept, accept_data, accept_frame, accept_text, act_by_data, carry, data_of, empty_data, handle_by, message_data, numbers, read, receive, receive_frame, deliver, new_at, new_by, new_in, new_message, new_of, advance, begun_anew_if, enters, return_if, step_on, loses_flows, hold_flows, code_for, take_back_each, count_confirmed, facts, owing, Parts, with_parts, has_other}
 use Rattle.signalling_types.specs.declared.cause.Cause.TheVariants as causes
 use Rattle.signalling_types.specs.declared.notice.FrameFault.{FrameFault}
 use Rattle.link.specs.declared.action.Action.TheVariants as act
@@ -12,22 +12,22 @@ use Rattle.exchange_rules.specs.First.{Abstract}
 module _ (c : Configuration) (link : ℕ) where
   -- ---- what it comes to is what its message comes to
 
-  module _ (m : Message) (P : Outcome → Node WholeQueues → Type 0) (delivers : (n : Node WholeQueues) → P (deliver whole c link m n).outcome n) where
+  module _ (m : Message) (P : Done WholeQueues → Node WholeQueues → Type 0) (delivers : (n : Node WholeQueues) → P (deliver whole c link m n) n) where
     handled-as : (r : Result ℕ SeqFault) (d : Carrying) (n : Node WholeQueues) → new_by r d ≡ Some m → numbers whole c link d n ≡ r
-        → P (handle_by whole c r link d n).outcome (accept whole c link d (count_confirmed (numbers whole c link d n)) n)
+        → P (handle_by whole c r link d n) (accept whole c link d (count_confirmed (numbers whole c link d n)) n)
     handled-as (Ok confirmed) d n e f =
-        subst (λ (r : Result ℕ SeqFault). P (handle_by whole c (Ok confirmed) link d n).outcome (accept whole c link d (count_confirmed r) n)) (sym f)
-        (subst (λ (o : Option Message). P (carry whole c link o (accept whole c link d confirmed n)).outcome (accept whole c link d confirmed n)) (sym e)
+        subst (λ (r : Result ℕ SeqFault). P (handle_by whole c (Ok confirmed) link d n) (accept whole c link d (count_confirmed r) n)) (sym f)
+        (subst (λ (o : Option Message). P (carry whole c link o (accept whole c link d confirmed n)) (accept whole c link d confirmed n)) (sym e)
         (delivers (accept whole c link d confirmed n)))
     handled-as (Err fault) d n e f = absurd cc
 
-    acted-as : (a : Action) (d : Carrying) (n : Node WholeQueues) → new_at a link d c n ≡ Some m → P (act_by_data whole c a link d n).outcome (accept_data a link d c n)
+    acted-as : (a : Action) (d : Carrying) (n : Node WholeQueues) → new_at a link d c n ≡ Some m → P (act_by_data whole c a link d n) (accept_data a link d c n)
     acted-as act.Ignored d n e = absurd cc
     acted-as act.Fail d n e = absurd cc
     acted-as (act.Go step) d n e =
         handled-as (numbers whole c link d (advance whole c link step n)) d (advance whole c link step n) e refl
 
-    framed-as : (frame : FrameValue) (n : Node WholeQueues) → new_in (data_of frame) link c n ≡ Some m → P (receive_frame whole c link frame n).outcome (accept_frame (data_of frame) link c n)
+    framed-as : (frame : FrameValue) (n : Node WholeQueues) → new_in (data_of frame) link c n ≡ Some m → P (receive_frame whole c link frame n) (accept_frame (data_of frame) link c n)
     framed-as (EmptyFrame bsn fsn) n e = acted-as (action_at (link_at n.parts link).alignment UserData) (empty_data bsn fsn) n e
     framed-as (MessageFrame bsn fsn sio sif) n e = acted-as (action_at (link_at n.parts link).alignment UserData) (message_data bsn fsn sio sif) n e
     framed-as (StatusFrame bsn fsn status) n e = absurd cc
@@ -35,18 +35,18 @@ module _ (c : Configuration) (link : ℕ) where
     abbrev at_rest : Node WholeQueues → Abstract
     at_rest n = record { settings = c; node = n }
 
-    read-as : (r : Result FrameValue FrameFault) (n : Node WholeQueues) → new_of r link c n ≡ Some m → P (read whole c link r n).outcome (accept_text link r (at_rest n))
+    read-as : (r : Result FrameValue FrameFault) (n : Node WholeQueues) → new_of r link c n ≡ Some m → P (read whole c link r n) (accept_text link r (at_rest n))
     read-as (Ok frame) n e = framed-as frame n e
     read-as (Err fault) n e = absurd cc
 
     received-by : (l b : Bool) (r : Result FrameValue FrameFault) (n : Node WholeQueues) → (if l && not b then new_of r link c n else None) ≡ Some m
-        → P (if l then (if b then answer Ignored n else read whole c link r n) else refuse causes.NoSuchName n).outcome (accept_text link r (at_rest n))
+        → P (if l then (if b then answer Ignored n else read whole c link r n) else refuse causes.NoSuchName n) (accept_text link r (at_rest n))
     received-by true true r n e = absurd cc
     received-by true false r n e = read-as r n e
     received-by false b r n e = absurd cc
 
     pub received-as : (text : List ℕ) (n : Node WholeQueues) → new_message link text (at_rest n) ≡ Some m
-        → P (receive whole c link text n).outcome (accept_text link (read_frame text) (at_rest n))
+        → P (receive whole c link text n) (accept_text link (read_frame text) (at_rest n))
     received-as text n e = received-by (is_link n.parts link) (down n.parts link) (read_frame text) n e
 
   -- ---- the translation rows stay as they are

@@ -19,7 +19,7 @@ use Rattle.mtp3_codec.specs.declared.label.Label.{Label}
 use Rattle.sccp_relay.specs.Relay.{returned}
 use Rattle.exchange_rules.specs.Messages.{is_destination, offer, transfer, in_place_of, own_of, return_unitdata, send_udts}
 use Rattle.exchange_rules.specs.Conserving.{returned_in}
-use Rattle.exchange_rules.specs.Laws.{answered, answered_by, carried_message, noted}
+use Rattle.exchange_rules.specs.Laws.{answered, answered_by, no_part_answered, carried_message, noted}
 use Rattle.exchange_rules.specs.State.{with_node}
 use Rattle.exchange_rules.specs.Telling.{tell_owed}
 use Rattle.exchange_rules.specs.First.{Abstract, IsSound}
@@ -85,18 +85,18 @@ module _ (number : ℕ) (c : Configuration) where
 
   -- what answers a message of SCCP for this point that is refused for a cause
   answered-more : (cause : Cause) (from : Option ℕ) (m : Message) (label : Label) (n : Node WholeQueues) → Fits c n → whither_goes c m ≡ whither.Here label → nat_eq (service_indicator m) sccp ≡ true
-      → T number c (answered cause from (Some m) c n) ≡ T number c n + users (returned_in (returned (own_of c) n.parts.titles m.sif cause) c m n)
+      → T number c (answered cause from (Some m) c n) ≡ T number c n + users (returned_in (returned (own_of c n.parts) n.parts.titles m.sif cause) c m n)
   answered-more cause from m label n f here is =
       ap (λ (d : Discrimination). T number c (answered_by d cause from m c n)) here
-      ∙ ap (λ (b : Bool). T number c (if b then return_unitdata whole c cause m n else n)) is
-      ∙ udts-more (returned (own_of c) n.parts.titles m.sif cause) m n f
+      ∙ ap (λ (b : Bool). T number c (if b then return_unitdata whole c cause m n else no_part_answered cause from m c n)) is
+      ∙ udts-more (returned (own_of c n.parts) n.parts.titles m.sif cause) m n f
 
 -- ---- a submission
 
 pub submission-counts : (number : ℕ) (a : Abstract) (cause : Cause) (m : Message) (label : Label) → IsSound a → Fits a.settings a.node → outcome_of whole (Submitted m) a ≡ Refused cause
     → whither_goes a.settings m ≡ whither.Here label → nat_eq (service_indicator m) sccp ≡ true
     → standing_behind number (length a.settings.links) (after whole (Submitted m) a).node.queues
-    ≡ standing_behind number (length a.settings.links) a.node.queues + users (returned_in (returned (own_of a.settings) a.node.parts.titles m.sif cause) a.settings m a.node)
+    ≡ standing_behind number (length a.settings.links) a.node.queues + users (returned_in (returned (own_of a.settings a.node.parts) a.node.parts.titles m.sif cause) a.settings m a.node)
 submission-counts number a cause m label sound f e here is =
     ap (λ (x : Abstract). standing_behind number (length a.settings.links) x.node.queues) (refused_leaves (Submitted m) a cause sound e)
     ∙ answered-more number a.settings cause None m label a.node f here is
@@ -211,12 +211,12 @@ module _ (a : Abstract) (link : ℕ) (text : List ℕ) (cause : Cause) (m : Mess
   abbrev left : Node WholeQueues
   left = answered cause (Some link) (carried_message (read_frame text)) a.settings mid
 
-  pub frame-counts : count (after whole (FrameCame link text) a).node ≡ count a.node + users (returned_in (returned (own_of a.settings) mid.parts.titles m.sif cause) a.settings m mid)
+  pub frame-counts : count (after whole (FrameCame link text) a).node ≡ count a.node + users (returned_in (returned (own_of a.settings mid.parts) mid.parts.titles m.sif cause) a.settings m mid)
   frame-counts =
       ap (λ (x : Abstract). count x.node) (refused_leaves (FrameCame link text) a cause sound e)
       ∙ ap (λ (b : Bool). count (if b then with_node a (tell_owed whole a.settings (noted cause link left)) else a).node) read-new.0
       ∙ as-many number a.settings (noted cause link left) (tell_owed whole a.settings (noted cause link left)) (tell_owed-same number a.settings (noted cause link left))
       ∙ ap (λ (o : Option Message). count (answered cause (Some link) o a.settings mid)) (new-carried link text a m new)
       ∙ answered-more number a.settings cause (Some link) m label mid (read-fits a.settings link (read_frame text) m a.node f read-new.1) here is
-      ∙ ap (λ (k : ℕ). k + users (returned_in (returned (own_of a.settings) mid.parts.titles m.sif cause) a.settings m mid))
+      ∙ ap (λ (k : ℕ). k + users (returned_in (returned (own_of a.settings mid.parts) mid.parts.titles m.sif cause) a.settings m mid))
       (as-many number a.settings a.node mid (read-same a.settings link (read_frame text) m a.node f read-new.1))

@@ -6,7 +6,7 @@ use Rattle.signalling_types.specs.declared.cause.Cause.TheVariants.{NoUserPart}
 use Rattle.signalling_types.specs.declared.outcome.Outcome.{Outcome}
 use Rattle.signalling_types.specs.declared.outcome.Outcome.TheVariants.{Queued, Held, Local, Handled, Ignored, Refused}
 use Rattle.settings_rows.specs.Configuration.{Configuration, TitleEntry}
-use Rattle.sccp_relay.specs.Relay.{RelayedValue, relay, returned}
+use Rattle.sccp_relay.specs.Relay.{OwnValue, RelayedValue, relay, returned}
 use Rattle.sccp_relay.specs.Relay as relays
 use Rattle.exchange_rules.specs.Messages.{is_user, sccp, in_place_of, own_of}
 use Rattle.pair_rules.specs.Pairs.{PairState, Doing, Delivers, DeliversStatus, did}
@@ -14,41 +14,41 @@ use Rattle.pair_rules.specs.Promises.{Always, BothWays}
 
 -- ---- what came of a message of SCCP
 
--- the end accepts at most the UDTS that returns one that is refused
+-- the end accepts at most the UDTS or XUDTS that returns one that is refused
 abbrev pub IsReturnedAtMost : Option (List ℕ) → Message → (accepted : List Message) → Type 0
 IsReturnedAtMost None m accepted = accepted ≡ []
 IsReturnedAtMost (Some udts) m accepted = (accepted ≡ []) ⊎ (accepted ≡ in_place_of m udts ∷ [])
 
 -- for a cause that isn't one of user parts
-pub record IsRefused (c : Configuration) (rows : List TitleEntry) (cause : Cause) (m : Message)
+pub record IsRefused (own : OwnValue) (rows : List TitleEntry) (cause : Cause) (m : Message)
     (accepted : List Message) : Type 0 where
   pub other : cause ≢ NoUserPart
-  pub returned : IsReturnedAtMost (returned (own_of c) rows m.sif cause) m accepted
+  pub returned : IsReturnedAtMost (returned own rows m.sif cause) m accepted
 
 -- one that goes on, rewritten, is queued or held, and nothing else is accepted; or it is refused
-abbrev pub GoesOn : (sif : List ℕ) → Configuration → List TitleEntry → Message → Outcome → (accepted : List Message)
+abbrev pub GoesOn : (sif : List ℕ) → OwnValue → List TitleEntry → Message → Outcome → (accepted : List Message)
     → Type 0
-GoesOn sif c rows m (Queued link) accepted = accepted ≡ in_place_of m sif ∷ []
-GoesOn sif c rows m Held accepted = accepted ≡ in_place_of m sif ∷ []
-GoesOn sif c rows m (Refused cause) accepted = IsRefused c rows cause m accepted
-GoesOn sif c rows m Local accepted = ⊥
-GoesOn sif c rows m Handled accepted = ⊥
-GoesOn sif c rows m Ignored accepted = ⊥
+GoesOn sif own rows m (Queued link) accepted = accepted ≡ in_place_of m sif ∷ []
+GoesOn sif own rows m Held accepted = accepted ≡ in_place_of m sif ∷ []
+GoesOn sif own rows m (Refused cause) accepted = IsRefused own rows cause m accepted
+GoesOn sif own rows m Local accepted = ⊥
+GoesOn sif own rows m Handled accepted = ⊥
+GoesOn sif own rows m Ignored accepted = ⊥
 
 -- by what becomes of it at this point; one for a subsystem here is delivered
-abbrev pub IsRelayed : RelayedValue → Configuration → List TitleEntry → Message → Outcome → (accepted : List Message)
+abbrev pub IsRelayed : RelayedValue → OwnValue → List TitleEntry → Message → Outcome → (accepted : List Message)
     → Type 0
-IsRelayed relays.Delivered c rows m outcome accepted = (outcome ≡ Local) × (accepted ≡ [])
-IsRelayed (relays.Onward sif) c rows m outcome accepted = GoesOn sif c rows m outcome accepted
-IsRelayed (relays.Refused cause) c rows m outcome accepted =
-    (outcome ≡ Refused cause) × IsRefused c rows cause m accepted
+IsRelayed relays.Delivered own rows m outcome accepted = (outcome ≡ Local) × (accepted ≡ [])
+IsRelayed (relays.Onward sif) own rows m outcome accepted = GoesOn sif own rows m outcome accepted
+IsRelayed (relays.Refused cause) own rows m outcome accepted =
+    (outcome ≡ Refused cause) × IsRefused own rows cause m accepted
 
 -- ---- what came of a message
 
-abbrev pub ComesOf : (is_sccp : Bool) → Configuration → List TitleEntry → Message → Outcome → (accepted : List Message)
+abbrev pub ComesOf : (is_sccp : Bool) → OwnValue → Configuration → List TitleEntry → Message → Outcome → (accepted : List Message)
     → Type 0
-ComesOf true c rows m outcome accepted = IsRelayed (relay (own_of c) rows m.sif) c rows m outcome accepted
-ComesOf false c rows m outcome accepted =
+ComesOf true own c rows m outcome accepted = IsRelayed (relay own rows m.sif) own rows m outcome accepted
+ComesOf false own c rows m outcome accepted =
     (outcome ≡ (if is_user c (service_indicator m) then Local else Refused NoUserPart)) × (accepted ≡ [])
 
 -- nothing was delivered, taken on or accepted
@@ -61,10 +61,10 @@ pub record IsQuiet (outcome : Outcome) (accepted : List Message) : Type 0 where
 
 -- what an end with these settings and translation rows answers, by what was received: Local if a message came for a
 -- user part that the settings list, NoUserPart if one came for another, and what SCCP makes of it if one came for SCCP
-abbrev pub ComesTo : Configuration → List TitleEntry → (received accepted : List Message) → Outcome → Type 0
-ComesTo c rows [] accepted outcome = IsQuiet outcome accepted
-ComesTo c rows (m ∷ ms) accepted outcome =
-    ComesOf (nat_eq (service_indicator m) sccp) c rows m outcome accepted
+abbrev pub ComesTo : OwnValue → Configuration → List TitleEntry → (received accepted : List Message) → Outcome → Type 0
+ComesTo own c rows [] accepted outcome = IsQuiet outcome accepted
+ComesTo own c rows (m ∷ ms) accepted outcome =
+    ComesOf (nat_eq (service_indicator m) sccp) own c rows m outcome accepted
 
 -- what the near end received and accepted by something done there
 abbrev pub received_by : Doing → PairState → List Message
@@ -73,10 +73,15 @@ received_by what p = drop (length p.near.received) (did what p).left.near.receiv
 abbrev pub accepted_by : Doing → PairState → List Message
 accepted_by what p = drop (length p.near.accepted) (did what p).left.near.accepted
 
+-- what the near end relays by: its settings, and where its links lead once that is done
+abbrev pub own_by : Doing → PairState → OwnValue
+own_by what p = own_of p.near.exchange.settings (did what p).left.near.exchange.node.parts
+
 -- the outcome of something done at an end says both
 abbrev pub TellsOf : Doing → PairState → Outcome → Type 0
 TellsOf what p outcome =
-    ComesTo p.near.exchange.settings p.near.exchange.node.parts.titles (received_by what p) (accepted_by what p) outcome
+    ComesTo (own_by what p) p.near.exchange.settings p.near.exchange.node.parts.titles (received_by what p)
+    (accepted_by what p) outcome
 
 abbrev pub Tells : Doing → PairState → Type 0
 Tells what p = TellsOf what p (did what p).outcome

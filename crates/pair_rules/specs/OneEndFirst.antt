@@ -38,6 +38,7 @@ settings_of own adjacent = record {
   subsystems = [];
   extended_unitdata = false;
   subsystem_tests = false;
+  user_part_unavailable = false;
   timers = ticks;
   sets = record { name = 97 ∷ []; adjacent = adjacent } ∷ [];
   links =

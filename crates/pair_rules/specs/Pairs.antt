@@ -25,7 +25,7 @@ pub record Streams : Type 0 where
 
 -- an end: its exchange; what is in flight to it; for each link, whether it may follow the other end, which opened
 -- first; all user messages that it accepted, and all that came to it from the other end. It accepts what an event there
--- brings into a queue or Held: what a user part hands over, what SCCP relays, and the UDTS that it returns
+-- brings into a queue or Held: what a user part hands over, what SCCP relays, and the UDTS or XUDTS that it returns
 pub record End : Type 0 where
   pub exchange : Abstract
   pub incoming : Streams

@@ -12,9 +12,10 @@ use Rattle.m2pa_codec.specs.Frames.{FrameValue, EmptyFrame, MessageFrame, Status
 use Rattle.mtp3_codec.specs.declared.label.Label.{Label}
 use Rattle.mtp3_codec.specs.declared.discrimination.Discrimination.{Discrimination}
 use Rattle.mtp3_codec.specs.declared.discrimination.Discrimination.TheVariants as whither
-use Rattle.sccp_relay.specs.Relay.{RelayedValue, relay, returned}
+use Rattle.sccp_relay.specs.Relay.{OwnValue, RelayedValue, relay, returned}
 use Rattle.sccp_relay.specs.Relay as relays
-use Rattle.exchange_rules.specs.Messages.{transfer, whither_goes, in_place_of, own_of}
+use Rattle.exchange_rules.specs.Frames.{receive}
+use Rattle.exchange_rules.specs.Messages.{deliver, transfer, whither_goes, in_place_of, own_of}
 use Rattle.exchange_rules.specs.Conserving.{brought_by, brought_in, brought_to, relayed_in, returned_in, taken_in, unitdata_in}
 use Rattle.exchange_rules.specs.Exchange.{after, outcome_of}
 use Rattle.exchange_rules.specs.State.{FrameCame, Happening, Submitted, Node}
@@ -31,7 +32,8 @@ use Rattle.exchange.proofs.Waiting.{stands-behind}
 use Rattle.pair_moves.specs.Laws.{sum_to}
 use Rattle.pair_moves.proofs.Counts.{count-one, sum-alike}
 use Rattle.pair_rules.specs.Promises.{user}
-use Rattle.pair_rules.proofs.Arrivals.{accepted-titles}
+use Rattle.exchange_rules.proofs.KeptFacts.{after-facts, deliver-facts, own-same, submit-facts}
+use Rattle.pair_rules.proofs.Arrivals.{accepted-titles, received-as}
 use Rattle.pair_rules.proofs.Behind.{behind_at, standing_behind, users}
 use Rattle.pair_rules.proofs.Counted.{confirming_number, frame-counts, submission-counts}
 use Rattle.pair_world.specs.Bringing.{comes_back, goes_on, is_sccp, kept_behind, kept_in, kept_in_all, kept_standing, kept_standing_if, number_in, told_in, udts_as, written_as}
@@ -82,7 +84,11 @@ same-number (Err fault) = refl
 
 -- ---- by what became of it
 
-module _ (c : Configuration) (m : Message) (n : Node WholeQueues) (is_more : Bool) where
+-- where the links lead for a message of SCCP for this point
+abbrev LeadsAlike : OwnValue → Configuration → Message → Node WholeQueues → Type 0
+LeadsAlike own c m n = (label : Label) → whither_goes c m ≡ whither.Here label → is_sccp m ≡ true → own ≡ own_of c n.parts
+
+module _ (own : OwnValue) (c : Configuration) (m : Message) (n : Node WholeQueues) (is_more : Bool) (alike : LeadsAlike own c m n) where
   abbrev rows : List TitleEntry
   rows = n.parts.titles
 
@@ -90,7 +96,7 @@ module _ (c : Configuration) (m : Message) (n : Node WholeQueues) (is_more : Boo
   abbrev IsToldBack : Outcome → Type 0
   IsToldBack o =
       (cause : Cause) (label : Label) → o ≡ Refused cause → whither_goes c m ≡ whither.Here label → is_sccp m ≡ true
-      → (if is_more then udts_as (returned (own_of c) rows m.sif cause) m else []) ≡ returned_in (returned (own_of c) rows m.sif cause) c m n
+      → (if is_more then udts_as (returned (own_of c n.parts) rows m.sif cause) m else []) ≡ returned_in (returned (own_of c n.parts) rows m.sif cause) c m n
 
   -- by what goes on, and what comes back
   abbrev told_by : List Message → (Cause → List Message) → Outcome → List Message
@@ -102,7 +108,7 @@ module _ (c : Configuration) (m : Message) (n : Node WholeQueues) (is_more : Boo
   told_by on back Ignored = []
 
   abbrev told_at : Discrimination → Outcome → List Message
-  told_at d o = told_by (goes_on d c rows m) (λ cause. comes_back d cause c rows m) o
+  told_at d o = told_by (goes_on d own rows m) (λ cause. comes_back d cause own rows m) o
 
   -- what goes on
   queued-so : (link : ℕ) (v : RelayedValue) → written_as v m ≡ relayed_in v (Queued link) m ++ []
@@ -137,21 +143,23 @@ module _ (c : Configuration) (m : Message) (n : Node WholeQueues) (is_more : Boo
   ignored-so (relays.Refused cause) = refl
 
   abbrev its : RelayedValue
-  its = relay (own_of c) rows m.sif
+  its = relay (own_of c n.parts) rows m.sif
 
   -- of SCCP for this point
   sccp-so : (o : Outcome) (label : Label) → IsToldBack o → whither_goes c m ≡ whither.Here label → is_sccp m ≡ true
-      → told_by (written_as its m) (λ cause. udts_as (returned (own_of c) rows m.sif cause) m) o ≡ unitdata_in o c m n
+      → told_by (written_as its m) (λ cause. udts_as (returned (own_of c n.parts) rows m.sif cause) m) o ≡ unitdata_in o c m n
   sccp-so (Queued link) label back e is = queued-so link its
   sccp-so Held label back e is = held-so its
-  sccp-so (Refused cause) label back e is = back cause label refl e is ∙ refused-so cause its (returned_in (returned (own_of c) rows m.sif cause) c m n)
+  sccp-so (Refused cause) label back e is = back cause label refl e is ∙ refused-so cause its (returned_in (returned (own_of c n.parts) rows m.sif cause) c m n)
   sccp-so Local label back e is = local-so its
   sccp-so Handled label back e is = handled-so its
   sccp-so Ignored label back e is = ignored-so its
 
   here-so : (b : Bool) (o : Outcome) (label : Label) → IsToldBack o → whither_goes c m ≡ whither.Here label → is_sccp m ≡ b
-      → told_by (if b then written_as its m else []) (λ cause. if b then udts_as (returned (own_of c) rows m.sif cause) m else []) o ≡ (if b then unitdata_in o c m n else [])
-  here-so true o label back e is = sccp-so o label back e is
+      → told_by (if b then written_as (relay own rows m.sif) m else []) (λ cause. if b then udts_as (returned own rows m.sif cause) m else []) o ≡ (if b then unitdata_in o c m n else [])
+  here-so true o label back e is =
+      subst (λ (x : OwnValue). told_by (written_as (relay x rows m.sif) m) (λ cause. udts_as (returned x rows m.sif cause) m) o ≡ unitdata_in o c m n) (sym (alike label e is))
+      (sccp-so o label back e is)
   here-so false (Queued link) label back e is = refl
   here-so false Held label back e is = refl
   here-so false (Refused cause) label back e is = neither is_more []
@@ -174,7 +182,7 @@ module _ (c : Configuration) (m : Message) (n : Node WholeQueues) (is_more : Boo
   at-so (whither.Transfer label) Handled back e = refl
   at-so (whither.Transfer label) Ignored back e = refl
 
-  told-so : (o : Outcome) → IsToldBack o → told_in o is_more c rows m ≡ brought_to (whither_goes c m) o c m n
+  told-so : (o : Outcome) → IsToldBack o → told_in o is_more own c rows m ≡ brought_to (whither_goes c m) o c m n
   told-so (Queued link) back = at-so (whither_goes c m) (Queued link) back refl
   told-so Held back = at-so (whither_goes c m) Held back refl
   told-so (Refused cause) back = at-so (whither_goes c m) (Refused cause) back refl
@@ -209,9 +217,21 @@ module _ (a : Abstract) (sound : IsSound a) (places : HasAllPlaces a.settings a.
     abbrev is_more : Bool
     is_more = not (nat_eq (kept_standing_if (is_sccp m) 0 k) (kept_standing_if (is_sccp m) 0 (after kept submission k)))
 
-    told-back : IsToldBack a.settings m a.node is_more (outcome_of whole submission a)
+    abbrev own : OwnValue
+    own = own_of a.settings (after kept submission k).node.parts
+
+    abbrev out : Node WholeQueues
+    out = (after whole submission a).node
+
+    -- its links lead where they did
+    alike : LeadsAlike own a.settings m a.node
+    alike label here is =
+        ap (λ (x : Kept). own_of a.settings x.node.parts) (stands-after submission k a (stands-itself a sound)).kept
+        ∙ own-same a.settings out a.node (after-facts a.settings submission a.node ∙ submit-facts a.settings m label a.node here)
+
+    told-back : IsToldBack own a.settings m a.node is_more alike (outcome_of whole submission a)
     told-back cause label e here is =
-        let udts : Option (List ℕ) = returned (own_of a.settings) a.node.parts.titles m.sif cause in
+        let udts : Option (List ℕ) = returned (own_of a.settings a.node.parts) a.node.parts.titles m.sif cause in
         ap (λ (b : Bool). if not (nat_eq (kept_standing_if b 0 k) (kept_standing_if b 0 (after kept submission k))) then udts_as udts m else []) is
         ∙ returned-more (kept_standing 0 k) (kept_standing 0 (after kept submission k)) udts a.settings m a.node (user-of m is)
         (submission-after ∙ submission-counts 0 a cause m label sound fits e here is
@@ -220,7 +240,7 @@ module _ (a : Abstract) (sound : IsSound a) (places : HasAllPlaces a.settings a.
     pub submission-same : handed_in m k ≡ brought_in submission a
     submission-same =
         ap (λ (o : Outcome). kept_in 0 k (after kept submission k) o m) (stands-outcome submission k a (stands-itself a sound))
-        ∙ told-so a.settings m a.node is_more (outcome_of whole submission a) told-back
+        ∙ told-so own a.settings m a.node is_more alike (outcome_of whole submission a) told-back
 
   -- a frame
 
@@ -241,26 +261,39 @@ module _ (a : Abstract) (sound : IsSound a) (places : HasAllPlaces a.settings a.
       abbrev more_stand : Bool
       more_stand = not (nat_eq (kept_standing_if (is_sccp m) number k) (kept_standing_if (is_sccp m) number (after kept came k)))
 
-      frame-back : IsToldBack a.settings m mid more_stand (outcome_of whole came a)
+      abbrev own : OwnValue
+      own = own_of a.settings (after kept came k).node.parts
+
+      abbrev out : Node WholeQueues
+      out = (after whole came a).node
+
+      alike : LeadsAlike own a.settings m mid
+        alike label here is =
+          ap (λ (x : Kept). own_of a.settings x.node.parts) (stands-after came k a (stands-itself a sound)).kept
+          ∙ own-same a.settings out (receive whole a.settings link text a.node).left (after-facts a.settings came a.node)
+          ∙ received-as a.settings link m (λ d x. own_of a.settings d.left.parts ≡ own_of a.settings x.parts)
+          (λ n. own-same a.settings (deliver whole a.settings link m n).left n (deliver-facts a.settings link m label n (user-of m is) here)) text a.node new
+
+      frame-back : IsToldBack own a.settings m mid more_stand alike (outcome_of whole came a)
       frame-back cause label e here is =
-          let udts : Option (List ℕ) = returned (own_of a.settings) mid.parts.titles m.sif cause in
+          let udts : Option (List ℕ) = returned (own_of a.settings mid.parts) mid.parts.titles m.sif cause in
           ap (λ (b : Bool). if not (nat_eq (kept_standing_if b number k) (kept_standing_if b number (after kept came k))) then udts_as udts m else []) is
           ∙ returned-more (kept_standing number k) (kept_standing number (after kept came k)) udts a.settings m mid (user-of m is)
           (frame-after ∙ counts-more cause label e here is ∙ ap (λ (t : ℕ). t + users (returned_in udts a.settings m mid)) (sym (count-same number)))
         where
           counts-more : (cause : Cause) (label : Label) → outcome_of whole came a ≡ Refused cause → whither_goes a.settings m ≡ whither.Here label → is_sccp m ≡ true
               → standing_behind number (length a.settings.links) (after whole came a).node.queues
-              ≡ standing_behind number (length a.settings.links) a.node.queues + users (returned_in (returned (own_of a.settings) mid.parts.titles m.sif cause) a.settings m mid)
+              ≡ standing_behind number (length a.settings.links) a.node.queues + users (returned_in (returned (own_of a.settings mid.parts) mid.parts.titles m.sif cause) a.settings m mid)
           counts-more cause label e here is =
               subst (λ (number : ℕ). standing_behind number (length a.settings.links) (after whole came a).node.queues
-              ≡ standing_behind number (length a.settings.links) a.node.queues + users (returned_in (returned (own_of a.settings) mid.parts.titles m.sif cause) a.settings m mid))
+              ≡ standing_behind number (length a.settings.links) a.node.queues + users (returned_in (returned (own_of a.settings mid.parts) mid.parts.titles m.sif cause) a.settings m mid))
               (sym (same-number (read_frame text))) (frame-counts a link text cause m label sound fits e new here is)
 
       message-came : kept_in number k (after kept came k) (outcome_of kept came k) m ≡ brought_to (whither_goes a.settings m) (outcome_of whole came a) a.settings m mid
       message-came =
           ap (λ (o : Outcome). kept_in number k (after kept came k) o m) (stands-outcome came k a (stands-itself a sound))
-          ∙ ap (λ (rows : List TitleEntry). told_in (outcome_of whole came a) more_stand a.settings rows m) (sym (accepted-titles a.settings link (read_frame text) a.node))
-          ∙ told-so a.settings m mid more_stand (outcome_of whole came a) frame-back
+          ∙ ap (λ (rows : List TitleEntry). told_in (outcome_of whole came a) more_stand own a.settings rows m) (sym (accepted-titles a.settings link (read_frame text) a.node))
+          ∙ told-so own a.settings m mid more_stand alike (outcome_of whole came a) frame-back
 
     by-message : (o : Option Message) → new_message link text a ≡ o
         → kept_in_all number k (after kept came k) (outcome_of kept came k) (option_to_list o) ≡ brought_by o (outcome_of whole came a) a.settings mid

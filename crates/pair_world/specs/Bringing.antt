@@ -10,7 +10,7 @@ use Rattle.settings_rows.specs.Configuration.{Configuration, TitleEntry}
 use Rattle.m2pa_codec.specs.Frames.{FrameValue, EmptyFrame, MessageFrame, StatusFrame}
 use Rattle.mtp3_codec.specs.declared.discrimination.Discrimination.{Discrimination}
 use Rattle.mtp3_codec.specs.declared.discrimination.Discrimination.TheVariants as whither
-use Rattle.sccp_relay.specs.Relay.{RelayedValue, relay, returned}
+use Rattle.sccp_relay.specs.Relay.{OwnValue, RelayedValue, relay, returned}
 use Rattle.sccp_relay.specs.Relay as relays
 use Rattle.exchange_rules.specs.Messages.{sccp, whither_goes, in_place_of, own_of}
 use Rattle.cell_pool.specs.Lanes.{is_user_picked}
@@ -56,37 +56,38 @@ written_as (relays.Onward sif) m = in_place_of m sif ∷ []
 written_as (relays.Refused cause) m = []
 
 -- one that is queued or held
-abbrev pub goes_on : Discrimination → Configuration → List TitleEntry → Message → List Message
-goes_on (whither.Refused fault) c rows m = []
-goes_on (whither.Here label) c rows m = if is_sccp m then written_as (relay (own_of c) rows m.sif) m else []
-goes_on (whither.Transfer label) c rows m = m ∷ []
+abbrev pub goes_on : Discrimination → OwnValue → List TitleEntry → Message → List Message
+goes_on (whither.Refused fault) own rows m = []
+goes_on (whither.Here label) own rows m = if is_sccp m then written_as (relay own rows m.sif) m else []
+goes_on (whither.Transfer label) own rows m = m ∷ []
 
 abbrev pub udts_as : Option (List ℕ) → Message → List Message
 udts_as (Some sif) m = in_place_of m sif ∷ []
 udts_as None m = []
 
 -- the UDTS that returns one that is refused, if one does
-abbrev pub comes_back : Discrimination → Cause → Configuration → List TitleEntry → Message → List Message
-comes_back (whither.Refused fault) cause c rows m = []
-comes_back (whither.Here label) cause c rows m =
-    if is_sccp m then udts_as (returned (own_of c) rows m.sif cause) m else []
-comes_back (whither.Transfer label) cause c rows m = []
+abbrev pub comes_back : Discrimination → Cause → OwnValue → List TitleEntry → Message → List Message
+comes_back (whither.Refused fault) cause own rows m = []
+comes_back (whither.Here label) cause own rows m =
+    if is_sccp m then udts_as (returned own rows m.sif cause) m else []
+comes_back (whither.Transfer label) cause own rows m = []
 
--- by what became of it, and whether more user messages stand
-abbrev pub told_in : Outcome → (is_more : Bool) → Configuration → List TitleEntry → Message → List Message
-told_in (Queued link) is_more c rows m = goes_on (whither_goes c m) c rows m
-told_in Held is_more c rows m = goes_on (whither_goes c m) c rows m
-told_in (Refused cause) is_more c rows m = if is_more then comes_back (whither_goes c m) cause c rows m else []
-told_in Local is_more c rows m = []
-told_in Handled is_more c rows m = []
-told_in Ignored is_more c rows m = []
+-- by what became of it, whether more user messages stand, and where the links lead
+abbrev pub told_in : Outcome → (is_more : Bool) → OwnValue → Configuration → List TitleEntry → Message → List Message
+told_in (Queued link) is_more own c rows m = goes_on (whither_goes c m) own rows m
+told_in Held is_more own c rows m = goes_on (whither_goes c m) own rows m
+told_in (Refused cause) is_more own c rows m =
+    if is_more then comes_back (whither_goes c m) cause own rows m else []
+told_in Local is_more own c rows m = []
+told_in Handled is_more own c rows m = []
+told_in Ignored is_more own c rows m = []
 
--- the same, of an exchange before and after
+-- the same, of an exchange before and after; its links lead where they do after
 abbrev pub kept_in : (number : ℕ) → (before after : Kept) → Outcome → Message → List Message
 kept_in number before after outcome m =
     told_in outcome
     (not (nat_eq (kept_standing_if (is_sccp m) number before) (kept_standing_if (is_sccp m) number after)))
-    before.settings before.node.parts.titles m
+    (own_of before.settings after.node.parts) before.settings before.node.parts.titles m
 
 -- of the message that came, if one did
 abbrev pub kept_in_all : (number : ℕ) → (before after : Kept) → Outcome → List Message → List Message

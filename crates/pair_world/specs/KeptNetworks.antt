@@ -68,7 +68,8 @@ abbrev pub both_turned : (near far : ℕ) → BothTurn → List KeptNode → Net
 both_turned near far t k = record { outcome = t.outcome; left = slice_set (slice_set k near t.near) far t.far }
 
 -- with the other end of the link, which is at another place
-abbrev pub reached_at : Reach → (place link far other : ℕ) → (near there : Option KeptNode) → List KeptNode → NetworkTurn
+abbrev pub reached_at : Reach → (place link far other : ℕ) → (near there : Option KeptNode) → List KeptNode
+    → NetworkTurn
 reached_at what place link far other (Some near) (Some there) k =
     if nat_eq place far then network_ignored k
     else both_turned place far (both_did what link other near there) k

@@ -141,7 +141,8 @@ kept_did_between (pairs.AddsTitle row is_memory_refused) p =
     alone (end_happens (TitleAdded row is_memory_refused) p.near) p.far
 kept_did_between (pairs.RemovesTitle key digits) p = alone (end_happens (TitleRemoved key digits) p.near) p.far
 kept_did_between (pairs.OpensFirst link) p =
-    kept_opens_first (wants_of p.near.exchange link) (kept_far_end p link) (kept_far_may (kept_far_end p link) p.far) link p
+    kept_opens_first (wants_of p.near.exchange link) (kept_far_end p link)
+    (kept_far_may (kept_far_end p link) p.far) link p
 kept_did_between (pairs.OpensSecond link) p = alone (end_opens_second link p.near) p.far
 
 abbrev pub kept_did : Doing → KeptPair → KeptTurn

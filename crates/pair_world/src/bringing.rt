@@ -6,12 +6,11 @@ ghost use Rattle.mtp3_codec.specs.declared.label.Label.{Label};
 ghost use Rattle.exchange_rules.specs.Messages.{whither_goes, in_place_of, own_of};
 ghost use Rattle.sccp_relay.specs.Relay as rule;
 ghost use Rattle.sccp_relay.specs.Relay.{returned};
-ghost use Rattle.sccp_relay.specs.Values.{own_value};
 ghost use Rattle.pair_world.specs.Bringing.{is_sccp, kept_behind, kept_standing, kept_standing_if, goes_on, comes_back, told_in, written_as, udts_as};
 
 use exchange::{Exchange, NoMemory, Pick};
 use mtp3_codec::{Discrimination, discriminate};
-use sccp_relay::{Own, Relayed, Translations, relay, returned};
+use sccp_relay::{Relayed, Translations, relay, returned};
 use settings::{Cause, Limits, LinkId, Msu, Outcome, Settings};
 use signalling_types::Number24;
 use std::alloc::Global;
@@ -79,42 +78,44 @@ fn count_behind(exchange: &mut Exchange, links: u8, number: Number24) -> u128
     count
 }
 
-/// What a message brings in, by what became of it, and by whether more user messages stand then.
+/// What a message brings in, by what became of it, by whether more user messages stand then, and by where the links of
+/// the exchange lead then.
 pub(crate) fn told_in(
     outcome: &Outcome,
     is_more: bool,
-    settings: &Settings,
+    exchange: &Exchange,
     rows: &Translations,
     message: &Msu,
 ) -> Option<Msu>
-    ensures { option_to_list result ≡ told_in outcome.now is_more settings.now rows.now message.now }
+    ensures { option_to_list result ≡ told_in outcome.now is_more
+        (own_of exchange.now.settings exchange.now.node.parts) exchange.now.settings rows.now message.now }
 {
     match outcome {
-        Outcome::Queued(_) | Outcome::Held => goes_on(settings, rows, message),
-        Outcome::Refused(cause) if is_more => comes_back(*cause, settings, rows, message),
+        Outcome::Queued(_) | Outcome::Held => goes_on(exchange, rows, message),
+        Outcome::Refused(cause) if is_more => comes_back(*cause, exchange, rows, message),
         Outcome::Refused(_) | Outcome::Local | Outcome::Handled | Outcome::Ignored => None,
     }
 }
 
 /// What a message brings in that is queued or held.
-fn goes_on(settings: &Settings, rows: &Translations, message: &Msu) -> Option<Msu>
-    ensures { option_to_list result ≡
-        goes_on (whither_goes settings.now message.now) settings.now rows.now message.now }
+fn goes_on(exchange: &Exchange, rows: &Translations, message: &Msu) -> Option<Msu>
+    ensures { option_to_list result ≡ goes_on (whither_goes exchange.now.settings message.now)
+        (own_of exchange.now.settings exchange.now.node.parts) rows.now message.now }
 {
-    match whither_goes(settings, message) {
-        Discrimination::Here(_) if is_sccp(message) => written(settings, rows, message),
+    match whither_goes(exchange.settings(), message) {
+        Discrimination::Here(_) if is_sccp(message) => written(exchange, rows, message),
         Discrimination::Here(_) | Discrimination::Refused(_) => None,
         Discrimination::Transfer(_) => Some(*message),
     }
 }
 
 /// What returns a message that is refused, if anything does.
-fn comes_back(cause: Cause, settings: &Settings, rows: &Translations, message: &Msu) -> Option<Msu>
-    ensures { option_to_list result ≡
-        comes_back (whither_goes settings.now message.now) cause settings.now rows.now message.now }
+fn comes_back(cause: Cause, exchange: &Exchange, rows: &Translations, message: &Msu) -> Option<Msu>
+    ensures { option_to_list result ≡ comes_back (whither_goes exchange.now.settings message.now) cause
+        (own_of exchange.now.settings exchange.now.node.parts) rows.now message.now }
 {
-    match whither_goes(settings, message) {
-        Discrimination::Here(_) if is_sccp(message) => udts(cause, settings, rows, message),
+    match whither_goes(exchange.settings(), message) {
+        Discrimination::Here(_) if is_sccp(message) => udts(cause, exchange, rows, message),
         Discrimination::Here(_) | Discrimination::Refused(_) | Discrimination::Transfer(_) => None,
     }
 }
@@ -132,39 +133,29 @@ pub(crate) fn whither_goes(settings: &Settings, message: &Msu) -> Discrimination
 }
 
 /// An SCCP message as its relay writes it, where it goes on.
-fn written(settings: &Settings, rows: &Translations, message: &Msu) -> Option<Msu>
+fn written(exchange: &Exchange, rows: &Translations, message: &Msu) -> Option<Msu>
     requires { 4 ≤ length message.now.sif }
     ensures { option_to_list result ≡
-        written_as (rule.relay (own_of settings.now) rows.now message.now.sif) message.now }
+        written_as (rule.relay (own_of exchange.now.settings exchange.now.node.parts) rows.now message.now.sif)
+        message.now }
 {
     let mut field = [0; Limits::SIF_OCTETS];
-    match relay(message.sif(), rows, &own_of(settings), &mut field) {
+    match relay(message.sif(), rows, &exchange.own(), &mut field) {
         Relayed::Onward(count) => in_place_of(message, &field[..count]),
         Relayed::Delivered | Relayed::Refused(_) => None,
     }
 }
 
-/// The UDTS that returns an SCCP message, if one does.
-fn udts(cause: Cause, settings: &Settings, rows: &Translations, message: &Msu) -> Option<Msu>
+/// The UDTS or XUDTS that returns an SCCP message, if one does.
+fn udts(cause: Cause, exchange: &Exchange, rows: &Translations, message: &Msu) -> Option<Msu>
     requires { 4 ≤ length message.now.sif }
     ensures { option_to_list result ≡
-        udts_as (returned (own_of settings.now) rows.now message.now.sif cause) message.now }
+        udts_as (returned (own_of exchange.now.settings exchange.now.node.parts) rows.now message.now.sif cause)
+        message.now }
 {
     let mut field = [0; Limits::SIF_OCTETS];
-    let count = returned(message.sif(), cause, rows, &own_of(settings), &mut field)?;
+    let count = returned(message.sif(), cause, rows, &exchange.own(), &mut field)?;
     in_place_of(message, &field[..count])
-}
-
-/// The point that a node is, its subsystems, and what it does for SCCP.
-fn own_of(settings: &Settings) -> Own<'_>
-    ensures { own_value result ≡ own_of settings.now }
-{
-    Own {
-        point: settings.own(),
-        subsystems: settings.subsystems(),
-        extended: settings.extended_unitdata(),
-        tested: settings.subsystem_tests(),
-    }
 }
 
 /// A message with another field, and the same service information octet.

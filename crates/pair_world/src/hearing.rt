@@ -42,7 +42,7 @@ pub(crate) fn hand_over(exchange: &mut Exchange, rows: &Translations, message: &
     let brought = told_in(
         &outcome,
         before != after,
-        exchange.settings(),
+        exchange,
         rows,
         message,
     );
@@ -107,7 +107,7 @@ fn hand_in_message(
     let brought = told_in(
         &outcome,
         before != after,
-        exchange.settings(),
+        exchange,
         rows,
         &message,
     );

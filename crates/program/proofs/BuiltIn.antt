@@ -65,6 +65,7 @@ settings-meant d h =
       h.subsystems,
       h.extended_unitdata,
       h.subsystem_tests,
+      h.user_part_unavailable,
       h.timers,
       sets-meant d.sets.items h.sets,
       links-meant d.sets.items d.links.items h.sets h.links,

@@ -6,3 +6,4 @@ pub mod ManagementTexts
 pub mod MessageTexts
 pub mod NamedTexts
 pub mod OptionalTexts
+pub mod TitleTexts

@@ -1,6 +1,6 @@
 -- Global titles of indicator 4: what they say, and their digits (Q.713 §3.4.2.3.4).
-use Rattle.std.specs.Prelude.{◌≡◌, ℕ, ◌-◌, ◌*◌, ◌/◌, ◌%◌, ◌==◌, if◌then◌else◌, List, [], ◌∷◌, length, take, Result, Ok}
-use Rattle.std.specs.Prelude.{Err}
+use Rattle.std.specs.Prelude.{◌≡◌, ℕ, ◌+◌, ◌-◌, ◌*◌, ◌/◌, ◌%◌, ◌^◌, ◌<◌, ◌==◌, if◌then◌else◌, All}
+use Rattle.std.specs.Prelude.{List, [], ◌∷◌, length, take, Result, Ok, Err}
 use Rattle.std.specs.List.{flat_map}
 use Rattle.signalling_types.specs.declared.cause.Cause.{Cause}
 use Rattle.signalling_types.specs.declared.cause.Cause.TheVariants.{NoNature, BadSccp}
@@ -53,3 +53,34 @@ title_of t = record { key = t.key; scheme = t.scheme; digit_octets = t.digit_oct
 abbrev pub GivesTitle : Result GlobalTitle Cause → Result TitleValue Cause → Type 0
 GivesTitle (Ok title) read = read ≡ Ok (title_of title)
 GivesTitle (Err cause) read = read ≡ Err cause
+
+-- ---- writing
+
+-- the octets of digits, two in each, the first in the low half; the last high half of an odd number of digits is filler,
+-- 0
+abbrev pub packed : List ℕ → List ℕ
+packed [] = []
+packed (low ∷ []) = low ∷ []
+packed (low ∷ high ∷ digits) = (low + high * 16) ∷ packed digits
+
+-- the encoding scheme of so many digits: 1 says odd, 2 even
+abbrev pub scheme_number : (count : ℕ) → ℕ
+scheme_number count = if count % 2 == 1 then 1 else 2
+
+-- the octets of a title of this key with these digits; the spare bit of its nature is 0
+abbrev pub title_octets : TitleKey → List ℕ → List ℕ
+title_octets key digits =
+    key.translation ∷ (key.plan * 16 + scheme_number (length digits)) ∷ key.nature ∷ packed digits
+
+-- a numbering plan of four bits, a nature of address of seven, and digits of four
+pub record IsTitle (key : TitleKey) (digits : List ℕ) : Type 0 where
+  pub plan : key.plan < 2 ^ 4
+  pub nature : key.nature < 2 ^ 7
+  pub values : All (λ digit. digit < 2 ^ 4) digits
+
+-- reading these octets gives a title of this key with these digits
+pub record ReadsAsTitle (octets : List ℕ) (key : TitleKey) (digits : List ℕ) : Type 0 where
+  pub title : TitleValue
+  pub reads : read_title 4 octets ≡ Ok title
+  pub key_read : title.key ≡ key
+  pub digits_read : digits_in title.scheme title.digit_octets ≡ digits

@@ -5,6 +5,8 @@ ghost use Rattle.std.specs.Prelude.{◌≡◌, ℕ, ◌↔◌, ◌<◌, ◌^◌,
 ghost use Rattle.sccp_codec.specs.Extended.{ExtendedValue, IsExtended, IsExtendedValue, extended_octets, read_extended};
 ghost use Rattle.sccp_codec.specs.Management.{ManagementValue, IsManagement, management_octets, read_management};
 ghost use Rattle.sccp_codec.specs.Messages.{AddressValue, IsAddress, IsAddressValue, AreOctets, address_octets, UnitdataValue, IsUnitdata, IsUnitdataValue, spelled, read_address, read_unitdata};
+ghost use Rattle.sccp_codec.specs.Titles.{IsTitle, ReadsAsTitle, title_octets};
+ghost use Rattle.sccp_codec.specs.declared.title.TitleKey.{TitleKey};
 
 /// Octets are an address that says something exactly when reading them gives it.
 pub fn addresses_are_what_is_read()
@@ -28,6 +30,12 @@ pub fn what_is_written_reads_back()
     ensures message { (v : UnitdataValue) → IsUnitdataValue v → IsUnitdata (spelled v) v }
     ensures back { (v : UnitdataValue) → IsUnitdataValue v → read_unitdata (spelled v) ≡ Ok v }
     ensures address { (a : AddressValue) → IsAddressValue a → IsAddress (address_octets 0 a) a }
+{}
+
+/// What is written for a title reads back as it.
+pub fn what_is_written_of_a_title_reads_back()
+    ensures { (key : TitleKey) (digits : List ℕ) → IsTitle key digits
+        → ReadsAsTitle (title_octets key digits) key digits }
 {}
 
 /// Octets are an extended message that says something exactly if reading them gives it.

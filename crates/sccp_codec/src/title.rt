@@ -1,7 +1,7 @@
 //! Global titles with a translation type, a numbering plan, an encoding scheme and a nature of
 //! address, and their digits.
 
-ghost use Rattle.std.specs.Prelude.{◌≡◌, ◌≤◌, ◌<◌, ◌*◌, length, take};
+ghost use Rattle.std.specs.Prelude.{◌≡◌, ◌≤◌, ◌<◌, ◌*◌, ◌/◌, ◌%◌, ◌^◌, if◌then◌else◌, length, slice_get, take, IfOk, IfSome};
 ghost use Rattle.std.specs.List.{flat_map};
 ghost use Rattle.sccp_codec.specs.Titles.{halves, digits_in, read_title, GivesTitle};
 ghost use Rattle.sccp_codec.specs.Values.{address_of};
@@ -54,7 +54,8 @@ impl<'a> Address<'a> {
     /// NoNature if its encoding scheme is neither 1 (odd) nor 2 (even) (Q.713 §3.4.2.3.4; the order of refusals is this
     /// node's).
     pub fn global_title(&self) -> Result<GlobalTitle<'a>, Cause>
-        ensures { GivesTitle result (read_title (address_of self.now).title_indicator (address_of self.now).title) }
+        ensures exact { GivesTitle result (read_title (address_of self.now).title_indicator (address_of self.now).title) }
+        ensures ranges { IfOk result (λ title. (title.key.plan < 2 ^ 4) × (title.key.nature < 2 ^ 7)) }
     {
         if self.title_indicator.number() != WHOLE_TITLE {
             return Err(Cause::NoNature);
@@ -80,6 +81,28 @@ impl<'a> Address<'a> {
 }
 
 impl GlobalTitle<'_> {
+    /// How many digits the title has.
+    pub fn count(&self) -> usize
+        ensures { result ≡ length (digits_in self.now.scheme self.now.digit_octets.now) }
+    {
+        let halves = 2 * self.digit_octets.len();
+        match self.scheme {
+            EncodingScheme::Odd => halves.saturating_sub(1),
+            EncodingScheme::Even => halves,
+        }
+    }
+
+    /// The digit of this index, from 0: 0 to 15. None past the last.
+    pub fn digit(&self, index: usize) -> Option<u8>
+        ensures value { result ≡ slice_get (digits_in self.now.scheme self.now.digit_octets.now) index }
+        ensures fits { IfSome result (λ digit. digit < 2 ^ 4) }
+    {
+        if index >= self.count() {
+            return None;
+        }
+        Some(half(self.digit_octets[index / 2], index % 2 == 0))
+    }
+
     /// The digits of the title, 0 to 15 each: the first 32, since no translation looks at more. It
     /// takes a step for each octet of these.
     ///
@@ -100,6 +123,14 @@ impl GlobalTitle<'_> {
             EncodingScheme::Even => digits,
         }
     }
+}
+
+/// The digit in the low half of an octet, or in its high half.
+fn half(octet: u8, low: bool) -> u8
+    ensures value { result ≡ (if low then octet % 16 else octet / 16) }
+    ensures fits { result < 2 ^ 4 }
+{
+    if low { octet % 16 } else { octet / 16 }
 }
 
 /// The two digits of each octet, the low half first.

@@ -12,17 +12,19 @@ use Rattle.sccp_codec.specs.declared.address.Routing.{Routing}
 use Rattle.sccp_codec.specs.declared.address.Routing.TheVariants.{Title, Ssn}
 use Rattle.sccp_codec.specs.declared.extended.ExtendedKind.{ExtendedKind}
 use Rattle.sccp_codec.specs.declared.extended.ExtendedKind.TheVariants.{Xudt, Xudts}
-use Rattle.sccp_codec.specs.Messages.{AreOctets, PartsValue, UdtValue, UdtsValue, IsPartsValue}
+use Rattle.sccp_codec.specs.Messages.{AddressValue, AreOctets, PartsValue, UdtValue, UdtsValue, IsPartsValue}
 use Rattle.sccp_codec.specs.Extended.{first_named, has_its_length, is_parameter, type_of, after_type}
 use Rattle.sccp_codec.specs.Titles.{read_title}
 use Rattle.sccp_relay.specs.Sccp.{SccpValue, Plain, Extended, sccp_parts, read_sccp, asks_for_return, is_kind_returned}
-use Rattle.sccp_relay.specs.Relay.{OwnValue, row_of, written, return_cause, parameter_of, returned_parameters, service, return_to, return_by, return_by_row, return_read, returned, sent_back, led_back}
-use Rattle.sccp_relay.specs.Led.{SameTitle, GoesBack, IsReturned, AreInRange, type_octet, second_octet, hops_of, optional_of, a_udts_returns_a_udt}
+use Rattle.sccp_relay.specs.Relay.{OwnValue, row_of, point_by, written, return_cause, parameter_of, returned_parameters, service, return_to, return_by, return_led, return_by_row, return_read, translated, returned, sent_back, led_back}
+use Rattle.sccp_relay.specs.Led.{GoesBack, IsReturned, AreInRange, type_octet, second_octet, hops_of, optional_of, a_udts_returns_a_udt}
 use Rattle.sccp_relay.specs.Ways.{IsRow}
 use Rattle.sccp_relay.proofs.KeptParameters.{named-length}
 use Rattle.sccp_relay.proofs.LedAddresses.{translated-led, translated-fits, title-row, label-fits}
-use Rattle.sccp_relay.proofs.SaidMessages.{IsSccpValue, IsReadHere, fits-read, here-read, written-reads, sent}
-use Rattle.sccp_relay.proofs.GoingOn.{drop-octets, in-case, parts-fit}
+use Rattle.sccp_relay.proofs.SaidMessages.{IsSccpValue, IsReadHere, HasOctetTitles, fits-read, titles-read, here-read, written-reads, sent}
+use Rattle.sccp_relay.proofs.RowPoints.{led-to, point-fits}
+use Rattle.sccp_relay.proofs.Titles.{octets-dropped}
+use Rattle.sccp_relay.proofs.GoingOn.{in-case, parts-fit}
 
 -- ---- where it goes
 
@@ -34,8 +36,7 @@ record Returns (own : OwnValue) (rows : List TitleEntry) (label : Label) (number
   pub fits : IsPartsValue goes
   pub writes : written point own.point label (service number came goes) ≡ Some field
   pub calling : goes.calling ≡ (sccp_parts came).called
-  pub called : SameTitle (sccp_parts came).calling goes.called
-  pub back : GoesBack rows label.opc (sccp_parts came).calling point goes.called
+  pub back : GoesBack own rows label (sccp_parts came).calling point goes.called
   pub carried : goes.data ≡ (sccp_parts came).data
 
 otherwise : (b : Bool) (text : Option (List ℕ)) (field : List ℕ) → cond b None text ≡ Some field → (b ≡ false) × (text ≡ Some field)
@@ -55,30 +56,42 @@ or-fits : (point : Option ℕ) (other : ℕ) → IfSome point (λ p. p < 2 ^ 14)
 or-fits None other h k = k
 or-fits (Some point) other h k = h
 
+pub record IsLedBack (own : OwnValue) (label : Label) (number : ℕ) (came : SccpValue) (point : ℕ) (to : Result AddressValue Cause) (field : List ℕ) : Type 0 where
+  pub called : AddressValue
+  pub is : to ≡ Ok called
+  pub returns : return_to own.point label point (service number came (led_back called (sccp_parts came))) ≡ Some field
+
+pub is-led_back : (own : OwnValue) (label : Label) (number : ℕ) (came : SccpValue) (point : ℕ) (to : Result AddressValue Cause) (field : List ℕ)
+    → return_led own label number came point to ≡ Some field → IsLedBack own label number came point to field
+is-led_back own label number came point (Err cause) field e = absurd cc
+is-led_back own label number came point (Ok called) field e = record { called = called; is = refl; returns = e }
+
 row-returns : (own : OwnValue) (rows : List TitleEntry) (label : Label) (number : ℕ) (came : SccpValue) (found : Result TitleEntry Cause) (field : List ℕ) → (sccp_parts came).calling.routing ≡ Title
-    → All IsRow rows → IsPartsValue (sccp_parts came) → row_of rows (sccp_parts came).calling ≡ found → return_by_row own label number came found ≡ Some field → Returns own rows label number came field
-row-returns own rows label number came (Err cause) field t all h f e = absurd cc
-row-returns own rows label number came (Ok row) field t all h f e =
+    → All IsRow rows → IsPartsValue (sccp_parts came) → HasOctetTitles came → row_of rows (sccp_parts came).calling ≡ found → return_by_row own label number came found ≡ Some field → Returns own rows label number came field
+row-returns own rows label number came (Err cause) field t all h titles f e = absurd cc
+row-returns own rows label number came (Ok row) field t all h titles f e =
     let caller = (sccp_parts came).calling in
     let is = title-row rows (read_title caller.title_indicator caller.title) row all f in
-    let b = goes-back own.point label row.point (service number came (led_back row (sccp_parts came))) field e in
+    let point = point_by own label.sls row in
+    let l = is-led_back own label number came point (translated row caller) field e in
+    let b = goes-back own.point label point (service number came (led_back l.called (sccp_parts came))) field l.returns in
+    let led = translated-led row caller l.called is titles.calling l.is in
     record {
-      point = row.point;
-      point_fits = is.point;
+      point = point;
+      point_fits = point-fits own label.sls row is;
       elsewhere = b.elsewhere;
-      goes = led_back row (sccp_parts came);
-      fits = record { called = translated-fits row caller is h.calling; calling = h.called };
+      goes = led_back l.called (sccp_parts came);
+      fits = record { called = translated-fits row caller l.called is h.calling l.is; calling = h.called };
       writes = b.writes;
       calling = refl;
-      called = (translated-led row caller).kept;
-      back = record { by_number = λ s. absurd (let no = t in cc); by_title = λ s. (row, f, refl, translated-led row caller) };
+      back = record { by_number = λ s. absurd (let no = t in cc); by_title = λ s. (row, f, led-to own label.sls row, led) };
       carried = refl;
     }
 
 routing-returns : (routing : Routing) (own : OwnValue) (rows : List TitleEntry) (label : Label) (number : ℕ) (came : SccpValue) (field : List ℕ) → (sccp_parts came).calling.routing ≡ routing
-    → label.opc < 2 ^ 14 → All IsRow rows → IsPartsValue (sccp_parts came) → return_by routing own rows label number came ≡ Some field → Returns own rows label number came field
-routing-returns Title own rows label number came field r l all h e = row-returns own rows label number came (row_of rows (sccp_parts came).calling) field r all h refl e
-routing-returns Ssn own rows label number came field r l all h e =
+    → label.opc < 2 ^ 14 → All IsRow rows → IsPartsValue (sccp_parts came) → HasOctetTitles came → return_by routing own rows label number came ≡ Some field → Returns own rows label number came field
+routing-returns Title own rows label number came field r l all h titles e = row-returns own rows label number came (row_of rows (sccp_parts came).calling) field r all h titles refl e
+routing-returns Ssn own rows label number came field r l all h titles e =
     let caller = (sccp_parts came).calling in
     let b = goes-back own.point label (unwrap_or caller.point label.opc) (service number came (sent_back (sccp_parts came))) field e in
     record {
@@ -89,7 +102,6 @@ routing-returns Ssn own rows label number came field r l all h e =
       fits = record { called = h.calling; calling = h.called };
       writes = b.writes;
       calling = refl;
-      called = record { national = refl; title_indicator = refl; title = refl };
       back = record { by_number = λ s. (refl, refl); by_title = λ s. absurd (let no = r in cc) };
       carried = refl;
     }
@@ -162,7 +174,7 @@ is-returned : (own : OwnValue) (rows : List TitleEntry) (sif : List ℕ) (cause 
     → ReadsAndReturns own rows (label_at sif) (return_cause cause) (read_sccp own.extended (drop 4 sif)) field → IsReturned own rows sif cause field
 is-returned own rows sif cause field range octets r =
     let fits = fits-read own.extended (drop 4 sif) r.came octets r.reads in
-    let b = routing-returns (sccp_parts r.came).calling.routing own rows (label_at sif) r.number r.came field refl (label-fits sif).opc range.each (parts-fit r.came fits) r.returns in
+    let b = routing-returns (sccp_parts r.came).calling.routing own rows (label_at sif) r.number r.came field refl (label-fits sif).opc range.each (parts-fit r.came fits) (titles-read own.extended (drop 4 sif) r.came octets r.reads) r.returns in
     let goes = service r.number r.came b.goes in
     let s = serves r.number r.came b.goes r.asks in
     let w = written-reads own.extended b.point own.point (label_at sif) goes field b.point_fits range.point (label-fits sif)
@@ -181,8 +193,7 @@ is-returned own rows sif cause field range octets r =
       second = s.second;
       hops = s.hops;
       calling = rw s.same b.calling;
-      called = rw s.same b.called;
-      back = rw s.same (subst (λ (point : ℕ). GoesBack rows (label_at sif).opc (sccp_parts r.came).calling point b.goes.called) (sym (ap (λ (label : Label). label.dpc) w.labelled)) b.back);
+      back = rw s.same (subst (λ (point : ℕ). GoesBack own rows (label_at sif) (sccp_parts r.came).calling point b.goes.called) (sym (ap (λ (label : Label). label.dpc) w.labelled)) b.back);
       carried = rw s.same b.carried;
       optional = s.optional;
     }
@@ -190,4 +201,4 @@ is-returned own rows sif cause field range octets r =
 pub returned-udt : a_udts_returns_a_udt
 unfolding returned
 returned-udt own rows sif cause field range octets e =
-    is-returned own rows sif cause field range (drop-octets 4 sif octets) (read-returns own rows (label_at sif) (return_cause cause) (read_sccp own.extended (drop 4 sif)) field e)
+    is-returned own rows sif cause field range (octets-dropped 4 sif octets) (read-returns own rows (label_at sif) (return_cause cause) (read_sccp own.extended (drop 4 sif)) field e)

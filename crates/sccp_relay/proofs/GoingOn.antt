@@ -1,8 +1,7 @@
 -- What goes on, as it is read where it arrives.
-use Rattle.std.proofs.Common.{◌≡◌, ◌≢◌, ℕ, ◌+◌, ◌-◌, ◌^◌, ◌<◌, ◌≤◌, ◌⊎◌, Bool, true, false, cond, List, drop, Option, Some, None, Result, Ok, Err, refl, sym, ap, subst, ◌∙◌, inl, inr, arith, not}
+use Rattle.std.proofs.Common.{◌≡◌, ◌≢◌, ℕ, ◌-◌, ◌^◌, ◌<◌, ◌≤◌, ◌⊎◌, Bool, true, false, cond, List, drop, Option, Some, None, Result, Ok, Err, refl, sym, ap, subst, ◌∙◌, inl, inr, arith, not}
 use Rattle.std.proofs.lemmas.Bool.{and_parts, cases_eq, eq-eqb, eqb-true, ne_eqb}
 use Rattle.std.proofs.lemmas.Bool.Decides.{nat_tests}
-use Rattle.std.proofs.lemmas.List.{get_or-drop}
 use Rattle.std.specs.Prelude.{◌&&◌, if◌then◌else◌, nat_eq, nat_le}
 use Rattle.signalling_types.specs.declared.cause.Cause.{Cause}
 use Rattle.signalling_types.specs.declared.cause.Cause.TheVariants.{NotInProfile, HopCounter, Unequipped}
@@ -14,24 +13,28 @@ use Rattle.sccp_codec.specs.declared.address.Routing.{Routing}
 use Rattle.sccp_codec.specs.declared.address.Routing.TheVariants.{Title, Ssn}
 use Rattle.sccp_codec.specs.declared.management.ManagementKind.{ManagementKind}
 use Rattle.sccp_codec.specs.declared.management.ManagementKind.TheVariants.{SubsystemAllowed, SubsystemProhibited, SubsystemStatusTest}
-use Rattle.sccp_codec.specs.Messages.{AreOctets, IsAddressValue, IsPartsValue, PartsValue, UdtValue, UdtsValue}
+use Rattle.sccp_codec.specs.Messages.{AddressValue, AreOctets, IsAddressValue, IsPartsValue, PartsValue, UdtValue, UdtsValue}
 use Rattle.sccp_codec.specs.Management.{ManagementValue, read_management}
 use Rattle.sccp_codec.proofs.ManagementTexts.{read_management-written}
-use Rattle.sccp_relay.specs.Sccp.{SccpValue, Plain, Extended, sccp_parts, with_new_parts, read_sccp, is_connectionless, has_hops, lowered, is_spent}
-use Rattle.sccp_relay.specs.Relay.{OwnValue, RelayedValue, Delivered, Onward, Refused, relay, relay_read, relay_by_routing, relay_by_row, row_of, ssn_by, written, onward, led_on, is_equipped, for_subsystem, answered_or, answer, answer_to, allowed, is_answered, is_management, is_test, management_address}
-use Rattle.sccp_relay.specs.Led.{IsLed, IsSeenFrom, IsLowered, GoesOn, IsForManagement, IsTestAnswer, AreInRange, type_octet, second_octet, hops_of, optional_of, what_goes_on_reads_back}
+use Rattle.sccp_relay.specs.Sccp.{SccpValue, Plain, Extended, sccp_parts, with_new_parts, read_sccp, is_connectionless, has_valid_hops, lowered, is_spent}
+use Rattle.sccp_relay.specs.Relay.{OwnValue, RelayedValue, Delivered, Onward, Refused, relay, relay_read, relay_by_routing, relay_by_row, row_of, ssn_by, point_by, translated, written, onward, led_on, lead_on, is_equipped, for_subsystem, answered_or, answer, answer_to, allowed, is_answered, is_management, is_test, management_address}
+use Rattle.sccp_relay.specs.Led.{IsLed, IsLedTo, IsSeenFrom, IsLowered, GoesOn, IsForManagement, IsTestAnswer, AreInRange, type_octet, second_octet, hops_of, optional_of, what_goes_on_reads_back}
 use Rattle.sccp_relay.specs.Ways.{IsRow}
 use Rattle.sccp_relay.proofs.LedAddresses.{translated-led, seen_from-of, translated-fits, cond-fits, title-row, label-fits}
-use Rattle.sccp_relay.proofs.SaidMessages.{IsSccpValue, IsReadHere, fits-read, here-read, plain-read, written-reads, sent}
+use Rattle.sccp_relay.proofs.RowPoints.{led-to, point-fits}
+use Rattle.sccp_relay.proofs.Titles.{octets-dropped}
+use Rattle.sccp_relay.proofs.SaidMessages.{IsSccpValue, IsReadHere, HasOctetTitles, fits-read, titles-read, here-read, plain-read, written-reads, sent}
 
 -- ---- to a row's point
 
 pub record Leads (own : OwnValue) (rows : List TitleEntry) (label : Label) (came : SccpValue) (field : List ℕ) : Type 0 where
   pub row : TitleEntry
   pub finds : row_of rows (sccp_parts came).called ≡ Ok row
-  pub elsewhere : row.point ≢ own.point
+  pub elsewhere : point_by own label.sls row ≢ own.point
   pub left : is_spent (lowered came) ≡ false
-  pub writes : written row.point own.point label (with_new_parts (lowered came) (led_on row label.opc (sccp_parts came))) ≡ Some field
+  pub called : AddressValue
+  pub leads_on : translated row (sccp_parts came).called ≡ Ok called
+  pub writes : written (point_by own label.sls row) own.point label (with_new_parts (lowered came) (led_on called label.opc (sccp_parts came))) ≡ Some field
 
 -- ---- as an answer
 
@@ -39,7 +42,7 @@ pub record Answers (own : OwnValue) (label : Label) (ssn : Option ℕ) (came : S
   pub class_octet : ℕ
   pub parts : PartsValue
   pub plain : came ≡ Plain (UdtValue class_octet parts)
-  pub tested : own.tested ≡ true
+  pub tested : own.answers_tests ≡ true
   pub number : ssn ≡ Some 1
   pub test : ManagementValue
   pub says : read_management parts.data ≡ Ok test
@@ -48,7 +51,7 @@ pub record Answers (own : OwnValue) (label : Label) (ssn : Option ℕ) (came : S
 
 pub record Answered (own : OwnValue) (rows : List TitleEntry) (label : Label) (came : SccpValue) (field : List ℕ) : Type 0 where
   pub ssn : Option ℕ
-  pub for_management : IsForManagement own rows (sccp_parts came).called
+  pub for_management : IsForManagement own rows label.sls (sccp_parts came).called
   pub answers : Answers own label ssn came field
 
 not-onward : (b : Bool) (cause : Cause) (field : List ℕ) → cond b Delivered (Refused cause) ≢ Onward field
@@ -83,14 +86,14 @@ answer-answers : (own : OwnValue) (label : Label) (ssn : Option ℕ) (came : Scc
 answer-answers own label ssn (Plain (UdtsValue number parts)) field e = absurd cc
 answer-answers own label ssn (Extended v) field e = absurd cc
 answer-answers own label ssn (Plain (UdtValue class_octet parts)) field e =
-    let r = in-case (own.tested && is_management ssn) (answer_to own label (read_management parts.data)) field e in
+    let r = in-case (own.answers_tests && is_management ssn) (answer_to own label (read_management parts.data)) field e in
     let a = is-answer own label (read_management parts.data) field r.1 in
     record {
       class_octet = class_octet;
       parts = parts;
       plain = refl;
-      tested = (and_parts own.tested (is_management ssn) r.0).0;
-      number = management-number ssn (and_parts own.tested (is_management ssn) r.0).1;
+      tested = (and_parts own.answers_tests (is_management ssn) r.0).0;
+      number = management-number ssn (and_parts own.answers_tests (is_management ssn) r.0).1;
       test = a.test;
       says = a.says;
       answered = a.answered;
@@ -106,20 +109,33 @@ onward-some : (text : Option (List ℕ)) (field : List ℕ) → onward text ≡ 
 onward-some None field e = absurd cc
 onward-some (Some text) field e = let same : text ≡ field = cc in ap Some same
 
+record IsLedOn (own : OwnValue) (label : Label) (came : SccpValue) (point : ℕ) (to : Result AddressValue Cause) (field : List ℕ) : Type 0 where
+  pub called : AddressValue
+  pub is : to ≡ Ok called
+  pub writes : written point own.point label (with_new_parts (lowered came) (led_on called label.opc (sccp_parts came))) ≡ Some field
+
+is-led_on : (own : OwnValue) (label : Label) (came : SccpValue) (point : ℕ) (to : Result AddressValue Cause) (field : List ℕ) → lead_on own label came point to ≡ Onward field
+    → IsLedOn own label came point to field
+is-led_on own label came point (Err cause) field e = absurd cc
+is-led_on own label came point (Ok called) field e = record { called = called; is = refl; writes = onward-some _ field e }
+
 module _ (own : OwnValue) (rows : List TitleEntry) (label : Label) (came : SccpValue) (field : List ℕ) where
   row-leads : (found : Result TitleEntry Cause) → (sccp_parts came).called.routing ≡ Title → is_spent (lowered came) ≡ false → row_of rows (sccp_parts came).called ≡ found
       → relay_by_row own label came found ≡ Onward field → Leads own rows label came field ⊎ Answered own rows label came field
   row-leads (Err cause) t left f e = absurd cc
   row-leads (Ok row) t left f e =
-      elim (cases_eq row.point own.point) [
+      let point = point_by own label.sls row in
+      elim (cases_eq point own.point) [
         | inl same ↦
-            let a = subsystem-answers own label (ssn_by row.route (sccp_parts came).called.ssn) came field (rw (eq-eqb row.point own.point same) at e) in
+            let a = subsystem-answers own label (ssn_by row.route (sccp_parts came).called.ssn) came field (rw (eq-eqb point own.point same) at e) in
             inr (record {
               ssn = ssn_by row.route (sccp_parts came).called.ssn;
-              for_management = record { by_number = λ s. absurd (let no = t in cc); by_title = λ s. (row, f, same, a.number) };
+              for_management = record { by_number = λ s. absurd (let no = t in cc); by_title = λ s. (row, f, subst (IsLedTo own label.sls row) same (led-to own label.sls row), a.number) };
               answers = a;
             })
-        | inr other ↦ inl (record { row = row; finds = f; elsewhere = other; left = left; writes = onward-some _ field (rw (ne_eqb row.point own.point other) at e) })
+        | inr other ↦
+            let l = is-led_on own label came point (translated row (sccp_parts came).called) field (rw (ne_eqb point own.point other) at e) in
+            inl (record { row = row; finds = f; elsewhere = other; left = left; called = l.called; leads_on = l.is; writes = l.writes })
       ]
 
   title-leads : (spent : Bool) → is_spent (lowered came) ≡ spent → (sccp_parts came).called.routing ≡ Title
@@ -141,7 +157,7 @@ module _ (own : OwnValue) (rows : List TitleEntry) (label : Label) (came : SccpV
 pub record ReadsAndLeads (own : OwnValue) (rows : List TitleEntry) (label : Label) (read : Result SccpValue SccpFault) (field : List ℕ) : Type 0 where
   pub came : SccpValue
   pub reads : read ≡ Ok came
-  pub hops : has_hops came ≡ true
+  pub hops : has_valid_hops came ≡ true
   pub leads : Leads own rows label came field ⊎ Answered own rows label came field
 
 past-tests : (a b : Bool) (r : RelayedValue) (field : List ℕ) → (if not a then Refused NotInProfile else if not b then Refused HopCounter else r) ≡ Onward field → (b ≡ true) × (r ≡ Onward field)
@@ -153,7 +169,7 @@ pub read-leads : (own : OwnValue) (rows : List TitleEntry) (label : Label) (read
     → ReadsAndLeads own rows label read field
 read-leads own rows label (Err fault) field e = absurd cc
 read-leads own rows label (Ok came) field e =
-    let r = past-tests (is_connectionless came) (has_hops came) _ field e in
+    let r = past-tests (is_connectionless came) (has_valid_hops came) _ field e in
     record { came = came; reads = refl; hops = r.0; leads = routing-leads own rows label came field (sccp_parts came).called.routing refl r.1 }
 
 -- ---- the message with other parts, after a translation
@@ -172,7 +188,7 @@ kept (Extended v) parts = record { type = refl; second = refl; same = refl; opti
 pub hops-left : (hops : ℕ) → (nat_le 1 hops && nat_le hops 15) ≡ true → nat_eq (hops - 1) 0 ≡ false → (2 ≤ hops) × (hops ≤ 15)
 hops-left hops h f = (grind (arith, nat_tests, h, f), grind (arith, nat_tests, h, f))
 
-is-lowered : (came : SccpValue) (parts : PartsValue) → has_hops came ≡ true → is_spent (lowered came) ≡ false → IsLowered (hops_of came) (hops_of (with_new_parts (lowered came) parts))
+is-lowered : (came : SccpValue) (parts : PartsValue) → has_valid_hops came ≡ true → is_spent (lowered came) ≡ false → IsLowered (hops_of came) (hops_of (with_new_parts (lowered came) parts))
 is-lowered (Plain (UdtValue class_octet old)) parts h f = refl
 is-lowered (Plain (UdtsValue number old)) parts h f = refl
 is-lowered (Extended v) parts h f = let l = hops-left v.hop_counter h f in (l.0, l.1, refl)
@@ -191,35 +207,37 @@ pub parts-fit : (m : SccpValue) → IsSccpValue m → IsPartsValue (sccp_parts m
 parts-fit (Plain u) h = h
 parts-fit (Extended v) h = h.parts
 
-led-fits : (row : TitleEntry) (sender : ℕ) (parts : PartsValue) → IsRow row → sender < 2 ^ 14 → IsPartsValue parts → IsPartsValue (led_on row sender parts)
-led-fits row sender parts r s h =
-    record { called = translated-fits row parts.called r h.called; calling = cond-fits _ sender parts.calling s h.calling }
+led-fits : (row : TitleEntry) (called : AddressValue) (sender : ℕ) (parts : PartsValue) → IsRow row → sender < 2 ^ 14 → IsPartsValue parts → translated row parts.called ≡ Ok called
+    → IsPartsValue (led_on called sender parts)
+led-fits row called sender parts r s h e =
+    record { called = translated-fits row parts.called called r h.called e; calling = cond-fits _ sender parts.calling s h.calling }
 
 -- ---- what goes on
 
 module _ (own : OwnValue) (rows : List TitleEntry) (sif field : List ℕ) (range : AreInRange own rows) (came : SccpValue) where
-  goes-on : read_sccp own.extended (drop 4 sif) ≡ Ok came → IsSccpValue came → has_hops came ≡ true → Leads own rows (label_at sif) came field → GoesOn own rows sif field
-  goes-on reads fits hops l =
-      let parts = led_on l.row (label_at sif).opc (sccp_parts came) in
+  goes-on : read_sccp own.extended (drop 4 sif) ≡ Ok came → IsSccpValue came → HasOctetTitles came → has_valid_hops came ≡ true → Leads own rows (label_at sif) came field → GoesOn own rows sif field
+  goes-on reads fits titles hops l =
+      let parts = led_on l.called (label_at sif).opc (sccp_parts came) in
       let goes = with_new_parts (lowered came) parts in
       let row = title-row rows _ l.row range.each l.finds in
       let k = kept came parts in
-      let there = led-fits l.row (label_at sif).opc (sccp_parts came) row (label-fits sif).opc (parts-fit came fits) in
-      let w = written-reads own.extended l.row.point own.point (label_at sif) goes field row.point range.point (label-fits sif)
+      let there = led-fits l.row l.called (label_at sif).opc (sccp_parts came) row (label-fits sif).opc (parts-fit came fits) l.leads_on in
+      let point = point_by own (label_at sif).sls l.row in
+      let w = written-reads own.extended point own.point (label_at sif) goes field (point-fits own (label_at sif).sls l.row row) range.point (label-fits sif)
       (new-here own.extended came parts (here-read own.extended (drop 4 sif) came reads)) (new-fits came parts fits there) l.writes in
       record {
         came = came;
         reads = reads;
         row = l.row;
         finds = l.finds;
-        label = sent own l.row.point goes sif field l.elsewhere w;
-        to_row = ap (λ (label : Label). label.dpc) w.labelled;
+        label = sent own point goes sif field l.elsewhere w;
+        to_row = subst (IsLedTo own (label_at sif).sls l.row) (sym (ap (λ (label : Label). label.dpc) w.labelled)) (led-to own (label_at sif).sls l.row);
         goes = goes;
         reads_back = w.back;
         type = k.type;
         second = k.second;
         hops = is-lowered came parts hops l.left;
-        called = subst (λ (p : PartsValue). IsLed l.row (sccp_parts came).called p.called) (sym k.same) (translated-led l.row (sccp_parts came).called);
+        called = subst (λ (p : PartsValue). IsLed l.row (sccp_parts came).called p.called) (sym k.same) (translated-led l.row (sccp_parts came).called l.called row titles.called l.leads_on);
         calling = subst (λ (p : PartsValue). IsSeenFrom (label_at sif).opc (sccp_parts came).calling p.calling) (sym k.same) (seen_from-of (label_at sif).opc (sccp_parts came).calling);
         carried = ap (λ (p : PartsValue). p.data) k.same;
         optional = k.optional;
@@ -267,7 +285,7 @@ is-test_answer own rows sif field range came reads answered =
       class_octet = a.class_octet;
       came = a.parts;
       reads = plain-read own.extended (drop 4 sif) (UdtValue a.class_octet a.parts) (reads ∙ ap Ok a.plain);
-      for_management = subst (λ (m : SccpValue). IsForManagement own rows (sccp_parts m).called) a.plain answered.for_management;
+      for_management = subst (λ (m : SccpValue). IsForManagement own rows (label_at sif).sls (sccp_parts m).called) a.plain answered.for_management;
       test = a.test;
       says = a.says;
       kind = t.kind;
@@ -279,19 +297,16 @@ is-test_answer own rows sif field range came reads answered =
       reads_back = plain-read own.extended (drop 4 field) (UdtValue 0 (sccp_parts (allowed a.test))) w.back;
       called = refl;
       calling = refl;
-      answer = read_management-written (record a.test { kind = SubsystemAllowed }) (rw t.point range);
+      answer = read_management-written (record a.test { kind = SubsystemAllowed; multiplicity = 0 }) (rw t.point range);
     }
 
-pub drop-octets : (n : ℕ) (sif : List ℕ) → AreOctets sif → AreOctets (drop n sif)
-drop-octets n sif fits i = rw (get_or-drop n sif i 0) (fits (n + i))
-
-reads-back : (own : OwnValue) (rows : List TitleEntry) (sif field : List ℕ) → AreInRange own rows → AreOctets (drop 4 sif) → (came : SccpValue) → read_sccp own.extended (drop 4 sif) ≡ Ok came → has_hops came ≡ true
+reads-back : (own : OwnValue) (rows : List TitleEntry) (sif field : List ℕ) → AreInRange own rows → AreOctets (drop 4 sif) → (came : SccpValue) → read_sccp own.extended (drop 4 sif) ≡ Ok came → has_valid_hops came ≡ true
     → Leads own rows (label_at sif) came field ⊎ Answered own rows (label_at sif) came field → GoesOn own rows sif field ⊎ IsTestAnswer own rows sif field
-reads-back own rows sif field range octets came reads hops (inl leads) = inl (goes-on own rows sif field range came reads (fits-read own.extended (drop 4 sif) came octets reads) hops leads)
+reads-back own rows sif field range octets came reads hops (inl leads) = inl (goes-on own rows sif field range came reads (fits-read own.extended (drop 4 sif) came octets reads) (titles-read own.extended (drop 4 sif) came octets reads) hops leads)
 reads-back own rows sif field range octets came reads hops (inr answered) = inr (is-test_answer own rows sif field range.point came reads answered)
 
 pub goes_on-onward : what_goes_on_reads_back
 unfolding relay
 goes_on-onward own rows sif field range octets e =
     let r = read-leads own rows (label_at sif) (read_sccp own.extended (drop 4 sif)) field e in
-    reads-back own rows sif field range (drop-octets 4 sif octets) r.came r.reads r.hops r.leads
+    reads-back own rows sif field range (octets-dropped 4 sif octets) r.came r.reads r.hops r.leads

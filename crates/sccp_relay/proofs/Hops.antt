@@ -7,8 +7,8 @@ use Rattle.sccp_codec.specs.Messages.{UnitdataValue, PartsValue, header_fault, p
 use Rattle.sccp_codec.specs.Extended.{ExtendedValue, extended_fault, extended_in, extended_octets, read_extended}
 use Rattle.sccp_codec.proofs.AddressTexts.{unless-ok}
 use Rattle.sccp_codec.proofs.MessageTexts.{first-none, header-well}
-use Rattle.sccp_relay.specs.Sccp.{SccpValue, Plain, Extended, is_extended, read_sccp, has_hops}
-use Rattle.sccp_relay.specs.Relay.{OwnValue, Onward, relay, led_on}
+use Rattle.sccp_relay.specs.Sccp.{SccpValue, Plain, Extended, is_extended, read_sccp, has_valid_hops}
+use Rattle.sccp_relay.specs.Relay.{OwnValue, Onward, relay, point_by, led_on}
 use Rattle.sccp_relay.specs.Led.{RelayingNode, GoesThrough, loops_of_titles_end}
 use Rattle.sccp_relay.proofs.SaidMessages.{plain-read, extended-read, is-type, written-text}
 use Rattle.sccp_relay.proofs.GoingOn.{Leads, Answered, read-leads, hops-left}
@@ -37,12 +37,12 @@ not-plain text u e read =
 hops-read : (text : List ℕ) (v : ExtendedValue) → read_extended text ≡ Ok v → slice_index text 2 ≡ v.hop_counter
 hops-read text v read = ap (λ (w : ExtendedValue). w.hop_counter) (unless-ok (extended_fault text) (extended_in text) v read).1
 
-written-lower : (own : OwnValue) (rows : List TitleEntry) (sif field : List ℕ) (v : ExtendedValue) → hop_octet sif ≡ v.hop_counter → has_hops (Extended v) ≡ true
+written-lower : (own : OwnValue) (rows : List TitleEntry) (sif field : List ℕ) (v : ExtendedValue) → hop_octet sif ≡ v.hop_counter → has_valid_hops (Extended v) ≡ true
     → Leads own rows (label_at sif) (Extended v) field → OneLower sif field
 written-lower own rows sif field v hop h l =
-    let parts : PartsValue = led_on l.row (label_at sif).opc v.parts in
+    let parts : PartsValue = led_on l.called (label_at sif).opc v.parts in
     let goes : ExtendedValue = record v { hop_counter = v.hop_counter - 1; parts = parts } in
-    let text : extended_octets goes ≡ drop 4 field = ap (drop 4) (written-text l.row.point own.point (label_at sif) (Extended goes) field l.writes) in
+    let text : extended_octets goes ≡ drop 4 field = ap (drop 4) (written-text (point_by own (label_at sif).sls l.row) own.point (label_at sif) (Extended goes) field l.writes) in
     let left = hops-left v.hop_counter h l.left in
     let after : v.hop_counter - 1 ≡ hop_octet field = ap (λ (octets : List ℕ). slice_index octets 2) text in
     record {
@@ -52,7 +52,7 @@ written-lower own rows sif field v hop h l =
       most = omega (arith, hop, left.1);
     }
 
-leads-lower : (own : OwnValue) (rows : List TitleEntry) (sif field : List ℕ) (came : SccpValue) → is_extended (drop 4 sif) ≡ true → read_sccp own.extended (drop 4 sif) ≡ Ok came → has_hops came ≡ true
+leads-lower : (own : OwnValue) (rows : List TitleEntry) (sif field : List ℕ) (came : SccpValue) → is_extended (drop 4 sif) ≡ true → read_sccp own.extended (drop 4 sif) ≡ Ok came → has_valid_hops came ≡ true
     → Leads own rows (label_at sif) came field ⊎ Answered own rows (label_at sif) came field → OneLower sif field
 leads-lower own rows sif field (Plain u) type read h leads =
     not-plain (drop 4 sif) u type (plain-read own.extended (drop 4 sif) u read)

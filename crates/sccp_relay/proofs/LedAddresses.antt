@@ -10,24 +10,46 @@ use Rattle.mtp3_codec.specs.Headings.{IsLabel, label_at}
 use Rattle.sccp_codec.specs.declared.title.TitleKey.{TitleKey}
 use Rattle.sccp_codec.specs.declared.address.Routing.{Routing}
 use Rattle.sccp_codec.specs.declared.address.Routing.TheVariants.{Title, Ssn}
-use Rattle.sccp_codec.specs.Messages.{AddressValue, IsAddressValue}
+use Rattle.sccp_codec.specs.Messages.{AddressValue, IsAddressValue, AreOctets}
 use Rattle.sccp_codec.specs.Titles.{TitleValue}
 use Rattle.sccp_relay.specs.Led.{IsLed, IsSeenFrom}
 use Rattle.sccp_relay.specs.Translation.{translation, or_refusal}
-use Rattle.sccp_relay.specs.Relay.{row_of_title, translated, from_point, ssn_by}
+use Rattle.sccp_relay.specs.Changing.{title_after}
+use Rattle.sccp_relay.specs.Relay.{row_of_title, led, led_with, translated, from_point, ssn_by}
 use Rattle.sccp_relay.specs.Ways.{IsRow, IsRoute}
 use Rattle.sccp_relay.proofs.LongestRow.{is_translation-longest}
+use Rattle.sccp_relay.proofs.Titles.{HasTitle, has-title}
 
 -- ---- addresses
 
-pub translated-led : (row : TitleEntry) (a : AddressValue) → IsLed row a (translated row a)
-translated-led row a = record {
-  kept = record { national = refl; title_indicator = refl; title = refl };
+pub record Translates (row : TitleEntry) (a b : AddressValue) : Type 0 where
+  pub title : List ℕ
+  pub after : title_after row.change a ≡ Ok title
+  pub same : led row a title ≡ b
+
+translates-if : (row : TitleEntry) (a b : AddressValue) (title : Result (List ℕ) Cause) → title_after row.change a ≡ title → led_with row a title ≡ Ok b → Translates row a b
+translates-if row a b (Err cause) t e = absurd cc
+translates-if row a b (Ok title) t e = record { title = title; after = t; same = cc }
+
+pub translates : (row : TitleEntry) (a b : AddressValue) → translated row a ≡ Ok b → Translates row a b
+translates row a b e = translates-if row a b (title_after row.change a) refl e
+
+led-is : (row : TitleEntry) (a : AddressValue) (title : List ℕ) → HasTitle row.change a (led row a title) → IsLed row a (led row a title)
+led-is row a title h = record {
+  kept = h.kept;
+  changed = h.changed;
+  national = refl;
+  title_indicator = refl;
   point = refl;
   by_number = λ ssn e. rw e (refl, refl);
   by_title = λ ssn e. rw e (refl, refl);
   by_title_alone = λ e. rw e (refl, refl);
 }
+
+pub translated-led : (row : TitleEntry) (a b : AddressValue) → IsRow row → AreOctets a.title → translated row a ≡ Ok b → IsLed row a b
+translated-led row a b is octets e =
+    let t = translates row a b e in
+    subst (IsLed row a) t.same (led-is row a t.title (has-title row.change a (led row a t.title) is.change octets refl refl t.after))
 
 seen_from : (sender : ℕ) (national : Bool) (routing : Routing) (point ssn : Option ℕ) (indicator : ℕ) (title : List ℕ)
     → IsSeenFrom sender (record { national = national; routing = routing; point = point; ssn = ssn; title_indicator = indicator; title = title })
@@ -74,8 +96,9 @@ ssn-fits : (row : TitleRoute) (ssn : Option ℕ) → IsRoute row → IfSome ssn 
 ssn-fits (route.Title None) ssn h f = f
 ssn-fits row ssn h f = h.1
 
-pub translated-fits : (row : TitleEntry) (a : AddressValue) → IsRow row → IsAddressValue a → IsAddressValue (translated row a)
-translated-fits row a r h = record { title_indicator = h.title_indicator; point = tt; ssn = ssn-fits row.route a.ssn r.route h.ssn }
+pub translated-fits : (row : TitleEntry) (a b : AddressValue) → IsRow row → IsAddressValue a → translated row a ≡ Ok b → IsAddressValue b
+translated-fits row a b r h e =
+    subst IsAddressValue (translates row a b e).same (record { title_indicator = h.title_indicator; point = tt; ssn = ssn-fits row.route a.ssn r.route h.ssn })
 
 pub cond-fits : (b : Bool) (sender : ℕ) (a : AddressValue) → sender < 2 ^ 14 → IsAddressValue a → IsAddressValue (cond b (record a { point = Some sender }) a)
 cond-fits true sender a s h = record { title_indicator = h.title_indicator; point = s; ssn = h.ssn }

@@ -6,6 +6,7 @@ pub mod Rows
 pub mod Trees
 pub mod Behind
 pub mod RowOrder
+pub mod RowPoints
 pub mod LongestRow
 pub mod TableRows
 pub mod OneRow
@@ -16,6 +17,8 @@ pub mod Translating
 pub mod KeyRows
 pub mod TitleExamples
 pub mod KeptParameters
+pub mod Titles
+pub mod ChangedDigits
 pub mod LedAddresses
 pub mod SaidMessages
 pub mod GoingOn

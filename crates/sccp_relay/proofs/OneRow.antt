@@ -38,7 +38,7 @@ later-apart : (first : TitleEntry) (rows : List TitleEntry) (k : ℕ) (other : T
 later-apart first rows k other h lt e same =
     apart (row_place first) (row_place other) same (subst (λ (r : TitleEntry). place_order (row_place first) (row_place r) ≡ Less) e (each-at _ rows h k other lt))
 
-same-row : (rows : List TitleEntry) → IsOrdered rows → (j k : ℕ) (x y : TitleEntry) → j < length rows → k < length rows → get_or rows j x ≡ x → get_or rows k y ≡ y
+pub same-row : (rows : List TitleEntry) → IsOrdered rows → (j k : ℕ) (x y : TitleEntry) → j < length rows → k < length rows → get_or rows j x ≡ x → get_or rows k y ≡ y
     → row_place x ≡ row_place y → x ≡ y
 same-row [] h j k x y lt lt' e f same = absurd (omega (arith, lt))
 same-row (first ∷ rows) h zero zero x y lt lt' e f same = sym e ∙ f

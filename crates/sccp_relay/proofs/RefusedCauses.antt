@@ -1,20 +1,22 @@
 -- The causes for which SCCP messages are refused.
-use Rattle.std.proofs.Common.{◌≡◌, ℕ, Bool, true, false, List, [], ◌∷◌, drop, Option, Some, None, Result, Ok, Err, refl, not}
+use Rattle.std.proofs.Common.{◌≡◌, ℕ, Bool, true, false, List, [], ◌∷◌, drop, length, Option, Some, None, Result, Ok, Err, refl, not}
 use Rattle.std.specs.List.{list_any}
-use Rattle.std.specs.Prelude.{◌%◌, nat_eq, if◌then◌else◌}
+use Rattle.std.specs.Prelude.{◌%◌, nat_eq, nat_lt, if◌then◌else◌}
 use Rattle.signalling_types.specs.declared.cause.Cause.{Cause}
 use Rattle.signalling_types.specs.declared.cause.Cause.TheVariants.{NoNature, NoDigits, NotInProfile, BadSccp, Unequipped, HopCounter, TooLong}
-use Rattle.settings_rows.specs.Configuration.{TitleEntry}
+use Rattle.settings_rows.specs.Configuration.{ChangeEntry, TitleEntry}
 use Rattle.mtp3_codec.specs.declared.label.Label.{Label}
 use Rattle.mtp3_codec.specs.Headings.{label_at}
-use Rattle.sccp_codec.specs.Titles.{TitleValue, read_octets, read_title}
+use Rattle.sccp_codec.specs.Titles.{TitleValue, digits_in, read_octets, read_title, title_octets}
+use Rattle.sccp_codec.specs.Messages.{AddressValue}
 use Rattle.sccp_codec.specs.declared.address.Routing.{Routing}
 use Rattle.sccp_codec.specs.declared.address.Routing.TheVariants.{Title, Ssn}
 use Rattle.sccp_codec.specs.declared.fault.SccpFault.{SccpFault}
 use Rattle.sccp_codec.specs.declared.fault.SccpFault.TheVariants.{Short, Pointer, Kind}
 use Rattle.sccp_relay.specs.Translation.{has_key, or_refusal}
-use Rattle.sccp_relay.specs.Sccp.{SccpValue, sccp_parts, with_new_parts, read_sccp, is_connectionless, has_hops, lowered, is_spent}
-use Rattle.sccp_relay.specs.Relay.{OwnValue, RelayedValue, Delivered, Onward, Refused, relay, relay_read, relay_by_routing, relay_by_row, row_of, row_of_title, ssn_by, written, onward, led_on, is_equipped, answered_or, answer}
+use Rattle.sccp_relay.specs.Sccp.{SccpValue, sccp_parts, with_new_parts, read_sccp, is_connectionless, has_valid_hops, lowered, is_spent}
+use Rattle.sccp_relay.specs.Changing.{is_unchanged, changed_key, changed_digits, changed_octets, title_after}
+use Rattle.sccp_relay.specs.Relay.{OwnValue, RelayedValue, Delivered, Onward, Refused, relay, relay_read, relay_by_routing, relay_by_row, row_of, point_by, row_of_title, ssn_by, led_with, translated, written, onward, led_on, lead_on, is_equipped, answered_or, answer}
 
 abbrev pub is_relay_cause : Cause → Bool
 is_relay_cause NoNature = true
@@ -43,6 +45,14 @@ is_row_so (Err cause) = is_relay_cause cause
 abbrev is_title_so : Result TitleValue Cause → Bool
 is_title_so (Ok title) = true
 is_title_so (Err cause) = is_relay_cause cause
+
+abbrev is_text_so : Result (List ℕ) Cause → Bool
+is_text_so (Ok octets) = true
+is_text_so (Err cause) = is_relay_cause cause
+
+abbrev is_address_so : Result AddressValue Cause → Bool
+is_address_so (Ok address) = true
+is_address_so (Err cause) = is_relay_cause cause
 
 octets-so : (octets : List ℕ) → is_title_so (read_octets octets) ≡ true
 octets-so [] = refl
@@ -77,12 +87,43 @@ answered-so (Some sif) b = refl
 answered-so None true = refl
 answered-so None false = refl
 
+-- ---- a title that is changed
+
+text-so : (none long : Bool) (octets : List ℕ) → is_text_so (if none then Err NoDigits else if long then Err TooLong else Ok octets) ≡ true
+text-so true long octets = refl
+text-so false true octets = refl
+text-so false false octets = refl
+
+changed-so : (change : ChangeEntry) (read : Result TitleValue Cause) → is_title_so read ≡ true → is_text_so (changed_octets change read) ≡ true
+changed-so change (Err cause) h = h
+changed-so change (Ok title) h = text-so (nat_eq (length (changed_digits change (digits_in title.scheme title.digit_octets))) 0) (nat_lt 254 (length (title_octets (changed_key change title.key) (changed_digits change (digits_in title.scheme title.digit_octets))))) _
+
+after-so : (same : Bool) (octets : List ℕ) (read : Result (List ℕ) Cause) → is_text_so read ≡ true → is_text_so (if same then Ok octets else read) ≡ true
+after-so true octets read h = refl
+after-so false octets read h = h
+
+with-so : (row : TitleEntry) (a : AddressValue) (title : Result (List ℕ) Cause) → is_text_so title ≡ true → is_address_so (led_with row a title) ≡ true
+with-so row a (Ok title) h = refl
+with-so row a (Err cause) h = h
+
+led-so : (row : TitleEntry) (a : AddressValue) → is_address_so (translated row a) ≡ true
+led-so row a =
+    with-so row a (title_after row.change a)
+    (after-so (is_unchanged row.change) a.title (changed_octets row.change (read_title a.title_indicator a.title))
+    (changed-so row.change (read_title a.title_indicator a.title) (title-so (nat_eq a.title_indicator 4) a.title)))
+
+-- ---- a message
+
 module _ (own : OwnValue) (label : Label) where
+  lead_on-so : (m : SccpValue) (point : ℕ) (to : Result AddressValue Cause) → is_address_so to ≡ true → is_refused_so (lead_on own label m point to) ≡ true
+  lead_on-so m point (Err cause) h = h
+  lead_on-so m point (Ok called) h = onward-so (written point own.point label (with_new_parts (lowered m) (led_on called label.opc (sccp_parts m))))
+
   by_row-so : (m : SccpValue) (row : Result TitleEntry Cause) → is_row_so row ≡ true → is_refused_so (relay_by_row own label m row) ≡ true
   by_row-so m (Err cause) h = h
   by_row-so m (Ok row) h =
-      either-so (nat_eq row.point own.point) _ _ (answered-so (answer own label m (ssn_by row.route (sccp_parts m).called.ssn)) (is_equipped own (ssn_by row.route (sccp_parts m).called.ssn)))
-      (onward-so (written row.point own.point label (with_new_parts (lowered m) (led_on row label.opc (sccp_parts m)))))
+      either-so (nat_eq (point_by own label.sls row) own.point) _ _ (answered-so (answer own label m (ssn_by row.route (sccp_parts m).called.ssn)) (is_equipped own (ssn_by row.route (sccp_parts m).called.ssn)))
+      (lead_on-so m (point_by own label.sls row) (translated row (sccp_parts m).called) (led-so row (sccp_parts m).called))
 
   routing-so : (routing : Routing) (rows : List TitleEntry) (m : SccpValue) → is_refused_so (relay_by_routing routing own rows label m) ≡ true
   routing-so Ssn rows m = answered-so (answer own label m (sccp_parts m).called.ssn) (is_equipped own (sccp_parts m).called.ssn)
@@ -98,7 +139,7 @@ module _ (own : OwnValue) (label : Label) where
   read-so rows (Err Kind) = refl
   read-so rows (Ok m) =
       either-so (not (is_connectionless m)) (Refused NotInProfile) _ refl
-      (either-so (not (has_hops m)) (Refused HopCounter) _ refl (routing-so (sccp_parts m).called.routing rows m))
+      (either-so (not (has_valid_hops m)) (Refused HopCounter) _ refl (routing-so (sccp_parts m).called.routing rows m))
 
 pub refused-so : (own : OwnValue) (rows : List TitleEntry) (sif : List ℕ) → is_refused_so (relay own rows sif) ≡ true
 unfolding relay

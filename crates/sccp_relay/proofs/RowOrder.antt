@@ -1,5 +1,6 @@
 -- Sorted rows, before an index, at it and after it.
-use Rattle.sccp_relay.proofs.Basics.{◌≡◌, ℕ, zero, suc, ◌<◌, ◌≤◌, Bool, true, false, not, List, [], ◌∷◌, ◌++◌, length, get_or, take, drop, refl, sym, ap, subst, ◌∙◌, ◌⊎◌, inl, inr, cond, drop-cons, arith, take-append-drop, append-nil, drop_all, filter-append, list_any-append, nat_list_cmp_total, IsTotalOrder, AllByRecursion, AllWithin, filter, insert, remove, IsPartitionedBy, IsPartitionPoint, is_lt, is_eq, is_gt, ordering_reverse, Ordering, Less, Equal, Greater, TitleEntry, row_place, place_order, is_before, is_at, is_behind, IsOrdered, has_row, with_row, StandsAt, FitsAt}
+use Rattle.sccp_relay.proofs.Basics.{◌≡◌, ℕ, zero, suc, ◌<◌, ◌≤◌, Bool, true, false, not, List, [], ◌∷◌, ◌++◌, length, get_or, take, drop, refl, sym, ap, subst, ◌∙◌, ◌⊎◌, inl, inr, cond, drop-cons, arith, take-append-drop, append-nil, drop_all, filter-append, list_any-append, bytes_decides, is_eq-slice_cmp, nat_list_cmp_total, IsTotalOrder, AllByRecursion, AllWithin, filter, insert, remove, IsPartitionedBy, IsPartitionPoint, is_lt, is_eq, is_gt, ordering_reverse, Ordering, Less, Equal, Greater, TitleEntry, row_place, place_order, is_before, is_at, is_behind, IsOrdered, has_row, with_row, StandsAt, FitsAt}
+use Rattle.std.proofs.lemmas.Option.{get_or_from_slice_get}
 
 -- ---- the order of places
 
@@ -144,7 +145,8 @@ pub stands-at : (place : List ℕ) (rows : List TitleEntry) (i : ℕ) (row : Tit
     → row ≡ get_or rows i row → is_eq (place_order (row_place row) place) ≡ true → StandsAt rows place i
 stands-at place rows i row h split lt e at =
     let t = tells-found place rows i row h split.0 lt e (equal-is_eq _ at) in
-    record { within = lt; there = t.found; removed = sym t.other }
+    let same : row_place row ≡ place = (bytes_decides (row_place row) place).0 (sym (is_eq-slice_cmp (row_place row) place) ∙ at) in
+    record { within = lt; there = t.found; removed = sym t.other; row = λ other f. ap row_place (sym (get_or_from_slice_get rows i other row f) ∙ sym e) ∙ same }
 
 inserted : (place : List ℕ) (rows : List TitleEntry) (i : ℕ) → Tells place rows (take i rows ++ []) ([] ++ drop i rows) (take i rows ++ drop i rows) false
     → (row : TitleEntry) → row_place row ≡ place → insert rows i row ≡ with_row row rows

@@ -1,19 +1,21 @@
 -- What a message says is in its ranges, and reads back where it is written.
-use Rattle.std.proofs.Common.{◌≡◌, ◌≢◌, ℕ, ◌^◌, ◌<◌, Bool, true, false, cond, List, ◌++◌, drop, Some, None, Result, Ok, Err, refl, sym, ap, subst, ◌∙◌, inl, inr}
+use Rattle.std.proofs.Common.{◌≡◌, ◌≢◌, ℕ, ◌+◌, ◌^◌, ◌<◌, Bool, true, false, cond, List, ◌++◌, drop, Some, None, Result, Ok, Err, refl, sym, ap, subst, ◌∙◌, inl, inr}
 use Rattle.std.proofs.lemmas.Bool.{and_parts}
 use Rattle.std.specs.List.{list_all}
-use Rattle.std.specs.Prelude.{⊤, ◌==◌, ◌&&◌, ◌||◌, if◌then◌else◌}
+use Rattle.std.specs.Prelude.{⊤, slice_index, ◌==◌, ◌&&◌, ◌||◌, if◌then◌else◌}
 use Rattle.mtp3_codec.specs.declared.label.Label.{Label}
 use Rattle.mtp3_codec.specs.Headings.{IsLabel, label_at, label_octets}
 use Rattle.mtp3_codec.proofs.Labels.{label-back}
 use Rattle.sccp_codec.specs.declared.fault.SccpFault.{SccpFault}
 use Rattle.sccp_codec.specs.declared.extended.ExtendedKind.{ExtendedKind}
 use Rattle.sccp_codec.specs.declared.extended.ExtendedKind.TheVariants.{Xudt, Xudts}
-use Rattle.sccp_codec.specs.Messages.{AreOctets, UnitdataValue, UdtValue, UdtsValue, IsUnitdataValue, read_unitdata}
-use Rattle.sccp_codec.specs.Extended.{ExtendedValue, ParameterValue, IsExtendedValue, HasOptional, is_parameter, type_of, extended_octets, read_extended}
+use Rattle.sccp_codec.specs.Messages.{AreOctets, UnitdataValue, UdtValue, UdtsValue, IsUnitdataValue, PartsValue, parts_of, address_in, part_at, parts_in, fault_of, value_in, read_unitdata}
+use Rattle.sccp_codec.specs.Extended.{ExtendedValue, ParameterValue, IsExtendedValue, HasOptional, is_parameter, type_of, extended_octets, extended_fault, extended_in, read_extended}
+use Rattle.sccp_codec.proofs.AddressTexts.{unless-ok}
+use Rattle.sccp_relay.proofs.Titles.{octets-taken, octets-dropped}
 use Rattle.sccp_codec.proofs.MessageTexts.{is_unitdata-read, read_unitdata-spelled}
 use Rattle.sccp_codec.proofs.ExtendedTexts.{is_extended-read, read_extended-written}
-use Rattle.sccp_relay.specs.Sccp.{SccpValue, Plain, Extended, as_plain, as_extended, is_extended, read_sccp, sccp_octets, is_sccp_writable}
+use Rattle.sccp_relay.specs.Sccp.{SccpValue, Plain, Extended, sccp_parts, as_plain, as_extended, is_extended, read_sccp, sccp_octets, is_sccp_writable}
 use Rattle.sccp_relay.specs.Relay.{OwnValue, label_to, written}
 use Rattle.sccp_relay.specs.Led.{IsSent}
 
@@ -68,6 +70,31 @@ fits-read extended text (Plain u) octets e =
 fits-read extended text (Extended v) octets e =
     let came = is_extended-read text v octets (extended-read extended text v e).read in
     record { parts = record { called = came.called.address.value; calling = came.calling.address.value }; optional = legal-optional text v.optional came.optional }
+
+-- the titles of its addresses are octets
+pub record HasOctetTitles (m : SccpValue) : Type 0 where
+  pub called : AreOctets (sccp_parts m).called.title
+  pub calling : AreOctets (sccp_parts m).calling.title
+
+value-parts : (b : Bool) (second : ℕ) (parts : PartsValue) → parts_of (if b then UdtValue second parts else UdtsValue second parts) ≡ parts
+value-parts true second parts = refl
+value-parts false second parts = refl
+
+part-title : (text : List ℕ) (pointer : ℕ) → AreOctets text → AreOctets (address_in (part_at text pointer)).title
+part-title text pointer h = octets-dropped _ (part_at text pointer) (octets-taken _ (drop _ text) (octets-dropped _ text h))
+
+parts-titles : (text : List ℕ) (pointers : ℕ) (m : SccpValue) → AreOctets text → parts_in pointers text ≡ sccp_parts m → HasOctetTitles m
+parts-titles text pointers m h e = record {
+  called = subst (λ (p : PartsValue). AreOctets p.called.title) e (part-title text pointers h);
+  calling = subst (λ (p : PartsValue). AreOctets p.calling.title) e (part-title text (pointers + 1) h);
+}
+
+pub titles-read : (extended : Bool) (text : List ℕ) (m : SccpValue) → AreOctets text → read_sccp extended text ≡ Ok m → HasOctetTitles m
+titles-read extended text (Plain u) h e =
+    parts-titles text 2 (Plain u) h
+    (sym (value-parts (slice_index text 0 == 9) (slice_index text 1) (parts_in 2 text)) ∙ ap parts_of (unless-ok (fault_of text) (value_in text) u (plain-read extended text u e)).1)
+titles-read extended text (Extended v) h e =
+    parts-titles text 3 (Extended v) h (ap (λ (w : ExtendedValue). w.parts) (unless-ok (extended_fault text) (extended_in text) v (extended-read extended text v e).read).1)
 
 pub here-read : (extended : Bool) (text : List ℕ) (m : SccpValue) → read_sccp extended text ≡ Ok m → IsReadHere extended m
 here-read extended text (Plain u) e = tt

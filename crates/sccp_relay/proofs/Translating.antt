@@ -1,5 +1,12 @@
 -- The longest way that exists along the digits of a key is that of the row by which its addresses are translated.
 use Rattle.sccp_relay.proofs.Basics.{◌≡◌, ℕ, ◌+◌, ◌*◌, ◌<◌, ◌≤◌, ◌^◌, ◌/◌, ◌%◌, Bool, true, cond, List, ◌++◌, length, get_or, take, Option, Some, None, refl, sym, ap, subst, ◌∙◌, inl, inr, arith, and_parts, cases_lt, eq-eqb, eqb-true, ne_eqb, lt-ltb, le-ltb, get_or_default, length-take, length-take-le, All-get_or, bytes_decides, filter, list_any, starts_with, NoNature, NoDigits, All, Err, nat_eq, DigitMap, behind, Cause, TitleKey, TitleEntry, HasTitleRanges, TitleRoute, Title, Ssn, key_of, leads, has_key, IsTranslation, translation, translation_refusal, or_refusal, IsRow, IsRoute, IsSsn, key_digits, way_of, lead_of, leads_of, route_number, route_of, row_led}
+use Rattle.settings_rows.specs.Configuration.{ChangeEntry, unchanged}
+use Rattle.sccp_relay.specs.Changing.{is_unchanged}
+use Rattle.sccp_relay.specs.Ways.{is_plain}
+use Rattle.sccp_relay.proofs.Titles.{same-unchanged}
+use Rattle.std.specs.Prelude.{if◌then◌else◌, Contains, false, is_none, ◌∷◌, Result, Ok, IfOk, OnErr}
+use Rattle.sccp_relay.proofs.Basics.{is_at, is_eq, has_row, place_of, row_place, place_order, IsOrdered, list_any_at, tied_itself, nat_list_cmp_total, Equal}
+use Rattle.sccp_relay.proofs.OneRow.{same-row, translation-is_translation}
 use Rattle.sccp_relay.specs.Digits.{longest as longest_digits}
 use Rattle.sccp_relay.proofs.Longest.{is-longest, is-none-longest}
 use Rattle.sccp_relay.specs.Translation.{longest}
@@ -26,33 +33,40 @@ route-back (Ssn n) h = route-back-ssn n h
 lead-parts : (r p : ℕ) → p < 2 ^ 14 → ((r * 2 ^ 14 + p) % 2 ^ 14 ≡ p) × ((r * 2 ^ 14 + p) / 2 ^ 14 ≡ r)
 lead-parts r p h = (omega (arith, h), omega (arith, h))
 
-pub row-back : (row : TitleEntry) → IsRow row → row_led (key_of row) row.digits (lead_of row) ≡ row
-row-back row is =
-    let parts = lead-parts (route_number row.route) row.point is.point in
-    ap (λ (n : ℕ). record {
-      translation = row.translation;
-      plan = row.plan;
-      nature = row.nature;
-      digits = row.digits;
-      point = n;
-      route = route_of (lead_of row / 2 ^ 14);
-    }) parts.0
-    ∙ ap (λ (r : TitleRoute). record {
-      translation = row.translation;
-      plan = row.plan;
-      nature = row.nature;
-      digits = row.digits;
-      point = row.point;
-      route = r;
-    }) (ap route_of parts.1 ∙ route-back row.route is.route)
+-- a row with another point, backup, route or change of titles
+to : TitleEntry → ℕ → Option ℕ → TitleRoute → ChangeEntry → TitleEntry
+to row point backup route change = record row { point = point; backup = backup; route = route; change = change }
 
-led-same : (key : TitleKey) (digits : List ℕ) (row : TitleEntry) → IsRow row → SameWay key digits row → row_led key digits (lead_of row) ≡ row
-led-same key digits row is s =
+no-backup : (backup : Option ℕ) → is_none backup ≡ true → None ≡ backup
+no-backup None e = refl
+no-backup (Some point) e = absurd cc
+
+lead-alone : (same : Bool) (lead : ℕ) → same ≡ true → (if same then 0 else 1) * 2 ^ 23 + lead ≡ lead
+lead-alone true lead e = omega arith
+lead-alone false lead e = absurd cc
+
+lead-small : (same : Bool) (lead : ℕ) → (if same then 0 else 1) * 2 ^ 23 + lead < 2 ^ 23 → same ≡ true
+lead-small true lead h = refl
+lead-small false lead h = absurd (omega (arith, h))
+
+pub row-back : (row : TitleEntry) → IsRow row → is_plain row ≡ true → row_led (key_of row) row.digits (lead_of row) ≡ row
+unfolding to
+row-back row is same =
+    let parts = lead-parts (route_number row.route) row.point is.point in
+    let plain = and_parts (is_none row.backup) (is_unchanged row.change) same in
+    ap (row_led (key_of row) row.digits) (lead-alone (is_plain row) (route_number row.route * 2 ^ 14 + row.point) same)
+    ∙ ap (λ (n : ℕ). to row n None (route_of ((route_number row.route * 2 ^ 14 + row.point) / 2 ^ 14)) unchanged) parts.0
+    ∙ ap (λ (r : TitleRoute). to row row.point None r unchanged) (ap route_of parts.1 ∙ route-back row.route is.route)
+    ∙ ap (λ (backup : Option ℕ). to row row.point backup row.route unchanged) (no-backup row.backup plain.0)
+    ∙ ap (to row row.point row.backup row.route) (sym (same-unchanged row.change plain.1))
+
+led-same : (key : TitleKey) (digits : List ℕ) (row : TitleEntry) → IsRow row → is_plain row ≡ true → SameWay key digits row → row_led key digits (lead_of row) ≡ row
+led-same key digits row is same s =
     ap (λ (t : ℕ). row_led (record { translation = t; plan = key.plan; nature = key.nature }) digits (lead_of row)) (sym s.translation)
     ∙ ap (λ (p : ℕ). row_led (record { translation = row.translation; plan = p; nature = key.nature }) digits (lead_of row)) (sym s.plan)
     ∙ ap (λ (n : ℕ). row_led (record { translation = row.translation; plan = row.plan; nature = n }) digits (lead_of row)) (sym s.nature)
     ∙ ap (λ (ds : List ℕ). row_led (key_of row) ds (lead_of row)) (sym s.digits_same)
-    ∙ row-back row is
+    ∙ row-back row is same
 
 -- ---- rows that lead digits
 
@@ -96,7 +110,9 @@ leading key digits row e =
 pub record Translated (rows : List TitleEntry) (key : TitleKey) (digits : List ℕ) (count lead : ℕ) : Type 0 where
   pub within : count ≤ length digits
   pub ranges : HasTitleRanges key.plan key.nature (take count digits)
-  pub row : IsTranslation rows key digits (row_led key (take count digits) lead)
+  pub row : lead < 2 ^ 23 → IsTranslation rows key digits (row_led key (take count digits) lead)
+  pub there : has_row rows (place_of key (take count digits)) ≡ true
+  pub at_place : (row : TitleEntry) → IsOrdered rows → Contains rows row → row_place row ≡ place_of key (take count digits) → IsTranslation rows key digits row
 
 abbrev pub ways_of_key : List TitleEntry → TitleKey → DigitMap
 ways_of_key rows key = behind (leads_of rows) (key_digits key)
@@ -134,6 +150,16 @@ pub walked : (map : DigitMap) (rows : List TitleEntry) (key : TitleKey) (front d
 walked map rows key front digits r e f g =
     sym (g ∙ ap (λ (m : DigitMap). longest_digits (behind m front) digits) e ∙ ap (λ (ds : List ℕ). longest_digits (behind (leads_of rows) ds) digits) f)
 
+place-same : (key : TitleKey) (digits : List ℕ) (row : TitleEntry) → SameWay key digits row → row_place row ≡ place_of key digits
+place-same key digits row s =
+    ap (λ (m : ℕ). m ∷ row.plan ∷ row.nature ∷ row.digits) s.translation ∙ ap (λ (m : ℕ). key.translation ∷ m ∷ row.nature ∷ row.digits) s.plan
+    ∙ ap (λ (m : ℕ). key.translation ∷ key.plan ∷ m ∷ row.digits) s.nature ∙ ap (λ (ds : List ℕ). key.translation ∷ key.plan ∷ key.nature ∷ ds) s.digits_same
+
+is-there : (rows : List TitleEntry) (place : List ℕ) (k : ℕ) (row : TitleEntry) → k < length rows → get_or rows k row ≡ row → row_place row ≡ place → has_row rows place ≡ true
+is-there rows place k row lt e same =
+    let equal : place_order (row_place row) place ≡ Equal = subst (λ (p : List ℕ). place_order (row_place row) p ≡ Equal) same (tied_itself nat_list_cmp_total (row_place row)) in
+    list_any_at (is_at place) rows k row lt (ap (is_at place) e ∙ ap is_eq equal)
+
 pub translated : (rows : List TitleEntry) (key : TitleKey) (digits : List ℕ) (count lead : ℕ) → All IsRow rows → longest_digits (ways_of_key rows key) digits ≡ Some (count, lead)
     → Translated rows key digits count lead
 translated rows key digits count lead all e =
@@ -141,12 +167,29 @@ translated rows key digits count lead all e =
     let f = found-row rows (key_digits key ++ take count digits) lead l.stands in
     let s = same-way key (take count digits) f.row f.way_is in
     let is : IsRow f.row = subst IsRow f.is (All-get_or IsRow rows f.at f.row f.within all) in
-    let same : row_led key (take count digits) lead ≡ f.row = ap (row_led key (take count digits)) (sym f.lead_is) ∙ led-same key (take count digits) f.row is s in
+    let found = found-translation rows key digits count lead l.within f l.none_longer in
+    let place = place-same key (take count digits) f.row s in
     record {
       within = l.within;
       ranges = same-ranges key (take count digits) f.row s is.ranges;
-      row = subst (IsTranslation rows key digits) (sym same) (found-translation rows key digits count lead l.within f l.none_longer);
+      row = λ small.
+          let plain = lead-small (is_plain f.row) (route_number f.row.route * 2 ^ 14 + f.row.point) (subst (λ (n : ℕ). n < 2 ^ 23) (sym f.lead_is) small) in
+          let same : row_led key (take count digits) lead ≡ f.row = ap (row_led key (take count digits)) (sym f.lead_is) ∙ led-same key (take count digits) f.row is plain s in
+          subst (IsTranslation rows key digits) (sym same) found;
+      there = is-there rows (place_of key (take count digits)) f.at f.row f.within f.is place;
+      at_place = λ row h among at.
+          subst (IsTranslation rows key digits) (same-row rows h f.at among.0 f.row row f.within among.1 f.is among.2 (place ∙ sym at)) found;
     }
+
+-- the row that is at the place
+pub by-place : (rows lent : List TitleEntry) (key : TitleKey) (digits : List ℕ) (count lead : ℕ) (found : Result TitleEntry Cause) → Translated rows key digits count lead → IsOrdered rows
+    → lent ≡ rows → IfOk found (Contains lent) → IfOk found (λ row. row_place row ≡ place_of key (take count digits))
+    → OnErr found (has_row lent (place_of key (take count digits)) ≡ false) → (found ≡ translation rows key digits) × IfOk found (IsTranslation rows key digits)
+by-place rows lent key digits count lead (Ok row) t h e among place free =
+    let is = t.at_place row h (subst (λ (rs : List TitleEntry). Contains rs row) e among) place in
+    (sym (translation-is_translation rows key digits row h is), is)
+by-place rows lent key digits count lead (Err cause) t h e among place free =
+    absurd (let no : has_row rows (place_of key (take count digits)) ≡ false = subst (λ (rs : List TitleEntry). has_row rs (place_of key (take count digits)) ≡ false) e free in let yes = t.there in cc)
 
 -- ---- no row
 

@@ -12,10 +12,10 @@ use Rattle.sccp_codec.specs.declared.address.Routing.TheVariants.{Title, Ssn}
 use Rattle.sccp_codec.specs.Messages.{address_octets, parts_of, pointed}
 use Rattle.sccp_codec.specs.Extended.{after_parts, extended_octets, optional_pointer}
 use Rattle.sccp_relay.specs.Sccp.{SccpValue, Plain, Extended, sccp_parts, with_new_parts, read_sccp, lowered, is_sccp_writable, sccp_octets}
-use Rattle.sccp_relay.specs.Relay.{OwnValue, Onward, relay, row_of, label_to, written, led_on, allowed, return_cause, service, return_by, return_by_row, returned, sent_back, led_back}
+use Rattle.sccp_relay.specs.Relay.{OwnValue, Onward, relay, row_of, point_by, label_to, written, led_on, allowed, return_cause, service, return_by, return_by_row, translated, returned, sent_back, led_back}
 use Rattle.sccp_relay.proofs.SaidMessages.{written-text}
 use Rattle.sccp_relay.proofs.GoingOn.{Leads, Answered, in-case, read-leads}
-use Rattle.sccp_relay.proofs.GoingBack.{goes-back, read-returns}
+use Rattle.sccp_relay.proofs.GoingBack.{goes-back, is-led_back, read-returns}
 
 pub record Fits (sif : List ℕ) : Type 0 where
   pub long : 4 ≤ length sif
@@ -53,7 +53,7 @@ written-fits point own label m field e =
 
 leads-fits : (own : OwnValue) (rows : List TitleEntry) (label : Label) (came : SccpValue) (field : List ℕ) → Leads own rows label came field ⊎ Answered own rows label came field → Fits field
 leads-fits own rows label came field (inl l) =
-    written-fits l.row.point own.point label (with_new_parts (lowered came) (led_on l.row label.opc (sccp_parts came))) field l.writes
+    written-fits (point_by own label.sls l.row) own.point label (with_new_parts (lowered came) (led_on l.called label.opc (sccp_parts came))) field l.writes
 leads-fits own rows label came field (inr answered) = written-fits label.opc own.point label (allowed answered.answers.test) field answered.answers.writes
 
 pub onward-fits : (own : OwnValue) (rows : List TitleEntry) (text sif : List ℕ) → relay own rows text ≡ Onward sif → Fits sif
@@ -67,8 +67,10 @@ onward-fits own rows text sif e =
 row-fits : (own : OwnValue) (label : Label) (number : ℕ) (came : SccpValue) (found : Result TitleEntry Cause) (field : List ℕ) → return_by_row own label number came found ≡ Some field → Fits field
 row-fits own label number came (Err cause) field e = absurd cc
 row-fits own label number came (Ok row) field e =
-    let goes = service number came (led_back row (sccp_parts came)) in
-    written-fits row.point own.point label goes field (goes-back own.point label row.point goes field e).writes
+    let point = point_by own label.sls row in
+    let l = is-led_back own label number came point (translated row (sccp_parts came).calling) field e in
+    let goes = service number came (led_back l.called (sccp_parts came)) in
+    written-fits point own.point label goes field (goes-back own.point label point goes field l.returns).writes
 
 routing-fits : (routing : Routing) (own : OwnValue) (rows : List TitleEntry) (label : Label) (number : ℕ) (came : SccpValue) (field : List ℕ)
     → return_by routing own rows label number came ≡ Some field → Fits field

@@ -1,16 +1,18 @@
 -- What goes on, and what is returned, as it reads where it arrives: laws (Q.714 §2.3, §2.4, §4.2, §5.3.4).
-use Rattle.std.specs.Prelude.{◌≡◌, ◌≢◌, ℕ, ◌+◌, ◌-◌, ◌/◌, ◌<◌, ◌≤◌, ◌^◌, ◌⊎◌, true, All, List, [], ◌∷◌, length, drop, Option, Some, None, IfSome, Ok, unwrap_or}
+use Rattle.std.specs.Prelude.{◌≡◌, ◌≢◌, ℕ, ◌+◌, ◌-◌, ◌/◌, ◌<◌, ◌≤◌, ◌^◌, ◌⊎◌, true, false, All, List, [], ◌∷◌, ◌++◌, length, drop, Option, Some, None, IfSome, Ok, unwrap_or}
 use Rattle.signalling_types.specs.declared.cause.Cause.{Cause}
-use Rattle.settings_rows.specs.Configuration.{TitleEntry}
+use Rattle.settings_rows.specs.Configuration.{ChangeEntry, TitleEntry, unchanged}
 use Rattle.settings_rows.specs.declared.title_row.TitleRoute.TheVariants as route
+use Rattle.mtp3_codec.specs.declared.label.Label.{Label}
 use Rattle.mtp3_codec.specs.Headings.{label_at}
 use Rattle.sccp_codec.specs.declared.address.Routing.TheVariants.{Title, Ssn}
 use Rattle.sccp_codec.specs.declared.management.ManagementKind.TheVariants.{SubsystemAllowed, SubsystemStatusTest}
 use Rattle.sccp_codec.specs.Messages.{AddressValue, AreOctets, PartsValue, UdtValue, kind_of, second_of, read_unitdata}
 use Rattle.sccp_codec.specs.Extended.{ParameterValue, type_of, after_type}
 use Rattle.sccp_codec.specs.Management.{ManagementValue, read_management}
+use Rattle.sccp_codec.specs.Titles.{TitleValue, read_title, digits_in, title_octets}
 use Rattle.sccp_relay.specs.Sccp.{SccpValue, Plain, Extended, sccp_parts, is_extended, read_sccp}
-use Rattle.sccp_relay.specs.Relay.{OwnValue, Onward, relay, row_of, ssn_by, is_equipped, management_address, return_cause, returned_parameters, returned}
+use Rattle.sccp_relay.specs.Relay.{OwnValue, Onward, relay, row_of, ssn_by, is_equipped, management_address, return_cause, returned_parameters, returned, is_reached}
 use Rattle.sccp_relay.specs.Ways.{IsRow}
 
 -- ---- the fields of a message
@@ -40,13 +42,42 @@ pub record SameTitle (a b : AddressValue) : Type 0 where
   pub title_indicator : b.title_indicator ≡ a.title_indicator
   pub title : b.title ≡ a.title
 
--- the called address that a row leads on: routed as the row says, for the subsystem of the row rather than its own
+-- A title that a row changes reads as one of the same translation type, with the plan and the nature of the change where
+-- it has them, and with the digits that the change puts on before those that it leaves. There is one digit at least, the
+-- encoding scheme says whether they are odd or even in number, and filler and spare bits are 0.
+pub record IsChanged (change : ChangeEntry) (a b : AddressValue) : Type 0 where
+  pub came : TitleValue
+  pub reads : read_title a.title_indicator a.title ≡ Ok came
+  pub goes : TitleValue
+  pub reads_back : read_title b.title_indicator b.title ≡ Ok goes
+  pub translation_type : goes.key.translation ≡ came.key.translation
+  pub plan : goes.key.plan ≡ unwrap_or change.plan came.key.plan
+  pub nature : goes.key.nature ≡ unwrap_or change.nature came.key.nature
+  pub digits : digits_in goes.scheme goes.digit_octets
+      ≡ change.added ++ drop change.removed (digits_in came.scheme came.digit_octets)
+  pub some : 1 ≤ length (digits_in goes.scheme goes.digit_octets)
+  pub octets : b.title ≡ title_octets goes.key (digits_in goes.scheme goes.digit_octets)
+
+-- the called address that a row leads on: routed as the row says, for the subsystem of the row rather than its own; its
+-- title is the same, or as the row changes it
 pub record IsLed (row : TitleEntry) (a b : AddressValue) : Type 0 where
-  pub kept : SameTitle a b
+  pub kept : row.change ≡ unchanged → SameTitle a b
+  pub changed : row.change ≢ unchanged → IsChanged row.change a b
+  pub national : b.national ≡ a.national
+  pub title_indicator : b.title_indicator ≡ a.title_indicator
   pub point : b.point ≡ None
   pub by_number : (ssn : ℕ) → row.route ≡ route.Ssn ssn → (b.routing ≡ Ssn) × (b.ssn ≡ Some ssn)
   pub by_title : (ssn : ℕ) → row.route ≡ route.Title (Some ssn) → (b.routing ≡ Title) × (b.ssn ≡ Some ssn)
   pub by_title_alone : row.route ≡ route.Title None → (b.routing ≡ Title) × (b.ssn ≡ a.ssn)
+
+-- the point that a row leads messages of a link selection to: its own; but its backup, if it has one, while they reach
+-- that and don't reach the first
+pub record IsLedTo (own : OwnValue) (sls : ℕ) (row : TitleEntry) (point : ℕ) : Type 0 where
+  pub alone : row.backup ≡ None → point ≡ row.point
+  pub first : is_reached own sls row.point ≡ true → point ≡ row.point
+  pub backup : (backup : ℕ) → row.backup ≡ Some backup → is_reached own sls row.point ≡ false
+      → is_reached own sls backup ≡ true → point ≡ backup
+  pub neither : (backup : ℕ) → row.backup ≡ Some backup → is_reached own sls backup ≡ false → point ≡ row.point
 
 -- the calling address further on: one that is routed by subsystem number, and named no point, names that of the sender
 pub record IsSeenFrom (origin : ℕ) (a b : AddressValue) : Type 0 where
@@ -70,7 +101,7 @@ abbrev pub IsLowered : Option ℕ → Option ℕ → Type 0
 IsLowered None after = after ≡ None
 IsLowered (Some hops) after = (2 ≤ hops) × (hops ≤ 15) × (after ≡ Some (hops - 1))
 
--- a message goes on to the point of the row that its title finds: of its type, with its class or return cause, its data
+-- a message goes on to where the row that its title finds leads it: of its type, with its class or return cause, its data
 -- and its optional parameters
 pub record GoesOn (own : OwnValue) (rows : List TitleEntry) (sif field : List ℕ) : Type 0 where
   pub came : SccpValue
@@ -78,7 +109,7 @@ pub record GoesOn (own : OwnValue) (rows : List TitleEntry) (sif field : List �
   pub row : TitleEntry
   pub finds : row_of rows (sccp_parts came).called ≡ Ok row
   pub label : IsSent own sif field
-  pub to_row : (label_at field).dpc ≡ row.point
+  pub to_row : IsLedTo own (label_at sif).sls row (label_at field).dpc
   pub goes : SccpValue
   pub reads_back : read_sccp own.extended (drop 4 field) ≡ Ok goes
   pub type : type_octet goes ≡ type_octet came
@@ -90,18 +121,19 @@ pub record GoesOn (own : OwnValue) (rows : List TitleEntry) (sif field : List �
   pub optional : optional_of goes ≡ optional_of came
 
 -- a message to this address is for SCCP management here: by its subsystem number, or where the row of its title leads
-pub record IsForManagement (own : OwnValue) (rows : List TitleEntry) (called : AddressValue) : Type 0 where
+pub record IsForManagement (own : OwnValue) (rows : List TitleEntry) (sls : ℕ) (called : AddressValue) : Type 0 where
   pub by_number : called.routing ≡ Ssn → called.ssn ≡ Some 1
   pub by_title : called.routing ≡ Title →
-      (row : TitleEntry) × (row_of rows called ≡ Ok row) × (row.point ≡ own.point) × (ssn_by row.route called.ssn ≡ Some 1)
+      (row : TitleEntry) × (row_of rows called ≡ Ok row) × IsLedTo own sls row own.point
+      × (ssn_by row.route called.ssn ≡ Some 1)
 
 -- an SSA goes back in the place of an SST about a subsystem that is here
 pub record IsTestAnswer (own : OwnValue) (rows : List TitleEntry) (sif field : List ℕ) : Type 0 where
-  pub answers : own.tested ≡ true
+  pub answers : own.answers_tests ≡ true
   pub class_octet : ℕ
   pub came : PartsValue
   pub reads : read_unitdata (drop 4 sif) ≡ Ok (UdtValue class_octet came)
-  pub for_management : IsForManagement own rows came.called
+  pub for_management : IsForManagement own rows (label_at sif).sls came.called
   pub test : ManagementValue
   pub says : read_management came.data ≡ Ok test
   pub kind : test.kind ≡ SubsystemStatusTest
@@ -113,17 +145,17 @@ pub record IsTestAnswer (own : OwnValue) (rows : List TitleEntry) (sif field : L
   pub reads_back : read_unitdata (drop 4 field) ≡ Ok (UdtValue 0 goes)
   pub called : goes.called ≡ management_address
   pub calling : goes.calling ≡ management_address
-  pub answer : read_management goes.data ≡ Ok (record test { kind = SubsystemAllowed })
+  pub answer : read_management goes.data ≡ Ok (record test { kind = SubsystemAllowed; multiplicity = 0 })
 
 -- ---- what is returned
 
 -- The point that a message goes back to, and how its called address reads there. By subsystem number it is the point
 -- that the address names, or if there is none the point that the message came from; by title, where its row leads.
-pub record GoesBack (rows : List TitleEntry) (origin : ℕ) (to : AddressValue) (point : ℕ) (called : AddressValue)
-    : Type 0 where
-  pub by_number : to.routing ≡ Ssn → (point ≡ unwrap_or to.point origin) × (called ≡ to)
+pub record GoesBack (own : OwnValue) (rows : List TitleEntry) (label : Label) (to : AddressValue) (point : ℕ)
+    (called : AddressValue) : Type 0 where
+  pub by_number : to.routing ≡ Ssn → (point ≡ unwrap_or to.point label.opc) × (called ≡ to)
   pub by_title : to.routing ≡ Title →
-      (row : TitleEntry) × (row_of rows to ≡ Ok row) × (point ≡ row.point) × IsLed row to called
+      (row : TitleEntry) × (row_of rows to ≡ Ok row) × IsLedTo own label.sls row point × IsLed row to called
 
 -- A message that asks for it is returned: a UDT by a UDTS, an XUDT by an XUDTS, with the return cause, the addresses
 -- exchanged, and the data. The hop counter of an XUDTS is 15
@@ -142,8 +174,7 @@ pub record IsReturned (own : OwnValue) (rows : List TitleEntry) (sif : List ℕ)
   pub second : second_octet goes ≡ number
   pub hops : IfSome (hops_of goes) (λ hops. hops ≡ 15)
   pub calling : (sccp_parts goes).calling ≡ (sccp_parts came).called
-  pub called : SameTitle (sccp_parts came).calling (sccp_parts goes).called
-  pub back : GoesBack rows (label_at sif).opc (sccp_parts came).calling (label_at field).dpc (sccp_parts goes).called
+  pub back : GoesBack own rows (label_at sif) (sccp_parts came).calling (label_at field).dpc (sccp_parts goes).called
   pub carried : (sccp_parts goes).data ≡ (sccp_parts came).data
   pub optional : optional_of goes ≡ returned_parameters (optional_of came)
 

@@ -1,4 +1,5 @@
 pub mod Translation
+pub mod Changing
 pub mod Sccp
 pub mod Relay
 pub mod Values

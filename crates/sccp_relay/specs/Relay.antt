@@ -1,6 +1,6 @@
 -- SCRC and SCLC, SCCP routing control and connectionless control: what becomes of an SCCP message for this point, and
 -- what returns one that is refused (Q.714 §2.3, §4.2).
-use Rattle.std.specs.Prelude.{ℕ, Bool, true, false, not, ◌&&◌, if◌then◌else◌, nat_eq, List, [], ◌∷◌, ◌++◌, take, drop, Option, Some, None, is_none, unwrap_or, Result, Ok, Err}
+use Rattle.std.specs.Prelude.{ℕ, Bool, true, false, not, ◌&&◌, ◌||◌, if◌then◌else◌, nat_eq, List, [], ◌∷◌, ◌++◌, take, drop, Option, Some, None, is_none, unwrap_or, Result, Ok, Err}
 use Rattle.std.specs.List.{list_any}
 use Rattle.settings_rows.specs.Configuration.{TitleEntry}
 use Rattle.signalling_types.specs.declared.cause.Cause.{Cause}
@@ -22,19 +22,22 @@ use Rattle.sccp_codec.specs.Messages.{AddressValue, is_by_ssn, PartsValue, UdtVa
 use Rattle.sccp_codec.specs.Management.{ManagementValue, management_octets, read_management}
 use Rattle.sccp_codec.specs.Extended.{ExtendedValue, ParameterValue, first_named}
 use Rattle.sccp_codec.specs.Titles.{TitleValue, read_title, digits_in}
+use Rattle.sccp_relay.specs.Changing.{title_after}
 use Rattle.sccp_relay.specs.Translation.{translation}
-use Rattle.sccp_relay.specs.Sccp.{SccpValue, Plain, Extended, sccp_parts, with_new_parts, read_sccp, is_connectionless, asks_for_return, has_hops, lowered, is_spent, is_sccp_writable, sccp_octets}
+use Rattle.sccp_relay.specs.Sccp.{SccpValue, Plain, Extended, sccp_parts, with_new_parts, read_sccp, is_connectionless, asks_for_return, has_valid_hops, lowered, is_spent, is_sccp_writable, sccp_octets}
 
 -- ---- What becomes of a message: by its called address it is for a subsystem here, or goes on, written again (Q.714
 -- §2.3, §2.4).
 
--- the point that a node is, and the numbers of the subsystems that are there; whether extended messages are relayed, and
--- whether tests of these subsystems are answered
+-- the point that a node is, and the numbers of the subsystems that are there; whether extended messages are relayed,
+-- and whether tests of these subsystems are answered; and whether a link leads to a point, for messages of a link
+-- selection
 pub record OwnValue : Type 0 where
   pub point : ℕ
   pub subsystems : List ℕ
   pub extended : Bool
-  pub tested : Bool
+  pub answers_tests : Bool
+  pub leads : (point sls : ℕ) → Bool
 
 -- what becomes of a message: a subsystem here gets it, one with this signalling information field goes on in its place,
 -- or it is refused
@@ -54,6 +57,19 @@ row_of_title rows (Ok title) =
 abbrev pub row_of : List TitleEntry → AddressValue → Result TitleEntry Cause
 row_of rows address = row_of_title rows (read_title address.title_indicator address.title)
 
+-- whether messages of this link selection reach a point: it is this one, or a link leads to it
+abbrev pub is_reached : OwnValue → (sls point : ℕ) → Bool
+is_reached own sls point = nat_eq point own.point || own.leads point sls
+
+abbrev pub point_or : OwnValue → (sls point : ℕ) → (backup : Option ℕ) → ℕ
+point_or own sls point None = point
+point_or own sls point (Some backup) =
+    if not (is_reached own sls point) && is_reached own sls backup then backup else point
+
+-- the point that a row leads to: its own; its backup while they reach that alone
+unfoldable pub point_by : OwnValue → (sls : ℕ) → TitleEntry → ℕ
+point_by own sls row = point_or own sls row.point row.backup
+
 -- what the address is routed by at the point that a row leads to, and the subsystem number there: that of the row if it
 -- has one, else that of the address if it has one
 abbrev pub routing_by : TitleRoute → Routing
@@ -68,13 +84,22 @@ abbrev pub ssn_by : TitleRoute → Option ℕ → Option ℕ
 ssn_by (route.Title number) ssn = number_or number ssn
 ssn_by (route.Ssn number) ssn = Some number
 
--- the called address, as a row leads it on: its title is kept, and it no longer names a point
-abbrev pub translated : TitleEntry → AddressValue → AddressValue
-translated row address = record address {
+-- the called address, as a row leads it on with this title: it no longer names a point
+abbrev pub led : TitleEntry → AddressValue → (title : List ℕ) → AddressValue
+led row address title = record address {
   routing = routing_by row.route;
   point = None;
   ssn = ssn_by row.route address.ssn;
+  title = title;
 }
+
+abbrev pub led_with : TitleEntry → AddressValue → Result (List ℕ) Cause → Result AddressValue Cause
+led_with row address (Err cause) = Err cause
+led_with row address (Ok title) = Ok (led row address title)
+
+-- the same, with the title that the row gives it
+abbrev pub translated : TitleEntry → AddressValue → Result AddressValue Cause
+translated row address = led_with row address (title_after row.change address)
 
 -- the calling address, as a further point must see it: if it is routed by subsystem number and names no point, it gets
 -- that of the sender (Q.714 §2.7)
@@ -95,27 +120,28 @@ abbrev pub onward : Option (List ℕ) → RelayedValue
 onward (Some sif) = Onward sif
 onward None = Refused TooLong
 
--- the parts, as a row leads them on
-abbrev pub led_on : TitleEntry → (sender : ℕ) → PartsValue → PartsValue
-led_on row sender parts =
-    record parts { called = translated row parts.called; calling = from_point sender parts.calling }
+-- the parts, with the called address as a row leads it on
+abbrev pub led_on : (called : AddressValue) → (sender : ℕ) → PartsValue → PartsValue
+led_on called sender parts = record parts { called = called; calling = from_point sender parts.calling }
 
 -- ---- for this point
 
--- whether a subsystem of this number is here; without a number none is
+abbrev pub is_management : Option ℕ → Bool
+is_management None = false
+is_management (Some ssn) = nat_eq ssn 1
+
+-- whether a subsystem of this number is here; without a number none is. Where tests are answered SCCP management,
+-- subsystem 1, is here (Q.714 §5.3.4)
 abbrev pub is_equipped : OwnValue → Option ℕ → Bool
 is_equipped own None = false
-is_equipped own (Some ssn) = list_any (λ subsystem. nat_eq subsystem ssn) own.subsystems
+is_equipped own (Some ssn) =
+    own.answers_tests && nat_eq ssn 1 || list_any (λ subsystem. nat_eq subsystem ssn) own.subsystems
 
 -- a message for a subsystem of this point
 abbrev pub to_subsystem : OwnValue → Option ℕ → RelayedValue
 to_subsystem own ssn = if is_equipped own ssn then Delivered else Refused Unequipped
 
 -- ---- tests of the subsystems here: what SCCP management, subsystem 1, is asked (Q.714 §5.3.4)
-
-abbrev pub is_management : Option ℕ → Bool
-is_management None = false
-is_management (Some ssn) = nat_eq ssn 1
 
 abbrev pub is_test : ManagementKind → Bool
 is_test SubsystemAllowed = false
@@ -138,12 +164,13 @@ management_address = record {
   title = [];
 }
 
--- the answer: an SSA about the same subsystem, from SCCP management here to that of the sender, in a UDT of class 0
+-- the answer: an SSA about the same subsystem, from SCCP management here to that of the sender, in a UDT of class 0; its
+-- multiplicity indicator, and the spare bits there, are 0
 abbrev pub allowed : ManagementValue → SccpValue
 allowed test = Plain (UdtValue 0 (record {
   called = management_address;
   calling = management_address;
-  «data» = management_octets 0 (record test { kind = SubsystemAllowed });
+  «data» = management_octets 0 (record test { kind = SubsystemAllowed; multiplicity = 0 });
 }))
 
 -- the field of the answer to what was read, if it is answered
@@ -155,7 +182,7 @@ answer_to own label (Ok test) =
 -- the same, of a message for this subsystem: only the data of a UDT are looked at
 abbrev pub answer : OwnValue → Label → SccpValue → Option ℕ → Option (List ℕ)
 answer own label (Plain (UdtValue class_octet parts)) ssn =
-    if own.tested && is_management ssn then answer_to own label (read_management parts.data) else None
+    if own.answers_tests && is_management ssn then answer_to own label (read_management parts.data) else None
 answer own label (Plain (UdtsValue return_cause parts)) ssn = None
 answer own label (Extended extended) ssn = None
 
@@ -170,14 +197,20 @@ for_subsystem own label message ssn = answered_or (answer own label message ssn)
 
 -- ---- a message
 
+-- a message goes on to the point of a row, with this called address
+abbrev pub lead_on : OwnValue → Label → SccpValue → (point : ℕ) → Result AddressValue Cause → RelayedValue
+lead_on own label message point (Err cause) = Refused cause
+lead_on own label message point (Ok called) =
+    onward (written point own.point label
+    (with_new_parts (lowered message) (led_on called label.opc (sccp_parts message))))
+
 -- a message whose called address is by title, by the row of that title
 abbrev pub relay_by_row : OwnValue → Label → SccpValue → Result TitleEntry Cause → RelayedValue
 relay_by_row own label message (Err cause) = Refused cause
 relay_by_row own label message (Ok row) =
-    if nat_eq row.point own.point
+    if nat_eq (point_by own label.sls row) own.point
     then for_subsystem own label message (ssn_by row.route (sccp_parts message).called.ssn)
-    else onward (written row.point own.point label
-    (with_new_parts (lowered message) (led_on row label.opc (sccp_parts message))))
+    else lead_on own label message (point_by own label.sls row) (translated row (sccp_parts message).called)
 
 -- before it is translated its hop counter is lowered, and it is refused if this comes to 0 (Q.714 §2.3.1)
 abbrev pub relay_by_title : OwnValue → List TitleEntry → Label → SccpValue → RelayedValue
@@ -200,7 +233,7 @@ abbrev pub relay_read : OwnValue → List TitleEntry → Label → Result SccpVa
 relay_read own rows label (Err fault) = Refused (sccp_cause fault)
 relay_read own rows label (Ok message) =
     if not (is_connectionless message) then Refused NotInProfile
-    else if not (has_hops message) then Refused HopCounter
+    else if not (has_valid_hops message) then Refused HopCounter
     else relay_by_routing (sccp_parts message).called.routing own rows label message
 
 -- what becomes of a message with this signalling information field
@@ -251,14 +284,19 @@ return_to own label point message = if nat_eq point own then None else written p
 abbrev pub sent_back : PartsValue → PartsValue
 sent_back parts = record parts { called = parts.calling; calling = parts.called }
 
--- the same, sent to the calling address as a row translates it; the called address stays
-abbrev pub led_back : TitleEntry → PartsValue → PartsValue
-led_back row parts = record parts { called = translated row parts.calling; calling = parts.called }
+-- the same, sent to the calling address as a row leads it on; the called address stays
+abbrev pub led_back : (calling : AddressValue) → PartsValue → PartsValue
+led_back calling parts = record parts { called = calling; calling = parts.called }
+
+abbrev pub return_led : OwnValue → Label → ℕ → SccpValue → (point : ℕ) → Result AddressValue Cause → Option (List ℕ)
+return_led own label number message point (Err cause) = None
+return_led own label number message point (Ok calling) =
+    return_to own.point label point (service number message (led_back calling (sccp_parts message)))
 
 abbrev pub return_by_row : OwnValue → Label → ℕ → SccpValue → Result TitleEntry Cause → Option (List ℕ)
 return_by_row own label number message (Err cause) = None
 return_by_row own label number message (Ok row) =
-    return_to own.point label row.point (service number message (led_back row (sccp_parts message)))
+    return_led own label number message (point_by own label.sls row) (translated row (sccp_parts message).calling)
 
 -- It goes to the address that called. By subsystem number that is the point that it names, else the point that the
 -- message came from; by title it is where a row leads

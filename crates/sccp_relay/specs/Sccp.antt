@@ -1,5 +1,5 @@
--- The messages of SCCP without a connection: UDT and UDTS, and XUDT and XUDTS where these are relayed (Q.713 §4.10, §4.11,
--- §4.18, §4.19).
+-- The messages of SCCP without a connection: UDT and UDTS, and XUDT and XUDTS where these are relayed (Q.713 §4.10,
+-- §4.11, §4.18, §4.19).
 use Rattle.std.specs.Prelude.{ℕ, ◌+◌, ◌-◌, ◌/◌, ◌%◌, ◌^◌, Bool, true, false, ◌==◌, ◌&&◌, ◌||◌, nat_eq, nat_lt, nat_le, if◌then◌else◌, List, length, slice_index, Result, Ok, Err}
 use Rattle.signalling_types.specs.declared.limits.TheConstants.Limits.{SIF_OCTETS}
 use Rattle.sccp_codec.specs.declared.fault.SccpFault.{SccpFault}
@@ -77,9 +77,9 @@ asks_for_return (Extended extended) = is_kind_returned extended.kind
 -- ---- the hop counter of an extended message
 
 -- it is 1 to 15 (Q.713 §3.18)
-abbrev pub has_hops : SccpValue → Bool
-has_hops (Plain unitdata) = true
-has_hops (Extended extended) = nat_le 1 extended.hop_counter && nat_le extended.hop_counter 15
+abbrev pub has_valid_hops : SccpValue → Bool
+has_valid_hops (Plain unitdata) = true
+has_valid_hops (Extended extended) = nat_le 1 extended.hop_counter && nat_le extended.hop_counter 15
 
 -- a translation lowers it by one (Q.714 §2.3.1)
 abbrev pub lowered : SccpValue → SccpValue

@@ -1,7 +1,7 @@
 -- The law of translation at two rows, one of which begins the other: a definition that takes another prefix than the
 -- longest makes it false here.
 use Rattle.std.specs.Prelude.{◌≡◌, ℕ, List, [], ◌∷◌, Ok, None}
-use Rattle.settings_rows.specs.Configuration.{TitleEntry}
+use Rattle.settings_rows.specs.Configuration.{TitleEntry, unchanged}
 use Rattle.settings_rows.specs.declared.title_row.TitleRoute.TheVariants.{Title}
 use Rattle.sccp_codec.specs.declared.title.TitleKey.{TitleKey}
 use Rattle.sccp_relay.specs.Rows.{IsOrdered}
@@ -12,7 +12,16 @@ key = record { translation = 0; plan = 1; nature = 4 }
 
 -- a row of this key
 abbrev pub row : (digits : List ℕ) → TitleEntry
-row digits = record { translation = 0; plan = 1; nature = 4; digits = digits; point = 2; route = Title None }
+row digits = record {
+  translation = 0;
+  plan = 1;
+  nature = 4;
+  digits = digits;
+  point = 2;
+  backup = None;
+  route = Title None;
+  change = unchanged;
+}
 
 -- rows 49 and 4917
 abbrev pub rows : List TitleEntry

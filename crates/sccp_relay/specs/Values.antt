@@ -1,5 +1,6 @@
 -- What the relay's types say, without where their octets lie.
-use Rattle.std.specs.Prelude.{ℕ, List, [], ◌∷◌, take, Option, Some, None, ⊤}
+use Rattle.std.specs.Prelude.{◌≡◌, ℕ, Bool, List, [], ◌∷◌, take, Option, Some, None, Result, Ok, Err, ⊤}
+use Rattle.signalling_types.specs.declared.cause.Cause.{Cause}
 use Rattle.sccp_codec.specs.Values.{unitdata_of}
 use Rattle.sccp_codec.specs.ExtendedValues.{extended_of}
 use Rattle.sccp_relay.specs.declared.own.Own.{Own}
@@ -10,12 +11,13 @@ use Rattle.sccp_relay.specs.declared.relayed.Relayed.TheVariants as said
 use Rattle.sccp_relay.specs.Sccp.{SccpValue, Plain, Extended}
 use Rattle.sccp_relay.specs.Relay.{OwnValue, RelayedValue, Delivered, Onward, Refused}
 
-abbrev pub own_value : Own → OwnValue
-own_value own = record {
+abbrev pub own_value : {W : Type 0} → (leads : W → ℕ → ℕ → Bool) → Own W → OwnValue
+own_value leads own = record {
   point = own.point;
   subsystems = own.subsystems.now;
   extended = own.extended;
-  tested = own.tested;
+  answers_tests = own.answers_tests;
+  leads = leads own.ways;
 }
 
 abbrev pub sccp_of : Message → SccpValue
@@ -47,3 +49,13 @@ four_octets (Some octets) = Some (octets.0 ∷ octets.1 ∷ octets.2 ∷ octets.
 abbrev pub one_octet : Option ℕ → Option (List ℕ)
 one_octet None = None
 one_octet (Some octet) = Some (octet ∷ [])
+
+-- what the code answers, seen as a value, is what the definition gives
+abbrev pub GivesAs : {X V : Type 0} → Result X Cause → (X → V) → Result V Cause → Type 0
+GivesAs (Ok x) view given = given ≡ Ok (view x)
+GivesAs (Err cause) view given = given ≡ Err cause
+
+-- octets that were made, or else these
+abbrev pub made_or : {X : Type 0} → (came : List ℕ) → (X → List ℕ) → Option X → List ℕ
+made_or came view None = came
+made_or came view (Some x) = view x

@@ -1,12 +1,13 @@
 -- How a row is found, by its way, the digits of its key followed by its own; and where it leads, as one number.
-use Rattle.std.specs.Prelude.{ℕ, ◌+◌, ◌*◌, ◌^◌, ◌/◌, ◌%◌, ◌<◌, ◌≤◌, IfSome, if◌then◌else◌, nat_eq, nat_lt, List, [], ◌∷◌, ◌++◌, Option, Some, None}
+use Rattle.std.specs.Prelude.{ℕ, Bool, ◌&&◌, is_none, ◌+◌, ◌*◌, ◌^◌, ◌/◌, ◌%◌, ◌<◌, ◌≤◌, IfSome, if◌then◌else◌, nat_eq, nat_lt, List, [], ◌∷◌, ◌++◌, Option, Some, None}
 use Rattle.std.specs.Str.{bytes_eq}
 use Rattle.sccp_relay.specs.Digits.{DigitMap}
 use Rattle.sccp_codec.specs.declared.title.TitleKey.{TitleKey}
-use Rattle.settings_rows.specs.Configuration.{TitleEntry}
-use Rattle.settings_rows.specs.Titles.{HasTitleRanges}
+use Rattle.settings_rows.specs.Configuration.{TitleEntry, unchanged}
+use Rattle.settings_rows.specs.Titles.{HasTitleRanges, HasChangeRanges}
 use Rattle.settings_rows.specs.declared.title_row.TitleRoute.{TitleRoute}
 use Rattle.settings_rows.specs.declared.title_row.TitleRoute.TheVariants.{Title, Ssn}
+use Rattle.sccp_relay.specs.Changing.{is_unchanged}
 use Rattle.sccp_relay.specs.Rows.{key_of}
 
 -- the digits of a key: two of the translation type, the plan, two of the nature
@@ -32,11 +33,15 @@ route_of number =
     else if nat_lt number 256 then Title (Some (number % 256))
     else Ssn (number % 256)
 
--- where a row leads, as a number
-abbrev pub lead_of : TitleEntry → ℕ
-lead_of row = route_number row.route * 2 ^ 14 + row.point
+-- whether a row has no backup, and changes no titles
+abbrev pub is_plain : TitleEntry → Bool
+is_plain row = is_none row.backup && is_unchanged row.change
 
--- the row of this key and these digits that leads there
+-- where a row leads, as a number, and whether it is plain
+abbrev pub lead_of : TitleEntry → ℕ
+lead_of row = (if is_plain row then 0 else 1) * 2 ^ 23 + (route_number row.route * 2 ^ 14 + row.point)
+
+-- the plain row of this key and these digits that leads there
 abbrev pub row_led : TitleKey → List ℕ → ℕ → TitleEntry
 row_led key digits lead = record {
   translation = key.translation;
@@ -44,7 +49,9 @@ row_led key digits lead = record {
   nature = key.nature;
   digits = digits;
   point = lead % 2 ^ 14;
+  backup = None;
   route = route_of (lead / 2 ^ 14);
+  change = unchanged;
 }
 
 -- where rows lead, by their ways
@@ -64,4 +71,6 @@ IsRoute (Ssn ssn) = IsSsn ssn
 pub record IsRow (row : TitleEntry) : Type 0 where
   pub ranges : HasTitleRanges row.plan row.nature row.digits
   pub point : row.point < 2 ^ 14
+  pub backup : IfSome row.backup (λ point. point < 2 ^ 14)
   pub route : IsRoute row.route
+  pub change : HasChangeRanges row.change

@@ -7,8 +7,8 @@ ghost use Rattle.sccp_relay.specs.Relay as rule;
 ghost use Rattle.sccp_relay.specs.Values.{own_value, sccp_of, written_in};
 
 use crate::message::Message;
-use crate::own::Own;
-use crate::writing::write_udt;
+use crate::own::{MANAGEMENT, Own, Ways};
+use crate::writing::label_to;
 use mtp3_codec::Label;
 use sccp_codec::{
     Address, Field, ManagementKind, Parts, Routing, SubsystemManagement, TitleIndicator, Udt,
@@ -16,27 +16,24 @@ use sccp_codec::{
 };
 use signalling_types::{Limits, PointCode};
 
-/// The number of SCCP management (Q.713 §3.4.2.2).
-const MANAGEMENT: u8 = 1;
-
-/// Writes the SSA that answers a message for this subsystem here at the front of the field that is lent, and returns how
-/// many octets it has. None if the message is none to answer: a UDT for SCCP management with an SST about this point
+/// Writes the SSA that answers a message for this subsystem here at the front of the field that is lent, and returns
+/// how many octets it has. None if the message is none to answer: a UDT for SCCP management with an SST about this point
 /// and a subsystem that is here, from another point, where tests are answered (Q.714 §5.3.4).
-pub(crate) fn answer(
+pub(crate) fn answer<W: Ways>(
     message: &Message<'_>,
     ssn: Option<u8>,
     label: Label,
-    own: &Own<'_>,
+    own: &Own<'_, W>,
     field: &mut Field,
 ) -> Option<usize>
-    ensures text { written_in result field.new ≡ rule.answer (own_value own.now) label (sccp_of message.now) ssn }
+    ensures text { written_in result field.new ≡ rule.answer (own_value W.leads own.now) label (sccp_of message.now) ssn }
     ensures label { IfSome result (λ count. 4 ≤ count) }
     ensures fits { IfSome result (λ count. count ≤ Limits.SIF_OCTETS) }
 {
     let Message::Plain(Unitdata::Udt(udt)) = message else {
         return None;
     };
-    if own.tested && is_management(ssn) {
+    if own.answers_tests && is_management(ssn) {
         answer_to(udt.parts.data, label, own, field)
     } else {
         None
@@ -54,9 +51,14 @@ fn is_management(ssn: Option<u8>) -> bool
 }
 
 /// Writes the answer to these data of a UDT for SCCP management.
-fn answer_to(carried: &[u8], label: Label, own: &Own<'_>, field: &mut Field) -> Option<usize>
+fn answer_to<W: Ways>(
+    carried: &[u8],
+    label: Label,
+    own: &Own<'_, W>,
+    field: &mut Field,
+) -> Option<usize>
     ensures text { written_in result field.new
-        ≡ rule.answer_to (own_value own.now) label (read_management carried.now) }
+        ≡ rule.answer_to (own_value W.leads own.now) label (read_management carried.now) }
     ensures label { IfSome result (λ count. 4 ≤ count) }
     ensures fits { IfSome result (λ count. count ≤ Limits.SIF_OCTETS) }
 {
@@ -67,8 +69,8 @@ fn answer_to(carried: &[u8], label: Label, own: &Own<'_>, field: &mut Field) -> 
 }
 
 /// Whether it is an SST about this point and a subsystem that is here, and another point sent it.
-fn is_answered(test: &SubsystemManagement, sender: PointCode, own: &Own<'_>) -> bool
-    ensures { result ≡ rule.is_answered (own_value own.now) sender (management_of test.now) }
+fn is_answered<W: Ways>(test: &SubsystemManagement, sender: PointCode, own: &Own<'_, W>) -> bool
+    ensures { result ≡ rule.is_answered (own_value W.leads own.now) sender (management_of test.now) }
 {
     is_test(test.kind)
         && test.point == own.point
@@ -86,10 +88,10 @@ fn is_test(kind: ManagementKind) -> bool
 }
 
 /// Writes an SSA about the subsystem of a test to SCCP management at the point that sent the test.
-fn write_allowed(
+fn write_allowed<W: Ways>(
     test: &SubsystemManagement,
     label: Label,
-    own: &Own<'_>,
+    own: &Own<'_, W>,
     field: &mut Field,
 ) -> Option<usize>
     ensures text { written_in result field.new
@@ -99,6 +101,7 @@ fn write_allowed(
 {
     let allowed = SubsystemManagement {
         kind: ManagementKind::SubsystemAllowed,
+        multiplicity: 0,
         ..*test
     };
     let octets = allowed.write();
@@ -110,7 +113,8 @@ fn write_allowed(
             data: &octets,
         },
     };
-    write_udt(label.opc, own.point, label, &udt, field)
+    let label = label_to(label.opc, own.point, label).write();
+    udt.write(label, field).ok()
 }
 
 /// The address of SCCP management: its subsystem number alone.

@@ -1,10 +1,11 @@
 //! SCRC and SCLC, SCCP routing and connectionless control (Q.714 §2.3, §4.2): unitdata for this point is delivered,
 //! sent on by the global title of its called address, or refused, and a refused message may be returned. Translation
-//! rows lead global titles to a point by their first digits (Q.714 §2.4), and a trie finds the row. Extended unitdata is
-//! relayed, and tests of the subsystems here are answered (Q.714 §5.3.4), if the node is to.
+//! rows lead global titles to a point by their first digits (Q.714 §2.4), and a trie finds the row. Extended unitdata
+//! is relayed, and tests of the subsystems here are answered (Q.714 §5.3.4), if the node is to.
 #![tactic(auto)]
 
 mod answering;
+mod changing;
 pub mod fault;
 pub mod laws;
 mod message;
@@ -20,7 +21,7 @@ mod ways;
 mod writing;
 
 pub use fault::TrieFault;
-pub use own::Own;
+pub use own::{Own, Ways};
 pub use relayed::Relayed;
 pub use relaying::relay;
 pub use returning::returned;

@@ -89,8 +89,8 @@ impl<'a> Message<'a> {
     }
 
     /// Whether the hop counter of an extended message is 1 to 15.
-    pub(crate) fn has_hops(&self) -> bool
-        ensures { result ≡ rule.has_hops (sccp_of self.now) }
+    pub(crate) fn has_valid_hops(&self) -> bool
+        ensures { result ≡ rule.has_valid_hops (sccp_of self.now) }
     {
         match self {
             Message::Plain(_) => true,

@@ -1,14 +1,15 @@
 //! Where rows are in their order.
 
-ghost use Rattle.std.specs.Prelude.{◌≡◌, ◌≤◌, ◌<◌, ◌^◌, [], length, true, false, IfOk, IfErr};
+ghost use Rattle.std.specs.Prelude.{◌≡◌, ◌≤◌, ◌<◌, ◌^◌, [], length, true, false, Contains, IfOk, IfErr, OnErr};
 ghost use Rattle.std.specs.List.{list_any, IsDistinct};
 ghost use Rattle.std.specs.List.Sorted.{IsPartitionPoint};
-ghost use Rattle.sccp_relay.specs.Rows.{IsOrdered, place_of, row_place, place_order, is_before, key_of, is_same_place, table_of};
+ghost use Rattle.sccp_relay.specs.Rows.{IsOrdered, place_of, row_place, has_row, place_order, is_before, key_of, is_same_place, table_of};
 ghost use Rattle.sccp_relay.specs.Places.{StandsAt, FitsAt};
 ghost use Rattle.sccp_relay.specs.Translation.{has_key};
 
 use sccp_codec::TitleKey;
 use settings_rows::TitleRow;
+use signalling_types::Cause;
 use std::cmp::Ordering;
 
 pub(crate) fn key_of(row: &TitleRow) -> TitleKey
@@ -60,6 +61,19 @@ pub(crate) fn place(rows: &[TitleRow], key: TitleKey, digits: &[u8]) -> Result<u
         Ok(at)
     } else {
         Err(at)
+    }
+}
+
+/// The row of this key and exactly these digits, by binary search. Refused NoDigits if there is none.
+pub(crate) fn row_at(rows: &[TitleRow], key: TitleKey, digits: &[u8]) -> Result<TitleRow, Cause>
+    requires { IsOrdered rows.now }
+    ensures among { IfOk result (Contains rows.now) }
+    ensures place { IfOk result (λ row. row_place row ≡ place_of key digits.now) }
+    ensures free { OnErr result (has_row rows.now (place_of key digits.now) ≡ false) }
+{
+    match place(rows, key, digits) {
+        Ok(at) => Ok(rows[at]),
+        Err(_) => Err(Cause::NoDigits),
     }
 }
 

@@ -2,21 +2,20 @@
 
 ghost use Rattle.std.specs.Prelude.{◌≡◌, ◌≤◌, length, drop, List, ℕ, Ok};
 ghost use Rattle.mtp3_codec.specs.Headings.{label_at};
-ghost use Rattle.sccp_codec.specs.Values.{address_of, parts_value};
+ghost use Rattle.sccp_codec.specs.Values.{address_of};
 ghost use Rattle.sccp_relay.specs.Relay as rule;
-ghost use Rattle.sccp_relay.specs.Sccp.{sccp_parts, with_new_parts, lowered};
+ghost use Rattle.sccp_relay.specs.Sccp.{sccp_parts};
 ghost use Rattle.sccp_relay.specs.Values.{own_value, relayed_of, sccp_of, IfOnward};
 
 use crate::Translations;
 use crate::answering::answer;
-use crate::message::{Message, lowered_hops};
-use crate::own::Own;
+use crate::changing::changed_title;
+use crate::message::Message;
+use crate::own::{Own, Ways};
 use crate::relayed::Relayed;
-use crate::writing::{ssn_by, translated, write_extended, write_udt, write_udts};
+use crate::writing::{led, ssn_by, write_lowered};
 use mtp3_codec::Label;
-use sccp_codec::{
-    Address, ExtendedUnitdata, Field, Parts, Routing, SccpFault, Udt, Udts, Unitdata,
-};
+use sccp_codec::{Address, Field, Parts, Routing, SccpFault};
 use settings_rows::TitleRow;
 use signalling_types::{Cause, Limits, PointCode};
 
@@ -28,14 +27,19 @@ const LABEL_OCTETS: usize = 4;
 /// place. What follows it there may change, and so may all of that field if it doesn't go on (Q.714 §2.3, §5.3.4).
 ///
 /// Refused, in this order: NotInProfile if it is neither a UDT nor a UDTS, nor an XUDT nor an XUDTS where these are
-/// relayed, and BadSccp if it can't be read; NotInProfile if it is a UDT or an XUDT of a class above 1; HopCounter if it
-/// has a hop counter of 0 or above 15, or of 1 if it is routed by title; if it is routed by title, as
+/// relayed, and BadSccp if it can't be read; NotInProfile if it is a UDT or an XUDT of a class above 1; HopCounter if
+/// it has a hop counter of 0 or above 15, or of 1 if it is routed by title; if it is routed by title, as
 /// `Address::global_title` and then `Translations::translate` refuse the title of its called address; Unequipped if it
 /// is for a subsystem that isn't here; TooLong if it goes on and a pointer is over 255, or the field over 272 octets.
 #[tactic(auto, unfolding(crate::specs::Relay::relay))]
-pub fn relay(sif: &[u8], rows: &Translations, own: &Own<'_>, field: &mut Field) -> Relayed
+pub fn relay<W: Ways>(
+    sif: &[u8],
+    rows: &Translations,
+    own: &Own<'_, W>,
+    field: &mut Field,
+) -> Relayed
     requires label { 4 ≤ length sif.now }
-    ensures exact { relayed_of result field.new ≡ rule.relay (own_value own.now) rows.now sif.now }
+    ensures exact { relayed_of result field.new ≡ rule.relay (own_value W.leads own.now) rows.now sif.now }
     ensures label { IfOnward result (λ count. 4 ≤ count) }
     ensures fits { IfOnward result (λ count. count ≤ Limits.SIF_OCTETS) }
 {
@@ -65,22 +69,22 @@ fn sccp_cause(fault: SccpFault) -> Cause
 }
 
 /// A message that was read.
-fn relay_read(
+fn relay_read<W: Ways>(
     message: &Message<'_>,
     label: Label,
     rows: &Translations,
-    own: &Own<'_>,
+    own: &Own<'_, W>,
     field: &mut Field,
 ) -> Relayed
     ensures exact { relayed_of result field.new
-        ≡ rule.relay_read (own_value own.now) rows.now label (Ok (sccp_of message.now)) }
+        ≡ rule.relay_read (own_value W.leads own.now) rows.now label (Ok (sccp_of message.now)) }
     ensures label { IfOnward result (λ count. 4 ≤ count) }
     ensures fits { IfOnward result (λ count. count ≤ Limits.SIF_OCTETS) }
 {
     if !message.is_connectionless() {
         return Relayed::Refused(Cause::NotInProfile);
     }
-    if !message.has_hops() {
+    if !message.has_valid_hops() {
         return Relayed::Refused(Cause::HopCounter);
     }
     let called = &message.parts().called;
@@ -91,15 +95,15 @@ fn relay_read(
 }
 
 /// A message for SCCP management or another subsystem of this point.
-fn for_subsystem(
+fn for_subsystem<W: Ways>(
     message: &Message<'_>,
     ssn: Option<u8>,
     label: Label,
-    own: &Own<'_>,
+    own: &Own<'_, W>,
     field: &mut Field,
 ) -> Relayed
     ensures exact { relayed_of result field.new
-        ≡ rule.for_subsystem (own_value own.now) label (sccp_of message.now) ssn }
+        ≡ rule.for_subsystem (own_value W.leads own.now) label (sccp_of message.now) ssn }
     ensures label { IfOnward result (λ count. 4 ≤ count) }
     ensures fits { IfOnward result (λ count. count ≤ Limits.SIF_OCTETS) }
 {
@@ -110,8 +114,8 @@ fn for_subsystem(
 }
 
 /// A message for a subsystem of this point.
-fn to_subsystem(own: &Own<'_>, ssn: Option<u8>) -> Relayed
-    ensures exact { (field : List ℕ) → relayed_of result field ≡ rule.to_subsystem (own_value own.now) ssn }
+fn to_subsystem<W: Ways>(own: &Own<'_, W>, ssn: Option<u8>) -> Relayed
+    ensures exact { (field : List ℕ) → relayed_of result field ≡ rule.to_subsystem (own_value W.leads own.now) ssn }
     ensures label { IfOnward result (λ count. 4 ≤ count) }
     ensures fits { IfOnward result (λ count. count ≤ Limits.SIF_OCTETS) }
 {
@@ -123,15 +127,15 @@ fn to_subsystem(own: &Own<'_>, ssn: Option<u8>) -> Relayed
 }
 
 /// A message whose called address is by title.
-fn relay_by_title(
+fn relay_by_title<W: Ways>(
     message: &Message<'_>,
     label: Label,
     rows: &Translations,
-    own: &Own<'_>,
+    own: &Own<'_, W>,
     field: &mut Field,
 ) -> Relayed
     ensures exact { relayed_of result field.new
-        ≡ rule.relay_by_title (own_value own.now) rows.now label (sccp_of message.now) }
+        ≡ rule.relay_by_title (own_value W.leads own.now) rows.now label (sccp_of message.now) }
     ensures label { IfOnward result (λ count. 4 ≤ count) }
     ensures fits { IfOnward result (λ count. count ≤ Limits.SIF_OCTETS) }
 {
@@ -141,11 +145,29 @@ fn relay_by_title(
     let called = &message.parts().called;
     match row_of(rows, called) {
         Err(cause) => Relayed::Refused(cause),
-        Ok(row) if row.point() == own.point => {
-            for_subsystem(message, ssn_by(row.route(), called.ssn), label, own, field)
-        }
-        Ok(row) => lead_on(message, &row, label, own, field),
+        Ok(row) => relay_by_row(message, &row, label, own, field),
     }
+}
+
+/// A message that a row leads: for a subsystem of this point, or on to another.
+fn relay_by_row<W: Ways>(
+    message: &Message<'_>,
+    row: &TitleRow,
+    label: Label,
+    own: &Own<'_, W>,
+    field: &mut Field,
+) -> Relayed
+    ensures exact { relayed_of result field.new
+        ≡ rule.relay_by_row (own_value W.leads own.now) label (sccp_of message.now) (Ok row.now) }
+    ensures label { IfOnward result (λ count. 4 ≤ count) }
+    ensures fits { IfOnward result (λ count. count ≤ Limits.SIF_OCTETS) }
+{
+    let point = own.point_by(row, label.sls);
+    if point == own.point {
+        let ssn = ssn_by(row.route(), message.parts().called.ssn);
+        return for_subsystem(message, ssn, label, own, field);
+    }
+    lead_on(point, message, row, label, own, field)
 }
 
 /// The row that the title of an address is translated by.
@@ -158,59 +180,33 @@ pub(crate) fn row_of(rows: &Translations, address: &Address<'_>) -> Result<Title
     }
 }
 
-/// A message goes on to the point that a row leads to.
-fn lead_on(
+/// A message that a row leads goes on to this point.
+fn lead_on<W: Ways>(
+    point: PointCode,
     message: &Message<'_>,
     row: &TitleRow,
     label: Label,
-    own: &Own<'_>,
+    own: &Own<'_, W>,
     field: &mut Field,
 ) -> Relayed
-    ensures exact { relayed_of result field.new ≡ rule.onward (rule.written row.now.point own.now.point label
-        (with_new_parts (lowered (sccp_of message.now))
-        (rule.led_on row.now label.opc (sccp_parts (sccp_of message.now))))) }
+    ensures exact { relayed_of result field.new ≡ rule.lead_on (own_value W.leads own.now) label (sccp_of message.now)
+        point (rule.translated row.now (sccp_parts (sccp_of message.now)).called) }
     ensures label { IfOnward result (λ count. 4 ≤ count) }
     ensures fits { IfOnward result (λ count. count ≤ Limits.SIF_OCTETS) }
 {
-    let point = row.point();
-    let written = match message {
-        Message::Plain(Unitdata::Udt(udt)) => {
-            let udt = Udt {
-                class_octet: udt.class_octet,
-                parts: led_on(row, label.opc, &udt.parts),
-            };
-            write_udt(point, own.point, label, &udt, field)
-        }
-        Message::Plain(Unitdata::Udts(udts)) => {
-            let udts = Udts {
-                return_cause: udts.return_cause,
-                parts: led_on(row, label.opc, &udts.parts),
-            };
-            write_udts(point, own.point, label, &udts, field)
-        }
-        Message::Extended(extended) => {
-            let extended = ExtendedUnitdata {
-                hop_counter: lowered_hops(extended),
-                parts: led_on(row, label.opc, &extended.parts),
-                ..*extended
-            };
-            write_extended(point, own.point, label, &extended, field)
-        }
+    let came = message.parts();
+    let changed = match changed_title(row, &came.called) {
+        Ok(changed) => changed,
+        Err(cause) => return Relayed::Refused(cause),
     };
-    match written {
+    let parts = Parts {
+        called: led(row, &came.called, &changed),
+        calling: from_point(label.opc, &came.calling),
+        data: came.data,
+    };
+    match write_lowered(point, own.point, label, message, &parts, field) {
         Some(count) => Relayed::Onward(count),
         None => Relayed::Refused(Cause::TooLong),
-    }
-}
-
-/// The parts, as a row leads them on.
-fn led_on<'a>(row: &TitleRow, sender: PointCode, parts: &Parts<'a>) -> Parts<'a>
-    ensures { parts_value result ≡ rule.led_on row.now sender (parts_value parts.now) }
-{
-    Parts {
-        called: translated(row, &parts.called),
-        calling: from_point(sender, &parts.calling),
-        data: parts.data,
     }
 }
 

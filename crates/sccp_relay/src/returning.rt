@@ -9,10 +9,11 @@ ghost use Rattle.sccp_relay.specs.Sccp.{sccp_parts};
 ghost use Rattle.sccp_relay.specs.Values.{four_octets, one_octet, own_value, sccp_of, written_in};
 
 use crate::Translations;
+use crate::changing::changed_title;
 use crate::message::{MAX_HOPS, Message};
-use crate::own::Own;
+use crate::own::{Own, Ways};
 use crate::relaying::{behind_label, row_of};
-use crate::writing::{same, translated, write_extended, write_udts};
+use crate::writing::{anew, label_to, led, same, same_parts};
 use mtp3_codec::Label;
 use sccp_codec::{
     Address, ExtendedKind, ExtendedUnitdata, Field, OptionalPart, Parts, Routing, Udts,
@@ -43,15 +44,15 @@ const KEPT_OCTETS: usize = 2 + 4 + 2 + 1 + 1;
 /// NoNature, NoDigits, Unequipped, HopCounter, UnknownDestination, NoRoute and TooLong; and if what returns it would go
 /// to this point, finds no translation, or would be too long.
 #[tactic(auto, unfolding(crate::specs::Relay::returned))]
-pub fn returned(
+pub fn returned<W: Ways>(
     sif: &[u8],
     cause: Cause,
     rows: &Translations,
-    own: &Own<'_>,
+    own: &Own<'_, W>,
     field: &mut Field,
 ) -> Option<usize>
     requires label { 4 ≤ length sif.now }
-    ensures exact { written_in result field.new ≡ rule.returned (own_value own.now) rows.now sif.now cause }
+    ensures exact { written_in result field.new ≡ rule.returned (own_value W.leads own.now) rows.now sif.now cause }
     ensures label { IfSome result (λ count. 4 ≤ count) }
     ensures fits { IfSome result (λ count. count ≤ Limits.SIF_OCTETS) }
 {
@@ -79,16 +80,16 @@ fn return_cause(cause: Cause) -> Option<u8>
 }
 
 /// A message that asks for it is returned with this return cause.
-fn return_read(
+fn return_read<W: Ways>(
     message: &Message<'_>,
     number: u8,
     label: Label,
     rows: &Translations,
-    own: &Own<'_>,
+    own: &Own<'_, W>,
     field: &mut Field,
 ) -> Option<usize>
     ensures text { written_in result field.new
-        ≡ rule.return_read (own_value own.now) rows.now label (Some number) (Ok (sccp_of message.now)) }
+        ≡ rule.return_read (own_value W.leads own.now) rows.now label (Some number) (Ok (sccp_of message.now)) }
     ensures label { IfSome result (λ count. 4 ≤ count) }
     ensures fits { IfSome result (λ count. count ≤ Limits.SIF_OCTETS) }
 {
@@ -101,16 +102,16 @@ fn return_read(
 
 /// It goes to the address that called. By subsystem number that is the point that it names, else the point that the
 /// message came from; by title it is where a row leads.
-fn return_by(
+fn return_by<W: Ways>(
     number: u8,
     message: &Message<'_>,
     label: Label,
     rows: &Translations,
-    own: &Own<'_>,
+    own: &Own<'_, W>,
     field: &mut Field,
 ) -> Option<usize>
     ensures text { written_in result field.new ≡ rule.return_by (sccp_parts (sccp_of message.now)).calling.routing
-        (own_value own.now) rows.now label number (sccp_of message.now) }
+        (own_value W.leads own.now) rows.now label number (sccp_of message.now) }
     ensures label { IfSome result (λ count. 4 ≤ count) }
     ensures fits { IfSome result (λ count. count ≤ Limits.SIF_OCTETS) }
 {
@@ -122,20 +123,36 @@ fn return_by(
         return return_to(point, own.point, label, number, message, &parts, field);
     }
     match row_of(rows, caller) {
-        Ok(row) => {
-            let parts = led_back(&row, parts);
-            return_to(
-                row.point(),
-                own.point,
-                label,
-                number,
-                message,
-                &parts,
-                field,
-            )
-        }
+        Ok(row) => return_led(number, message, &row, label, own, field),
         Err(_) => None,
     }
+}
+
+/// It goes to the point that a row leads to, which leads the address that called on.
+fn return_led<W: Ways>(
+    number: u8,
+    message: &Message<'_>,
+    row: &TitleRow,
+    label: Label,
+    own: &Own<'_, W>,
+    field: &mut Field,
+) -> Option<usize>
+    ensures text { written_in result field.new ≡ rule.return_led (own_value W.leads own.now) label number
+        (sccp_of message.now) (rule.point_by (own_value W.leads own.now) label.sls row.now) (rule.translated row.now (sccp_parts (sccp_of message.now)).calling) }
+    ensures label { IfSome result (λ count. 4 ≤ count) }
+    ensures fits { IfSome result (λ count. count ≤ Limits.SIF_OCTETS) }
+{
+    let came = message.parts();
+    let Ok(changed) = changed_title(row, &came.calling) else {
+        return None;
+    };
+    let parts = Parts {
+        called: led(row, &came.calling, &changed),
+        calling: same(&came.called),
+        data: came.data,
+    };
+    let point = own.point_by(row, label.sls);
+    return_to(point, own.point, label, number, message, &parts, field)
 }
 
 /// The parts, sent back: to the address that called, from the one that was called.
@@ -144,17 +161,6 @@ fn sent_back<'a>(parts: &Parts<'a>) -> Parts<'a>
 {
     Parts {
         called: same(&parts.calling),
-        calling: same(&parts.called),
-        data: parts.data,
-    }
-}
-
-/// The same, sent to the calling address as a row translates it.
-fn led_back<'a>(row: &TitleRow, parts: &Parts<'a>) -> Parts<'a>
-    ensures { parts_value result ≡ rule.led_back row.now (parts_value parts.now) }
-{
-    Parts {
-        called: translated(row, &parts.calling),
         calling: same(&parts.called),
         data: parts.data,
     }
@@ -178,30 +184,21 @@ fn return_to(
     if point == own {
         return None;
     }
-    match message {
+    let label = label_to(point, own, label).write();
+    let written = match message {
         Message::Plain(_) => {
             let udts = Udts {
                 return_cause: number,
                 parts: same_parts(parts),
             };
-            write_udts(point, own, label, &udts, field)
+            udts.write(label, field)
         }
         Message::Extended(extended) => {
             let octets = kept_octets(&extended.optional);
-            let xudts = xudts(number, parts, &octets);
-            write_extended(point, own, label, &xudts, field)
+            xudts(number, parts, &octets).write(label, field)
         }
-    }
-}
-
-fn same_parts<'a>(parts: &Parts<'a>) -> Parts<'a>
-    ensures { parts_value result ≡ parts_value parts.now }
-{
-    Parts {
-        called: same(&parts.called),
-        calling: same(&parts.calling),
-        data: parts.data,
-    }
+    };
+    written.ok()
 }
 
 /// An XUDTS with these parts, and the optional parameters at the front of these octets.
@@ -219,20 +216,6 @@ fn xudts<'a>(number: u8, parts: &'a Parts<'_>, octets: &'a [u8]) -> ExtendedUnit
             data: parts.data,
         },
         optional: OptionalPart::read(octets).unwrap(),
-    }
-}
-
-/// The same address, for as long as it is lent.
-fn anew<'a>(address: &'a Address<'_>) -> Address<'a>
-    ensures { address_of result ≡ address_of address.now }
-{
-    Address {
-        national: address.national,
-        routing: address.routing,
-        point: address.point,
-        ssn: address.ssn,
-        title_indicator: address.title_indicator,
-        title: address.title,
     }
 }
 

@@ -10,8 +10,8 @@ ghost use Rattle.sccp_relay.specs.Translation.{translation, IsTranslation};
 ghost use Rattle.sccp_relay.specs.Ways.{IsRow, way_of, lead_of};
 
 use crate::Trie;
-use crate::places::{has_key, key_of, place, sort};
-use crate::ways::{enter, key_digits, row_led, trie_of, way_of};
+use crate::places::{has_key, key_of, place, row_at, sort};
+use crate::ways::{MORE, enter, key_digits, row_led, trie_of, way_of};
 use sccp_codec::TitleKey;
 use settings_rows::TitleRow;
 use signalling_types::{Cause, Limits};
@@ -128,8 +128,9 @@ impl Translations {
     }
 
     /// The row that translates an address of this key and these digits: of the rows of the key whose digits begin
-    /// these, the one with the most. It takes a step for each digit, however many rows there are. If none begins them,
-    /// it looks for a row of the key by binary search.
+    /// these, the one with the most. It takes a step for each digit, however many rows there are, and a binary search
+    /// among the rows more if that row has a backup or changes titles. If none begins them, it looks for a row of the key by binary
+    /// search.
     ///
     /// Refused NoNature if there is no row of the key; otherwise NoDigits if none of these begins the digits (Q.714
     /// §2.8).
@@ -140,7 +141,8 @@ impl Translations {
         ensures longest { IfOk result (IsTranslation self.now key digits.now) }
     {
         match self.trie.longest_behind(&key_digits(key), digits) {
-            Some((count, lead)) => Ok(row_led(key, &digits[..count], lead)),
+            Some((count, lead)) if lead < MORE => Ok(row_led(key, &digits[..count], lead)),
+            Some((count, _)) => row_at(&self.rows, key, &digits[..count]),
             None if has_key(&self.rows, key) => Err(Cause::NoDigits),
             None => Err(Cause::NoNature),
         }

@@ -1,11 +1,12 @@
 //! How a row is found by its digits, and where it leads, as one number.
 
-ghost use Rattle.std.specs.Prelude.{◌≡◌, ◌%◌, ◌^◌, ◌<◌, All, IfSome, IfOk, OnOk, OnErr, None};
+ghost use Rattle.std.specs.Prelude.{◌≡◌, ◌%◌, ◌^◌, ◌<◌, All, IfSome, IfOk, OnOk, OnErr, None, is_some};
 ghost use Rattle.sccp_relay.specs.Digits.{with_value};
 ghost use Rattle.sccp_relay.specs.Nodes.{stored};
-ghost use Rattle.settings_rows.specs.Titles.{HasTitleRanges};
-ghost use Rattle.sccp_relay.specs.Ways.{IsRow, IsRoute, IsSsn, key_digits, way_of, lead_of, route_number, ssn_number, route_of, row_led, leads_of};
+ghost use Rattle.settings_rows.specs.Titles.{HasTitleRanges, HasChangeRanges};
+ghost use Rattle.sccp_relay.specs.Ways.{IsRow, IsRoute, IsSsn, key_digits, way_of, is_plain, lead_of, route_number, ssn_number, route_of, row_led, leads_of};
 
+use crate::changing::is_unchanged;
 use crate::places::key_of;
 use crate::{Trie, TrieFault};
 use arrayvec::ArrayVec;
@@ -25,6 +26,9 @@ const POINTS: u32 = 1 << 14;
 
 /// How many subsystem numbers there are, 0 included.
 const SUBSYSTEMS: u32 = 256;
+
+/// What is added to where a row leads, if it has a backup or changes titles.
+pub(crate) const MORE: u32 = 2 * SUBSYSTEMS * POINTS;
 
 /// The digits of a key: two of the translation type, the plan, two of the nature.
 pub(crate) fn key_digits(key: TitleKey) -> [u8; KEY_DIGITS]
@@ -51,13 +55,40 @@ pub(crate) fn way_of(row: &TitleRow) -> ArrayVec<u8, WAY_DIGITS>
     way
 }
 
-/// Where a row leads, as one number.
+/// Where a row leads, as one number, and whether it is plain.
 pub(crate) fn lead_of(row: &TitleRow) -> u32
     ensures lead { result ≡ lead_of row.now }
     ensures point { row.now.point < 2 ^ 14 }
     ensures route { IsRoute row.now.route }
+    ensures backup { IfSome row.now.backup (λ point. point < 2 ^ 14) }
+    ensures change { HasChangeRanges row.now.change }
 {
-    route_number(row.route()) * POINTS + u32::from(row.point().code())
+    let more = if is_plain(row) { 0 } else { MORE };
+    more + (route_number(row.route()) * POINTS + u32::from(row.point().code()))
+}
+
+/// Whether a row has no backup, and changes no titles.
+fn is_plain(row: &TitleRow) -> bool
+    ensures value { result ≡ is_plain row.now }
+    ensures backup { IfSome row.now.backup (λ point. point < 2 ^ 14) }
+    ensures change { HasChangeRanges row.now.change }
+{
+    let is_unchanged = is_unchanged(row.change());
+    !has_backup(row) && is_unchanged
+}
+
+/// Whether a row has a backup.
+fn has_backup(row: &TitleRow) -> bool
+    ensures value { result ≡ is_some row.now.backup }
+    ensures backup { IfSome row.now.backup (λ point. point < 2 ^ 14) }
+{
+    match row.backup() {
+        Some(point) => {
+            let _point = point.code();
+            true
+        }
+        None => false,
+    }
 }
 
 /// How a row is routed, as a number.
@@ -102,6 +133,7 @@ fn point_of(lead: u32) -> PointCode
     PointCode::new((lead % POINTS) as u16).unwrap()
 }
 
+/// The plain row of this key and these digits that leads there.
 pub(crate) fn row_led(key: TitleKey, digits: &[u8], lead: u32) -> TitleRow
     requires { HasTitleRanges key.plan key.nature digits.now }
     ensures { result ≡ row_led key digits.now lead }

@@ -56,6 +56,7 @@ pub record IsBuiltIn (d : Draft) : Type 0 where
   pub subsystems : d.subsystems.items ≡ pos 8 ∷ []
   pub extended_unitdata : d.extended_unitdata ≡ false
   pub subsystem_tests : d.subsystem_tests ≡ false
+  pub user_part_unavailable : d.user_part_unavailable ≡ false
   pub timers : d.timers ≡ built_in_ticks
   pub sets : IsSets d.sets.items
   pub links : IsLinks d.links.items
@@ -73,6 +74,7 @@ built_in_settings = record {
   subsystems = 8 ∷ [];
   extended_unitdata = false;
   subsystem_tests = false;
+  user_part_unavailable = false;
   timers = record {
     l1 = 10;
     l2 = 10;

@@ -27,6 +27,7 @@ pub fn built_in(alloc: Global) -> Result<Draft, AllocError>
         subsystems: one(alloc, 8)?,
         extended_unitdata: false,
         subsystem_tests: false,
+        user_part_unavailable: false,
         timers: timers(),
         sets: sets(alloc)?,
         links: links(alloc)?,

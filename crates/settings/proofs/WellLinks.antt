@@ -1,9 +1,9 @@
 -- Links without a fault satisfy what is asked of them.
-use Rattle.settings.proofs.Basics.{refl, sym, ap, ◌∙◌, ◌≡◌, ◌≤◌, ◌<◌, ℕ, Bool, true, false, not, ◌&&◌, nat_eq, List, [], ◌∷◌, map, length, get_or, All, arith, Option, None, Some, is_some, IfSome, option_map, ℤ, unwrap_or, string_bytes, IsDistinct, AllByRecursion, filter, count_by, bytes_eq, int_eq, eqb, length-map, All-from_recursion, position-Some, length-filter, bytes_eq-Decides, nat_tests, natural, is_within, entries_fault, count_fault, set_of, link_of, set_place, set_number, links_fault, link_fault, link_name_fault, link_set_fault, link_slc_fault, share_fault, has_link_named, has_link_code, LinkEntry, is_name, SetDraft, Link, LinkName, LinkSet, LinkSlc, LinkShare, Key, Range, Duplicate, UnknownName, LINKS, LINKS_PER_SET, POOL, IsWithin, IsLink, is_link_of_same_name, is_same_code, and_from, not-true, and_parts}
+use Rattle.settings.proofs.Basics.{refl, sym, ap, ◌∙◌, ◌≡◌, ◌≤◌, ◌<◌, ℕ, Bool, true, false, not, ◌&&◌, nat_eq, List, [], ◌∷◌, map, length, get_or, All, arith, Option, None, Some, is_some, unwrap_or, string_bytes, IsDistinct, AllByRecursion, filter, count_by, bytes_eq, int_eq, eqb, length-map, All-from_recursion, position-Some, length-filter, bytes_eq-Decides, nat_tests, natural, is_within, entries_fault, count_fault, set_of, link_of, set_place, set_number, links_fault, link_fault, link_name_fault, link_set_fault, link_slc_fault, optional_fault, has_link_named, has_link_code, LinkEntry, is_name, SetDraft, Link, LinkName, LinkSet, LinkSlc, LinkShare, Range, Duplicate, UnknownName, LINKS, LINKS_PER_SET, POOL, IsWithin, IsLink, is_link_of_same_name, is_same_code, and_from, not-true, and_parts}
 use Rattle.std.proofs.lemmas.Map.Steps.{length-le_from_distinct_below}
 use Rattle.settings_rows.specs.declared.draft.LinkDraft.{LinkDraft}
 use Rattle.settings.proofs.Rows.{two_none, four_none, two_pass, within_from_test, each_entry, each_made, entries_differ, differ_made, none_of_any, none_differ, every, each_passes, each_filtered, differ_filter, below_from_each}
-use Rattle.settings.proofs.WellNumbers.{in_range, count_within}
+use Rattle.settings.proofs.WellNumbers.{optional_in_range, count_within}
 use Rattle.settings.proofs.WellSets.{int_eq-natural}
 
 some_is : (o : Option ℕ) → is_some o ≡ true → o ≡ Some (unwrap_or o 0)
@@ -32,8 +32,8 @@ links_none : (sets : List SetDraft) (links : List LinkDraft) → links_fault set
 unfolding links_fault
 links_none sets links h = two_none (count_fault LINKS Link (length links)) (entries_fault (link_fault sets) [] links) h
 
-link_none : (sets : List SetDraft) (earlier : List LinkDraft) (l : LinkDraft) → link_fault sets earlier l ≡ None → (link_name_fault earlier l ≡ None) × (link_set_fault sets earlier l ≡ None) × (link_slc_fault earlier l ≡ None) × (share_fault (LinkShare (length earlier)) l.share ≡ None)
-link_none sets earlier l h = four_none (link_name_fault earlier l) (link_set_fault sets earlier l) (link_slc_fault earlier l) (share_fault (LinkShare (length earlier)) l.share) h
+link_none : (sets : List SetDraft) (earlier : List LinkDraft) (l : LinkDraft) → link_fault sets earlier l ≡ None → (link_name_fault earlier l ≡ None) × (link_set_fault sets earlier l ≡ None) × (link_slc_fault earlier l ≡ None) × (optional_fault 1 POOL (LinkShare (length earlier)) l.share ≡ None)
+link_none sets earlier l h = four_none (link_name_fault earlier l) (link_set_fault sets earlier l) (link_slc_fault earlier l) (optional_fault 1 POOL (LinkShare (length earlier)) l.share) h
 
 name_passes : (earlier : List LinkDraft) (l : LinkDraft) → link_name_fault earlier l ≡ None → (is_name (string_bytes l.name) ≡ true) × (not (has_link_named earlier (string_bytes l.name)) ≡ true)
 name_passes earlier l h =
@@ -47,10 +47,6 @@ code_none : (sets : List SetDraft) (earlier : List LinkDraft) (l : LinkDraft) �
 code_none sets earlier l h =
     two_pass (is_within 0 15 l.slc) (not (has_link_code earlier (string_bytes l.set) l.slc)) Range Duplicate (LinkSlc (length earlier)) (link_none sets earlier l h).2
 
-share_within : (key : Key) (share : Option ℤ) → share_fault key share ≡ None → IfSome (option_map natural share) (IsWithin 1 POOL)
-share_within key None h = tt
-share_within key (Some n) h = in_range 1 POOL key n h
-
 pub link_count_well : (sets : List SetDraft) (links : List LinkDraft) → links_fault sets links ≡ None → IsWithin 1 LINKS (length (map (link_of sets) links))
 link_count_well sets links h = rw (length-map links (link_of sets)) (count_within LINKS (length links) Link (links_none sets links h).0)
 
@@ -61,7 +57,7 @@ each_link sets earlier l h =
       name = (name_passes earlier l (link_none sets earlier l h).0).0;
       set = rw (length-map sets set_of) (known_number sets (string_bytes l.set) (known sets earlier l h));
       slc = omega (arith, code.below);
-      share = share_within (LinkShare (length earlier)) l.share (link_none sets earlier l h).3;
+      share = optional_in_range 1 POOL (LinkShare (length earlier)) l.share (link_none sets earlier l h).3;
     }
 
 links_each : (sets : List SetDraft) (links : List LinkDraft) → links_fault sets links ≡ None → AllByRecursion (IsLink (length (map set_of sets))) (map (link_of sets) links)

@@ -1,9 +1,13 @@
 -- Numbers without a fault are within their limits.
-use Rattle.settings.proofs.Basics.{◌≡◌, ℕ, Bool, true, false, not, ◌&&◌, nat_eq, nat_le, nat_lt, List, [], ◌∷◌, map, All, arith, None, ℤ, IsDistinct, list_all, list_any, All-from_recursion, nat_tests, natural, is_within, has_repeat, numbers_fault, count_fault, range_fault, far_point_fault, Key, Range, Duplicate, TooMany, IsWithin, IsFarPoint, or_parts, not-true, and_parts}
+use Rattle.settings.proofs.Basics.{◌≡◌, ℕ, Bool, true, false, not, ◌&&◌, nat_eq, nat_le, nat_lt, List, [], ◌∷◌, map, All, arith, Option, None, Some, IfSome, option_map, ℤ, IsDistinct, list_all, list_any, All-from_recursion, nat_tests, natural, is_within, has_repeat, numbers_fault, count_fault, range_fault, optional_fault, far_point_fault, Key, Range, Duplicate, TooMany, IsWithin, IsFarPoint, or_parts, not-true, and_parts}
 use Rattle.settings.proofs.Rows.{passes, two_pass, within_from_test, each_of_all, each_made, none_of_any, each_then}
 
 pub in_range : (low high : ℕ) (key : Key) (n : ℤ) → range_fault low high key n ≡ None → IsWithin low high (natural n)
 in_range low high key n h = within_from_test low high n (passes (is_within low high n) Range key h)
+
+pub optional_in_range : (low high : ℕ) (key : Key) (n : Option ℤ) → optional_fault low high key n ≡ None → IfSome (option_map natural n) (IsWithin low high)
+optional_in_range low high key None h = tt
+optional_in_range low high key (Some n) h = in_range low high key n h
 
 pub no_repeat : {A : Type 0} (eq like : A → A → Bool) → ((x y : A) → eq y x ≡ false → like x y ≡ false) → (xs : List A) → has_repeat eq xs ≡ false → IsDistinct like xs
 unfolding IsDistinct

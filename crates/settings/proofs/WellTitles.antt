@@ -1,7 +1,9 @@
 -- Translation rows without a fault satisfy what is asked of them.
-use Rattle.settings.proofs.Basics.{refl, sym, ◌≡◌, ◌≤◌, ◌<◌, ◌^◌, ℕ, Bool, true, false, not, ◌&&◌, nat_eq, nat_lt, nat_le, List, [], ◌∷◌, map, length, All, arith, Option, None, Some, ℤ, string_bytes, IsDistinct, AllByRecursion, list_all, list_any, option_map, bytes_eq, int_eq, length-map, All-from_recursion, bytes_eq-Decides, nat_tests, natural, is_within, is_digit, fault_unless, range_fault, entries_fault, ssn_fault, route_fault, digits_fault, title_of, digit_of, route_of, is_by_title, titles_fault, title_fault, title_numbers_fault, title_digits_fault, title_target_fault, is_same_title, TitleDraft, Key, Title, TitleTranslation, TitlePlan, TitleNature, TitleDigits, TitlePoint, TitleRoute, TitleSsn, Range, Duplicate, TooMany, TITLES, TITLE_DIGITS, IsWithin, IsTitle, HasSubsystem, is_same_row, and_from, not-true, and_parts}
-use Rattle.settings.proofs.Rows.{two_none, three_none, passes, two_pass, within_from_test, each_entry, each_made, each_of_all, entries_differ, differ_made, none_of_any, none_differ}
-use Rattle.settings.proofs.WellNumbers.{in_range}
+use Rattle.settings.proofs.Basics.{refl, sym, ◌≡◌, ◌≤◌, ◌<◌, ◌^◌, ℕ, Bool, true, false, not, ◌&&◌, nat_eq, nat_lt, nat_le, List, [], ◌∷◌, map, length, All, arith, Option, None, Some, IfSome, ℤ, string_bytes, IsDistinct, AllByRecursion, list_all, list_any, option_map, bytes_eq, int_eq, length-map, All-from_recursion, bytes_eq-Decides, nat_tests, natural, is_within, is_digit, fault_unless, range_fault, entries_fault, optional_fault, ssn_fault, route_fault, digits_fault, added_fault, title_of, digit_of, route_of, change_of, is_by_title, titles_fault, title_fault, title_numbers_fault, title_digits_fault, title_target_fault, title_change_fault, is_same_title, TitleDraft, ChangeDraft, Key, Title, TitleTranslation, TitlePlan, TitleNature, TitleDigits, TitlePoint, TitleBackup, TitleRoute, TitleSsn, TitleNewPlan, TitleNewNature, TitleRemove, TitleAdd, Range, Duplicate, TooMany, TITLES, TITLE_DIGITS, IsWithin, IsTitle, HasSubsystem, is_same_row, and_from, not-true, and_parts}
+use Rattle.std.proofs.lemmas.Option.{IfSome_then}
+use Rattle.settings_rows.specs.Titles.{HasChangeRanges}
+use Rattle.settings.proofs.Rows.{two_none, three_none, four_none, passes, two_pass, within_from_test, each_entry, each_made, each_of_all, entries_differ, differ_made, none_of_any, none_differ}
+use Rattle.settings.proofs.WellNumbers.{in_range, optional_in_range}
 use Rattle.settings.proofs.WellSets.{int_eq-natural}
 
 nat_eq-turned : (x y : ℕ) → nat_eq x y ≡ true → nat_eq y x ≡ true
@@ -31,6 +33,25 @@ route_well true key (Some n) h = in_range 1 255 key n (two_none (range_fault 1 2
 route_well false key None h = cc
 route_well false key (Some n) h = in_range 1 255 key n (two_none (range_fault 1 255 key n) (fault_unless true Range key) h).0
 
+few_digits : (n : ℕ) → nat_le n TITLE_DIGITS ≡ true → n ≤ TITLE_DIGITS
+few_digits n h = grind (arith, nat_tests)
+
+digits_below : (text : List ℕ) → AllByRecursion (λ x. is_digit x ≡ true) text → All (λ x. x < 2 ^ 4) (map digit_of text)
+digits_below text h =
+    All-from_recursion (λ x. x < 2 ^ 4) (map digit_of text) (each_made (λ x. is_digit x ≡ true) (λ x. x < 2 ^ 4) digit_of digit_below text h)
+
+change_well : (place : ℕ) (c : ChangeDraft) → title_change_fault place c ≡ None → HasChangeRanges (change_of c)
+change_well place c h =
+    let r = four_none (optional_fault 0 15 (TitleNewPlan place) c.plan) (optional_fault 0 127 (TitleNewNature place) c.nature) (range_fault 0 TITLE_DIGITS (TitleRemove place) c.removed) (added_fault (TitleAdd place) (string_bytes c.added)) h in
+    let d = two_pass (nat_le (length (string_bytes c.added)) TITLE_DIGITS) (list_all is_digit (string_bytes c.added)) Range Range (TitleAdd place) r.3 in
+    record {
+      plan = IfSome_then (option_map natural c.plan) (optional_in_range 0 15 (TitleNewPlan place) c.plan r.0) (λ x w. omega (arith, w.below));
+      nature = IfSome_then (option_map natural c.nature) (optional_in_range 0 127 (TitleNewNature place) c.nature r.1) (λ x w. omega (arith, w.below));
+      removed = (in_range 0 TITLE_DIGITS (TitleRemove place) c.removed r.2).below;
+      fits = rw (length-map (string_bytes c.added) digit_of) (few_digits (length (string_bytes c.added)) d.0);
+      values = digits_below (string_bytes c.added) (each_of_all is_digit (string_bytes c.added) d.1);
+    }
+
 -- what is asked of a translation row, as it was written
 record HasRange (t : TitleDraft) : Type 0 where
   translation : is_within 0 255 t.translation ≡ true
@@ -40,14 +61,16 @@ record HasRange (t : TitleDraft) : Type 0 where
   fits : nat_le (length (string_bytes t.digits)) TITLE_DIGITS ≡ true
   digits : AllByRecursion (λ x. is_digit x ≡ true) (string_bytes t.digits)
   point : is_within 0 16383 t.point ≡ true
+  backup : IfSome (option_map natural t.backup) (IsWithin 0 16383)
   route : HasSubsystem (route_of (is_by_title t) (option_map natural t.ssn))
+  change : HasChangeRanges (change_of t.change)
 
-title_none : (earlier : List TitleDraft) (t : TitleDraft) → title_fault earlier t ≡ None → (title_numbers_fault (length earlier) t ≡ None) × (title_digits_fault earlier t ≡ None) × (title_target_fault (length earlier) t ≡ None)
-title_none earlier t h = three_none (title_numbers_fault (length earlier) t) (title_digits_fault earlier t) (title_target_fault (length earlier) t) h
+title_none : (earlier : List TitleDraft) (t : TitleDraft) → title_fault earlier t ≡ None → (title_numbers_fault (length earlier) t ≡ None) × (title_digits_fault earlier t ≡ None) × (title_target_fault (length earlier) t ≡ None) × (title_change_fault (length earlier) t.change ≡ None)
+title_none earlier t h = four_none (title_numbers_fault (length earlier) t) (title_digits_fault earlier t) (title_target_fault (length earlier) t) (title_change_fault (length earlier) t.change) h
 
-target_none : (place : ℕ) (t : TitleDraft) → title_target_fault place t ≡ None → (range_fault 0 16383 (TitlePoint place) t.point ≡ None) × (route_fault (TitleRoute place) (string_bytes t.route) ≡ None) × (ssn_fault (is_by_title t) (TitleSsn place) t.ssn ≡ None)
+target_none : (place : ℕ) (t : TitleDraft) → title_target_fault place t ≡ None → (range_fault 0 16383 (TitlePoint place) t.point ≡ None) × (optional_fault 0 16383 (TitleBackup place) t.backup ≡ None) × (route_fault (TitleRoute place) (string_bytes t.route) ≡ None) × (ssn_fault (is_by_title t) (TitleSsn place) t.ssn ≡ None)
 target_none place t h =
-    three_none (range_fault 0 16383 (TitlePoint place) t.point) (route_fault (TitleRoute place) (string_bytes t.route)) (ssn_fault (is_by_title t) (TitleSsn place) t.ssn) h
+    four_none (range_fault 0 16383 (TitlePoint place) t.point) (optional_fault 0 16383 (TitleBackup place) t.backup) (route_fault (TitleRoute place) (string_bytes t.route)) (ssn_fault (is_by_title t) (TitleSsn place) t.ssn) h
 
 digits_none : (earlier : List TitleDraft) (t : TitleDraft) → title_digits_fault earlier t ≡ None → (digits_fault (TitleDigits (length earlier)) (string_bytes t.digits) ≡ None) × (fault_unless (not (list_any (is_same_title t) earlier)) Duplicate (TitleDigits (length earlier)) ≡ None)
 digits_none earlier t h =
@@ -69,14 +92,13 @@ has_range earlier t h =
       fits = count.1;
       digits = each_of_all is_digit (string_bytes t.digits) d.1;
       point = passes (is_within 0 16383 t.point) Range (TitlePoint i) q.0;
-      route = route_well (is_by_title t) (TitleSsn i) t.ssn q.2;
+      backup = optional_in_range 0 16383 (TitleBackup i) t.backup q.1;
+      route = route_well (is_by_title t) (TitleSsn i) t.ssn q.3;
+      change = change_well i t.change r.3;
     }
 
 some_digit : (n : ℕ) → nat_lt 0 n ≡ true → 1 ≤ n
 some_digit n h = grind (arith, nat_tests)
-
-few_digits : (n : ℕ) → nat_le n TITLE_DIGITS ≡ true → n ≤ TITLE_DIGITS
-few_digits n h = grind (arith, nat_tests)
 
 within_well : (t : TitleDraft) → HasRange t → IsTitle (title_of t)
 within_well t h =
@@ -91,10 +113,12 @@ within_well t h =
         nature = omega (arith, m.below);
         some = rw (length-map (string_bytes t.digits) digit_of) (some_digit (length (string_bytes t.digits)) h.some);
         fits = rw (length-map (string_bytes t.digits) digit_of) (few_digits (length (string_bytes t.digits)) h.fits);
-        values = All-from_recursion (λ x. x < 2 ^ 4) (map digit_of (string_bytes t.digits)) (each_made (λ x. is_digit x ≡ true) (λ x. x < 2 ^ 4) digit_of digit_below (string_bytes t.digits) h.digits);
+        values = digits_below (string_bytes t.digits) h.digits;
       };
       point = omega (arith, q.below);
+      backup = IfSome_then (option_map natural t.backup) h.backup (λ x w. omega (arith, w.below));
       route = h.route;
+      change = h.change;
     }
 
 titles_none : (titles : List TitleDraft) → titles_fault titles ≡ None → (fault_unless (nat_le (length titles) TITLES) TooMany Title ≡ None) × (entries_fault title_fault [] titles ≡ None)

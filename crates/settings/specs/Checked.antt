@@ -12,6 +12,7 @@ configuration_in c = record {
   subsystems = c.subsystems.items;
   extended_unitdata = c.extended_unitdata;
   subsystem_tests = c.subsystem_tests;
+  user_part_unavailable = c.user_part_unavailable;
   timers = c.timers;
   sets = c.sets.items;
   links = c.links.items;

@@ -9,7 +9,7 @@ use Rattle.settings_rows.specs.declared.fault.FaultKind.{FaultKind}
 use Rattle.settings_rows.specs.declared.fault.FaultKind.TheVariants.{Range, Duplicate, TooMany}
 use Rattle.settings_rows.specs.declared.key.Key.{Key}
 use Rattle.settings_rows.specs.Names.{is_name}
-use Rattle.signalling_types.specs.declared.limits.TheConstants.Limits.{POOL, TITLE_DIGITS}
+use Rattle.signalling_types.specs.declared.limits.TheConstants.Limits.{TITLE_DIGITS}
 
 -- the first fault of several, in their order
 abbrev pub first_of : List (Option DraftFault) → Option DraftFault
@@ -35,6 +35,11 @@ natural (negsuc n) = 0
 -- the fault of a number that must be one from low to high
 abbrev pub range_fault : ℕ → ℕ → Key → ℤ → Option DraftFault
 range_fault low high key n = fault_unless (is_within low high n) Range key
+
+-- the same of a number that may be left out
+abbrev pub optional_fault : ℕ → ℕ → Key → Option ℤ → Option DraftFault
+optional_fault low high key None = None
+optional_fault low high key (Some n) = range_fault low high key n
 
 -- whether some element occurs twice
 abbrev pub has_repeat : {A : Type 0} → (A → A → Bool) → List A → Bool
@@ -71,11 +76,6 @@ name_fault key name is_repeat = first_of (
     ∷ fault_unless (not is_repeat) Duplicate key
     ∷ [])
 
--- a link's share of the pool, if one was written, is of one message at least, and of no more than a pool has
-abbrev pub share_fault : Key → Option ℤ → Option DraftFault
-share_fault key None = None
-share_fault key (Some n) = range_fault 1 POOL key n
-
 -- a digit of an address: 0 to 9, a to f
 abbrev pub is_digit : ℕ → Bool
 is_digit octet = (nat_le 48 octet && nat_le octet 57) || (nat_le 97 octet && nat_le octet 102)
@@ -87,15 +87,20 @@ digits_fault key text = first_of (
     ∷ fault_unless (list_all is_digit text) Range key
     ∷ [])
 
+-- the fault of the digits that a translation row puts on in front of a title: 0 to 32 of them
+abbrev pub added_fault : Key → List ℕ → Option DraftFault
+added_fault key text = first_of (
+    fault_unless (nat_le (length text) TITLE_DIGITS) Range key
+    ∷ fault_unless (list_all is_digit text) Range key
+    ∷ [])
+
 -- a route is by title or by subsystem number
 abbrev pub route_fault : Key → List ℕ → Option DraftFault
 route_fault key text = fault_unless (bytes_eq text (codes "title") || bytes_eq text (codes "ssn")) Range key
 
--- a subsystem number, if one was written, is an octet other than 0
-abbrev pub subsystem_fault : Key → Option ℤ → Option DraftFault
-subsystem_fault key None = None
-subsystem_fault key (Some n) = range_fault 1 255 key n
-
--- it may be left out of a route by title alone
+-- a subsystem number is an octet other than 0, and may be left out of a route by title alone
 abbrev pub ssn_fault : Bool → Key → Option ℤ → Option DraftFault
-ssn_fault by_title key ssn = first_of (subsystem_fault key ssn ∷ fault_unless (by_title || is_some ssn) Range key ∷ [])
+ssn_fault by_title key ssn = first_of (
+    optional_fault 1 255 key ssn
+    ∷ fault_unless (by_title || is_some ssn) Range key
+    ∷ [])

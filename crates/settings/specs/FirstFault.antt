@@ -6,8 +6,8 @@ use Rattle.std.specs.List.{list_any, list_all}
 use Rattle.std.specs.Str.{bytes_eq}
 use Rattle.std.specs.Ordering.{int_eq}
 use Rattle.settings.specs.Checks.{natural, first_of, fault_unless, range_fault, has_repeat, far_point_fault}
-use Rattle.settings.specs.Checks.{entries_fault, numbers_fault, count_fault, name_fault, share_fault, digits_fault}
-use Rattle.settings.specs.Checks.{route_fault, ssn_fault}
+use Rattle.settings.specs.Checks.{entries_fault, numbers_fault, count_fault, name_fault, optional_fault}
+use Rattle.settings.specs.Checks.{digits_fault, added_fault, route_fault, ssn_fault}
 use Rattle.settings.specs.Meaning.{is_by_title, set_place, points_of}
 use Rattle.settings_rows.specs.Names.{is_name}
 use Rattle.settings_rows.specs.declared.fault.DraftFault.{DraftFault}
@@ -20,9 +20,10 @@ use Rattle.settings_rows.specs.declared.key.Key.TheVariants.{SetName, SetAdjacen
 use Rattle.settings_rows.specs.declared.key.Key.TheVariants.{LinkShare}
 use Rattle.settings_rows.specs.declared.key.Key.TheVariants.{Destination, DestinationPoint, DestinationSets}
 use Rattle.settings_rows.specs.declared.key.Key.TheVariants.{DestinationJoined, Title, TitleTranslation, TitlePlan}
-use Rattle.settings_rows.specs.declared.key.Key.TheVariants.{TitleNature, TitleDigits, TitlePoint, TitleRoute, TitleSsn}
+use Rattle.settings_rows.specs.declared.key.Key.TheVariants.{TitleNature, TitleDigits, TitlePoint, TitleBackup}
+use Rattle.settings_rows.specs.declared.key.Key.TheVariants.{TitleRoute, TitleSsn, TitleNewPlan, TitleNewNature, TitleRemove, TitleAdd}
 use Rattle.signalling_types.specs.declared.limits.TheConstants.Limits.{WINDOW, POOL, TICKS, LINKS, SETS, TITLES}
-use Rattle.signalling_types.specs.declared.limits.TheConstants.Limits.{DESTINATIONS, SETS_PER_DESTINATION}
+use Rattle.signalling_types.specs.declared.limits.TheConstants.Limits.{DESTINATIONS, SETS_PER_DESTINATION, TITLE_DIGITS}
 use Rattle.settings.specs.declared.timers.Written.{Written}
 use Rattle.settings_rows.specs.declared.draft.Draft.{Draft}
 use Rattle.settings_rows.specs.declared.draft.TimersDraft.{TimersDraft}
@@ -30,6 +31,7 @@ use Rattle.settings_rows.specs.declared.draft.SetDraft.{SetDraft}
 use Rattle.settings_rows.specs.declared.draft.LinkDraft.{LinkDraft}
 use Rattle.settings_rows.specs.declared.draft.DestinationDraft.{DestinationDraft}
 use Rattle.settings_rows.specs.declared.draft.TitleDraft.{TitleDraft}
+use Rattle.settings_rows.specs.declared.draft.ChangeDraft.{ChangeDraft}
 
 -- whether a set of this name is among these
 abbrev pub has_set_named : List SetDraft → List ℕ → Bool
@@ -123,7 +125,7 @@ link_fault sets earlier l = first_of (
     link_name_fault earlier l
     ∷ link_set_fault sets earlier l
     ∷ link_slc_fault earlier l
-    ∷ share_fault (LinkShare (length earlier)) l.share
+    ∷ optional_fault 1 POOL (LinkShare (length earlier)) l.share
     ∷ [])
 
 -- whether a destination of this point is among these
@@ -186,12 +188,23 @@ title_numbers_fault place t = first_of (
     ∷ range_fault 0 127 (TitleNature place) t.nature
     ∷ [])
 
--- where a translation row at this index leads to: its point, its route and its subsystem number
+-- where a translation row at this index leads to: its point, its backup, its route and its subsystem number
 abbrev pub title_target_fault : ℕ → TitleDraft → Option DraftFault
 title_target_fault place t = first_of (
     range_fault 0 16383 (TitlePoint place) t.point
+    ∷ optional_fault 0 16383 (TitleBackup place) t.backup
     ∷ route_fault (TitleRoute place) (string_bytes t.route)
     ∷ ssn_fault (is_by_title t) (TitleSsn place) t.ssn
+    ∷ [])
+
+-- how a translation row at this index changes titles: the numbering plan and the nature of address that they get, and
+-- the digits that are taken off and put on
+abbrev pub title_change_fault : ℕ → ChangeDraft → Option DraftFault
+title_change_fault place c = first_of (
+    optional_fault 0 15 (TitleNewPlan place) c.plan
+    ∷ optional_fault 0 127 (TitleNewNature place) c.nature
+    ∷ range_fault 0 TITLE_DIGITS (TitleRemove place) c.removed
+    ∷ added_fault (TitleAdd place) (string_bytes c.added)
     ∷ [])
 
 -- the first fault of a translation row, after the rows before it
@@ -200,6 +213,7 @@ title_fault earlier t = first_of (
     title_numbers_fault (length earlier) t
     ∷ title_digits_fault earlier t
     ∷ title_target_fault (length earlier) t
+    ∷ title_change_fault (length earlier) t.change
     ∷ [])
 
 -- whether the first of these names is this one

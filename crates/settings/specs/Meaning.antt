@@ -4,7 +4,8 @@ use Rattle.std.specs.Prelude.{string_bytes}
 use Rattle.std.specs.Option.{option_map}
 use Rattle.std.specs.Str.{bytes_eq}
 use Rattle.settings.specs.Checks.{natural}
-use Rattle.settings_rows.specs.Configuration.{Configuration, SetEntry, LinkEntry, DestinationEntry, TitleEntry}
+use Rattle.settings_rows.specs.Configuration.{Configuration, SetEntry, LinkEntry, DestinationEntry, ChangeEntry}
+use Rattle.settings_rows.specs.Configuration.{TitleEntry}
 use Rattle.settings_rows.specs.declared.title_row.TitleRoute.{TitleRoute}
 use Rattle.settings_rows.specs.declared.title_row.TitleRoute.TheVariants.{Title, Ssn}
 use Rattle.settings_rows.specs.declared.timer_ticks.TimerTicks.{TimerTicks}
@@ -14,6 +15,7 @@ use Rattle.settings_rows.specs.declared.draft.SetDraft.{SetDraft}
 use Rattle.settings_rows.specs.declared.draft.LinkDraft.{LinkDraft}
 use Rattle.settings_rows.specs.declared.draft.DestinationDraft.{DestinationDraft}
 use Rattle.settings_rows.specs.declared.draft.TitleDraft.{TitleDraft}
+use Rattle.settings_rows.specs.declared.draft.ChangeDraft.{ChangeDraft}
 
 abbrev pub ticks_of : TimersDraft → TimerTicks
 ticks_of t = record {
@@ -74,6 +76,14 @@ is_by_title t = bytes_eq (string_bytes t.route) (codes "title")
 abbrev pub route_of : Bool → Option ℕ → TitleRoute
 route_of by_title ssn = if by_title then Title ssn else Ssn (unwrap_or ssn 0)
 
+abbrev pub change_of : ChangeDraft → ChangeEntry
+change_of c = record {
+  plan = option_map natural c.plan;
+  nature = option_map natural c.nature;
+  removed = natural c.removed;
+  added = map digit_of (string_bytes c.added);
+}
+
 abbrev pub title_of : TitleDraft → TitleEntry
 title_of t = record {
   translation = natural t.translation;
@@ -81,7 +91,9 @@ title_of t = record {
   nature = natural t.nature;
   digits = map digit_of (string_bytes t.digits);
   point = natural t.point;
+  backup = option_map natural t.backup;
   route = route_of (is_by_title t) (option_map natural t.ssn);
+  change = change_of t.change;
 }
 
 abbrev pub settings_of : Draft → Configuration
@@ -94,6 +106,7 @@ settings_of d = record {
   subsystems = map natural d.subsystems.items;
   extended_unitdata = d.extended_unitdata;
   subsystem_tests = d.subsystem_tests;
+  user_part_unavailable = d.user_part_unavailable;
   timers = ticks_of d.timers;
   sets = map set_of d.sets.items;
   links = map (link_of d.sets.items) d.links.items;

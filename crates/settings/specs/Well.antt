@@ -5,7 +5,7 @@ use Rattle.std.specs.List.{IsDistinct, count_by, list_any}
 use Rattle.std.specs.Str.{bytes_eq}
 use Rattle.settings_rows.specs.Configuration.{Configuration, SetEntry, LinkEntry, DestinationEntry, TitleEntry}
 use Rattle.settings_rows.specs.Names.{is_name}
-use Rattle.settings_rows.specs.Titles.{HasTitleRanges}
+use Rattle.settings_rows.specs.Titles.{HasTitleRanges, HasChangeRanges}
 use Rattle.settings_rows.specs.declared.timer_ticks.TimerTicks.{TimerTicks}
 use Rattle.settings_rows.specs.declared.title_row.TitleRoute.{TitleRoute}
 use Rattle.settings_rows.specs.declared.title_row.TitleRoute.TheVariants.{Title, Ssn}
@@ -86,7 +86,9 @@ pub record IsTitle (t : TitleEntry) : Type 0 where
   pub translation : t.translation < 2 ^ 8
   pub ranges : HasTitleRanges t.plan t.nature t.digits
   pub point : t.point < 2 ^ 14
+  pub backup : IfSome t.backup (λ point. point < 2 ^ 14)
   pub route : HasSubsystem t.route
+  pub change : HasChangeRanges t.change
 
 -- whether two translation rows have one key and the same digits
 abbrev pub is_same_row : TitleEntry → TitleEntry → Bool

@@ -46,6 +46,8 @@ pub struct Checked {
     pub extended_unitdata: bool,
     /// Whether a test of a subsystem on this node (SST) is answered.
     pub subsystem_tests: bool,
+    /// Whether the sender of a message for a user part that isn't on this node is told so (UPU).
+    pub user_part_unavailable: bool,
     /// How long each timer runs.
     pub timers: TimerTicks,
     /// The link sets.
@@ -96,6 +98,7 @@ pub fn check_draft(alloc: Global, draft: &Draft) -> Result<Checked, DraftFault>
         subsystems,
         extended_unitdata: draft.extended_unitdata,
         subsystem_tests: draft.subsystem_tests,
+        user_part_unavailable: draft.user_part_unavailable,
         timers,
         sets,
         links,

@@ -1,8 +1,10 @@
 //! The settings of a node: a draft is checked, and settings without a fault are kept and read.
 #![tactic(auto)]
 
+mod changes;
 mod check;
 mod destinations;
+mod digits;
 mod facing;
 mod links;
 mod names;
@@ -17,8 +19,9 @@ mod titles;
 
 pub use settings::Settings;
 pub use settings_rows::{
-    DestinationDraft, DestinationRow, Draft, DraftFault, FaultKind, Key, LinkDraft, LinkRow,
-    SetDraft, SetRow, TimerKey, TimerTicks, TimersDraft, TitleDraft, TitleRoute, TitleRow,
+    ChangeDraft, DestinationDraft, DestinationRow, Draft, DraftFault, FaultKind, Key, LinkDraft,
+    LinkRow, SetDraft, SetRow, TimerKey, TimerTicks, TimersDraft, TitleChange, TitleDraft,
+    TitleRoute, TitleRow,
 };
 pub use signalling_types::{
     Cause, ChangeoverTimer, FailureReason, Flow, FrameFault, LateTimer, Limits, LinkId, Msu,

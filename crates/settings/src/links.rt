@@ -2,14 +2,13 @@
 
 ghost use Rattle.std.specs.Prelude.{◌≡◌, ◌≤◌, ◌<◌, ◌^◌, ◌⊎◌, [], None, Some, length, map, IfOk, OnOk, IfErr};
 ghost use Rattle.std.specs.Prelude.{string_bytes};
-ghost use Rattle.std.specs.Option.{option_map};
-ghost use Rattle.settings.specs.Checks.{natural, entries_fault, share_fault};
+ghost use Rattle.settings.specs.Checks.{natural, entries_fault};
 ghost use Rattle.settings.specs.Meaning.{link_of, set_number};
 ghost use Rattle.settings.specs.FirstFault.{link_fault, link_set_fault, link_slc_fault};
 ghost use Rattle.settings.specs.FirstFault.{has_link_named, has_link_code, links_fault};
 
 use crate::names::{ensure_name, is_name};
-use crate::numbers::{count, ensure, number};
+use crate::numbers::{count, ensure, number, optional_number};
 use crate::sets::set_place;
 use settings_rows::{DraftFault, FaultKind, Key, LinkDraft, LinkRow, SetDraft};
 use signalling_types::{Limits, SetId};
@@ -64,19 +63,6 @@ fn link_slc(earlier: &[LinkDraft], link: &LinkDraft) -> Result<u8, DraftFault>
     Ok(slc as u8)
 }
 
-/// The share of the pool that a link has, if one was written.
-fn link_share(share: Option<i64>, key: Key) -> Result<Option<u16>, DraftFault>
-    ensures value { IfOk result (λ messages. messages ≡ option_map natural share) }
-    ensures well { OnOk result (share_fault key share ≡ None) }
-    ensures fault { IfErr result (λ fault. share_fault key share ≡ Some fault) }
-{
-    let Some(share) = share else {
-        return Ok(None);
-    };
-    let messages = number(share, 1, Limits::POOL as u16, key)?;
-    Ok(Some(messages))
-}
-
 /// A link, after those before it.
 fn link_row(
     sets: &[SetDraft],
@@ -92,7 +78,8 @@ fn link_row(
     ensure_name(link.name.as_str(), is_repeat, Key::LinkName(earlier.len()))?;
     let set = link_set(sets, earlier, link)?;
     let slc = link_slc(earlier, link)?;
-    let share = link_share(link.share, Key::LinkShare(earlier.len()))?;
+    let share_key = Key::LinkShare(earlier.len());
+    let share = optional_number(link.share, 1, Limits::POOL as u16, share_key)?;
     Ok(LinkRow::new(link.name.as_str(), set, slc, share))
 }
 

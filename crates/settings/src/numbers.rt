@@ -1,8 +1,9 @@
 //! Numbers of settings.
 
-ghost use Rattle.std.specs.Prelude.{◌≡◌, ◌≤◌, ◌<◌, ◌^◌, nat_eq, ◌⊎◌, None, Some, map, IfOk, OnOk, IfErr};
+ghost use Rattle.std.specs.Prelude.{◌≡◌, ◌≤◌, ◌<◌, ◌^◌, nat_eq, ◌⊎◌, None, Some, map, IfOk, IfSome, OnOk, IfErr};
+ghost use Rattle.std.specs.Option.{option_map};
 ghost use Rattle.std.specs.List.{list_all};
-ghost use Rattle.settings.specs.Checks.{range_fault, natural, fault_unless, has_repeat, far_point_fault};
+ghost use Rattle.settings.specs.Checks.{range_fault, optional_fault, natural, fault_unless, has_repeat, far_point_fault};
 ghost use Rattle.settings.specs.Checks.{is_within, numbers_fault, count_fault};
 
 use settings_rows::{DraftFault, FaultKind, Key};
@@ -38,6 +39,24 @@ pub(crate) fn number(value: i64, low: u16, high: u16, key: Key) -> Result<u16, D
     }
 }
 
+/// The number, if it wasn't left out and is one from `low` to `high`.
+pub(crate) fn optional_number(
+    value: Option<i64>,
+    low: u16,
+    high: u16,
+    key: Key,
+) -> Result<Option<u16>, DraftFault>
+    ensures value { IfOk result (λ n. n ≡ option_map natural value) }
+    ensures below { IfOk result (λ n. IfSome n (λ n. n ≤ high)) }
+    ensures well { OnOk result (optional_fault low high key value ≡ None) }
+    ensures fault { IfErr result (λ fault. optional_fault low high key value ≡ Some fault) }
+{
+    match value {
+        Some(value) => Ok(Some(number(value, low, high, key)?)),
+        None => Ok(None),
+    }
+}
+
 /// The point of this number.
 pub(crate) fn point(value: i64, key: Key) -> Result<PointCode, DraftFault>
     ensures value { IfOk result (λ point. point ≡ natural value) }
@@ -47,6 +66,18 @@ pub(crate) fn point(value: i64, key: Key) -> Result<PointCode, DraftFault>
 {
     let number = number(value, 0, LAST_POINT, key)?;
     PointCode::new(number).ok_or(DraftFault::At(FaultKind::Range, key))
+}
+
+/// The point of this number, if it wasn't left out.
+pub(crate) fn optional_point(value: Option<i64>, key: Key) -> Result<Option<PointCode>, DraftFault>
+    ensures value { IfOk result (λ point. point ≡ option_map natural value) }
+    ensures well { OnOk result (optional_fault 0 16383 key value ≡ None) }
+    ensures fault { IfErr result (λ fault. optional_fault 0 16383 key value ≡ Some fault) }
+{
+    match value {
+        Some(value) => Ok(Some(point(value, key)?)),
+        None => Ok(None),
+    }
 }
 
 /// The point of this number, if it isn't the node's own.

@@ -126,6 +126,13 @@ impl Settings {
         self.checked.subsystem_tests
     }
 
+    /// Whether this node tells the sender of a message for a user part that it doesn't have so (UPU, Q.704 §11.2.7).
+    pub fn user_part_unavailable(&self) -> bool
+        ensures { result ≡ self.now.user_part_unavailable }
+    {
+        self.checked.user_part_unavailable
+    }
+
     /// How many ticks each timer runs: 1 to 65,535.
     pub fn timers(&self) -> TimerTicks
         ensures value { result ≡ self.now.timers }

@@ -5,18 +5,20 @@ ghost use Rattle.std.specs.Prelude.{if◌then◌else◌, ◌≡◌, ◌<◌, ◌
 ghost use Rattle.std.specs.Prelude.{All, codes, length, map, IfOk, OnOk, IfErr, string_bytes};
 ghost use Rattle.std.specs.List.{list_all};
 ghost use Rattle.std.specs.Str.{bytes_eq};
-ghost use Rattle.settings.specs.Checks.{natural, fault_unless, entries_fault, is_digit, digits_fault};
-ghost use Rattle.settings.specs.Checks.{route_fault, subsystem_fault};
+ghost use Rattle.settings.specs.Checks.{natural, fault_unless, optional_fault, entries_fault, route_fault};
 ghost use Rattle.settings.specs.Meaning.{title_of, digit_of, route_of};
+ghost use Rattle.settings_rows.specs.Configuration.{unchanged};
 ghost use Rattle.settings.specs.Titles.{title_key};
 ghost use Rattle.settings.specs.FirstFault.{title_numbers_fault, title_digits_fault, title_target_fault};
 ghost use Rattle.settings.specs.FirstFault.{title_fault, titles_fault};
 
-use crate::numbers::{ensure, number, point};
+use crate::changes::title_change;
+use crate::digits::{Digits, digits};
+use crate::numbers::{ensure, number, optional_point, point};
 use arrayvec::ArrayVec;
 use indexmap::IndexSet;
 use settings_rows::{DraftFault, FaultKind, Key, TitleDraft, TitleRoute, TitleRow};
-use signalling_types::{Limits, Ssn};
+use signalling_types::{Limits, PointCode, Ssn};
 use std::alloc::Global;
 
 /// The largest subsystem number.
@@ -26,13 +28,10 @@ const LAST_SUBSYSTEM: u16 = 255;
 const LAST_TRANSLATION: u16 = 255;
 
 /// The largest numbering plan.
-const LAST_PLAN: u16 = 15;
+pub(crate) const LAST_PLAN: u16 = 15;
 
 /// The largest nature of address.
-const LAST_NATURE: u16 = 127;
-
-/// Digits of a translation row.
-type Digits = ArrayVec<u8, { Limits::TITLE_DIGITS }>;
+pub(crate) const LAST_NATURE: u16 = 127;
 
 /// What may be in one translation row alone: its key and its digits, as they were written.
 #[derive(PartialEq, Eq, Hash, Drop)]
@@ -41,53 +40,6 @@ struct TitleKey {
     plan: i64,
     nature: i64,
     digits: Digits,
-}
-
-/// The value of a digit that is written 0 to 9 or a to f.
-fn digit(octet: u8) -> Option<u8>
-    ensures { result ≡ (if is_digit octet then Some (digit_of octet) else None) }
-{
-    match octet {
-        b'0'..=b'9' => Some(octet - b'0'),
-        b'a'..=b'f' => Some(octet - b'a' + 10),
-        _ => None,
-    }
-}
-
-#[tactic(auto, using(std::proofs::lemmas::Grind::common_steps))]
-fn digit_values(text: &[u8], key: Key) -> Result<Digits, DraftFault>
-    requires { length text.now ≤ Limits.TITLE_DIGITS }
-    ensures value { IfOk result (λ digits. digits.items ≡ map digit_of text.now) }
-    ensures range { IfOk result (λ digits. All (λ digit. digit < 2 ^ 4) digits.items) }
-    ensures well { OnOk result
-        (fault_unless (list_all is_digit text.now) FaultKind.Range key ≡ None) }
-    ensures fault { IfErr result (λ fault.
-        fault_unless (list_all is_digit text.now) FaultKind.Range key ≡ Some fault) }
-{
-    let mut digits = ArrayVec::new();
-    for octet in text {
-        match digit(*octet) {
-            Some(value) => digits.push(value),
-            None => return Err(DraftFault::At(FaultKind::Range, key)),
-        }
-    }
-    Ok(digits)
-}
-
-/// The digits of a translation row.
-#[tactic(auto, using(std::proofs::lemmas::Grind::common_steps))]
-fn digits(text: &str, key: Key) -> Result<Digits, DraftFault>
-    ensures value { IfOk result (λ digits. digits.items ≡ map digit_of text.now) }
-    ensures some { IfOk result (λ digits. 1 ≤ length digits.items) }
-    ensures fits { IfOk result (λ digits. length digits.items ≤ Limits.TITLE_DIGITS) }
-    ensures range { IfOk result (λ digits. All (λ digit. digit < 2 ^ 4) digits.items) }
-    ensures well { OnOk result (digits_fault key text.now ≡ None) }
-    ensures fault { IfErr result (λ fault. digits_fault key text.now ≡ Some fault) }
-{
-    let octets = text.as_bytes();
-    let fits = 0 < octets.len() && octets.len() <= Limits::TITLE_DIGITS;
-    ensure(fits, FaultKind::Range, key)?;
-    digit_values(octets, key)
 }
 
 /// The key and the digits of a translation row, as they were written.
@@ -146,8 +98,8 @@ fn is_by_title(route: &str, key: Key) -> Result<bool, DraftFault>
 /// The subsystem number that was written, if any.
 fn subsystem(ssn: Option<i64>, key: Key) -> Result<Option<Ssn>, DraftFault>
     ensures value { IfOk result (λ n. n ≡ option_map natural ssn) }
-    ensures well { OnOk result (subsystem_fault key ssn ≡ None) }
-    ensures fault { IfErr result (λ fault. subsystem_fault key ssn ≡ Some fault) }
+    ensures well { OnOk result (optional_fault 1 255 key ssn ≡ None) }
+    ensures fault { IfErr result (λ fault. optional_fault 1 255 key ssn ≡ Some fault) }
 {
     let Some(ssn) = ssn else {
         return Ok(None);
@@ -190,7 +142,18 @@ fn title_numbers(title: &TitleDraft, place: usize) -> Result<(u8, u8, u8), Draft
     Ok((translation as u8, plan as u8, nature as u8))
 }
 
-/// The translation row of these numbers and digits, which are in the row that was written.
+/// The same row, with this point as its backup, if any.
+fn backed_up(row: TitleRow, backup: Option<PointCode>) -> TitleRow
+    requires { row.backup ≡ None }
+    ensures { result ≡ record row { backup = backup } }
+{
+    match backup {
+        Some(point) => row.with_backup(point),
+        None => row,
+    }
+}
+
+/// The translation row of these numbers and digits, which are in the row that was written. It changes no titles yet.
 fn routed_row(
     title: &TitleDraft,
     place: usize,
@@ -205,19 +168,21 @@ fn routed_row(
     requires some { 1 ≤ length digits.now }
     requires fits { length digits.now ≤ Limits.TITLE_DIGITS }
     requires range { All (λ digit. digit < 2 ^ 4) digits.now }
-    ensures value { IfOk result (λ row. row ≡ title_of title.now) }
+    ensures value { IfOk result (λ row. row ≡ record (title_of title.now) { change = unchanged }) }
     ensures well { OnOk result (title_target_fault place title.now ≡ None) }
     ensures fault { IfErr result (λ fault. title_target_fault place title.now ≡ Some fault) }
 {
     let (translation, plan, nature) = numbers;
     let point = point(title.point, Key::TitlePoint(place))?;
+    let backup = optional_point(title.backup, Key::TitleBackup(place))?;
     let by_title = is_by_title(title.route.as_str(), Key::TitleRoute(place))?;
     let ssn = subsystem(title.ssn, Key::TitleSsn(place))?;
     let route = route(by_title, ssn, Key::TitleSsn(place))?;
-    TitleRow::new(translation, plan, nature, digits, point, route).ok_or(DraftFault::At(
+    let row = TitleRow::new(translation, plan, nature, digits, point, route).ok_or(DraftFault::At(
         FaultKind::Range,
         Key::TitleDigits(place),
-    ))
+    ))?;
+    Ok(backed_up(row, backup))
 }
 
 /// A translation row, after those before it, whose keys are `seen`.
@@ -236,7 +201,9 @@ fn title_row(
     let place = earlier.len();
     let numbers = title_numbers(title, place)?;
     let digits = title_digits(seen, earlier, title)?;
-    routed_row(title, place, numbers, digits.as_slice())
+    let row = routed_row(title, place, numbers, digits.as_slice())?;
+    let change = title_change(&title.change, place)?;
+    Ok(row.with_change(change))
 }
 
 /// The rows of the translations.

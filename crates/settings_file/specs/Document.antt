@@ -65,13 +65,18 @@ numbers_at t =
     and_then (integer_at (codes "pool") key.Pool t) (λ pool.
     Ok (record { version = version; own = own; network = network; window = window; pool = pool }))))))
 
--- what a file asks for about subsystems, if its version has these keys: that extended unitdata are relayed, and that a
--- test of a subsystem is answered
+-- what a file asks for, if its version has these keys: that extended unitdata are relayed, that a test of a subsystem is
+-- answered, and that it is told where a user part isn't here
 unfoldable pub services_at : (has_keys : Bool) → Members → Result Services SettingsFault
 services_at has_keys t =
     and_then (truth_at has_keys (codes "extended_unitdata") key.ExtendedUnitdata t) (λ extended_unitdata.
     and_then (truth_at has_keys (codes "subsystem_tests") key.SubsystemTests t) (λ subsystem_tests.
-    Ok (record { extended_unitdata = extended_unitdata; subsystem_tests = subsystem_tests })))
+    and_then (truth_at has_keys (codes "user_part_unavailable") key.UserPartUnavailable t) (λ user_part_unavailable.
+    Ok (record {
+      extended_unitdata = extended_unitdata;
+      subsystem_tests = subsystem_tests;
+      user_part_unavailable = user_part_unavailable;
+    }))))
 
 -- what a document says: the version of its format, and settings
 pub record Document : Type 0 where
@@ -88,7 +93,7 @@ document t =
     and_then (sets_at t) (λ sets.
     and_then (links_at (has_extensions numbers.version) t) (λ links.
     and_then (destinations_at (has_joined numbers.version) t) (λ destinations.
-    and_then (titles_at t) (λ titles.
+    and_then (titles_at (has_extensions numbers.version) t) (λ titles.
     Ok (record {
       version = numbers.version;
       settings = record {
@@ -100,6 +105,7 @@ document t =
         subsystems = subsystems;
         extended_unitdata = services.extended_unitdata;
         subsystem_tests = services.subsystem_tests;
+        user_part_unavailable = services.user_part_unavailable;
         timers = timers;
         sets = sets;
         links = links;

@@ -23,7 +23,7 @@ abbrev pub may_be_joined : Option ℤ → Bool
 may_be_joined (Some version) = has_joined version
 may_be_joined None = false
 
--- whether a file of this version may ask for services about subsystems, and give links shares of the pool
+-- whether a file of this version may have the keys that the last version brought
 abbrev pub may_have_extensions : Option ℤ → Bool
 may_have_extensions (Some version) = has_extensions version
 may_have_extensions None = false
@@ -32,8 +32,8 @@ may_have_extensions None = false
 abbrev pub top_keys : (may_have_extensions : Bool) → List (List ℕ)
 top_keys true =
     codes "version" ∷ codes "own" ∷ codes "network" ∷ codes "window" ∷ codes "pool" ∷ codes "users"
-    ∷ codes "subsystems" ∷ codes "extended_unitdata" ∷ codes "subsystem_tests" ∷ codes "timers" ∷ codes "set"
-    ∷ codes "link" ∷ codes "destination" ∷ codes "title" ∷ codes "serve" ∷ []
+    ∷ codes "subsystems" ∷ codes "extended_unitdata" ∷ codes "subsystem_tests" ∷ codes "user_part_unavailable"
+    ∷ codes "timers" ∷ codes "set" ∷ codes "link" ∷ codes "destination" ∷ codes "title" ∷ codes "serve" ∷ []
 top_keys false =
     codes "version" ∷ codes "own" ∷ codes "network" ∷ codes "window" ∷ codes "pool" ∷ codes "users"
     ∷ codes "subsystems" ∷ codes "timers" ∷ codes "set" ∷ codes "link" ∷ codes "destination" ∷ codes "title"
@@ -53,8 +53,11 @@ destination_keys true = codes "point" ∷ codes "sets" ∷ codes "joined" ∷ []
 destination_keys false = codes "point" ∷ codes "sets" ∷ []
 
 -- the keys of a translation row
-abbrev pub title_keys : List (List ℕ)
-title_keys =
+abbrev pub title_keys : (may_have_extensions : Bool) → List (List ℕ)
+title_keys true =
+    codes "translation" ∷ codes "plan" ∷ codes "nature" ∷ codes "digits" ∷ codes "point" ∷ codes "backup"
+    ∷ codes "route" ∷ codes "ssn" ∷ codes "new_plan" ∷ codes "new_nature" ∷ codes "remove" ∷ codes "add" ∷ []
+title_keys false =
     codes "translation" ∷ codes "plan" ∷ codes "nature" ∷ codes "digits" ∷ codes "point" ∷ codes "route" ∷ codes "ssn"
     ∷ []
 
@@ -64,5 +67,5 @@ arrays_of version =
     record { array = codes "set"; keys = codes "name" ∷ codes "adjacent" ∷ [] }
     ∷ record { array = codes "link"; keys = link_keys (may_have_extensions version) }
     ∷ record { array = codes "destination"; keys = destination_keys (may_be_joined version) }
-    ∷ record { array = codes "title"; keys = title_keys }
+    ∷ record { array = codes "title"; keys = title_keys (may_have_extensions version) }
     ∷ []

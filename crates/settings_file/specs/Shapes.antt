@@ -60,6 +60,22 @@ truth_or_false key (Some d) = truth_in key d
 unfoldable pub truth_at : (has_key : Bool) → List ℕ → Key → Members → Result Bool SettingsFault
 truth_at has_key name key t = if has_key then truth_or_false key (get_member name t) else Ok false
 
+-- an integer that may be left out
+abbrev pub integer_if_any : Key → Option Data → Result (Option ℤ) SettingsFault
+integer_if_any key None = Ok None
+integer_if_any key (Some d) = and_then (integer_in key d) (λ n. Ok (Some n))
+
+unfoldable pub optional_integer_at : (has_key : Bool) → List ℕ → Key → Members → Result (Option ℤ) SettingsFault
+optional_integer_at has_key name key t = if has_key then integer_if_any key (get_member name t) else Ok None
+
+-- a text that may be left out, and is empty then
+abbrev pub text_or_empty : Key → Option Data → Result (List ℕ) SettingsFault
+text_or_empty key None = Ok []
+text_or_empty key (Some d) = text_in key d
+
+unfoldable pub optional_text_at : (has_key : Bool) → List ℕ → Key → Members → Result (List ℕ) SettingsFault
+optional_text_at has_key name key t = if has_key then text_or_empty key (get_member name t) else Ok []
+
 unfoldable pub text_at : List ℕ → Key → Members → Result (List ℕ) SettingsFault
 text_at name key t = and_then (value_at name key t) (text_in key)
 

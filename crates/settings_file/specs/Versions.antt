@@ -19,6 +19,7 @@ is_known_version version =
 abbrev pub has_joined : ℤ → Bool
 has_joined version = int_eq version SECOND_VERSION || int_eq version LAST_VERSION
 
--- whether a file of this version may ask for services about subsystems, and give links shares of the pool
+-- whether a file of this version may ask for extended unitdata, tests of subsystems, and to tell of user parts that
+-- aren't here; may give links shares of the pool, rows a backup, and change titles
 abbrev pub has_extensions : ℤ → Bool
 has_extensions version = int_eq version LAST_VERSION

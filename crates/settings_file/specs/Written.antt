@@ -6,6 +6,7 @@ use Rattle.settings_rows.specs.declared.draft.SetDraft.{SetDraft}
 use Rattle.settings_rows.specs.declared.draft.LinkDraft.{LinkDraft}
 use Rattle.settings_rows.specs.declared.draft.DestinationDraft.{DestinationDraft}
 use Rattle.settings_rows.specs.declared.draft.TitleDraft.{TitleDraft}
+use Rattle.settings_rows.specs.declared.draft.ChangeDraft.{ChangeDraft}
 
 pub record WrittenSet : Type 0 where
   pub name : List ℕ
@@ -22,14 +23,22 @@ pub record WrittenDestination : Type 0 where
   pub sets : List (List ℕ)
   pub joined : Bool
 
+pub record WrittenChange : Type 0 where
+  pub plan : Option ℤ
+  pub nature : Option ℤ
+  pub removed : ℤ
+  pub added : List ℕ
+
 pub record WrittenTitle : Type 0 where
   pub translation : ℤ
   pub plan : ℤ
   pub nature : ℤ
   pub digits : List ℕ
   pub point : ℤ
+  pub backup : Option ℤ
   pub route : List ℕ
   pub ssn : Option ℤ
+  pub change : WrittenChange
 
 -- the settings of a file except its version
 pub record Written : Type 0 where
@@ -41,6 +50,7 @@ pub record Written : Type 0 where
   pub subsystems : List ℤ
   pub extended_unitdata : Bool
   pub subsystem_tests : Bool
+  pub user_part_unavailable : Bool
   pub timers : TimersDraft
   pub sets : List WrittenSet
   pub links : List WrittenLink
@@ -60,6 +70,9 @@ destination_written d = record {
   joined = d.joined;
 }
 
+abbrev pub change_written : ChangeDraft → WrittenChange
+change_written c = record { plan = c.plan; nature = c.nature; removed = c.removed; added = string_bytes c.added }
+
 abbrev pub title_written : TitleDraft → WrittenTitle
 title_written t = record {
   translation = t.translation;
@@ -67,8 +80,10 @@ title_written t = record {
   nature = t.nature;
   digits = string_bytes t.digits;
   point = t.point;
+  backup = t.backup;
   route = string_bytes t.route;
   ssn = t.ssn;
+  change = change_written t.change;
 }
 
 abbrev pub written : Draft → Written
@@ -81,6 +96,7 @@ written d = record {
   subsystems = d.subsystems.items;
   extended_unitdata = d.extended_unitdata;
   subsystem_tests = d.subsystem_tests;
+  user_part_unavailable = d.user_part_unavailable;
   timers = d.timers;
   sets = map set_written d.sets.items;
   links = map link_written d.links.items;

@@ -4,13 +4,17 @@ ghost use Rattle.std.specs.Prelude.{◌≡◌, map};
 ghost use Rattle.toml.specs.View.{view, table_view};
 ghost use Rattle.settings_file.specs.Faults.{AnswersOrNoMemory};
 ghost use Rattle.settings_file.specs.Shapes.{each};
-ghost use Rattle.settings_file.specs.Written.{set_written, link_written, destination_written, title_written};
-ghost use Rattle.settings_file.specs.Entries.{set_in, share_at, link_entry_in, destination_in, ssn_at, title_in};
+ghost use Rattle.settings_file.specs.Written.{set_written, link_written, destination_written, change_written};
+ghost use Rattle.settings_file.specs.Written.{title_written};
+ghost use Rattle.settings_file.specs.Entries.{set_in, link_entry_in, destination_in, ssn_at, change_at, title_in};
 ghost use Rattle.settings_file.specs.Entries.{sets_at, links_at, destinations_at, titles_at};
 
 use crate::fault::SettingsFault;
-use crate::shapes::{array_in, entries, found, integer, integer_in, table_in, text, texts, truth};
-use settings::{DestinationDraft, Key, LinkDraft, SetDraft, TitleDraft};
+use crate::shapes::{
+    array_in, entries, found, integer, integer_in, optional_integer, optional_text, table_in, text,
+    texts, truth,
+};
+use settings::{ChangeDraft, DestinationDraft, Key, LinkDraft, SetDraft, TitleDraft};
 use std::alloc::Global;
 use toml::{Table, Value};
 
@@ -25,20 +29,6 @@ fn set(alloc: Global, i: usize, value: &Value) -> Result<SetDraft, SettingsFault
     Ok(SetDraft { name, adjacent })
 }
 
-/// The share of the pool that a link has. If the file's version doesn't have the key it is ignored.
-#[tactic(auto, unfolding(crate::specs::Entries::share_at))]
-fn share(has_key: bool, table: &Table, i: usize) -> Result<Option<i64>, SettingsFault>
-    ensures { result ≡ share_at has_key i (table_view table.now) }
-{
-    if !has_key {
-        return Ok(None);
-    }
-    match found(table, "share") {
-        Some(value) => Ok(Some(integer_in(value, Key::LinkShare(i))?)),
-        None => Ok(None),
-    }
-}
-
 /// A link, in a file whose version has the key `share` or doesn't have it.
 #[tactic(auto, unfolding(crate::specs::Entries::link_entry_in))]
 fn link(alloc: Global, has_share: bool, i: usize, value: &Value) -> Result<LinkDraft, SettingsFault>
@@ -48,7 +38,7 @@ fn link(alloc: Global, has_share: bool, i: usize, value: &Value) -> Result<LinkD
     let name = text(alloc, table, "name", Key::LinkName(i))?;
     let set = text(alloc, table, "set", Key::LinkSet(i))?;
     let slc = integer(table, "slc", Key::LinkSlc(i))?;
-    let share = share(has_share, table, i)?;
+    let share = optional_integer(has_share, table, "share", Key::LinkShare(i))?;
     Ok(LinkDraft {
         name,
         set,
@@ -91,10 +81,37 @@ fn ssn(table: &Table, i: usize, route: &str) -> Result<Option<i64>, SettingsFaul
     }
 }
 
-/// A translation row.
+/// How a translation row changes titles. If the file's version doesn't have the keys they are ignored.
+#[tactic(auto, unfolding(crate::specs::Entries::change_at))]
+fn change(
+    alloc: Global,
+    has_keys: bool,
+    i: usize,
+    table: &Table,
+) -> Result<ChangeDraft, SettingsFault>
+    ensures { AnswersOrNoMemory change_written (change_at has_keys i (table_view table.now)) result }
+{
+    let plan = optional_integer(has_keys, table, "new_plan", Key::TitleNewPlan(i))?;
+    let nature = optional_integer(has_keys, table, "new_nature", Key::TitleNewNature(i))?;
+    let removed = optional_integer(has_keys, table, "remove", Key::TitleRemove(i))?;
+    let added = optional_text(alloc, has_keys, table, "add", Key::TitleAdd(i))?;
+    Ok(ChangeDraft {
+        plan,
+        nature,
+        removed: removed.unwrap_or(0),
+        added,
+    })
+}
+
+/// A translation row, in a file whose version has the keys of backups and changed titles or doesn't have them.
 #[tactic(auto, unfolding(crate::specs::Entries::title_in))]
-fn title(alloc: Global, i: usize, value: &Value) -> Result<TitleDraft, SettingsFault>
-    ensures { AnswersOrNoMemory title_written (title_in i (view value.now)) result }
+fn title(
+    alloc: Global,
+    has_extensions: bool,
+    i: usize,
+    value: &Value,
+) -> Result<TitleDraft, SettingsFault>
+    ensures { AnswersOrNoMemory title_written (title_in has_extensions i (view value.now)) result }
 {
     let table = table_in(value, Key::TitleEntry(i))?;
     let translation = integer(table, "translation", Key::TitleTranslation(i))?;
@@ -102,16 +119,20 @@ fn title(alloc: Global, i: usize, value: &Value) -> Result<TitleDraft, SettingsF
     let nature = integer(table, "nature", Key::TitleNature(i))?;
     let digits = text(alloc, table, "digits", Key::TitleDigits(i))?;
     let point = integer(table, "point", Key::TitlePoint(i))?;
+    let backup = optional_integer(has_extensions, table, "backup", Key::TitleBackup(i))?;
     let route = text(alloc, table, "route", Key::TitleRoute(i))?;
     let ssn = ssn(table, i, route.as_str())?;
+    let change = change(alloc, has_extensions, i, table)?;
     Ok(TitleDraft {
         translation,
         plan,
         nature,
         digits,
         point,
+        backup,
         route,
         ssn,
+        change,
     })
 }
 
@@ -163,13 +184,17 @@ fn each_destination(
 }
 
 /// The translation rows that values are.
-fn each_title(alloc: Global, values: &[Value]) -> Result<Vec<TitleDraft>, SettingsFault>
+fn each_title(
+    alloc: Global,
+    has_extensions: bool,
+    values: &[Value],
+) -> Result<Vec<TitleDraft>, SettingsFault>
     ensures { AnswersOrNoMemory (λ titles. map title_written titles.items)
-        (each title_in 0 (map view values.now)) result }
+        (each (title_in has_extensions) 0 (map view values.now)) result }
 {
     let mut titles = Vec::with_capacity(alloc, values.len())?;
     for i in 0..values.len() {
-        let title = title(alloc, i, &values[i])?;
+        let title = title(alloc, has_extensions, i, &values[i])?;
         titles.push(title)?;
     }
     Ok(titles)
@@ -213,16 +238,21 @@ pub(crate) fn destinations(
     each_destination(alloc, has_joined, values)
 }
 
-/// The translation rows of a file, which may have none.
+/// The translation rows of a file, which may have none, and whose version has the keys of changed titles or doesn't have
+/// them.
 #[tactic(auto, unfolding(crate::specs::Entries::titles_at))]
-pub(crate) fn titles(alloc: Global, table: &Table) -> Result<Vec<TitleDraft>, SettingsFault>
+pub(crate) fn titles(
+    alloc: Global,
+    has_extensions: bool,
+    table: &Table,
+) -> Result<Vec<TitleDraft>, SettingsFault>
     ensures { AnswersOrNoMemory (λ titles. map title_written titles.items)
-        (titles_at (table_view table.now)) result }
+        (titles_at has_extensions (table_view table.now)) result }
 {
     match found(table, "title") {
         Some(value) => {
             let values = array_in(value, Key::Title)?;
-            each_title(alloc, values)
+            each_title(alloc, has_extensions, values)
         }
         None => Ok(Vec::new(alloc)),
     }

@@ -44,7 +44,7 @@ impl Numbers {
         has_joined(self.version)
     }
 
-    /// Whether the file has the keys `extended_unitdata`, `subsystem_tests` and `share`.
+    /// Whether the file has the keys that version 3 brought.
     fn has_extensions(self) -> bool
         ensures { result ≡ has_extensions self.version }
     {
@@ -52,13 +52,15 @@ impl Numbers {
     }
 }
 
-/// What a file asks for about subsystems.
+/// What a file asks for about subsystems and user parts.
 #[derive(Clone, Copy)]
 pub(crate) struct Services {
     /// Whether extended unitdata (XUDT, XUDTS) are relayed.
     pub extended_unitdata: bool,
     /// Whether a test of a subsystem on this node (SST) is answered.
     pub subsystem_tests: bool,
+    /// Whether the sender of a message for a user part that isn't on this node is told so (UPU).
+    pub user_part_unavailable: bool,
 }
 
 /// What a document says: the version of its format, and settings.
@@ -93,7 +95,7 @@ fn leading_numbers(table: &Table) -> Result<Numbers, SettingsFault>
     })
 }
 
-/// What a file asks for about subsystems, if its version has these keys.
+/// What a file asks for about subsystems and user parts, if its version has these keys.
 #[tactic(auto, unfolding(crate::specs::Document::services_at))]
 fn asked_services(has_keys: bool, table: &Table) -> Result<Services, SettingsFault>
     ensures { result ≡ services_at has_keys (table_view table.now) }
@@ -101,6 +103,12 @@ fn asked_services(has_keys: bool, table: &Table) -> Result<Services, SettingsFau
     Ok(Services {
         extended_unitdata: truth(has_keys, table, "extended_unitdata", Key::ExtendedUnitdata)?,
         subsystem_tests: truth(has_keys, table, "subsystem_tests", Key::SubsystemTests)?,
+        user_part_unavailable: truth(
+            has_keys,
+            table,
+            "user_part_unavailable",
+            Key::UserPartUnavailable,
+        )?,
     })
 }
 
@@ -118,7 +126,7 @@ fn contents(alloc: Global, table: &Table) -> Result<Document, SettingsFault>
     let sets = sets(alloc, table)?;
     let links = links(alloc, numbers.has_extensions(), table)?;
     let destinations = destinations(alloc, numbers.has_joined(), table)?;
-    let titles = titles(alloc, table)?;
+    let titles = titles(alloc, numbers.has_extensions(), table)?;
     Ok(Document {
         version: numbers.version,
         draft: Draft {
@@ -130,6 +138,7 @@ fn contents(alloc: Global, table: &Table) -> Result<Document, SettingsFault>
             subsystems,
             extended_unitdata: services.extended_unitdata,
             subsystem_tests: services.subsystem_tests,
+            user_part_unavailable: services.user_part_unavailable,
             timers,
             sets,
             links,

@@ -48,6 +48,12 @@ const ALONE: &str = "false with one set";
 
 const DIGITS: &str = "1 to 32 of 0 to 9 and a to f";
 
+const ADDED_DIGITS: &str = "at most 32 of 0 to 9 and a to f";
+
+const PLAN: &str = "0 to 15";
+
+const NATURE: &str = "0 to 127";
+
 pub(crate) fn key_row(key: Key) -> KeyRow
     ensures { row_place result ≡ key_place key }
 {
@@ -61,6 +67,7 @@ pub(crate) fn key_row(key: Key) -> KeyRow
         Key::Subsystems => lone_key("subsystems", INTEGERS, "numbers from 1 to 255"),
         Key::ExtendedUnitdata => lone_key("extended_unitdata", TRUTH, ""),
         Key::SubsystemTests => lone_key("subsystem_tests", TRUTH, ""),
+        Key::UserPartUnavailable => lone_key("user_part_unavailable", TRUTH, ""),
         Key::Timers => lone_key("timers", TABLE, ""),
         Key::Timer(timer) => lone_key(timer.path(), INTEGER, TICKS),
         Key::Set => lone_key("set", TABLES, "1 to 32"),
@@ -81,12 +88,17 @@ pub(crate) fn key_row(key: Key) -> KeyRow
         Key::Title => lone_key("title", TABLES, "at most 65535"),
         Key::TitleEntry(i) => entry_key("title", i, "", TABLE, ""),
         Key::TitleTranslation(i) => entry_key("title", i, "translation", INTEGER, "0 to 255"),
-        Key::TitlePlan(i) => entry_key("title", i, "plan", INTEGER, "0 to 15"),
-        Key::TitleNature(i) => entry_key("title", i, "nature", INTEGER, "0 to 127"),
+        Key::TitlePlan(i) => entry_key("title", i, "plan", INTEGER, PLAN),
+        Key::TitleNature(i) => entry_key("title", i, "nature", INTEGER, NATURE),
         Key::TitleDigits(i) => entry_key("title", i, "digits", TEXT, DIGITS),
         Key::TitlePoint(i) => entry_key("title", i, "point", INTEGER, POINT),
+        Key::TitleBackup(i) => entry_key("title", i, "backup", INTEGER, POINT),
         Key::TitleRoute(i) => entry_key("title", i, "route", TEXT, "\"title\" or \"ssn\""),
         Key::TitleSsn(i) => entry_key("title", i, "ssn", INTEGER, "1 to 255"),
+        Key::TitleNewPlan(i) => entry_key("title", i, "new_plan", INTEGER, PLAN),
+        Key::TitleNewNature(i) => entry_key("title", i, "new_nature", INTEGER, NATURE),
+        Key::TitleRemove(i) => entry_key("title", i, "remove", INTEGER, "0 to 32"),
+        Key::TitleAdd(i) => entry_key("title", i, "add", TEXT, ADDED_DIGITS),
     }
 }
 

@@ -3,7 +3,7 @@
 ghost use Rattle.std.specs.Prelude.{◌≡◌, map};
 ghost use Rattle.toml.specs.View.{table_view};
 ghost use Rattle.settings_file.specs.KnownKeys.{version_of, may_be_joined, may_have_extensions, top_keys, link_keys};
-ghost use Rattle.settings_file.specs.KnownKeys.{destination_keys, arrays_of, known_in};
+ghost use Rattle.settings_file.specs.KnownKeys.{destination_keys, title_keys, arrays_of, known_in};
 
 use crate::versions::{has_extensions, has_joined};
 use toml::Table;
@@ -36,6 +36,7 @@ const TOP_OF_THREE: &[&str] = &[
     "subsystems",
     "extended_unitdata",
     "subsystem_tests",
+    "user_part_unavailable",
     "timers",
     "set",
     "link",
@@ -113,6 +114,22 @@ const TITLE: &[&str] = &[
     "ssn",
 ];
 
+/// The keys of a translation row in a file of version 3.
+const TITLE_OF_THREE: &[&str] = &[
+    "translation",
+    "plan",
+    "nature",
+    "digits",
+    "point",
+    "backup",
+    "route",
+    "ssn",
+    "new_plan",
+    "new_nature",
+    "remove",
+    "add",
+];
+
 /// The keys of a destination.
 const DESTINATION: &[&str] = &["point", "sets"];
 
@@ -148,7 +165,7 @@ fn may_be_joined(document: &Table) -> bool
     }
 }
 
-/// Whether a document may ask for services about subsystems, and give links shares of the pool.
+/// Whether a document may have the keys that version 3 brought.
 fn may_have_extensions(document: &Table) -> bool
     ensures { result ≡ may_have_extensions (version_of (table_view document.now)) }
 {
@@ -188,17 +205,30 @@ fn destination_keys(may_be_joined: bool) -> &'static [&'static str]
     }
 }
 
+/// The keys of a translation row, in a document that may have the keys that the last version brought, or may not.
+fn title_keys(may_have_extensions: bool) -> &'static [&'static str]
+    ensures { map (λ key. key.now) result.now ≡ title_keys may_have_extensions }
+{
+    if may_have_extensions {
+        TITLE_OF_THREE
+    } else {
+        TITLE
+    }
+}
+
 /// The arrays of tables of a document, by its version.
 pub(crate) fn arrays_of(document: &Table) -> [TableArray; 4]
     ensures { map known_in result ≡ arrays_of (version_of (table_view document.now)) }
 {
-    let link = link_keys(may_have_extensions(document));
+    let has_extensions = may_have_extensions(document);
+    let link = link_keys(has_extensions);
     let destination = destination_keys(may_be_joined(document));
+    let title = title_keys(has_extensions);
     [
         array("set", SET),
         array("link", link),
         array("destination", destination),
-        array("title", TITLE),
+        array("title", title),
     ]
 }
 

@@ -6,7 +6,7 @@ ghost use Rattle.toml.specs.Data.{get_member};
 ghost use Rattle.toml.specs.View.{view, table_view};
 ghost use Rattle.settings_file.specs.Faults.{Answers, AnswersOrNoMemory};
 ghost use Rattle.settings_file.specs.Shapes.{value_at, integer_in, integer_at, truth_in, truth_at, text_in, text_at};
-ghost use Rattle.settings_file.specs.Shapes.{table_in, array_in, some_in, each, integers_at, texts_at, entries_at};
+ghost use Rattle.settings_file.specs.Shapes.{optional_integer_at, optional_text_at, table_in, array_in, some_in, each, integers_at, texts_at, entries_at};
 
 use crate::fault::SettingsFault;
 use settings::Key;
@@ -103,6 +103,45 @@ pub(crate) fn truth(
     match found(table, name) {
         Some(value) => truth_in(value, key),
         None => Ok(false),
+    }
+}
+
+/// The integer at a key, which may be left out. If the file's version doesn't have the key it is ignored.
+#[tactic(auto, unfolding(crate::specs::Shapes::optional_integer_at))]
+pub(crate) fn optional_integer(
+    has_key: bool,
+    table: &Table,
+    name: &str,
+    key: Key,
+) -> Result<Option<i64>, SettingsFault>
+    ensures { result ≡ optional_integer_at has_key name.now key (table_view table.now) }
+{
+    if !has_key {
+        return Ok(None);
+    }
+    match found(table, name) {
+        Some(value) => Ok(Some(integer_in(value, key)?)),
+        None => Ok(None),
+    }
+}
+
+/// The text at a key, which is empty if it is left out. If the file's version doesn't have the key it is ignored.
+#[tactic(auto, unfolding(crate::specs::Shapes::optional_text_at))]
+pub(crate) fn optional_text(
+    alloc: Global,
+    has_key: bool,
+    table: &Table,
+    name: &str,
+    key: Key,
+) -> Result<String, SettingsFault>
+    ensures { AnswersOrNoMemory string_bytes (optional_text_at has_key name.now key (table_view table.now)) result }
+{
+    if !has_key {
+        return Ok(String::new(alloc));
+    }
+    match found(table, name) {
+        Some(value) => text_in(alloc, value, key),
+        None => Ok(String::new(alloc)),
     }
 }
 

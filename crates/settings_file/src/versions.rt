@@ -10,7 +10,8 @@ const FIRST_VERSION: i64 = 1;
 /// The version that brought combined link sets and larger limits.
 const SECOND_VERSION: i64 = 2;
 
-/// The version that brought extended unitdata, tests of subsystems and shares of the pool.
+/// The version that brought extended unitdata, tests of subsystems, user parts that are told of, shares of the pool and
+/// changed titles.
 const LAST_VERSION: i64 = 3;
 
 /// Whether this is the first version.
@@ -34,7 +35,8 @@ pub(crate) fn has_joined(version: i64) -> bool
     version == SECOND_VERSION || version == LAST_VERSION
 }
 
-/// Whether a file of this version has the keys `extended_unitdata`, `subsystem_tests` and `share`.
+/// Whether a file of this version has the keys `extended_unitdata`, `subsystem_tests`, `user_part_unavailable`, `share`,
+/// `new_plan`, `new_nature`, `remove` and `add`.
 pub(crate) fn has_extensions(version: i64) -> bool
     ensures { result ≡ has_extensions version }
 {

@@ -1,5 +1,5 @@
 -- The checked settings of a node, as plain data.
-use Rattle.std.specs.Prelude.{ℕ, Bool, List, Option}
+use Rattle.std.specs.Prelude.{ℕ, Bool, List, [], Option, None}
 use Rattle.settings_rows.specs.declared.timer_ticks.TimerTicks.{TimerTicks}
 use Rattle.settings_rows.specs.declared.title_row.TitleRoute.{TitleRoute}
 
@@ -23,17 +23,34 @@ pub record DestinationEntry : Type 0 where
   pub sets : List ℕ
   pub joined : Bool
 
--- a translation row: what its addresses begin with, and where they lead (Q.714 §2.4)
+-- how a translation row changes the title of a called address: the numbering plan and the nature of address that it
+-- gets in place of its own, if any, how many of its first digits are taken off, and the digits that are then put on in
+-- front (Q.714 §2.4)
+pub record ChangeEntry : Type 0 where
+  pub plan : Option ℕ
+  pub nature : Option ℕ
+  pub removed : ℕ
+  pub added : List ℕ
+
+-- no change: the title goes on as it came
+abbrev pub unchanged : ChangeEntry
+unchanged = record { plan = None; nature = None; removed = 0; added = [] }
+
+-- a translation row: what its addresses begin with, where they lead, the point that they lead to while that one can't be
+-- reached, if any, and how their titles change (Q.714 §2.4)
 pub record TitleEntry : Type 0 where
   pub translation : ℕ
   pub plan : ℕ
   pub nature : ℕ
   pub digits : List ℕ
   pub point : ℕ
+  pub backup : Option ℕ
   pub route : TitleRoute
+  pub change : ChangeEntry
 
 -- all settings of a node, its sets, links and destinations by number in the order of the settings; among them whether it
--- relays extended unitdata (XUDT, XUDTS), and whether it answers a test of a subsystem that it has (SST)
+-- relays extended unitdata (XUDT, XUDTS), whether it answers a test of a subsystem that it has (SST), and whether it tells
+-- the sender of a message for a user part that it doesn't have so (UPU, Q.704 §11.2.7)
 pub record Configuration : Type 0 where
   pub own : ℕ
   pub network : ℕ
@@ -43,6 +60,7 @@ pub record Configuration : Type 0 where
   pub subsystems : List ℕ
   pub extended_unitdata : Bool
   pub subsystem_tests : Bool
+  pub user_part_unavailable : Bool
   pub timers : TimerTicks
   pub sets : List SetEntry
   pub links : List LinkEntry

@@ -5,14 +5,15 @@ use Rattle.settings_rows.specs.declared.key.TimerKey.{TimerKey}
 use Rattle.settings_rows.specs.declared.key.TimerKey.TheVariants.{L1, L2, L3, L4, L6, L7, T1, T2, T3, T4, T6, T8, T10}
 use Rattle.settings_rows.specs.declared.key.Key.{Key}
 use Rattle.settings_rows.specs.declared.key.Key.TheVariants.{Version, Own, Network, Window, Pool, Users, Subsystems}
-use Rattle.settings_rows.specs.declared.key.Key.TheVariants.{ExtendedUnitdata, SubsystemTests}
+use Rattle.settings_rows.specs.declared.key.Key.TheVariants.{ExtendedUnitdata, SubsystemTests, UserPartUnavailable}
 use Rattle.settings_rows.specs.declared.key.Key.TheVariants.{Timers, Timer, Set, SetEntry, SetName, SetAdjacent, Link}
 use Rattle.settings_rows.specs.declared.key.Key.TheVariants.{LinkEntry, LinkName, LinkSet, LinkSlc, LinkShare, Destination}
 use Rattle.settings_rows.specs.declared.key.Key.TheVariants.{DestinationEntry, DestinationPoint, DestinationSets}
 use Rattle.settings_rows.specs.declared.key.Key.TheVariants.{DestinationJoined}
 use Rattle.settings_rows.specs.declared.key.Key.TheVariants.{Title, TitleEntry, TitleTranslation, TitlePlan}
 use Rattle.settings_rows.specs.declared.key.Key.TheVariants.{TitleNature}
-use Rattle.settings_rows.specs.declared.key.Key.TheVariants.{TitleDigits, TitlePoint, TitleRoute, TitleSsn}
+use Rattle.settings_rows.specs.declared.key.Key.TheVariants.{TitleDigits, TitlePoint, TitleBackup, TitleRoute, TitleSsn}
+use Rattle.settings_rows.specs.declared.key.Key.TheVariants.{TitleNewPlan, TitleNewNature, TitleRemove, TitleAdd}
 
 -- how the key of a timer is written
 abbrev pub timer_path : TimerKey → List ℕ
@@ -41,6 +42,7 @@ key_front Users = codes "users"
 key_front Subsystems = codes "subsystems"
 key_front ExtendedUnitdata = codes "extended_unitdata"
 key_front SubsystemTests = codes "subsystem_tests"
+key_front UserPartUnavailable = codes "user_part_unavailable"
 key_front Timers = codes "timers"
 key_front (Timer timer) = timer_path timer
 key_front Set = codes "set"
@@ -65,8 +67,13 @@ key_front (TitlePlan i) = codes "title"
 key_front (TitleNature i) = codes "title"
 key_front (TitleDigits i) = codes "title"
 key_front (TitlePoint i) = codes "title"
+key_front (TitleBackup i) = codes "title"
 key_front (TitleRoute i) = codes "title"
 key_front (TitleSsn i) = codes "title"
+key_front (TitleNewPlan i) = codes "title"
+key_front (TitleNewNature i) = codes "title"
+key_front (TitleRemove i) = codes "title"
+key_front (TitleAdd i) = codes "title"
 
 -- the index of the entry of an array that a key is in, from 0
 abbrev pub key_index : Key → Option ℕ
@@ -88,8 +95,13 @@ key_index (TitlePlan i) = Some i
 key_index (TitleNature i) = Some i
 key_index (TitleDigits i) = Some i
 key_index (TitlePoint i) = Some i
+key_index (TitleBackup i) = Some i
 key_index (TitleRoute i) = Some i
 key_index (TitleSsn i) = Some i
+key_index (TitleNewPlan i) = Some i
+key_index (TitleNewNature i) = Some i
+key_index (TitleRemove i) = Some i
+key_index (TitleAdd i) = Some i
 key_index key = None
 
 -- what is after the index: a dot and the key in its entry, or nothing
@@ -108,8 +120,13 @@ key_back (TitlePlan i) = codes ".plan"
 key_back (TitleNature i) = codes ".nature"
 key_back (TitleDigits i) = codes ".digits"
 key_back (TitlePoint i) = codes ".point"
+key_back (TitleBackup i) = codes ".backup"
 key_back (TitleRoute i) = codes ".route"
 key_back (TitleSsn i) = codes ".ssn"
+key_back (TitleNewPlan i) = codes ".new_plan"
+key_back (TitleNewNature i) = codes ".new_nature"
+key_back (TitleRemove i) = codes ".remove"
+key_back (TitleAdd i) = codes ".add"
 key_back key = []
 
 -- an array, the index of an entry and a key there: `link[2].slc`; or a key alone

@@ -1,9 +1,34 @@
--- How a translation row lies in place: its digits at the front of a row of fixed length, and zeros after them.
+-- How a translation row and its change of titles lie in place: their digits at the front of a row of fixed length, and
+-- zeros after them.
 use Rattle.std.specs.Prelude.{◌≡◌, ◌-◌, ◌++◌, length, take, drop, replicate}
-use Rattle.settings_rows.specs.Configuration.{TitleEntry}
-use Rattle.settings_rows.specs.Titles.{HasTitleRanges}
+use Rattle.settings_rows.specs.Configuration.{ChangeEntry, TitleEntry}
+use Rattle.settings_rows.specs.Titles.{HasTitleRanges, HasChangeRanges}
 use Rattle.signalling_types.specs.declared.limits.TheConstants.Limits.{TITLE_DIGITS}
 use Rattle.settings_rows.specs.declared.title_row.TitleRow.TheInside.{Inside}
+use Rattle.settings_rows.specs.declared.title_change.TitleChange.TheInside as change
+
+abbrev pub change_in : change.Inside → ChangeEntry
+change_in c = record {
+  plan = c.plan;
+  nature = c.nature;
+  removed = c.removed;
+  added = take c.len c.added;
+}
+
+pub record IsChangeInPlace (c : change.Inside) : Type 0 where
+  pub row : length c.added ≡ TITLE_DIGITS
+  pub padded : drop c.len c.added ≡ replicate (TITLE_DIGITS - c.len) 0
+  pub len : length (take c.len c.added) ≡ c.len
+  pub ranges : HasChangeRanges (change_in c)
+
+abbrev pub put_change : ChangeEntry → change.Inside
+put_change c = record {
+  plan = c.plan;
+  nature = c.nature;
+  removed = c.removed;
+  added = c.added ++ replicate (TITLE_DIGITS - length c.added) 0;
+  len = length c.added;
+}
 
 abbrev pub title_in : Inside → TitleEntry
 title_in t = record {
@@ -12,7 +37,9 @@ title_in t = record {
   nature = t.nature;
   digits = take t.len t.digits;
   point = t.point;
+  backup = t.backup;
   route = t.route;
+  change = t.change;
 }
 
 pub record IsTitleInPlace (t : Inside) : Type 0 where
@@ -29,5 +56,7 @@ put_title t = record {
   digits = t.digits ++ replicate (TITLE_DIGITS - length t.digits) 0;
   len = length t.digits;
   point = t.point;
+  backup = t.backup;
   route = t.route;
+  change = t.change;
 }

@@ -1,5 +1,9 @@
 //! Settings as they were written, not yet checked.
 
+ghost use Rattle.std.specs.Prelude.{◌≡◌, [], None, pos, string_bytes};
+
+use std::alloc::Global;
+
 /// The settings of a node as they were written: any numbers, any texts.
 #[derive(Drop)]
 pub struct Draft {
@@ -19,6 +23,8 @@ pub struct Draft {
     pub extended_unitdata: bool,
     /// Whether a test of a subsystem on this node (SST) is answered.
     pub subsystem_tests: bool,
+    /// Whether the sender of a message for a user part that isn't on this node is told so (UPU).
+    pub user_part_unavailable: bool,
     /// How long each timer runs.
     pub timers: TimersDraft,
     /// The link sets.
@@ -108,8 +114,42 @@ pub struct TitleDraft {
     pub digits: String,
     /// The point that such an address leads to.
     pub point: i64,
+    /// The point that it leads to while that one can't be reached, if any.
+    pub backup: Option<i64>,
     /// How it is routed there: `title` or `ssn`.
     pub route: String,
     /// The subsystem number there, if any.
     pub ssn: Option<i64>,
+    /// How the title of such an address changes.
+    pub change: ChangeDraft,
+}
+
+/// How a translation row changes titles, as it was written.
+#[derive(Drop)]
+pub struct ChangeDraft {
+    /// The numbering plan that a title gets, if another.
+    pub plan: Option<i64>,
+    /// The nature of address that it gets, if another.
+    pub nature: Option<i64>,
+    /// How many of its first digits are taken off.
+    pub removed: i64,
+    /// The digits that are then put on in front.
+    pub added: String,
+}
+
+impl ChangeDraft {
+    /// No change. It allocates nothing.
+    pub fn none(alloc: Global) -> ChangeDraft
+        ensures plan { result.plan ≡ None }
+        ensures nature { result.nature ≡ None }
+        ensures removed { result.removed ≡ pos 0 }
+        ensures added { string_bytes result.added ≡ [] }
+    {
+        ChangeDraft {
+            plan: None,
+            nature: None,
+            removed: 0,
+            added: String::new(alloc),
+        }
+    }
 }

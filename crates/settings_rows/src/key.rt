@@ -81,6 +81,8 @@ pub enum Key {
     ExtendedUnitdata,
     /// `subsystem_tests`.
     SubsystemTests,
+    /// `user_part_unavailable`.
+    UserPartUnavailable,
     /// `timers`, the table itself.
     Timers,
     /// A key of `timers`.
@@ -129,10 +131,20 @@ pub enum Key {
     TitleDigits(usize),
     /// `title[i].point`.
     TitlePoint(usize),
+    /// `title[i].backup`.
+    TitleBackup(usize),
     /// `title[i].route`.
     TitleRoute(usize),
     /// `title[i].ssn`.
     TitleSsn(usize),
+    /// `title[i].new_plan`.
+    TitleNewPlan(usize),
+    /// `title[i].new_nature`.
+    TitleNewNature(usize),
+    /// `title[i].remove`.
+    TitleRemove(usize),
+    /// `title[i].add`.
+    TitleAdd(usize),
 }
 
 impl Key {
@@ -150,6 +162,7 @@ impl Key {
             Key::Subsystems => "subsystems",
             Key::ExtendedUnitdata => "extended_unitdata",
             Key::SubsystemTests => "subsystem_tests",
+            Key::UserPartUnavailable => "user_part_unavailable",
             Key::Timers => "timers",
             Key::Timer(timer) => timer.path(),
             Key::Set | Key::SetEntry(_) | Key::SetName(_) | Key::SetAdjacent(_) => "set",
@@ -171,8 +184,13 @@ impl Key {
             | Key::TitleNature(_)
             | Key::TitleDigits(_)
             | Key::TitlePoint(_)
+            | Key::TitleBackup(_)
             | Key::TitleRoute(_)
-            | Key::TitleSsn(_) => "title",
+            | Key::TitleSsn(_)
+            | Key::TitleNewPlan(_)
+            | Key::TitleNewNature(_)
+            | Key::TitleRemove(_)
+            | Key::TitleAdd(_) => "title",
         }
     }
 
@@ -199,8 +217,13 @@ impl Key {
             | Key::TitleNature(i)
             | Key::TitleDigits(i)
             | Key::TitlePoint(i)
+            | Key::TitleBackup(i)
             | Key::TitleRoute(i)
-            | Key::TitleSsn(i) => Some(i),
+            | Key::TitleSsn(i)
+            | Key::TitleNewPlan(i)
+            | Key::TitleNewNature(i)
+            | Key::TitleRemove(i)
+            | Key::TitleAdd(i) => Some(i),
             _ => None,
         }
     }
@@ -222,8 +245,13 @@ impl Key {
             Key::TitlePlan(_) => ".plan",
             Key::TitleNature(_) => ".nature",
             Key::TitleDigits(_) => ".digits",
+            Key::TitleBackup(_) => ".backup",
             Key::TitleRoute(_) => ".route",
             Key::TitleSsn(_) => ".ssn",
+            Key::TitleNewPlan(_) => ".new_plan",
+            Key::TitleNewNature(_) => ".new_nature",
+            Key::TitleRemove(_) => ".remove",
+            Key::TitleAdd(_) => ".add",
             _ => "",
         }
     }

@@ -10,13 +10,18 @@ pub mod link_row;
 mod name;
 pub mod set_row;
 pub mod timer_ticks;
+pub mod title_change;
+mod title_digits;
 pub mod title_row;
 
 pub use destination_row::DestinationRow;
-pub use draft::{DestinationDraft, Draft, LinkDraft, SetDraft, TimersDraft, TitleDraft};
+pub use draft::{
+    ChangeDraft, DestinationDraft, Draft, LinkDraft, SetDraft, TimersDraft, TitleDraft,
+};
 pub use fault::{DraftFault, FaultKind};
 pub use key::{Key, TimerKey};
 pub use link_row::LinkRow;
 pub use set_row::SetRow;
 pub use timer_ticks::TimerTicks;
+pub use title_change::TitleChange;
 pub use title_row::{TitleRoute, TitleRow};

@@ -1,19 +1,19 @@
 //! A translation row.
 
-ghost use Rattle.std.specs.Prelude.{◌≡◌, ◌-◌, ◌^◌, ◌<◌, ◌≤◌, ◌++◌, ◌↔◌, All, IsTrue, IsSome, IfSome, length, replicate};
+ghost use Rattle.std.specs.Prelude.{◌≡◌, ◌^◌, ◌<◌, ◌≤◌, ◌↔◌, All, IsSome, IfSome, None, Some, length};
+ghost use Rattle.settings_rows.specs.Configuration.{unchanged};
 ghost use Rattle.settings_rows.specs.Titles.{HasTitleRanges};
 
+use crate::title_change::TitleChange;
+use crate::title_digits::{are_digits, padded};
 use signalling_types::{Limits, PointCode, Ssn};
 use std::marker::Model;
 
 /// The largest numbering plan: four bits.
-const LAST_PLAN: u8 = 15;
+pub(crate) const LAST_PLAN: u8 = 15;
 
 /// The largest nature of address: seven bits.
-const LAST_NATURE: u8 = 127;
-
-/// The largest value of a digit: four bits.
-const LAST_DIGIT: u8 = 15;
+pub(crate) const LAST_NATURE: u8 = 127;
 
 /// How an address is routed at the point that it is translated to (Q.714 §2.4).
 #[derive(Clone, Copy)]
@@ -25,7 +25,8 @@ pub enum TitleRoute {
 }
 
 /// A translation row: addresses of this translation type, numbering plan and nature, and what they
-/// begin with, and where they lead (Q.714 §2.4).
+/// begin with, where they lead, the point that they lead to while that one can't be reached, if
+/// any, and how their titles change (Q.714 §2.4).
 #[derive(Clone, Copy)]
 pub struct TitleRow {
     translation: u8,
@@ -34,7 +35,9 @@ pub struct TitleRow {
     digits: [u8; Limits::TITLE_DIGITS],
     len: u8,
     point: PointCode,
+    backup: Option<PointCode>,
     route: TitleRoute,
+    change: TitleChange,
 }
 
 impl Model for TitleRow {
@@ -57,7 +60,7 @@ impl Model for TitleRow {
 impl TitleRow {
     /// The row of this translation type (an octet), numbering plan (0 to 15), nature of address (0 to 127) and digits
     /// (1 to 32 of them, 0 to 15 each), or `None` exactly when one of these is out of range. Addresses lead to this
-    /// point, and are routed there in this way.
+    /// point, with no backup, and are routed there in this way. Their titles don't change.
     pub fn new(
         translation: u8,
         plan: u8,
@@ -73,7 +76,9 @@ impl TitleRow {
           nature = nature;
           digits = digits.now;
           point = point;
+          backup = None;
           route = route;
+          change = unchanged;
         }) }
     {
         if plan > LAST_PLAN || nature > LAST_NATURE {
@@ -89,8 +94,27 @@ impl TitleRow {
             digits: padded(digits),
             len: digits.len() as u8,
             point,
+            backup: None,
             route,
+            change: TitleChange::none(),
         })
+    }
+
+    /// The same row, with this point as its backup.
+    pub fn with_backup(self, point: PointCode) -> TitleRow
+        ensures { result ≡ record self { backup = Some point } }
+    {
+        TitleRow {
+            backup: Some(point),
+            ..self
+        }
+    }
+
+    /// The same row, with this change of titles in place of its own.
+    pub fn with_change(self, change: TitleChange) -> TitleRow
+        ensures { result ≡ record self { change = change } }
+    {
+        TitleRow { change, ..self }
     }
 
     /// The translation type.
@@ -133,32 +157,24 @@ impl TitleRow {
         self.point
     }
 
+    /// The point that it leads to while that one can't be reached; `None` if there is no such point.
+    pub fn backup(&self) -> Option<PointCode>
+        ensures { result ≡ self.now.backup }
+    {
+        self.backup
+    }
+
     /// How it is routed there.
     pub fn route(&self) -> TitleRoute
         ensures { result ≡ self.now.route }
     {
         self.route
     }
-}
 
-/// Whether each is the value of a digit, 0 to 15.
-fn are_digits(digits: &[u8]) -> bool
-    ensures { IsTrue result ↔ All (λ digit. digit < 2 ^ 4) digits.now }
-{
-    for digit in digits {
-        if *digit > LAST_DIGIT {
-            return false;
-        }
+    /// How the title of such an address changes.
+    pub fn change(&self) -> &TitleChange
+        ensures { result.now ≡ self.now.change }
+    {
+        &self.change
     }
-    true
-}
-
-/// The digits, and zeros after them.
-fn padded(digits: &[u8]) -> [u8; Limits::TITLE_DIGITS]
-    requires { length digits.now ≤ Limits.TITLE_DIGITS }
-    ensures { result ≡ digits.now ++ replicate (Limits.TITLE_DIGITS - length digits.now) 0 }
-{
-    let mut row = [0; Limits::TITLE_DIGITS];
-    row[..digits.len()].copy_from_slice(digits);
-    row
 }

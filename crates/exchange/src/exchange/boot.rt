@@ -15,6 +15,7 @@ ghost use Rattle.exchange_rules.specs.Routing.{first_network_of};
 
 use super::Exchange;
 use crate::memory::NoMemory;
+use crate::unequipped::Unequipped;
 use cell_pool::CellPool;
 use changeback::Changeback;
 use changeover::Changeover;
@@ -55,6 +56,7 @@ impl Exchange {
             changeback,
             holds,
             titles,
+            unequipped,
             timers,
             pending,
         } = of_network;
@@ -68,6 +70,7 @@ impl Exchange {
             changeback,
             holds,
             titles,
+            unequipped,
             timers,
             notices,
             notice_count: 0,
@@ -118,6 +121,7 @@ struct NetworkParts {
     changeback: Changeback,
     holds: Holds,
     titles: Translations,
+    unequipped: Unequipped,
     timers: Timers,
     // nothing is owed yet, which the first event finds out
     pending: PendingUpdates,
@@ -134,6 +138,8 @@ impl NetworkParts {
         ensures holds { IfOk result (λ parts. parts.holds ≡ no_holds (length settings.now.links)
             (length settings.now.sets) (length settings.now.destinations)) }
         ensures titles { IfOk result (λ parts. parts.titles ≡ table_of settings.now.titles) }
+        ensures unequipped { IfOk result (λ parts.
+            parts.unequipped ≡ replicate (length settings.now.destinations) 0) }
         ensures timers { IfOk result (λ parts. parts.timers ≡ none_running (counts_in settings.now)) }
         ensures pending { IfOk result (λ parts.
             parts.pending ≡ first_updates (length settings.now.destinations)) }
@@ -143,6 +149,7 @@ impl NetworkParts {
             changeback: no_changebacks(alloc, settings)?,
             holds: no_holds(alloc, settings)?,
             titles: first_titles(alloc, settings)?,
+            unequipped: Unequipped::none(alloc, settings.destinations().len())?,
             timers: Timers::new(alloc, counts_in(settings))?,
             pending: PendingUpdates::new(alloc, settings.destinations().len())?,
         })

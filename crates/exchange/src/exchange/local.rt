@@ -19,6 +19,9 @@ use settings::{Cause, LinkId, MsuRef, Outcome, PointCode, SetId, Sls};
 use settings_rows::LinkRow;
 use signalling_types::Number24;
 
+/// The service indicator of management (Q.704 §14.2.1).
+const MANAGEMENT: u8 = 0;
+
 /// The service indicator of tests (Q.704 §14.2.1).
 const TESTING: u8 = 1;
 
@@ -38,7 +41,7 @@ impl Exchange {
         if message.is_management() || message.service_indicator() == SCCP {
             return self.distribute_to_mtp_or_sccp(link, label, message);
         }
-        self.local(message)
+        self.local(Some(link), message)
     }
 
     /// A message that isn't for a user part, apart from the path of those that are.
@@ -58,16 +61,17 @@ impl Exchange {
         if message.is_management() {
             self.manage(link, label, message)
         } else {
-            self.local(message)
+            self.local(Some(link), message)
         }
     }
 
-    /// A message for SCCP, or for a user part of this node.
+    /// A message for SCCP, or for a user part of this node, with the link that it arrived on, if any. The origin of one
+    /// that arrived on a link for another user part is told so.
     #[inline(always)]
-    pub(super) fn local(&mut self, message: MsuRef<'_>) -> Outcome
+    pub(super) fn local(&mut self, from: Option<LinkId>, message: MsuRef<'_>) -> Outcome
         requires { 4 ≤ length message.sif.now }
         ensures { Ends self.old result self.new
-            (rule.local kept self.old.settings (lent message.entry) self.old.node) }
+            (rule.local kept self.old.settings from (lent message.entry) self.old.node) }
     {
         let service_indicator = message.service_indicator();
         if service_indicator == SCCP {
@@ -75,11 +79,13 @@ impl Exchange {
         } else if self.settings.is_user(service_indicator) {
             Outcome::Local
         } else {
+            self.answer_no_user_part(from, message);
             Outcome::Refused(Cause::NoUserPart)
         }
     }
 
-    /// A management or test message, with the link that it arrived on. Only those of adjacent points are accepted.
+    /// A management or test message, with the link that it arrived on. Of a point that isn't adjacent only UPU is
+    /// accepted.
     fn manage(&mut self, link: LinkId, label: Label, message: MsuRef<'_>) -> Outcome
         requires link { link < length self.old.settings.links }
         requires label { label ≡ label_at message.sif.now }
@@ -87,12 +93,34 @@ impl Exchange {
             (rule.manage kept self.old.settings link (lent message.entry) self.old.node) }
     {
         if self.settings.set_to(label.opc).is_none() {
-            return Outcome::Refused(Cause::NotFromAdjacent);
+            return self.from_afar(message);
         }
         if message.service_indicator() == TESTING {
             self.do_test(link, label.opc, message.sif)
         } else {
             self.do_management(label.opc, message.sif)
+        }
+    }
+
+    /// What becomes of a management or test message from a point that isn't adjacent.
+    fn from_afar(&self, message: MsuRef<'_>) -> Outcome
+        ensures { result ≡ rule.from_afar self.now.settings (lent message.entry) }
+    {
+        if self.settings.user_part_unavailable() && says_unavailable(message) {
+            Outcome::Handled
+        } else {
+            Outcome::Refused(Cause::NotFromAdjacent)
+        }
+    }
+
+    /// A user part unavailable: its users learn of it otherwise. It is left out if this node doesn't say so itself.
+    fn on_unavailable(&self) -> Outcome
+        ensures { result ≡ rule.on_unavailable self.now.settings }
+    {
+        if self.settings.user_part_unavailable() {
+            Outcome::Handled
+        } else {
+            Outcome::Refused(Cause::NotInProfile)
         }
     }
 
@@ -146,6 +174,7 @@ impl Exchange {
     {
         match message {
             Management::TrafficRestartAllowed => Outcome::Ignored,
+            Management::UserPartUnavailable(_, _, _) => self.on_unavailable(),
             Management::ExtendedChangeoverOrder(slc, number) => {
                 let link = self.link_with_code(point, slc);
                 self.do_order(link, Some(number))
@@ -229,6 +258,17 @@ fn place_in_set(links: &[LinkRow], slc: Sls, set: SetId) -> Option<usize>
     links
         .iter()
         .position(|row| row.set() == set && row.slc() == slc.number())
+}
+
+/// Whether a message says that a user part isn't at its sender.
+fn says_unavailable(message: MsuRef<'_>) -> bool
+    ensures { result ≡ rule.says_unavailable (lent message.entry) }
+{
+    message.service_indicator() == MANAGEMENT
+        && matches!(
+            Management::read(message.sif),
+            Ok(Management::UserPartUnavailable(_, _, _))
+        )
 }
 
 /// Why a management or test message that can't be read is refused.

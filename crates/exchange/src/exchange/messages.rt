@@ -51,7 +51,7 @@ impl Exchange {
         match self.whither_goes(message) {
             Discrimination::Refused(cause) => Outcome::Refused(cause),
             _ if message.is_management() => Outcome::Refused(Cause::NotInProfile),
-            Discrimination::Here(_) => self.local(message),
+            Discrimination::Here(_) => self.local(None, message),
             Discrimination::Transfer(label) => self.transfer(None, label, message),
         }
     }

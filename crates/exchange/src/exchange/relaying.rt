@@ -8,15 +8,31 @@ ghost use Rattle.sccp_relay.specs.Values.{own_value};
 ghost use Rattle.exchange_rules.specs.State.{with_node};
 ghost use Rattle.exchange.specs.KeptQueues.{kept};
 ghost use Rattle.exchange.specs.Calls.{is_memory_refused};
-ghost use Rattle.exchange.specs.Relaying.{handled_or_refused};
+ghost use Rattle.exchange.specs.Relaying.{handled_or_refused, leads_by};
 ghost use Rattle.exchange_rules.specs.Messages.{transfer};
 ghost use Rattle.exchange_rules.specs.Exchange.{Ends};
 ghost use Rattle.exchange_rules.specs.Messages as rule;
 
 use super::Exchange;
 use mtp3_codec::Label;
-use sccp_relay::{Own, Relayed, TitleKey, relay, returned};
-use settings::{Cause, Limits, MsuRef, Outcome, TitleRow};
+use sccp_relay::{Own, Relayed, TitleKey, Ways, relay, returned};
+use settings::{Cause, Limits, MsuRef, Outcome, PointCode, Sls, TitleRow};
+
+/// Where the links of an exchange lead.
+#[derive(Clone, Copy)]
+pub struct LinkWays<'a> {
+    exchange: &'a Exchange,
+}
+
+impl Ways for LinkWays<'_> {
+    ghost use Rattle.exchange.specs.Relaying.{leads_by};
+
+    ghost leads = { leads_by };
+
+    fn lead_to(&self, point: PointCode, sls: Sls) -> bool {
+        self.exchange.leads_to(point, sls)
+    }
+}
 
 impl Exchange {
     /// An SCCP message for this point: it is for a subsystem here, or goes on by the title of its called address. One
@@ -39,7 +55,8 @@ impl Exchange {
     fn relay(&mut self, message: MsuRef<'_>) -> Outcome
         requires { 4 ≤ length message.sif.now }
         ensures { Ends self.old result self.new (rule.relay_by kept self.old.settings
-            (relay (rule.own_of self.old.settings) self.old.node.parts.titles message.entry.sif.now)
+            (relay (rule.own_of self.old.settings self.old.node.parts) self.old.node.parts.titles
+            message.entry.sif.now)
             (lent message.entry) self.old.node) }
     {
         let mut field = [0; Limits::SIF_OCTETS];
@@ -56,8 +73,8 @@ impl Exchange {
         }
     }
 
-    /// Returns an SCCP message that was refused for this cause, if it should be: the UDTS is handled like any message
-    /// for another point, and dropped if it has no way to go.
+    /// Returns an SCCP message that was refused for this cause, if it should be: the UDTS or XUDTS is handled like any
+    /// message for another point, and dropped if it has no way to go.
     fn return_unitdata(&mut self, cause: Cause, message: MsuRef<'_>)
         requires { 4 ≤ length message.sif.now }
         ensures { self.new ≡ with_node self.old (rule.return_unitdata kept self.old.settings cause
@@ -83,15 +100,16 @@ impl Exchange {
         self.transfer(None, Label::at(message.sif), message)
     }
 
-    /// The point that this node is, its subsystems, and what it does for SCCP.
-    fn own(&self) -> Own<'_>
-        ensures { own_value result ≡ rule.own_of self.now.settings }
+    /// The point that this node is, its subsystems, what it does for SCCP, and where its links lead.
+    pub fn own(&self) -> Own<'_, LinkWays<'_>>
+        ensures { own_value leads_by result ≡ rule.own_of self.now.settings self.now.node.parts }
     {
         Own {
             point: self.settings.own(),
             subsystems: self.settings.subsystems(),
             extended: self.settings.extended_unitdata(),
-            tested: self.settings.subsystem_tests(),
+            answers_tests: self.settings.subsystem_tests(),
+            ways: LinkWays { exchange: self },
         }
     }
 

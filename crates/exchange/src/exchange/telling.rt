@@ -277,7 +277,7 @@ impl Exchange {
     }
 
     /// Whether the node has few enough management messages to queue another update.
-    fn may_tell(&self) -> bool
+    pub(super) fn may_tell(&self) -> bool
         ensures { result ≡ rule.may_tell kept self.now.settings self.now.node }
     {
         self.lanes.managements() < TOLD_BELOW

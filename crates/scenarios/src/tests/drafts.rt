@@ -1,6 +1,6 @@
 //! Settings that no file has: a draft without a row, and more translation rows than a file can hold.
 
-use exchange::{Draft, Settings, TitleDraft};
+use exchange::{ChangeDraft, Draft, Settings, TitleDraft};
 use script::built_in;
 use std::alloc::Global;
 use std::test::*;
@@ -71,8 +71,10 @@ fn title(alloc: Global, number: u32) -> Result<TitleDraft, Fail> {
         nature: 4,
         digits: format!(in alloc; "{number}")?,
         point: 2,
+        backup: None,
         route: String::from_str(alloc, "title")?,
         ssn: None,
+        change: ChangeDraft::none(alloc),
     })
 }
 

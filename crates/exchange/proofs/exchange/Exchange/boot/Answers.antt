@@ -10,8 +10,8 @@ one_more n = omega arith
 pub returns-clause-exact : goal.returns-clause-exact
 returns-clause-exact c =
     let many : ℕ = length c.args.settings.links in
-    first-kept c.args.settings many _ _ _ _ _ _ _ _ _ _ refl (ap (λ (x : Stored). x.lists) c.in_ok-of_links.ensures.lanes ∙ ap (λ (n : ℕ). replicate n []) (one_more many)) c.in_ok-of_links.ensures.sequences c.in_ok-of_links.ensures.links c.in_ok-of_network.ensures.told c.in_ok-of_links.ensures.changeovers c.in_ok-of_network.ensures.changeback
-    c.in_ok-of_network.ensures.holds c.in_ok-of_network.ensures.titles c.in_ok-of_network.ensures.timers (ap (λ x. x.items) c.in_ok-notices.ensures)
+    first-kept c.args.settings many _ _ _ _ _ _ _ _ _ _ _ refl (ap (λ (x : Stored). x.lists) c.in_ok-of_links.ensures.lanes ∙ ap (λ (n : ℕ). replicate n []) (one_more many)) c.in_ok-of_links.ensures.sequences c.in_ok-of_links.ensures.links c.in_ok-of_network.ensures.told c.in_ok-of_links.ensures.changeovers c.in_ok-of_network.ensures.changeback
+    c.in_ok-of_network.ensures.holds c.in_ok-of_network.ensures.titles c.in_ok-of_network.ensures.unequipped c.in_ok-of_network.ensures.timers (ap (λ x. x.items) c.in_ok-notices.ensures)
 
 pub returns-clause-first : goal.returns-clause-first
 returns-clause-first c = stands-first c.args.settings _ c.window.ensures.fits (returns-clause-exact c)
@@ -35,6 +35,7 @@ invariant_of-result c =
       routes = ap (λ (n : Network). length n.routes) c.in_ok-of_links.ensures.links ∙ length-map c.args.settings.destinations first_routes;
       codes = subst (HasCodes (length c.args.settings.sets)) (sym c.in_ok-of_network.ensures.changeback) (no_codes-fits (length c.args.settings.sets));
       holds = subst (HasHoldsFor c.args.settings) (sym c.in_ok-of_network.ensures.holds) (no_holds-fits c.args.settings);
+      unequipped = ap length c.in_ok-of_network.ensures.unequipped ∙ length-replicate (length c.args.settings.destinations) 0;
       waiting = ap (λ (ls : List (List Message)). all_wait c.args.settings c.in_ok-of_network.of_network.holds (lane_at ls held_lane)) lists;
       pending =
           subst (λ (p : Updates). OwesNoneBut (length c.args.settings.destinations) p (facts_of c.in_ok-of_links.of_links.links) c.in_ok-of_network.of_network.told)

@@ -21,6 +21,7 @@ invariant_of-self c =
       routes = c.self.invariant.routes;
       codes = c.self.invariant.codes;
       holds = c.self.invariant.holds;
+      unequipped = c.self.invariant.unequipped;
       pending = c.self.invariant.pending;
       waiting = subst (λ (x : State KeptQueues). all_wait x.settings x.node.parts.holds (kept.held x.node.queues) ≡ true) (sym c.self.view_is) wait;
     }

@@ -1,0 +1,8 @@
+use Rattle.exchange_rules.proofs.EndedHolds.{holds-end, takes-leave}
+use Rattle.exchange_rules.proofs.laws.holds_end_by_word_or_timer.Goals as goal
+
+pub returns-clause-event : goal.returns-clause-event
+returns-clause-event c = holds-end
+
+pub returns-clause-take : goal.returns-clause-take
+returns-clause-take c = takes-leave

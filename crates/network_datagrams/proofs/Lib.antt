@@ -1,0 +1,12 @@
+pub mod Showing
+pub mod Placing
+pub mod Handing
+pub mod Owning
+pub mod Acting
+pub mod Changing
+pub mod Meeting
+pub mod Running
+pub mod Promised
+pub mod Paths
+pub mod Happening
+pub mod Fitting

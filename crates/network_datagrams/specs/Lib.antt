@@ -1,0 +1,3 @@
+pub mod NetworkWorlds
+pub mod NetworkPromises
+pub mod Example
