@@ -382,9 +382,10 @@ links-fail what a =
       made = n.made;
       noted = n.noted;
       causes = n.causes;
-      goes = λ link why h.
-          (⊎_elim (λ (up : down a.node.parts link ≡ false). up) (λ (is : what ≡ CameUp link). absurd (no-failure what a link link why is (n.causes link why h))) (n.ups link why h),
-          ⊎_elim (λ (gone : down (apply whole a.settings what a.node).left.parts link ≡ true). gone) (λ (is : what ≡ CameUp link). absurd (no-failure what a link link why is (n.causes link why h)))
-          (n.downs link why h));
+      goes = λ link why h. (
+        ⊎_elim (λ (up : down a.node.parts link ≡ false). up) (λ (is : what ≡ CameUp link). absurd (no-failure what a link link why is (n.causes link why h))) (n.ups link why h),
+        ⊎_elim (λ (gone : down (apply whole a.settings what a.node).left.parts link ≡ true). gone) (λ (is : what ≡ CameUp link). absurd (no-failure what a link link why is (n.causes link why h)))
+            (n.downs link why h),
+      );
       named = n.named;
     }

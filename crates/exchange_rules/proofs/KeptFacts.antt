@@ -1,6 +1,6 @@
 -- Where links lead isn't changed by a message for this point that isn't management, nor by what ends an event.
 use Rattle.exchange_rules.proofs.Basics.{◌≡◌, ℕ, Bool, true, false, List, [], ◌∷◌, Option, Some, None, refl, ap, sym, subst, ◌∙◌, if◌then◌else◌, is_some, nat_eq}
-use Rattle.exchange_rules.proofs.Definitions.{Message, dpc_of, flow_of, service_indicator, is_management, Configuration, Cause, Outcome, Queued, Held, Local, Handled, Ignored, Refused, RelayedValue, relay, returned, destination_place, Facts, Discrimination, Node, Done, Happening, WholeQueues, whole, facts, link_of, waits, no_room_for, offer, transfer, is_destination, refuse, answer, is_user, sccp, in_place_of, own_of, send_udts, return_outcome, relay_by, on_unitdata, local, manage, deliver, deliver_to, submit, submit_to, whither_goes, note_outcome, go, go_by, go_on, go_each, release, owed, tell_owed, apply, handle_event}
+use Rattle.exchange_rules.proofs.Definitions.{Message, dpc_of, opc_of, flow_of, service_indicator, is_management, Configuration, Cause, Outcome, Queued, Held, Local, Handled, Ignored, Refused, RelayedValue, relay, returned, destination_place, Facts, Discrimination, Node, Done, Happening, WholeQueues, whole, facts, link_of, waits, no_room, no_room_for, offer, transfer, is_destination, refuse, answer, is_user, with_parts, answer_no_user_part, is_unequipped_told, send_if, tell_unavailable, unavailable, unequipped_counted, sccp, in_place_of, own_of, send_udts, return_outcome, relay_by, on_unitdata, local, manage, deliver, deliver_to, submit, submit_to, whither_goes, note_outcome, go, go_by, go_on, go_each, release, owed, tell_owed, apply, handle_event}
 use Rattle.std.specs.Option.{option_and_then}
 use Rattle.signalling_types.specs.declared.cause.Cause.TheVariants as causes
 use Rattle.mtp3_codec.specs.declared.label.Label.{Label}
@@ -8,7 +8,7 @@ use Rattle.mtp3_codec.specs.declared.discrimination.Discrimination.TheVariants a
 use Rattle.routes.specs.Routes.{chosen_link}
 use Rattle.sccp_relay.specs.Relay.{OwnValue}
 use Rattle.sccp_relay.specs.Relay as relays
-use Rattle.exchange_rules.proofs.Telling.{tell_each-facts}
+use Rattle.exchange_rules.proofs.Telling.{send-routes, tell_each-facts}
 
 module _ (c : Configuration) where
   -- what a node relays by
@@ -71,11 +71,26 @@ module _ (c : Configuration) where
       let d : Done WholeQueues = relay_by whole c v m n in
       return-facts d.outcome m d.left ∙ relay-facts v m n
 
-  pub local-facts : (m : Message) (n : Node WholeQueues) → Same n (local whole c m n).left
-  local-facts m n =
-      let user : Done WholeQueues = if is_user c (service_indicator m) then answer Local n else refuse causes.NoUserPart n in
+  -- the sender of a message for a user part that isn't here may be told so
+  told-facts : (is_told : Bool) (m : Message) (n : Node WholeQueues) → Same n (send_if whole c is_told m n)
+  told-facts true m n = (send-routes whole c (no_room whole c m n.queues) (link_of c n.parts (flow_of m)) m n).facts c
+  told-facts false m n = refl
+
+  absent-facts : (from origin : Option ℕ) (m : Message) (n : Node WholeQueues) → Same n (answer_no_user_part whole c from origin m n)
+  absent-facts (Some link) (Some origin) m n = says c.user_part_unavailable
+    where
+      says : (b : Bool) → Same n (if b then tell_unavailable whole c origin m n else n)
+      says true = told-facts (is_unequipped_told whole c origin n) (unavailable c m) (with_parts n (unequipped_counted origin n.parts))
+      says false = refl
+  absent-facts (Some link) None m n = refl
+  absent-facts None origin m n = refl
+
+  pub local-facts : (from : Option ℕ) (m : Message) (n : Node WholeQueues) → Same n (local whole c from m n).left
+  local-facts from m n =
+      let absent : Done WholeQueues = refuse causes.NoUserPart (answer_no_user_part whole c from (destination_place c (opc_of m)) m n) in
+      let user : Done WholeQueues = if is_user c (service_indicator m) then answer Local n else absent in
       either-facts (nat_eq (service_indicator m) sccp) n (on_unitdata whole c m n) user
-      (unitdata-facts m n) (either-facts (is_user c (service_indicator m)) n (answer Local n) (refuse causes.NoUserPart n) refl refl)
+      (unitdata-facts m n) (either-facts (is_user c (service_indicator m)) n (answer Local n) absent refl (absent-facts from (destination_place c (opc_of m)) m n))
 
   -- a refusal is noted
   noted-facts : (o : Outcome) (link : ℕ) (n : Node WholeQueues) → facts c (note_outcome link o n.parts) ≡ facts c n.parts
@@ -86,9 +101,9 @@ module _ (c : Configuration) where
   noted-facts Handled link n = refl
   noted-facts Ignored link n = refl
 
-  distributed-facts : (managed : Bool) (link : ℕ) (m : Message) (n : Node WholeQueues) → managed ≡ false → Same n (if managed then manage whole c link m n else local whole c m n).left
+  distributed-facts : (managed : Bool) (link : ℕ) (m : Message) (n : Node WholeQueues) → managed ≡ false → Same n (if managed then manage whole c link m n else local whole c (Some link) m n).left
   distributed-facts true link m n e = absurd cc
-  distributed-facts false link m n e = local-facts m n
+  distributed-facts false link m n e = local-facts (Some link) m n
 
   pub deliver-facts : (link : ℕ) (m : Message) (label : Label) (n : Node WholeQueues) → is_management m ≡ false → whither_goes c m ≡ whither.Here label → Same n (deliver whole c link m n).left
   deliver-facts link m label n user here =
@@ -99,7 +114,7 @@ module _ (c : Configuration) where
   pub submit-facts : (m : Message) (label : Label) (n : Node WholeQueues) → whither_goes c m ≡ whither.Here label → Same n (submit whole c m n).left
   submit-facts m label n here =
       subst (λ (w : Discrimination). Same n (submit_to whole c w m n).left) (sym here)
-      (either-facts (is_management m) n (refuse causes.NotInProfile n) (local whole c m n) refl (local-facts m n))
+      (either-facts (is_management m) n (refuse causes.NotInProfile n) (local whole c None m n) refl (local-facts None m n))
 
   -- ---- what ends an event
 

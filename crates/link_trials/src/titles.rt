@@ -1,7 +1,7 @@
 //! The translation row that operators add and remove.
 
 use exchange::{PointCode, TitleDigits, TitleKey, TitleRoute, TitleRow};
-use pair_world::{End, Step};
+use pair_world::Doing;
 
 /// What the row has besides its digits.
 const KEY: TitleKey = TitleKey {
@@ -12,13 +12,13 @@ const KEY: TitleKey = TitleKey {
 
 const DIGIT: u8 = 7;
 
-/// The step in which the operator of an end removes the row if it is there, and otherwise adds it, leading to this
-/// point. None if there is no such point.
-pub fn title_step(end: End, is_there: bool, point: u16) -> Option<Step> {
+/// The order of an operator that removes the row if it is there, and otherwise adds it, leading to this point. None if
+/// there is no such point.
+pub fn title_order(is_there: bool, point: u16) -> Option<Doing> {
     if is_there {
-        Some(Step::RemoveTitle(end, KEY, digits()))
+        Some(Doing::RemoveTitle(KEY, digits()))
     } else {
-        Some(Step::AddTitle(end, row(point)?))
+        Some(Doing::AddTitle(row(point)?))
     }
 }
 

@@ -3,7 +3,7 @@
 use crate::became::Became;
 use crate::reading::{first_set, has_title, standing};
 use exchange::{FrameText, LinkId, LinkStanding, Msu, NoMemory, Pick, SetId, Settings};
-use pair_world::{End, Pair, PairFault, Step};
+use pair_world::{Doing, End, Pair, PairFault, Step};
 use std::alloc::Global;
 use std::marker::Model;
 
@@ -34,9 +34,9 @@ impl LinkedNodes {
         Ok(LinkedNodes { pair })
     }
 
-    /// Takes a step, except for a frame that goes elsewhere.
-    pub fn turn(&mut self, step: Step) -> Became {
-        turn(&mut self.pair, step)
+    /// Takes a step at an end, except for a frame that goes elsewhere.
+    pub fn turn(&mut self, end: End, step: Step) -> Became {
+        turn(&mut self.pair, end, step)
     }
 
     /// An end sends the next frame of a link that leads elsewhere. None if there is none.
@@ -89,9 +89,9 @@ impl LinkedNodes {
     }
 }
 
-/// Takes a step.
-fn turn(pair: &mut Pair, step: Step) -> Became {
-    match pair.turn(step) {
+/// Takes a step at an end.
+fn turn(pair: &mut Pair, end: End, step: Step) -> Became {
+    match pair.turn(end, step) {
         Ok(turned) => Became::of(turned.outcome),
         Err(NoMemory) => Became::Starved,
     }
@@ -99,7 +99,7 @@ fn turn(pair: &mut Pair, step: Step) -> Became {
 
 /// The next frame of a link that leads elsewhere.
 fn send_elsewhere(pair: &mut Pair, end: End, link: LinkId) -> Result<Option<FrameText>, NoMemory> {
-    let turned = pair.turn(Step::Take(end, link))?;
+    let turned = pair.turn(end, Step::Do(Doing::Take(link)))?;
     Ok(turned.elsewhere)
 }
 

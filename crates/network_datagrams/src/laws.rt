@@ -67,8 +67,8 @@ pub fn messages_come_from_end_to_end()
     ensures { messages_come_from_end_to_end }
 {}
 
-/// Order over a path, over datagrams. What a node passes on stays in the order in which it came, whatever has been
-/// lost. So over a path of which each hop keeps a flow in order, and whose nodes between get the flow from the one
+/// Order over a path, over datagrams. A node accepts what it is to pass on in the order in which it came, whatever has
+/// been lost. So over a path of which each hop keeps a flow in order, and whose nodes between get the flow from the one
 /// before alone, what came to the last node is in the order in which the first accepted it; what is missing there waits
 /// at a node of the path, or was refused or ended at one between. The last hop keeps a flow that is for the last node,
 /// while neither of its nodes may have lost a message and no timer of the former ended a hold.
@@ -83,8 +83,9 @@ pub fn frames_fit_an_endpoint()
     ensures { frames_are_short }
 {}
 
-/// These laws aren't empty. Three nodes in a row keep the premises, and in a run of 11 steps a link between two of them
-/// opens at one and then at the other, and a link status crosses in a datagram that comes twice, once.
+/// Networks over datagrams do run. Three nodes in a row keep the premises, and in a run of 11 steps a link between two
+/// of them opens at one and then at the other, and a link status crosses in a datagram that comes twice, once. In none
+/// does a user message cross: that two nodes exchange one over datagrams `node_rules` shows.
 pub fn a_link_opens_over_datagrams()
     ensures { Happens }
 {}

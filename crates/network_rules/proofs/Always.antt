@@ -1,6 +1,6 @@
 -- Lists of steps of a network, and of other changes, as each two of its nodes that share a set see them; and nobody speaks for another meanwhile.
 use Rattle.pair_rules.proofs.Basics.{◌≡◌, ◌≢◌, ℕ, true, false, List, [], ◌∷◌, ◌++◌, refl, ap, sym, subst, ◌∙◌, length, map}
-use Rattle.pair_rules.proofs.Definitions.{Message, Configuration, Queue, first_queue, queue_at, PairState, first_pair, in_flight, each-replicate, read_frame}
+use Rattle.pair_rules.proofs.Definitions.{Message, Configuration, Queue, first_queue, queue_at, PairState, first_pair, turned, in_flight, each-replicate, read_frame}
 use Rattle.std.specs.Prelude.{All}
 use Rattle.std.specs.List.{list_all}
 use Rattle.std.proofs.lemmas.List.Elements.{All-head, All-tail}
@@ -11,22 +11,27 @@ use Rattle.pair_rules.specs.Promises.{BothWays}
 use Rattle.pair_rules.specs.Pairs.{nothing_in_flight}
 use Rattle.pair_rules.proofs.Good.{Each, each-get}
 use Rattle.neighbour_rules.specs.Neighbours as neighbours
-use Rattle.neighbour_rules.specs.Neighbours.{speaks_for_either}
+use Rattle.neighbour_rules.specs.Neighbours.{leads_elsewhere, speaks_for_either}
 use Rattle.neighbour_rules.proofs.World.{says_of}
 use Rattle.neighbour_rules.specs.Anew as pairs
 use Rattle.neighbour_rules.proofs.Sharing.{AreFacing, are-facing, far_joint, near_joint}
 use Rattle.neighbour_rules.proofs.Restarted.{Works, all-changes-work, first-works, steps-work}
 use Rattle.network_rules.specs.Networks.{NetworkState, Step, after_step, after_steps, changed, first_network}
 use Rattle.network_rules.specs.Anew.{Change, GivesUp, IsStepOrThird, Restarts, Steps, after_all, after_change, given_up, restarted}
-use Rattle.network_rules.specs.Pairs.{AreTheirPoints, AreWellOrAlone, ArePairsAlike, HearsNothingElsewhere, IsRunOfNeighbours, nobody_speaks_for_another, pair_of, runs_are_runs_of_neighbours}
+use Rattle.network_rules.specs.Pairs.{Always, AreTheirPoints, AreWellOrAlone, ArePairsAlike, HearsNothingElsewhere, IsRunOfNeighbours, nobody_speaks_for_another, pair_of, runs_are_runs_of_neighbours}
 use Rattle.network_rules.proofs.Alike.{away}
-use Rattle.network_rules.proofs.Ends.{EndOk, first-ok}
+use Rattle.network_rules.proofs.Ends.{EndOk, first-ok, is_fine}
 use Rattle.network_rules.proofs.AllRuns.{HasPoints, first-alike, step-next, steps-join, steps-keep}
 use Rattle.network_rules.proofs.Changes.{NextBy, changes-join, give_up-next, restart-next, stepped, third-alike}
 use Rattle.network_rules.proofs.Runs.{NextOf}
 use Rattle.network_rules.proofs.Quiet.{IsQuiet, NodeOk, SayElsewhere, Watched, are-kept, did-quiet, fine, quiet-changed}
 use Rattle.network_rules.proofs.Elsewhere.{harmless-turned, speaks-none, speaks_between}
 use Rattle.network_rules.proofs.Texts.{IsHarmless}
+
+-- what is in flight to either on links that lead elsewhere carries no management of one of the two for the other
+pub record CarryHarmless (p : PairState) : Type 0 where
+  pub near : (link : ℕ) → leads_elsewhere p link ≡ true → Each (IsHarmless (is_fine p.near.exchange.settings.own p.far.exchange.settings.own)) (in_flight p.near.incoming.user_data link)
+  pub far : (link : ℕ) → leads_elsewhere (turned p) link ≡ true → Each (IsHarmless (is_fine p.near.exchange.settings.own p.far.exchange.settings.own)) (in_flight p.far.incoming.user_data link)
 
 module _ (settings : (point : ℕ) → Configuration) (near far : ℕ) (points : AreTheirPoints settings) (well : AreWellOrAlone settings) (a : AreFacing (settings near) (settings far)) where
   abbrev c : Configuration
@@ -114,6 +119,17 @@ module _ (settings : (point : ℕ) → Configuration) (near far : ℕ) (points :
         statuses = λ link text e g.
             far-silent text (each-get Harmless (in_flight (w.node far).incoming.statuses link) 0 text ((h.each far).flying.statuses link (far-watched link e)) g);
       };
+    }
+
+    all-harmless : (texts : List (List ℕ)) → Each Harmless texts → Each (IsHarmless (is_fine cw.own zw.own)) texts
+    all-harmless texts g =
+        subst (λ (s : Configuration). Each (IsHarmless (is_fine s.own zw.own)) texts) (sym near-kept)
+        (subst (λ (s : Configuration). Each (IsHarmless (is_fine c.own s.own)) texts) (sym far-kept) g)
+
+    pub carry-harmless : CarryHarmless (pair_of w near far)
+    carry-harmless = record {
+      near = λ link e. all-harmless (in_flight (w.node near).incoming.user_data link) ((h.each near).flying.user_data link (near-watched link e));
+      far = λ link e. all-harmless (in_flight (w.node far).incoming.user_data link) ((h.each far).flying.user_data link (far-watched link e));
     }
 
     own-points : HasPoints w
@@ -231,6 +247,11 @@ module _ (settings : (point : ℕ) → Configuration) (near far : ℕ) (points :
 
 pub runs : runs_are_runs_of_neighbours
 runs settings steps near far points well sharing = run-of settings near far points well (are-facing (settings near) (settings far) sharing) steps
+
+pub harmless-runs : Always CarryHarmless
+harmless-runs settings steps near far points well sharing =
+    let a : AreFacing (settings near) (settings far) = are-facing (settings near) (settings far) sharing in
+    carry-harmless settings near far points well a (after_steps steps (first_network settings)) (all-goes settings near far points well a steps).calm
 
 pub silence : nobody_speaks_for_another
 silence settings steps near far points well sharing =

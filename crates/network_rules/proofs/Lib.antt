@@ -22,6 +22,7 @@ pub mod Quiet
 pub mod Changes
 pub mod Always
 pub mod Promised
+pub mod Links
 pub mod Joined
 pub mod Staying
 pub mod Turns

@@ -45,10 +45,10 @@ module _ (settings : (point : ℕ) → Configuration) (steps : List Step) (near 
   abbrev p : PairState
   p = pair_of (after_steps steps (first_network settings)) near far
 
-  run : IsRunOfNeighbours p
+  pub run : IsRunOfNeighbours p
   run = runs settings steps near far points well sharing
 
-  abbrev its : PairState
+  abbrev pub its : PairState
   its = written p (neighbours.after_steps run.steps (first_pair p.near.exchange.settings p.far.exchange.settings))
 
   still-sharing : AreSharing p.near.exchange.settings p.far.exchange.settings
@@ -56,7 +56,7 @@ module _ (settings : (point : ℕ) → Configuration) (steps : List Step) (near 
       subst (λ (c : Configuration). AreSharing c p.far.exchange.settings) (sym (steps-keep steps (first_network settings) near))
       (subst (AreSharing (settings near)) (sym (steps-keep steps (first_network settings) far)) sharing)
 
-  holds-of : (Statement : PairState → Type 0) → neighbours_promise.Always Statement → Statement its
+  pub holds-of : (Statement : PairState → Type 0) → neighbours_promise.Always Statement → Statement its
   holds-of Statement always =
       subst Statement (is-written p (neighbours.after_steps run.steps (first_pair p.near.exchange.settings p.far.exchange.settings)) run.is_alike)
       (always p.near.exchange.settings p.far.exchange.settings run.steps still-sharing)

@@ -5,6 +5,7 @@
 ghost use Rattle.network_rules.specs.AfterRestart.{ComesAfterRestart};
 ghost use Rattle.network_rules.specs.Anew.{neighbours_begin_anew, nobody_ever_speaks_for_another};
 ghost use Rattle.network_rules.specs.Anew.{destinations_begin_anew, networks_begin_anew, networks_begin_quietly};
+ghost use Rattle.network_rules.specs.Links.{frames_carry, moves_are_lacked, none_is_left, words_are_final};
 ghost use Rattle.network_rules.specs.Pairs.{books_are_of_the_two, each_flow_in_order, each_message_once};
 ghost use Rattle.network_rules.specs.Pairs.{flows_stay_between, nothing_is_awaited_in_vain, nothing_is_held_in_vain};
 ghost use Rattle.network_rules.specs.Pairs.{nobody_speaks_for_another, runs_are_runs_of_neighbours};
@@ -40,6 +41,39 @@ pub fn each_message_comes_once()
 /// other received from it, and then those that wait.
 pub fn each_flow_keeps_its_order()
     ensures { each_flow_in_order }
+{}
+
+/// Law (i), of a link between the two and either direction. While the link is up at either end, and until the near
+/// end's changeover of it is complete, unless an end may follow the other, the far end received no fewer messages than
+/// are confirmed, and no more than were sent. While the link isn't down there, the User Data in flight carry those
+/// between, in order, whomever they are for (RFC 4165 §2.2). No link status carries a message. While the far end may
+/// follow, the link may open there, and the near one isn't in service and has an empty queue; nothing is in flight to
+/// it, and no message to the far end. A message that a frame newly carries is the first that the far end lacked.
+pub fn frames_carry_what_was_not_received()
+    ensures { frames_carry }
+{}
+
+/// Law (ii) (Q.704 §5.4). A node wants a link between the two to open, and it may open at the other too, or the node
+/// may follow the other. Then no order to change over of one of the two for the other, and no answer, that is about the
+/// link is in Held or unreceived in a queue of either, on whatever link. Nor is User Data with one in flight to either,
+/// on any link that isn't down there, from whichever node.
+pub fn links_open_with_no_word_left()
+    ensures { none_is_left }
+{}
+
+/// Law (iii). While an order of one of the two to change over, or an answer, is in Held or unreceived in a queue for
+/// the other, the link that it is about is down at the node that sends it, and it carries the number of the last
+/// message that was accepted there (Q.704 §5.4, with the numbers of Q.2210).
+pub fn words_carry_the_final_number()
+    ensures { words_are_final }
+{}
+
+/// Law (iv). While a link between the two is up at either end, and until a node's changeover of it is complete, unless
+/// an end may follow the other, the number of the last message that the peer accepted there names the count of all that
+/// it received. So an order or an answer of the peer that completes the changeover, such as one brought by the next
+/// frame of any link, moves the messages that the peer lacks, and no others (Q.704 §5.4, §5.5).
+pub fn completions_move_what_the_peer_lacks()
+    ensures { moves_are_lacked }
 {}
 
 /// All that a node booked as accepted for the other is for its point, all that it booked as received from it for its
@@ -85,9 +119,10 @@ pub fn messages_pass_through()
     ensures { messages_pass_through }
 {}
 
-/// What a node passes on stays in the order in which it came: of the user messages, what came for another point is made
-/// up of those that it passed on and those that it refused, and what it accepted of those that it passed on and those
-/// that entered there, each in order. This holds whatever is done or lost, and however often nodes start again.
+/// A node accepts what it is to pass on in the order in which it came: of the user messages, what came for another point
+/// is made up of those that it accepted and those that it refused, and what it accepted of these and those that entered
+/// there, each in order. This holds whatever is done or lost, and however often nodes start again; in which order they
+/// leave, the hops say.
 pub fn nodes_pass_on_in_order()
     ensures each { each_node_passes_in_order }
     ensures first { books_begin_empty }

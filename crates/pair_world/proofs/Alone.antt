@@ -25,7 +25,7 @@ module _ (c z : Configuration) (g : AreJoined c z) where
   abbrev none : LinkEntry
   none = record { name = []; set = 0; slc = 0; share = None }
 
-  none-elsewhere : (link : ℕ) → leads_elsewhere_by c z (slice_get c.links link) ≡ false
+  pub none-elsewhere : (link : ℕ) → leads_elsewhere_by c z (slice_get c.links link) ≡ false
   none-elsewhere link = by (slice_get c.links link) refl
     where
       by : (o : Option LinkEntry) → slice_get c.links link ≡ o → leads_elsewhere_by c z o ≡ false

@@ -4,7 +4,6 @@ pub mod Brought
 pub mod Reached
 pub mod Fetching
 pub mod Rules
-pub mod Here
 pub mod Turns
 pub mod Alone
 pub mod Promised
@@ -22,5 +21,6 @@ pub mod NodePlaces
 pub mod NetworkSteps
 pub mod NetworkTurns
 pub mod NetworkLaws
+pub mod NetworkTelling
 pub mod NetworkFirst
 pub mod OneByOne

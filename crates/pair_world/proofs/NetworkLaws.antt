@@ -1,6 +1,6 @@
 -- What a network shows is what the abstract one has, and what that promises it promises.
 use Rattle.std.proofs.Common.{◌≡◌, ◌+◌, ℕ, Bool, List, [], Option, Some, None, refl, ap, sym, subst, ◌∙◌}
-use Rattle.std.specs.Prelude.{IfSome, count_by, slice_get}
+use Rattle.std.specs.Prelude.{IfSome, count_by, false, is_some, slice_get, slice_index_or, true}
 use Rattle.std.specs.Option.{option_and_then, option_map}
 use Rattle.signalling_types.specs.Message.{Message}
 use Rattle.settings_rows.specs.Configuration.{Configuration}
@@ -8,21 +8,22 @@ use Rattle.settings.specs.Readings.{set_place}
 use Rattle.exchange_rules.specs.First.{IsSound}
 use Rattle.exchange_rules.specs.Routing.{adjacent_of}
 use Rattle.exchange.specs.Calls as exchanges
-use Rattle.pair_rules.specs.Pairs.{PairState}
+use Rattle.pair_rules.specs.Awaiting.{HoldInNoVain}
+use Rattle.pair_rules.specs.Pairs.{PairState, may_follow}
 use Rattle.pair_rules.specs.Promises.{BothWays, IsPunctual, LostNothing, user}
 use Rattle.pair_rules.specs.Sharing.{AreSharing}
 use Rattle.neighbour_rules.specs.Neighbours.{users_to}
 use Rattle.neighbour_rules.specs.Promises.{EachOnce, InOrder, waiting}
-use Rattle.network_rules.specs.Networks.{NetworkNode, NetworkState, first_node}
+use Rattle.network_rules.specs.Networks.{NetworkNode, NetworkState, end_of, first_node}
 use Rattle.network_rules.specs.Pairs as networks
 use Rattle.network_rules.specs.Pairs.{came_from, pair_of}
-use Rattle.network_rules.proofs.Promised.{once, order}
+use Rattle.network_rules.proofs.Promised.{held, once, order}
 use Rattle.pair_world.specs.Joined.{no_settings}
 use Rattle.pair_world.specs.Promised.{ComeInOrder, ComeOnce}
 use Rattle.pair_world.specs.KeptNodes.{KeptNode, kept_node_of}
 use Rattle.pair_world.specs.KeptNetworks.{kept_at, node_at, place_at, points_of}
-use Rattle.pair_world.specs.NetworkPromised.{AcceptedInOrder, AcceptedOnce, AcceptedOrWait, AreAdjacent, ArrivedInOrder, ArrivedOnce, booked, waiting_between}
-use Rattle.pair_world.specs.NetworkStands.{IsNetworkReached, IsNodeAt, NetworkStandsFor}
+use Rattle.pair_world.specs.NetworkPromised.{AcceptedInOrder, AcceptedOnce, AcceptedOrWait, AreAdjacent, ArrivedInOrder, ArrivedOnce, booked, follows_at, waiting_between}
+use Rattle.pair_world.specs.NetworkStands.{IsNetworkReached, IsNodeAt, NetworkStandsFor, has_node}
 use Rattle.pair_world.proofs.NetworkSteps.{own-point}
 use Rattle.pair_world.proofs.Listed.{are-well, leads}
 use Rattle.pair_world.proofs.NodeFits.{Fits, reached-fit}
@@ -31,7 +32,7 @@ use Rattle.pair_world.proofs.Reached.{IsReady}
 use Rattle.pair_world.proofs.Waiting.{waiting-same}
 
 module _ (k : List KeptNode) (w : NetworkState) (s : NetworkStandsFor k w) where
-  r : IsNetworkReached (points_of k) w
+  pub r : IsNetworkReached (points_of k) w
   r = s.reached
 
   -- ---- the node at a point
@@ -72,6 +73,13 @@ module _ (k : List KeptNode) (w : NetworkState) (s : NetworkStandsFor k w) where
     pub exchange-stands : IfSome (option_map (λ (n : KeptNode). n.exchange) (node_at point k)) (λ e. exchanges.StandsFor e x.exchange)
     exchange-stands = stands-by (node_at point k) node-there
 
+    follows-by : (link : ℕ) (o : Option KeptNode) → IsNodeAt point o x → follows_at link o ≡ may_follow (end_of x) link
+    follows-by link (Some n) is = ap (λ (m : KeptNode). slice_index_or m.following link false) is.kept
+    follows-by link None is = sym (ap (λ (y : NetworkNode). may_follow (end_of y) link) is)
+
+    pub follows-same : (link : ℕ) → follows_at link (node_at point k) ≡ may_follow (end_of x) link
+    follows-same link = follows-by link (node_at point k) node-there
+
     pub refused-same : booked (λ n. n.refused) (node_at point k) ≡ x.refused
     refused-same = booked-same (λ n. n.refused) (λ y. y.refused) (λ y. refl) (λ c. refl)
 
@@ -81,30 +89,45 @@ module _ (k : List KeptNode) (w : NetworkState) (s : NetworkStandsFor k w) where
     abbrev c : Configuration
     c = (w.node near).exchange.settings
 
-    near-same : c ≡ r.settings near
+    pub near-same : c ≡ r.settings near
     near-same = (reached-fit w r near).settings
 
-    far-same : (w.node far).exchange.settings ≡ r.settings far
+    pub far-same : (w.node far).exchange.settings ≡ r.settings far
     far-same = (reached-fit w r far).settings
 
-    sharing : AreSharing (r.settings near) (r.settings far)
+    pub sharing : AreSharing (r.settings near) (r.settings far)
     sharing =
         subst (λ (point : ℕ). AreSharing (r.settings near) (r.settings point))
         (ap (λ (d : Configuration). adjacent_of d a.entry.set) (sym near-same) ∙ a.leads)
         (leads r.settings (points_of k) r.joined near a.link a.entry (ap (λ (d : Configuration). slice_get d.links a.link) (sym near-same) ∙ a.is))
 
-    law : (Statement : PairState → Type 0) → networks.Always Statement → Statement (pair_of w near far)
+    pub law : (Statement : PairState → Type 0) → networks.Always Statement → Statement (pair_of w near far)
     law Statement always =
         subst (λ (v : NetworkState). Statement (pair_of v near far)) (sym r.by)
         (always r.settings r.steps near far r.joined.own (are-well r.settings (points_of k) r.joined) sharing)
 
+    pub between : (Statement : PairState → Type 0) → networks.Always (λ p. LostNothing p → BothWays Statement p) → LostNothing (pair_of w near far)
+        → BothWays Statement (pair_of w near far)
+    between Statement always = law (λ p. LostNothing p → BothWays Statement p) always
+
+    pub never-held-in-vain : HoldInNoVain (pair_of w near far)
+    never-held-in-vain = law HoldInNoVain held
+
     its-once : LostNothing (pair_of w near far) → BothWays EachOnce (pair_of w near far)
-    its-once = law (λ p. LostNothing p → BothWays EachOnce p) once
+    its-once = between EachOnce once
 
     its-order : LostNothing (pair_of w near far) → BothWays (λ q. IsPunctual q → InOrder q) (pair_of w near far)
-    its-order = law (λ p. LostNothing p → BothWays (λ q. IsPunctual q → InOrder q) p) order
+    its-order = between (λ q. IsPunctual q → InOrder q) order
 
     -- both are there
+    pub has-near : has_node near k ≡ true
+    has-near = by (place_at near k) (node-there near)
+      where
+        by : (o : Option ℕ) → IsNodeAt near (option_and_then (slice_get k) o) (w.node near) → is_some o ≡ true
+        by (Some place) is = refl
+        by None is =
+            absurd (let no : slice_get (no_settings near).links a.link ≡ Some a.entry = ap (λ (y : NetworkNode). slice_get y.exchange.settings.links a.link) (sym is) ∙ a.is in cc)
+
     near-by : (o : Option KeptNode) → IsNodeAt near o (w.node near) → IsSound (w.node near).exchange
     near-by (Some n) is = is.sound
     near-by None is =

@@ -13,5 +13,4 @@ pub mod Joined
 pub mod KeptNodes
 pub mod KeptNetworks
 pub mod NetworkStands
-pub mod NetworkTold
 pub mod NetworkPromised

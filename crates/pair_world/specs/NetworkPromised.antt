@@ -1,14 +1,20 @@
 -- What a network promises: of the messages that one node accepted for an adjacent one, and of all from end to end.
-use Rattle.std.specs.Prelude.{◌≡◌, ℕ, Bool, true, List, [], Option, Some, None, slice_get}
+use Rattle.std.specs.Prelude.{◌≡◌, ℕ, Bool, true, false, List, [], Option, Some, None, slice_get, slice_index_or}
 use Rattle.settings_rows.specs.Configuration.{LinkEntry}
 use Rattle.exchange_rules.specs.Routing.{adjacent_of}
 use Rattle.signalling_types.specs.Message.{Message}
+use Rattle.signalling_types.specs.declared.outcome.Outcome.{Outcome}
+use Rattle.pair_rules.specs.Awaiting.{HoldInNoVain}
+use Rattle.pair_rules.specs.Pairs.{Doing, PairState}
+use Rattle.pair_rules.specs.Promises.{BothWays, LostNothing}
 use Rattle.network_rules.specs.Networks.{Arrival, NetworkState}
 use Rattle.network_rules.specs.Pairs.{pair_of, came_from}
 use Rattle.network_rules.specs.Totals.{ComeToPoint, HaveLostNothing, is_listed}
-use Rattle.neighbour_rules.specs.Neighbours.{users_to}
+use Rattle.neighbour_rules.specs.Neighbours.{Does, users_to}
 use Rattle.pair_world.specs.KeptNodes.{KeptNode}
+use Rattle.pair_world.specs.NetworkStands.{NetworkStandsFor}
 use Rattle.pair_world.specs.Promised.{ComeInOrder, ComeOnce, ComeOrWait}
+use Rattle.pair_world.specs.Tells.{AreAlone, TellsHere}
 use Rattle.pair_world.specs.Waiting.{kept_waiting}
 
 -- a link of the node at the near point leads to the far point
@@ -48,6 +54,25 @@ ArrivedInOrder w near far arrived =
 abbrev pub AcceptedOrWait : NetworkState → (near far : ℕ) → (picks : Message → Bool) → (count : ℕ) → Type 0
 AcceptedOrWait w near far picks count = AreAdjacent w near far → ComeOrWait (pair_of w near far) picks count
 
+-- while neither of two adjacent nodes may have lost a message, this holds between them in both directions, of every
+-- abstract network that it stands for
+abbrev pub HoldsBetween : (PairState → Type 0) → List KeptNode → Type 0
+HoldsBetween Statement k =
+    (w : NetworkState) → NetworkStandsFor k w → (near far : ℕ) → AreAdjacent w near far →
+    LostNothing (pair_of w near far) → BothWays Statement (pair_of w near far)
+
+-- and nothing is held in vain at either, whatever has been lost
+abbrev pub HoldsNothingInVain : List KeptNode → Type 0
+HoldsNothingInVain k =
+    (w : NetworkState) → NetworkStandsFor k w → (near far : ℕ) → AreAdjacent w near far →
+    HoldInNoVain (pair_of w near far)
+
+-- the outcome of a delivery at a node tells what it received and accepted, where it and an adjacent node have only each
+-- other
+abbrev pub TellsBetween : Doing → NetworkState → (near far : ℕ) → Outcome → Type 0
+TellsBetween what w near far outcome =
+    AreAdjacent w near far → AreAlone (pair_of w near far) → TellsHere (Does what) (pair_of w near far) outcome
+
 -- ---- from end to end
 
 -- all nodes at these points have the network indicator of one
@@ -68,6 +93,11 @@ ComeToEach points w =
 abbrev pub booked : {A : Type 0} → (KeptNode → List A) → Option KeptNode → List A
 booked of (Some n) = of n
 booked of None = []
+
+-- whether a node may follow on a link, if it is there
+abbrev pub follows_at : (link : ℕ) → Option KeptNode → Bool
+follows_at link (Some n) = slice_index_or n.following link false
+follows_at link None = false
 
 -- how many user messages wait at one node for another, if both are there
 abbrev pub waiting_between : (picks : Message → Bool) → (near far : Option KeptNode) → ℕ

@@ -3,8 +3,8 @@ use Rattle.pair_world.specs.declared.step.End.{End}
 use Rattle.pair_world.specs.declared.step.End.TheVariants as end
 use Rattle.pair_world.specs.declared.step.Step.{Step}
 use Rattle.pair_world.specs.declared.step.Step.TheVariants as step
-use Rattle.pair_world.specs.declared.step.EndStep.{EndStep}
-use Rattle.pair_world.specs.declared.step.EndStep.TheVariants as steps
+use Rattle.pair_world.specs.declared.doing.Doing.{Doing}
+use Rattle.pair_world.specs.declared.doing.Doing.TheVariants as doing
 use Rattle.signalling_types.specs.declared.outcome.Outcome.{Outcome}
 use Rattle.exchange.specs.Calls.{is_memory_refused}
 use Rattle.pair_rules.specs.Pairs as pairs
@@ -29,44 +29,30 @@ abbrev pub other : End → End
 other end.One = end.Two
 other end.Two = end.One
 
--- what is done at one end, but for a fetch
-abbrev pub told : EndStep → Outcome → neighbours.Doing
-told (steps.Submit message) outcome = Does (pairs.Submits message)
-told (steps.Deliver link) outcome = Does (pairs.Delivers link)
-told (steps.DeliverStatus link) outcome = Does (pairs.DeliversStatus link)
-told (steps.LoseStatus link) outcome = Does (pairs.LosesStatus link)
-told (steps.DoubleStatus link) outcome = Does (pairs.DoublesStatus link)
-told (steps.Lose link) outcome = Does (pairs.Loses link)
-told steps.Tick outcome = Does pairs.Ticks
-told (steps.Activate link) outcome = Does (pairs.Activates link)
-told (steps.Deactivate link) outcome = Does (pairs.Deactivates link)
-told (steps.AddTitle row) outcome = Does (pairs.AddsTitle row (is_memory_refused outcome))
-told (steps.RemoveTitle key digits) outcome = Does (pairs.RemovesTitle key digits.items)
-told (steps.OpenFirst link) outcome = Does (pairs.OpensFirst link)
-told (steps.OpenSecond link) outcome = Does (pairs.OpensSecond link)
-told (steps.OpenElsewhere link) outcome = neighbours.OpensElsewhere link
-told (steps.HearElsewhere link text) outcome = neighbours.HearsElsewhere link text
+-- what may be done at any node
+abbrev pub doing_told : Doing → Outcome → pairs.Doing
+doing_told (doing.Submit message) outcome = pairs.Submits message
+doing_told (doing.Take link) outcome = pairs.Takes link
+doing_told (doing.Deliver link) outcome = pairs.Delivers link
+doing_told (doing.DeliverStatus link) outcome = pairs.DeliversStatus link
+doing_told (doing.LoseStatus link) outcome = pairs.LosesStatus link
+doing_told (doing.DoubleStatus link) outcome = pairs.DoublesStatus link
+doing_told (doing.Lose link) outcome = pairs.Loses link
+doing_told doing.Tick outcome = pairs.Ticks
+doing_told (doing.Activate link) outcome = pairs.Activates link
+doing_told (doing.Deactivate link) outcome = pairs.Deactivates link
+doing_told (doing.AddTitle row) outcome = pairs.AddsTitle row (is_memory_refused outcome)
+doing_told (doing.RemoveTitle key digits) outcome = pairs.RemovesTitle key digits.items
+doing_told (doing.OpenFirst link) outcome = pairs.OpensFirst link
+doing_told (doing.OpenSecond link) outcome = pairs.OpensSecond link
+
+-- what is done at one end
+abbrev pub step_told : Step → Outcome → neighbours.Doing
+step_told (step.Do what) outcome = Does (doing_told what outcome)
+step_told (step.OpenElsewhere link) outcome = neighbours.OpensElsewhere link
+step_told (step.HearElsewhere link text) outcome = neighbours.HearsElsewhere link text
 
 -- where it is done
 abbrev pub done_at : End → neighbours.Doing → neighbours.Step
 done_at end.One what = neighbours.AtNear what
 done_at end.Two what = neighbours.AtFar what
-
--- a step
-abbrev pub step_told : Step → Outcome → neighbours.Step
-step_told (step.Submit its message) outcome = done_at its (Does (pairs.Submits message))
-step_told (step.Take its link) outcome = done_at its (Does (pairs.Takes link))
-step_told (step.Deliver its link) outcome = done_at its (Does (pairs.Delivers link))
-step_told (step.DeliverStatus its link) outcome = done_at its (Does (pairs.DeliversStatus link))
-step_told (step.LoseStatus its link) outcome = done_at its (Does (pairs.LosesStatus link))
-step_told (step.DoubleStatus its link) outcome = done_at its (Does (pairs.DoublesStatus link))
-step_told (step.Lose its link) outcome = done_at its (Does (pairs.Loses link))
-step_told (step.Tick its) outcome = done_at its (Does pairs.Ticks)
-step_told (step.Activate its link) outcome = done_at its (Does (pairs.Activates link))
-step_told (step.Deactivate its link) outcome = done_at its (Does (pairs.Deactivates link))
-step_told (step.AddTitle its row) outcome = done_at its (Does (pairs.AddsTitle row (is_memory_refused outcome)))
-step_told (step.RemoveTitle its key digits) outcome = done_at its (Does (pairs.RemovesTitle key digits.items))
-step_told (step.OpenFirst its link) outcome = done_at its (Does (pairs.OpensFirst link))
-step_told (step.OpenSecond its link) outcome = done_at its (Does (pairs.OpensSecond link))
-step_told (step.OpenElsewhere its link) outcome = done_at its (neighbours.OpensElsewhere link)
-step_told (step.HearElsewhere its link text) outcome = done_at its (neighbours.HearsElsewhere link text)

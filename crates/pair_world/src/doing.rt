@@ -1,9 +1,9 @@
-//! What is done at one node of a network.
+//! What is done at one node.
 
 use exchange::{TitleDigits, TitleKey};
 use settings::{LinkId, Msu, TitleRow};
 
-/// What is done at one node of a network.
+/// What is done at one node, of a network or a pair.
 #[derive(Drop)]
 pub enum Doing {
     /// A user part hands a message over.

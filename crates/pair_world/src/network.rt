@@ -2,15 +2,19 @@
 
 ghost use Rattle.std.specs.Prelude.{◌≡◌, ◌↔◌, ℕ, true, false, is_some, IfOk, IfErr, IfSome, OnOk, OnErr, count_by};
 ghost use Rattle.exchange.specs.Calls as exchanges;
+ghost use Rattle.neighbour_rules.specs.Awaiting.{AwaitsNothingInVain};
+ghost use Rattle.neighbour_rules.specs.Laws.{AreFinal, MovesLacked, NoneIsLeft};
 ghost use Rattle.neighbour_rules.specs.Promises as promises;
+ghost use Rattle.pair_rules.specs.Pairs as pairs;
 ghost use Rattle.pair_rules.specs.Promises.{user};
+ghost use Rattle.network_rules.specs.Links.{IsCarriedBetween};
 ghost use Rattle.network_rules.specs.Pairs.{pair_of};
 ghost use Rattle.pair_world.specs.Joined.{AreJoined, are_apart, settings_at};
-ghost use Rattle.pair_world.specs.NetworkPromised.{AcceptedInOrder, AcceptedOnce, AcceptedOrWait, AreAdjacent, ArrivedInOrder, ArrivedOnce, ComeToEach};
+ghost use Rattle.pair_world.specs.NetworkPromised.{AcceptedInOrder, AcceptedOnce, AcceptedOrWait, AreAdjacent, ArrivedInOrder, ArrivedOnce, ComeToEach, HoldsBetween, HoldsNothingInVain, TellsBetween};
 ghost use Rattle.pair_world.specs.KeptNetworks.{network_turn, points_of};
-ghost use Rattle.pair_world.specs.NetworkTold.{doing_told};
+ghost use Rattle.pair_world.specs.Told.{doing_told};
 ghost use Rattle.pair_world.specs.NetworkStands.{NetworkStandsFor, has_node, step_outcome, stepped};
-ghost use Rattle.network_rules.specs.Networks.{NetworkState, first_network};
+ghost use Rattle.network_rules.specs.Networks.{NetworkState, end_of, first_network};
 ghost use Rattle.network_rules.specs.Totals.{HaveLostNothing, IsAccounted};
 
 use crate::arrival::Arrival;
@@ -20,10 +24,10 @@ use crate::joining::{are_apart, are_joined, are_well, boot_all};
 use crate::node::Node;
 use crate::reaching::{act_at, place_of, reach_from};
 use crate::reading::{
-    accepted_at, arrived_at, entered_at, exchange_at, refused_at, waiting_between,
+    accepted_at, arrived_at, entered_at, exchange_at, follows_at, refused_at, waiting_between,
 };
 use exchange::{Exchange, NoMemory, Pick};
-use settings::{Msu, Outcome, PointCode, Settings};
+use settings::{LinkId, Msu, Outcome, PointCode, Settings};
 use std::alloc::Global;
 use std::marker::Model;
 
@@ -99,6 +103,11 @@ impl Network {
         // For every abstract network that it stood for, the outcome is that of the abstract step,
         ensures outcome { (w : NetworkState) → NetworkStandsFor self.old w → IfOk result (λ outcome.
             outcome ≡ step_outcome (has_node at self.old) (record { point = at; what = doing_told doing outcome }) w) }
+        // which for a delivery says what came, and what was accepted of that, where the node and an adjacent one have
+        // only each other: Local exactly if it received a message for a user part or a subsystem here, NoUserPart
+        // exactly if one for another user part;
+        ensures told { (w : NetworkState) → NetworkStandsFor self.old w → (far : ℕ) →
+            IfOk result (λ outcome. TellsBetween (doing_told doing outcome) w at far outcome) }
         // and the network stands for the one after it.
         ensures state { (w : NetworkState) → NetworkStandsFor self.old w → IfOk result (λ outcome. NetworkStandsFor
             self.new (stepped (has_node at self.old) (record { point = at; what = doing_told doing outcome }) w)) }
@@ -173,6 +182,14 @@ impl Network {
         exchange_at(&self.nodes, at)
     }
 
+    /// Whether the node at a point may follow the other end of a link, which opened there first. False where no node is
+    /// at the point.
+    pub fn may_follow(&self, at: PointCode, link: LinkId) -> bool
+        ensures { (w : NetworkState) → NetworkStandsFor self.now w → result ≡ pairs.may_follow (end_of (w.node at)) link }
+    {
+        follows_at(&self.nodes, at, link)
+    }
+
     /// What holds from end to end, over all nodes, between any two steps, while none of them may have lost a message:
     /// as many user messages entered the network, by any test, as were received at a node that they aren't to leave, as
     /// wait in nodes, and as were refused by a node on the way (`specs/Totals.antt` of `network_rules`). So it is of
@@ -182,6 +199,12 @@ impl Network {
         ensures accounted { (w : NetworkState) → NetworkStandsFor self.now w →
             HaveLostNothing (points_of self.now) w → IsAccounted (points_of self.now) w }
         ensures to_each { (w : NetworkState) → NetworkStandsFor self.now w → ComeToEach (points_of self.now) w }
+        ensures carried { HoldsBetween IsCarriedBetween self.now }
+        ensures none_left { HoldsBetween NoneIsLeft self.now }
+        ensures final_number { HoldsBetween AreFinal self.now }
+        ensures moved { HoldsBetween MovesLacked self.now }
+        ensures awaited { HoldsBetween AwaitsNothingInVain self.now }
+        ensures held { HoldsNothingInVain self.now }
     {}
 
     /// Does one thing at the node at a point, by what is kept.

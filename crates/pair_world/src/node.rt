@@ -1,12 +1,12 @@
 //! One node of a network.
 
-ghost use Rattle.std.specs.Prelude.{◌≡◌, ◌<◌, IfOk, OnOk, OnErr};
+ghost use Rattle.std.specs.Prelude.{◌≡◌, ◌<◌, false, slice_index_or, IfOk, OnOk, OnErr};
 ghost use Rattle.exchange.specs.Calls.{happened};
 ghost use Rattle.network_rules.specs.Networks.{first_node};
 ghost use Rattle.pair_rules.specs.Pairs as pairs;
 ghost use Rattle.pair_world.specs.KeptNodes.{both_did, kept_node_of, node_did, node_happens, node_takes};
 ghost use Rattle.pair_world.specs.Waiting.{kept_waiting};
-ghost use Rattle.pair_world.specs.NetworkTold.{doing_told};
+ghost use Rattle.pair_world.specs.Told.{doing_told};
 
 use crate::arrival::Arrival;
 use crate::books::{Books, book_frame, book_submission, make_room};
@@ -116,6 +116,13 @@ impl Node {
         ensures { result.now ≡ self.now.refused }
     {
         self.books.refused.as_slice()
+    }
+
+    /// Whether it may follow the other end of a link.
+    pub(crate) fn may_follow(&self, link: LinkId) -> bool
+        ensures { result ≡ slice_index_or self.now.following link false }
+    {
+        self.site.may_follow(link)
     }
 
     /// How many user messages that a choice takes wait for another node.

@@ -8,22 +8,21 @@ ghost use Rattle.pair_rules.specs.Pairs.{PairState, first_pair};
 ghost use Rattle.pair_rules.specs.Accepting.{IsUserMessageTo};
 ghost use Rattle.pair_rules.specs.Promises.{user};
 ghost use Rattle.neighbour_rules.specs.Neighbours as neighbours;
-ghost use Rattle.neighbour_rules.specs.Neighbours.{Does};
 ghost use Rattle.neighbour_rules.specs.Promises as promises;
 ghost use Rattle.pair_world.specs.Elsewhere.{gone_elsewhere};
-ghost use Rattle.pair_world.specs.Told.{seen_from, other, told, done_at, step_told, kept_at};
+ghost use Rattle.pair_world.specs.Told.{seen_from, other, done_at, step_told, kept_at};
 ghost use Rattle.pair_world.specs.KeptPairs.{kept_pair_of, kept_turn};
 ghost use Rattle.pair_world.specs.Stands.{StandsFor};
 ghost use Rattle.pair_world.specs.Tells.{Tells};
 ghost use Rattle.pair_world.specs.Promised.{ComeOnce, ComeInOrder, ComeOrWait};
 ghost use Rattle.pair_world.specs.Waiting.{kept_waiting};
 
-use crate::act::{act, take};
+use crate::act::act;
 use crate::fault::PairFault;
 use crate::side::Side;
-use crate::step::{End, EndStep, Step, Turned};
+use crate::step::{End, Step, Turned};
 use exchange::{Exchange, NoMemory, Pick};
-use settings::{LinkId, Msu, Outcome, Settings};
+use settings::{LinkId, Msu, Settings};
 use std::alloc::Global;
 use std::marker::Model;
 
@@ -90,27 +89,29 @@ impl Pair {
 }
 
 impl Pair {
-    /// Takes one step, and says what became of it.
+    /// Takes one step at an end, and says what became of it.
     ///
     /// It makes its room first: after NoMemory, which comes only where a growth was refused, nothing has changed.
-    pub fn turn(&mut self, step: Step) -> Result<Turned, NoMemory>
+    pub fn turn(&mut self, end: End, step: Step) -> Result<Turned, NoMemory>
         // For every abstract pair that it stood for, the outcome is that of the abstract step,
         ensures outcome { (p : PairState) → StandsFor self.old p →
-            IfOk result (λ turned. turned.outcome ≡ (neighbours.turn (step_told step turned.outcome) p).outcome) }
+            IfOk result (λ turned. turned.outcome ≡
+            (neighbours.turn (done_at end (step_told step turned.outcome)) p).outcome) }
         // which for a delivery says what came, and what was accepted of that, where the two have only each other: Local
         // exactly if the end received a message for a user part or a subsystem here, NoUserPart exactly if one for
         // another user part;
         ensures told { (p : PairState) → StandsFor self.old p →
-            IfOk result (λ turned. Tells (step_told step turned.outcome) p turned.outcome) }
+            IfOk result (λ turned. Tells (done_at end (step_told step turned.outcome)) p turned.outcome) }
         // the frame that a take gave on a link that leads elsewhere is handed out;
         ensures elsewhere { (p : PairState) → StandsFor self.old p →
-            IfOk result (λ turned. turned.elsewhere ≡ gone_elsewhere (step_told step turned.outcome) p) }
+            IfOk result (λ turned. turned.elsewhere ≡ gone_elsewhere (done_at end (step_told step turned.outcome)) p) }
         // and the pair stands for the one after it.
         ensures state { (p : PairState) → StandsFor self.old p →
-            IfOk result (λ turned. StandsFor self.new (neighbours.turn (step_told step turned.outcome) p).left) }
+            IfOk result (λ turned. StandsFor self.new
+            (neighbours.turn (done_at end (step_told step turned.outcome)) p).left) }
         ensures unchanged { OnErr result (self.new ≡ self.old) }
     {
-        self.apply(step)
+        self.apply(end, step)
     }
 
     /// All user messages for the other end that an end accepted, in order: all that it queued or held. A user part
@@ -174,6 +175,22 @@ impl Pair {
         self.side(end).exchange()
     }
 
+    /// Takes one step at an end, by what is kept.
+    fn apply(&mut self, end: End, step: Step) -> Result<Turned, NoMemory>
+        ensures outcome { IfOk result (λ turned.
+            turned.outcome ≡ (kept_turn (done_at end (step_told step turned.outcome)) self.old).outcome) }
+        ensures elsewhere { IfOk result (λ turned.
+            turned.elsewhere ≡ (kept_turn (done_at end (step_told step turned.outcome)) self.old).elsewhere) }
+        ensures state { IfOk result (λ turned.
+            self.new ≡ (kept_turn (done_at end (step_told step turned.outcome)) self.old).left) }
+        ensures unchanged { OnErr result (self.new ≡ self.old) }
+    {
+        match end {
+            End::One => act(&mut self.near, &mut self.far, step),
+            End::Two => act(&mut self.far, &mut self.near, step),
+        }
+    }
+
     /// How many user messages that a choice takes wait at an end, by what is kept.
     fn count_waiting<P: Pick>(&self, end: End, pick: &P) -> u128
         ensures { result ≡ kept_waiting (P.picks pick.now)
@@ -192,78 +209,6 @@ impl Pair {
         match end {
             End::One => &self.near,
             End::Two => &self.far,
-        }
-    }
-}
-
-impl Pair {
-    /// Takes one step.
-    fn apply(&mut self, step: Step) -> Result<Turned, NoMemory>
-        ensures outcome { IfOk result (λ turned.
-            turned.outcome ≡ (kept_turn (step_told step turned.outcome) self.old).outcome) }
-        ensures elsewhere { IfOk result (λ turned.
-            turned.elsewhere ≡ (kept_turn (step_told step turned.outcome) self.old).elsewhere) }
-        ensures state { IfOk result (λ turned.
-            self.new ≡ (kept_turn (step_told step turned.outcome) self.old).left) }
-        ensures unchanged { OnErr result (self.new ≡ self.old) }
-    {
-        match step {
-            Step::Submit(end, message) => self.act_at(end, EndStep::Submit(message)),
-            Step::Take(end, link) => self.take_at(end, link),
-            Step::Deliver(end, link) => self.act_at(end, EndStep::Deliver(link)),
-            Step::DeliverStatus(end, link) => self.act_at(end, EndStep::DeliverStatus(link)),
-            Step::LoseStatus(end, link) => self.act_at(end, EndStep::LoseStatus(link)),
-            Step::DoubleStatus(end, link) => self.act_at(end, EndStep::DoubleStatus(link)),
-            Step::Lose(end, link) => self.act_at(end, EndStep::Lose(link)),
-            Step::Tick(end) => self.act_at(end, EndStep::Tick),
-            Step::Activate(end, link) => self.act_at(end, EndStep::Activate(link)),
-            Step::Deactivate(end, link) => self.act_at(end, EndStep::Deactivate(link)),
-            Step::AddTitle(end, row) => self.act_at(end, EndStep::AddTitle(row)),
-            Step::RemoveTitle(end, key, digits) => {
-                self.act_at(end, EndStep::RemoveTitle(key, digits))
-            }
-            Step::OpenFirst(end, link) => self.act_at(end, EndStep::OpenFirst(link)),
-            Step::OpenSecond(end, link) => self.act_at(end, EndStep::OpenSecond(link)),
-            Step::OpenElsewhere(end, link) => self.act_at(end, EndStep::OpenElsewhere(link)),
-            Step::HearElsewhere(end, link, text) => {
-                self.act_at(end, EndStep::HearElsewhere(link, text))
-            }
-        }
-    }
-
-    /// Does what is done at an end, but for a take.
-    fn act_at(&mut self, end: End, what: EndStep) -> Result<Turned, NoMemory>
-        ensures outcome { IfOk result (λ turned.
-            turned.outcome ≡ (kept_turn (done_at end (told what turned.outcome)) self.old).outcome) }
-        ensures elsewhere { IfOk result (λ turned.
-            turned.elsewhere ≡ (kept_turn (done_at end (told what turned.outcome)) self.old).elsewhere) }
-        ensures state { IfOk result (λ turned.
-            self.new ≡ (kept_turn (done_at end (told what turned.outcome)) self.old).left) }
-        ensures unchanged { OnErr result (self.new ≡ self.old) }
-    {
-        let outcome = match end {
-            End::One => act(&mut self.near, &mut self.far, what)?,
-            End::Two => act(&mut self.far, &mut self.near, what)?,
-        };
-        Ok(Turned {
-            outcome,
-            elsewhere: None,
-        })
-    }
-
-    /// Fetches the next frame of a link of an end.
-    fn take_at(&mut self, end: End, link: LinkId) -> Result<Turned, NoMemory>
-        ensures outcome { IfOk result (λ turned.
-            turned.outcome ≡ (kept_turn (done_at end (Does (pairs.Takes link))) self.old).outcome) }
-        ensures elsewhere { IfOk result (λ turned.
-            turned.elsewhere ≡ (kept_turn (done_at end (Does (pairs.Takes link))) self.old).elsewhere) }
-        ensures state { IfOk result (λ turned.
-            self.new ≡ (kept_turn (done_at end (Does (pairs.Takes link))) self.old).left) }
-        ensures unchanged { OnErr result (self.new ≡ self.old) }
-    {
-        match end {
-            End::One => take(&mut self.near, &mut self.far, link),
-            End::Two => take(&mut self.far, &mut self.near, link),
         }
     }
 }

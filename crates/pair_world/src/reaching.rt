@@ -3,7 +3,7 @@
 ghost use Rattle.std.specs.Prelude.{◌≡◌, ◌<◌, ◌≢◌, length, slice_get, IfOk, IfSome, OnOk, OnErr};
 ghost use Rattle.pair_world.specs.KeptNetworks.{KeptPlace, kept_other_end, kept_reaches, one_turned, place_at, reached_at};
 ghost use Rattle.pair_world.specs.KeptNodes.{node_did};
-ghost use Rattle.pair_world.specs.NetworkTold.{doing_told};
+ghost use Rattle.pair_world.specs.Told.{doing_told};
 
 use crate::between::{adjacent_of, far_end};
 use crate::doing::{Doing, Reach};

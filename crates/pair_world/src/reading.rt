@@ -3,14 +3,14 @@
 ghost use Rattle.std.specs.Prelude.{◌≡◌, [], is_some};
 ghost use Rattle.std.specs.Option.{option_map};
 ghost use Rattle.pair_world.specs.KeptNetworks.{node_at};
-ghost use Rattle.pair_world.specs.NetworkPromised.{booked, waiting_between};
+ghost use Rattle.pair_world.specs.NetworkPromised.{booked, follows_at, waiting_between};
 ghost use Rattle.pair_world.specs.NetworkStands.{has_node};
 
 use crate::arrival::Arrival;
 use crate::node::Node;
 use crate::reaching::place_of;
 use exchange::{Exchange, Pick};
-use settings::{Msu, PointCode};
+use settings::{LinkId, Msu, PointCode};
 
 /// The exchange of the node at a point. None where there is none.
 pub(crate) fn exchange_at(nodes: &[Node], point: PointCode) -> Option<&Exchange>
@@ -60,6 +60,16 @@ pub(crate) fn refused_at(nodes: &[Node], point: PointCode) -> &[Msu]
     match place_of(nodes, point) {
         Some(place) => nodes[place].refused(),
         None => &[],
+    }
+}
+
+/// Whether the node at a point may follow the other end of a link; false where there is none.
+pub(crate) fn follows_at(nodes: &[Node], point: PointCode, link: LinkId) -> bool
+    ensures { result ≡ follows_at link (node_at point nodes.now) }
+{
+    match place_of(nodes, point) {
+        Some(place) => nodes[place].may_follow(link),
+        None => false,
     }
 }
 

@@ -1,20 +1,22 @@
-//! One end of a pair.
+//! One end of a pair, and what is done there.
 
-ghost use Rattle.std.specs.Prelude.{◌≡◌, ◌<◌, [], false, ◌&&◌, nat_lt, length, slice_index_or, IfOk, OnOk, OnErr};
-ghost use Rattle.exchange_rules.specs.Exchange.{taken, wants_of};
+ghost use Rattle.std.specs.Prelude.{◌≡◌, [], false, slice_index_or, IfOk, None, OnOk, OnErr};
 ghost use Rattle.exchange.specs.Calls.{happened};
 ghost use Rattle.exchange.specs.KeptQueues.{kept};
-ghost use Rattle.exchange.specs.Views.{may_restart_at};
-ghost use Rattle.pair_rules.specs.Pairs.{first_end};
-ghost use Rattle.pair_world.specs.KeptEnds.{kept_end_of, end_happens, end_submits, end_delivers, end_delivers_status, end_hears_elsewhere, end_loses_status, end_doubles_status, end_opens_first, end_may_follow, end_opens_second};
-ghost use Rattle.pair_world.specs.KeptSites.{text_to_take, behind_its, take_outcome};
-ghost use Rattle.pair_world.specs.KeptPairs.{has_link};
+ghost use Rattle.exchange_rules.specs.Exchange.{taken};
+ghost use Rattle.pair_rules.specs.Pairs.{first_end, OpensFirst};
+ghost use Rattle.pair_world.specs.KeptEnds.{kept_end_of, end_happens, end_submits, end_delivers, end_delivers_status, end_hears_elsewhere};
+ghost use Rattle.pair_world.specs.KeptPairs.{both, kept_did_between, kept_takes};
+ghost use Rattle.pair_world.specs.KeptSites.{take_outcome, text_to_take};
+ghost use Rattle.pair_world.specs.Told.{doing_told};
 ghost use Rattle.pair_world.specs.Waiting.{kept_waiting};
 
+use crate::between::far_end;
+use crate::doing::Doing;
 use crate::hearing::add;
 use crate::site::Site;
 use crate::step::Turned;
-use exchange::{Event, Exchange, FrameText, NoMemory, Pick, Wants};
+use exchange::{Event, Exchange, FrameText, NoMemory, Order, Pick, Wants};
 use settings::{LinkId, Msu, Outcome, PointCode, Settings};
 use std::alloc::Global;
 use std::marker::Model;
@@ -84,13 +86,6 @@ impl Side {
         self.site.settings()
     }
 
-    /// Its point.
-    pub(crate) fn point(&self) -> PointCode
-        ensures { result ≡ self.now.exchange.settings.own }
-    {
-        self.site.point()
-    }
-
     /// The user messages that it accepted.
     pub(crate) fn accepted(&self) -> &[Msu]
         ensures { result.now ≡ self.now.accepted }
@@ -112,27 +107,6 @@ impl Side {
         self.site.may_follow(link)
     }
 
-    /// What a link wants.
-    pub(crate) fn wants(&self, link: LinkId) -> Wants
-        ensures { result ≡ wants_of self.now.exchange link }
-    {
-        self.site.wants(link)
-    }
-
-    /// Whether a link may open as far as its changeover goes.
-    pub(crate) fn may_restart(&self, link: LinkId) -> bool
-        ensures { result ≡ may_restart_at self.now.exchange link }
-    {
-        self.site.may_restart(link)
-    }
-
-    /// Whether a link is there.
-    pub(crate) fn has(&self, link: LinkId) -> bool
-        ensures { result ≡ has_link link self.now.incoming }
-    {
-        self.site.has(link)
-    }
-
     /// How many user messages that a choice takes wait for the other end.
     pub(crate) fn count_waiting<P: Pick>(&self, other: &Side, pick: &P) -> u128
         ensures { result ≡ kept_waiting (P.picks pick.now) self.now.exchange other.now.exchange }
@@ -143,15 +117,16 @@ impl Side {
 
 impl Side {
     /// Something happens to its exchange.
-    pub(crate) fn happen(&mut self, event: &Event<'_>) -> Outcome
-        ensures outcome { result ≡ (end_happens (happened event.now result) self.old).outcome }
-        ensures state { self.new ≡ (end_happens (happened event.now result) self.old).left }
+    pub(crate) fn happen(&mut self, event: &Event<'_>) -> Turned
+        ensures outcome { result.outcome ≡ (end_happens (happened event.now result.outcome) self.old).outcome }
+        ensures elsewhere { result.elsewhere ≡ None }
+        ensures state { self.new ≡ (end_happens (happened event.now result.outcome) self.old).left }
     {
-        self.site.happen(event)
+        Turned::here(self.site.happen(event))
     }
 
     /// A user part hands over a message.
-    pub(crate) fn submit(&mut self, far: PointCode, message: Msu) -> Result<Outcome, NoMemory>
+    fn submit(&mut self, far: PointCode, message: Msu) -> Result<Outcome, NoMemory>
         ensures outcome { IfOk result (λ outcome. outcome ≡ (end_submits far message self.old).outcome) }
         ensures state { OnOk result (self.new ≡ (end_submits far message self.old).left) }
         ensures unchanged { OnErr result (self.new ≡ self.old) }
@@ -164,7 +139,7 @@ impl Side {
     }
 
     /// The next User Data in flight on a link comes, where there is some.
-    pub(crate) fn deliver(&mut self, far: PointCode, link: LinkId) -> Result<Outcome, NoMemory>
+    fn deliver(&mut self, far: PointCode, link: LinkId) -> Result<Outcome, NoMemory>
         ensures outcome { IfOk result (λ outcome. outcome ≡ (end_delivers far link self.old).outcome) }
         ensures state { OnOk result (self.new ≡ (end_delivers far link self.old).left) }
         ensures unchanged { OnErr result (self.new ≡ self.old) }
@@ -183,11 +158,7 @@ impl Side {
     }
 
     /// The next link status in flight on a link comes, where there is one.
-    pub(crate) fn deliver_status(
-        &mut self,
-        far: PointCode,
-        link: LinkId,
-    ) -> Result<Outcome, NoMemory>
+    fn deliver_status(&mut self, far: PointCode, link: LinkId) -> Result<Outcome, NoMemory>
         ensures outcome { IfOk result (λ outcome. outcome ≡ (end_delivers_status far link self.old).outcome) }
         ensures state { OnOk result (self.new ≡ (end_delivers_status far link self.old).left) }
         ensures unchanged { OnErr result (self.new ≡ self.old) }
@@ -222,84 +193,92 @@ impl Side {
         add(&mut self.accepted, far, heard.brought);
         Ok(heard.outcome)
     }
+}
 
-    /// The next link status in flight on a link is lost, where there is one.
-    pub(crate) fn lose_status(&mut self, link: LinkId) -> Outcome
-        ensures outcome { result ≡ (end_loses_status link self.old).outcome }
-        ensures state { self.new ≡ (end_loses_status link self.old).left }
-    {
-        self.site.lose_status(link)
-    }
-
-    /// The next link status in flight on a link comes twice, where there is one.
-    pub(crate) fn double_status(&mut self, link: LinkId) -> Result<Outcome, NoMemory>
-        ensures outcome { IfOk result (λ outcome. outcome ≡ (end_doubles_status link self.old).outcome) }
-        ensures state { OnOk result (self.new ≡ (end_doubles_status link self.old).left) }
-        ensures unchanged { OnErr result (self.new ≡ self.old) }
-    {
-        self.site.double_status(link)
+/// Does at the near end what may be done at any node. After NoMemory nothing has changed.
+pub(crate) fn act_between(near: &mut Side, far: &mut Side, doing: Doing) -> Result<Turned, NoMemory>
+    ensures outcome { IfOk result (λ turned.
+        turned.outcome ≡ (kept_did_between (doing_told doing turned.outcome) (both near.old far.old)).outcome) }
+    ensures elsewhere { IfOk result (λ turned.
+        turned.elsewhere ≡ (kept_did_between (doing_told doing turned.outcome) (both near.old far.old)).elsewhere) }
+    ensures near { IfOk result (λ turned.
+        near.new ≡ (kept_did_between (doing_told doing turned.outcome) (both near.old far.old)).left.near) }
+    ensures far { IfOk result (λ turned.
+        far.new ≡ (kept_did_between (doing_told doing turned.outcome) (both near.old far.old)).left.far) }
+    ensures same_near { OnErr result (near.new ≡ near.old) }
+    ensures same_far { OnErr result (far.new ≡ far.old) }
+{
+    let point = far.site.point();
+    match doing {
+        Doing::Take(link) => take(near, far, link),
+        Doing::OpenFirst(link) => Ok(open_first(near, far, link)),
+        Doing::Submit(message) => Ok(Turned::here(near.submit(point, message)?)),
+        Doing::Deliver(link) => Ok(Turned::here(near.deliver(point, link)?)),
+        Doing::DeliverStatus(link) => Ok(Turned::here(near.deliver_status(point, link)?)),
+        Doing::LoseStatus(link) => Ok(Turned::here(near.site.lose_status(link))),
+        Doing::DoubleStatus(link) => Ok(Turned::here(near.site.double_status(link)?)),
+        Doing::Lose(link) => Ok(near.happen(&Event::AssociationDown(link))),
+        Doing::Tick => Ok(near.happen(&Event::Tick)),
+        Doing::Activate(link) => Ok(near.happen(&Event::Order(Order::Activate(link)))),
+        Doing::Deactivate(link) => Ok(near.happen(&Event::Order(Order::Deactivate(link)))),
+        Doing::AddTitle(row) => Ok(near.happen(&Event::Order(Order::AddTitle(row)))),
+        Doing::RemoveTitle(key, digits) => {
+            Ok(near.happen(&Event::Order(Order::RemoveTitle(key, digits))))
+        }
+        Doing::OpenSecond(link) => Ok(Turned::here(near.site.open_second(link))),
     }
 }
 
-impl Side {
-    /// The next frame of a link of the other end's exchange is fetched for this end, by its own link. Requires that
-    /// this is there.
-    pub(crate) fn take_from(
-        &mut self,
-        other: &mut Side,
-        link: LinkId,
-        own_link: LinkId,
-    ) -> Result<Outcome, NoMemory>
-        requires statuses { own_link < length self.old.incoming.statuses }
-        requires data { own_link < length self.old.incoming.user_data }
-        ensures outcome { IfOk result (λ outcome. outcome ≡ take_outcome (text_to_take other.old.exchange link)) }
-        ensures state { OnOk result (self.new ≡ record self.old {
-          incoming = behind_its (text_to_take other.old.exchange link) own_link self.old.incoming;
-        }) }
-        ensures other { OnOk result (other.new ≡ record other.old { exchange = taken kept other.old.exchange link }) }
-        ensures unchanged { OnErr result (self.new ≡ self.old) }
-        ensures same_other { OnErr result (other.new ≡ other.old) }
-    {
-        self.site.take_from(&mut other.site, link, own_link)
-    }
-
-    /// The next frame of a link is fetched, and goes elsewhere.
-    pub(crate) fn take_elsewhere(&mut self, link: LinkId) -> Turned
-        ensures outcome { result.outcome ≡ take_outcome (text_to_take self.old.exchange link) }
-        ensures elsewhere { result.elsewhere ≡ text_to_take self.old.exchange link }
-        ensures state { self.new ≡ record self.old { exchange = taken kept self.old.exchange link } }
-    {
-        match self.site.take(link) {
-            Some(text) => Turned {
-                outcome: Outcome::Handled,
-                elsewhere: Some(text),
-            },
-            None => Turned {
-                outcome: Outcome::Ignored,
-                elsewhere: None,
-            },
+/// A link opens at the near end, where that wants it to, and where it may open at the far end too, which may then
+/// follow.
+fn open_first(near: &mut Side, far: &mut Side, link: LinkId) -> Turned
+    ensures outcome { result.outcome ≡ (kept_did_between (OpensFirst link) (both near.old far.old)).outcome }
+    ensures elsewhere { result.elsewhere ≡ (kept_did_between (OpensFirst link) (both near.old far.old)).elsewhere }
+    ensures near { near.new ≡ (kept_did_between (OpensFirst link) (both near.old far.old)).left.near }
+    ensures far { far.new ≡ (kept_did_between (OpensFirst link) (both near.old far.old)).left.far }
+{
+    let Some(other) = far_end(near.settings(), far.settings(), link) else {
+        return Turned::here(Outcome::Ignored);
+    };
+    match (near.site.wants(link), far.site.may_restart(other)) {
+        (Wants::Open, true) => {
+            near.site.open_first(link);
+            far.site.let_follow(other);
+            Turned::here(Outcome::Handled)
         }
+        _ => Turned::here(Outcome::Ignored),
     }
+}
 
-    /// A link opens before it does at the other end, and nothing is in flight to it.
-    pub(crate) fn open_first(&mut self, link: LinkId)
-        ensures { self.new ≡ end_opens_first link self.old }
-    {
-        self.site.open_first(link);
+/// The next frame of a link is fetched from the near end. It is then in flight to the far end, or goes elsewhere.
+fn take(near: &mut Side, far: &mut Side, link: LinkId) -> Result<Turned, NoMemory>
+    ensures outcome { IfOk result (λ turned. turned.outcome ≡ (kept_takes link (both near.old far.old)).outcome) }
+    ensures elsewhere { IfOk result (λ turned. turned.elsewhere ≡ (kept_takes link (both near.old far.old)).elsewhere) }
+    ensures near { IfOk result (λ turned. near.new ≡ (kept_takes link (both near.old far.old)).left.near) }
+    ensures far { IfOk result (λ turned. far.new ≡ (kept_takes link (both near.old far.old)).left.far) }
+    ensures same_near { OnErr result (near.new ≡ near.old) }
+    ensures same_far { OnErr result (far.new ≡ far.old) }
+{
+    let Some(other) = far_end(near.settings(), far.settings(), link) else {
+        return Ok(take_elsewhere(near, link));
+    };
+    if !far.site.has(other) {
+        return Ok(Turned::here(Outcome::Ignored));
     }
+    Ok(Turned::here(far.site.take_from(&mut near.site, link, other)?))
+}
 
-    /// A link opened at the other end, and nothing is in flight to this one, which may follow.
-    pub(crate) fn let_follow(&mut self, link: LinkId)
-        ensures { self.new ≡ end_may_follow link self.old }
-    {
-        self.site.let_follow(link);
-    }
-
-    /// A link opens as it did at the other end, where it may follow and wants to.
-    pub(crate) fn open_second(&mut self, link: LinkId) -> Outcome
-        ensures outcome { result ≡ (end_opens_second link self.old).outcome }
-        ensures state { self.new ≡ (end_opens_second link self.old).left }
-    {
-        self.site.open_second(link)
+/// The next frame of a link of the near end is fetched, and goes elsewhere.
+fn take_elsewhere(near: &mut Side, link: LinkId) -> Turned
+    ensures outcome { result.outcome ≡ take_outcome (text_to_take near.old.exchange link) }
+    ensures elsewhere { result.elsewhere ≡ text_to_take near.old.exchange link }
+    ensures state { near.new ≡ record near.old { exchange = taken kept near.old.exchange link } }
+{
+    match near.site.take(link) {
+        Some(text) => Turned {
+            outcome: Outcome::Handled,
+            elsewhere: Some(text),
+        },
+        None => Turned::here(Outcome::Ignored),
     }
 }

@@ -26,9 +26,10 @@ pub fn removing_a_row_leaves_the_others()
     ensures others { removed_leaves }
 {}
 
-/// A message that goes on keeps the class or the return cause, the data, the optional parameters, the selection and the
-/// title of the one that came. Its addresses read at the point of its row as they should (Q.714 §2.3, §2.4, §2.7).
-/// Besides, only an SSA goes on, in the place of an SST about a subsystem that is here (Q.714 §5.3.4).
+/// A message that goes on keeps the class or the return cause, the data, the optional parameters and the selection of
+/// the one that came, and its title, unless the row changes that. Its addresses read at the point where the row leads
+/// as they should (Q.714 §2.3, §2.4, §2.7). Besides, only an SSA goes on, in the place of an SST about a subsystem that
+/// is here (Q.714 §5.3.4).
 pub fn what_goes_on_reads_back()
     ensures { led.what_goes_on_reads_back }
 {}

@@ -104,7 +104,7 @@ impl Exchange {
 
     /// What becomes of a management or test message from a point that isn't adjacent.
     fn from_afar(&self, message: MsuRef<'_>) -> Outcome
-        ensures { result ≡ rule.from_afar self.now.settings (lent message) }
+        ensures { result ≡ rule.from_afar self.now.settings (lent message.entry) }
     {
         if self.settings.user_part_unavailable() && says_unavailable(message) {
             Outcome::Handled
@@ -263,7 +263,7 @@ fn place_in_set(links: &[LinkRow], slc: Sls, set: SetId) -> Option<usize>
 
 /// Whether a message says that a user part isn't at its sender.
 fn says_unavailable(message: MsuRef<'_>) -> bool
-    ensures { result ≡ rule.says_unavailable (lent message) }
+    ensures { result ≡ rule.says_unavailable (lent message.entry) }
 {
     message.service_indicator() == MANAGEMENT
         && matches!(

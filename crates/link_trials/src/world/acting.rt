@@ -3,45 +3,45 @@
 use crate::world::World;
 use exchange::LinkId;
 use linked_nodes::Became;
-use pair_world::{End, Step};
+use pair_world::{Doing, End, Step};
 
 impl World {
-    /// Takes a step.
-    pub(super) fn turn(&mut self, step: Step) -> Became {
+    /// Takes a step at an end.
+    pub(super) fn turn(&mut self, end: End, step: Step) -> Became {
         self.compare_now_and_then();
-        let became = self.nodes.turn(step);
+        let became = self.nodes.turn(end, step);
         self.note(became == Became::Starved);
         became
     }
 
-    /// Takes a step, and says whether something came of it.
-    pub(super) fn act(&mut self, step: Step) -> bool {
-        self.turn(step).is_something()
+    /// Does something at an end, and says whether something came of it.
+    pub(super) fn act(&mut self, end: End, doing: Doing) -> bool {
+        self.turn(end, Step::Do(doing)).is_something()
     }
 
-    /// Takes a step that hands in a frame.
-    pub(super) fn arrive(&mut self, step: Step) -> Became {
-        let became = self.turn(step);
+    /// Takes a step at an end that hands in a frame.
+    pub(super) fn arrive(&mut self, end: End, step: Step) -> Became {
+        let became = self.turn(end, step);
         self.tally.passing.arrive(became);
         became
     }
 
     /// An end sends the next frame of a link.
     pub fn take(&mut self, end: End, link: LinkId) -> bool {
-        let taken = self.act(Step::Take(end, self.shape.at(end, link)));
+        let taken = self.act(end, Doing::Take(self.shape.at(end, link)));
         self.tally.take(taken);
         taken
     }
 
     /// The next link status on a link to an end comes.
     fn deliver_status(&mut self, end: End, link: LinkId) -> bool {
-        self.act(Step::DeliverStatus(end, self.shape.at(end, link)))
+        self.act(end, Doing::DeliverStatus(self.shape.at(end, link)))
     }
 
     /// The next User Data on a link to an end comes.
     fn deliver_data(&mut self, end: End, link: LinkId) -> bool {
-        self.arrive(Step::Deliver(end, self.shape.at(end, link)))
-            .is_something()
+        let delivery = Doing::Deliver(self.shape.at(end, link));
+        self.arrive(end, Step::Do(delivery)).is_something()
     }
 
     /// The next frame on a link to an end comes: a link status if there is one, else User Data.
@@ -56,12 +56,12 @@ impl World {
 
     /// The next link status on a link to an end is lost on its way.
     pub fn lose_status(&mut self, end: End, link: LinkId) -> bool {
-        self.act(Step::LoseStatus(end, self.shape.at(end, link)))
+        self.act(end, Doing::LoseStatus(self.shape.at(end, link)))
     }
 
     /// The next link status on a link to an end comes twice.
     pub fn double_status(&mut self, end: End, link: LinkId) -> bool {
-        self.act(Step::DoubleStatus(end, self.shape.at(end, link)))
+        self.act(end, Doing::DoubleStatus(self.shape.at(end, link)))
     }
 
     /// An end loses the association of a link between the two.
@@ -71,7 +71,7 @@ impl World {
 
     /// An end loses the association of a link that has this number there.
     pub fn lose_any_link(&mut self, end: End, link: LinkId) -> bool {
-        let lost = self.act(Step::Lose(end, link));
+        let lost = self.act(end, Doing::Lose(link));
         self.tally.passing.fail(lost);
         lost
     }
@@ -83,28 +83,28 @@ impl World {
 
     /// A link opens at an end, before it opens at the other.
     pub fn open_first(&mut self, end: End, link: LinkId) -> bool {
-        self.act(Step::OpenFirst(end, self.shape.at(end, link)))
+        self.act(end, Doing::OpenFirst(self.shape.at(end, link)))
     }
 
     /// A link opens at an end that may follow the other.
     pub fn follow(&mut self, end: End, link: LinkId) -> bool {
-        self.act(Step::OpenSecond(end, self.shape.at(end, link)))
+        self.act(end, Doing::OpenSecond(self.shape.at(end, link)))
     }
 
     /// This many ticks pass at an end.
     pub fn tick(&mut self, end: End, count: u8) {
         for _ in 0..count {
-            self.act(Step::Tick(end));
+            self.act(end, Doing::Tick);
         }
     }
 
     /// An operator keeps a link from opening.
     pub fn deactivate(&mut self, end: End, link: LinkId) {
-        self.act(Step::Deactivate(end, self.shape.at(end, link)));
+        self.act(end, Doing::Deactivate(self.shape.at(end, link)));
     }
 
     /// An operator lets a link open.
     pub fn activate(&mut self, end: End, link: LinkId) {
-        self.act(Step::Activate(end, self.shape.at(end, link)));
+        self.act(end, Doing::Activate(self.shape.at(end, link)));
     }
 }

@@ -8,7 +8,7 @@ use pair_world::{End, Step};
 impl World {
     /// The association of a link comes up that leads an end elsewhere.
     pub fn open_elsewhere(&mut self, end: End, link: LinkId) -> bool {
-        self.act(Step::OpenElsewhere(end, link))
+        self.turn(end, Step::OpenElsewhere(link)).is_something()
     }
 
     /// A route of an end takes another set.
@@ -34,7 +34,7 @@ impl World {
     /// A frame comes to an end by a link that leads elsewhere. It carries the user message of this mark for the other
     /// end, if it carries one.
     pub fn hear_elsewhere(&mut self, end: End, link: LinkId, text: FrameText, mark: Option<Mark>) {
-        let became = self.arrive(Step::HearElsewhere(end, link, text));
+        let became = self.arrive(end, Step::HearElsewhere(link, text));
         if let Some(mark) = mark {
             self.note_accepted(end, mark, became.is_accepted());
         }

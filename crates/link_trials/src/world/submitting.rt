@@ -1,19 +1,19 @@
 //! Messages that the two nodes submit, and the row by which one relays them.
 
 use crate::marking::{Mark, message_of, unitdata_of};
-use crate::titles::title_step;
+use crate::titles::title_order;
 use crate::world::World;
 use exchange::Msu;
 use linked_nodes::points;
-use pair_world::{End, Step};
+use pair_world::{Doing, End, Step};
 
 impl World {
     /// An operator adds a translation row, or removes it if it is there.
     pub fn translate(&mut self, end: End) {
         let was_there = self.nodes.has_title(end);
         let (_, adjacent) = points(end);
-        if let Some(step) = title_step(end, was_there, adjacent) {
-            self.act(step);
+        if let Some(order) = title_order(was_there, adjacent) {
+            self.act(end, order);
         }
         self.tally.kept_titles &= self.nodes.has_title(end) != was_there;
     }
@@ -35,7 +35,8 @@ impl World {
 
     /// An end submits a message. Says whether it accepted it.
     pub fn submit_message(&mut self, end: End, message: Msu) -> bool {
-        self.turn(Step::Submit(end, message)).is_accepted()
+        self.turn(end, Step::Do(Doing::Submit(message)))
+            .is_accepted()
     }
 
     /// The message of a mark that an end submits; there is one, since the points and the flow are in range. If SCCP is

@@ -2,8 +2,10 @@
 use Rattle.std.proofs.Common.{List, sym, subst, ◌∙◌}
 use Rattle.std.proofs.lemmas.Result.{IfOk-weaker}
 use Rattle.pair_world.specs.KeptNodes.{KeptNode}
+use Rattle.pair_world.specs.NetworkPromised.{TellsBetween}
 use Rattle.pair_world.specs.NetworkStands.{NetworkStandsFor, has_node, stepped}
-use Rattle.pair_world.specs.NetworkTold.{doing_told}
+use Rattle.pair_world.specs.Told.{doing_told}
+use Rattle.pair_world.proofs.NetworkTelling.{tells}
 use Rattle.pair_world.proofs.NetworkTurns.{turn-outcome, turn-stands}
 use Rattle.pair_world.proofs.network.Network.turn.Goals as goal
 
@@ -11,6 +13,14 @@ pub returns-clause-outcome : goal.returns-clause-outcome
 returns-clause-outcome c = λ w s.
     IfOk-weaker c.apply.result _ _
     (λ outcome e. e ∙ turn-outcome c.args.self.now w s (doing_told c.args.doing outcome) c.args.at)
+    c.apply.ensures.outcome
+
+pub returns-clause-told : goal.returns-clause-told
+returns-clause-told c = λ w s far.
+    IfOk-weaker c.apply.result _ _
+    (λ outcome e.
+    subst (TellsBetween (doing_told c.args.doing outcome) w c.args.at far) (sym (e ∙ turn-outcome c.args.self.now w s (doing_told c.args.doing outcome) c.args.at))
+    (tells c.args.self.now w s (doing_told c.args.doing outcome) c.args.at far))
     c.apply.ensures.outcome
 
 pub returns-clause-state : goal.returns-clause-state

@@ -1,0 +1,12 @@
+-- Where the node may follow is where that of the abstract network may.
+use Rattle.std.proofs.Common.{rules, ◌≡◌, List, ◌∙◌, ap}
+use Rattle.pair_world.specs.KeptNodes.{KeptNode}
+use Rattle.pair_world.specs.KeptNetworks.{node_at}
+use Rattle.pair_world.specs.NetworkPromised.{follows_at}
+use Rattle.pair_world.proofs.NetworkLaws.{follows-same}
+use Rattle.pair_world.proofs.network.Network.may_follow.Goals as goal
+
+pub returns : goal.returns
+returns c =
+    let here : c.deref.result.now ≡ c.args.self.now = search rules in
+    λ w s. (c.follows_at.ensures ∙ ap (λ (k : List KeptNode). follows_at c.args.link (node_at c.args.at k)) here) ∙ follows-same c.args.self.now w s c.args.at c.args.link
