@@ -106,10 +106,11 @@ by-eight c link origin m n places e on f =
     let none : DestinationEntry = record { point = 0; sets = []; joined = false } in
     let found = position-Some (λ (d : DestinationEntry). nat_eq (opc_of m) d.point) c.destinations origin none f in
     let there : origin < length n.parts.unequipped = subst (λ (k : ℕ). origin < k) (sym places.unequipped) found.0 in
-    let one : ℕ = (count_from origin n + 1) % 8 in
-    (ap (λ (t : List ℕ). slice_index_or t origin 0) (counts c link m n origin e on f) ∙ get_or-set_same n.parts.unequipped origin one 0 there,
-    λ (other : ℕ) (d : other ≢ origin). ap (λ (t : List ℕ). slice_index_or t other 0) (counts c link m n origin e on f)
-    ∙ get_or-set_other n.parts.unequipped origin other one 0 d)
+    let one : ℕ = (count_from origin n + 1) % 8 in (
+      ap (λ (t : List ℕ). slice_index_or t origin 0) (counts c link m n origin e on f) ∙ get_or-set_same n.parts.unequipped origin one 0 there,
+      λ (other : ℕ) (d : other ≢ origin). ap (λ (t : List ℕ). slice_index_or t other 0) (counts c link m n origin e on f)
+          ∙ get_or-set_other n.parts.unequipped origin other one 0 d,
+    )
 
 pub reads : upu_reads_back
 reads c m own =
