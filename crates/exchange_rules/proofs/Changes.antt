@@ -86,7 +86,7 @@ module _ (of : Message → Bool) (c : Configuration) where
   answer_no_user_part-stand (Some link) (Some origin) m n =
       let next : Node WholeQueues = with_parts n (unequipped_counted origin n.parts) in
       either-stand c.user_part_unavailable (tell_unavailable whole c origin m n) n (stands of n)
-      (either-stand (is_unequipped_told whole c origin n) (send_routed whole c (unavailable c m) next) next (stands of n)
+      (either-stand (is_unequipped_told whole c origin m n) (send_routed whole c (unavailable c m) next) next (stands of n)
       (made-stand (opc_of m) (UserPartUnavailable c.own (service_indicator m) Unequipped) next) refl) refl
   answer_no_user_part-stand (Some link) None m n = refl
   answer_no_user_part-stand None origin m n = refl

@@ -1,7 +1,7 @@
 -- Messages that are made here or go to other points, and what adjacent points are told and say: what is kept of the
 -- node that a rule leaves is what the rule leaves of what was kept, and it stays sound. Over any two kinds of queues P
 -- and Q of which h keeps one as the other.
-use Rattle.exchange_rules.proofs.Basics.{◌≡◌, ℕ, Bool, true, false, List, [], ◌∷◌, Option, Some, None, Result, Ok, Err, refl, ap, ◌∙◌}
+use Rattle.exchange_rules.proofs.Basics.{◌≡◌, ℕ, Bool, true, false, List, [], ◌∷◌, Option, Some, None, Result, Ok, Err, is_some, refl, ap, ◌∙◌}
 use Rattle.exchange_rules.proofs.Definitions.{Message, dpc_of, flow_of, Configuration, Cause, Outcome, Handled, Ignored, destination_place, RouteStatus, Allowed, Restricted, Prohibited, status_of, Heard, RouteTest, Owed, owed, Node, QueueKind, keep, with_parts, answer, refuse, waits, facts, link_of, set_of, no_room, no_room_on, no_room_for, is_destination, offer, transfer, told_below, route_message, told_parts, answered_parts, inhibited, is_inhibited, may_tell, tell_if, tell_each, tell_owed, prohibit, prohibit_if, answer_no_route, answer_no_user_part, is_unequipped_told, tell_unavailable, unavailable, unequipped_counted, unequipped_from, send_route_status, answer_route_test, on_route_test, with_status_heard, with_next_test, prohibited_test, restricted_test, apply_route_status, on_route_status, ask_by, ask_again, send, send_on, send_routed, send_anew, send_each}
 use Rattle.std.specs.Prelude.{nat_eq, nat_lt, length, ◌&&◌, not}
 use Rattle.std.specs.Option.{option_or}
@@ -79,8 +79,8 @@ module _ {P Q : Type 0} (p : QueueKind P) (q : QueueKind Q) (h : P → Q) (IsFit
   tell_unavailable-kept : (o : ℕ) (m : Message) (n : Node P) → IsFit n.queues → KeepsNode h IsFit (tell_unavailable q c o m (keep h n)) (tell_unavailable p c o m n)
   tell_unavailable-kept o m n f =
       let next : Node P = with_parts n (unequipped_counted o n.parts) in
-      alike_node (is_unequipped_told q c o (keep h n)) (is_unequipped_told p c o n) _ _ (send_routed p c (unavailable c m) next) next
-      (ap (λ (b : Bool). b && nat_eq (unequipped_from o n.parts) 0) (may_tell-kept n))
+      alike_node (is_unequipped_told q c o m (keep h n)) (is_unequipped_told p c o m n) _ _ (send_routed p c (unavailable c m) next) next
+      (ap (λ (b : Bool). b && nat_eq (unequipped_from o n.parts) 0 && is_some (link_of c n.parts (flow_of (unavailable c m)))) (may_tell-kept n))
       (send_routed-kept (unavailable c m) next f) (record { same = refl; fit = f })
 
   pub answer_no_user_part-kept : (link origin : Option ℕ) (m : Message) (n : Node P) → IsFit n.queues

@@ -80,7 +80,7 @@ module _ (c : Configuration) where
   absent-facts (Some link) (Some origin) m n = says c.user_part_unavailable
     where
       says : (b : Bool) → Same n (if b then tell_unavailable whole c origin m n else n)
-      says true = told-facts (is_unequipped_told whole c origin n) (unavailable c m) (with_parts n (unequipped_counted origin n.parts))
+      says true = told-facts (is_unequipped_told whole c origin m n) (unavailable c m) (with_parts n (unequipped_counted origin n.parts))
       says false = refl
   absent-facts (Some link) None m n = refl
   absent-facts None origin m n = refl

@@ -62,7 +62,7 @@ module _ (c : Configuration) where
   tell_unavailable-quiet origin m n =
       let next : Node WholeQueues = with_parts n (unequipped_counted origin n.parts) in
       then-quiet 1 n next _ refl refl refl
-      (either-quiet 1 (is_unequipped_told whole c origin n) next (send_routed whole c (unavailable c m) next) next (routed-quiet (unavailable c m) next) (any-quiet 1 next))
+      (either-quiet 1 (is_unequipped_told whole c origin m n) next (send_routed whole c (unavailable c m) next) next (routed-quiet (unavailable c m) next) (any-quiet 1 next))
 
   answer_no_user_part-quiet : (link origin : Option ℕ) (m : Message) (n : Node WholeQueues) → Quiet 1 n (answer_no_user_part whole c link origin m n)
   answer_no_user_part-quiet (Some link) (Some origin) m n =

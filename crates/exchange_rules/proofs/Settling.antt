@@ -116,7 +116,7 @@ module _ (c : Configuration) (holds : HoldSet) where
       let next : Node WholeQueues = with_parts n (unequipped_counted origin n.parts) in
       let still : Waits c holds next = record { same = w.same; all = w.all } in
       either-waits c.user_part_unavailable (tell_unavailable whole c origin m n) n
-      (either-waits (is_unequipped_told whole c origin n) (send_routed whole c (unavailable c m) next) next (send_routed-waits (unavailable c m) next still) still) w
+      (either-waits (is_unequipped_told whole c origin m n) (send_routed whole c (unavailable c m) next) next (send_routed-waits (unavailable c m) next still) still) w
   without_part-waits (Some link) None m n w = w
   without_part-waits None origin m n w = w
 

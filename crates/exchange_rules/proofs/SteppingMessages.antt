@@ -90,7 +90,7 @@ module _ {c : Configuration} {Own Counts : ℕ → Type 0} {May : Deed → Type 
   tell_unavailable-steps origin m n =
       let next : Node WholeQueues = with_parts n (unequipped_counted origin n.parts) in
       s.sends.both n next _ (s.unequipped _ n (length-set n.parts.unequipped origin _))
-      (either-steps s.sends (is_unequipped_told whole c origin n) next (send_routed whole c (unavailable c m) next) next (send_routed-steps s.sends (unavailable c m) next) (s.sends.none next))
+      (either-steps s.sends (is_unequipped_told whole c origin m n) next (send_routed whole c (unavailable c m) next) next (send_routed-steps s.sends (unavailable c m) next) (s.sends.none next))
 
   pub answer_no_user_part-steps : (link origin : Option ℕ) (m : Message) (n : Node WholeQueues) → R n (answer_no_user_part whole c link origin m n)
   answer_no_user_part-steps (Some link) (Some origin) m n =

@@ -1,10 +1,16 @@
 -- Messages for user parts that aren't here: laws.
-use Rattle.std.specs.Prelude.{◌≡◌, ◌&&◌, ◌||◌, ℕ, Bool, true, false, not, nat_eq, Option, Some, None}
+use Rattle.std.specs.Prelude.{◌≡◌, ◌≢◌, ◌<◌, ◌^◌, ◌+◌, ◌*◌, ◌%◌, ◌&&◌, ◌||◌, ℕ, Bool, true, false, not, nat_eq, nat_lt, is_some, slice_index_or, slice_set, Option, Some, None, Ok}
 use Rattle.settings_rows.specs.Configuration.{Configuration}
-use Rattle.signalling_types.specs.Message.{Message, is_management, opc_of, service_indicator}
+use Rattle.signalling_types.specs.Message.{Message, flow_of, is_management, opc_of, service_indicator}
+use Rattle.mtp3_codec.specs.Headings.{label_at}
+use Rattle.mtp3_codec.specs.Management.{read_management}
+use Rattle.mtp3_codec.specs.declared.management.Management.TheVariants.{UserPartUnavailable}
+use Rattle.mtp3_codec.specs.declared.unavailability.UnavailabilityCause.TheVariants.{Unequipped}
 use Rattle.settings.specs.Readings.{destination_place}
 use Rattle.exchange_rules.specs.State.{Node, with_parts}
-use Rattle.exchange_rules.specs.Telling.{is_unequipped_told, send_routed, unavailable, unequipped_counted}
+use Rattle.exchange_rules.specs.Places.{HasPlacesFor}
+use Rattle.exchange_rules.specs.Routing.{link_of, queue_on}
+use Rattle.exchange_rules.specs.Telling.{unavailable}
 use Rattle.exchange_rules.specs.Messages.{distribute, is_user, local, sccp}
 use Rattle.exchange_rules.specs.Queues.{WholeQueues, whole}
 
@@ -12,26 +18,60 @@ use Rattle.exchange_rules.specs.Queues.{WholeQueues, whole}
 abbrev pub lacks_part : Configuration → Message → Bool
 lacks_part c m = not (is_management m) && not (nat_eq (service_indicator m) sccp || is_user c (service_indicator m))
 
--- whether its sender is told: the settings say so, it is a destination, and neither was it told of one of the last
--- seven, nor does too much management wait
-abbrev pub sender_is_told : Configuration → (origin : Option ℕ) → Node WholeQueues → Bool
-sender_is_told c (Some origin) node = c.user_part_unavailable && is_unequipped_told whole c origin node
-sender_is_told c None node = false
+-- how many of them came from a destination, modulo 8
+abbrev pub count_from : (origin : ℕ) → Node WholeQueues → ℕ
+count_from origin node = slice_index_or node.parts.unequipped origin 0
 
--- if it is told, then by one message on the way to it, and by no other
+-- the node with that count one higher, and with nothing else changed
+abbrev pub with_one_more : (origin : ℕ) → Node WholeQueues → Node WholeQueues
+with_one_more origin node = with_parts node (record node.parts {
+  unequipped = slice_set node.parts.unequipped origin ((count_from origin node + 1) % 8);
+})
+
+-- whether its sender is told: fewer than 128 management messages wait, as many such messages came from there as a
+-- multiple of eight, each counted whether its sender was told or not, and the flow of UPU has a link
+abbrev pub is_sender_told : Configuration → (origin : ℕ) → Message → Node WholeQueues → Bool
+is_sender_told c origin m node =
+    nat_lt (whole.managements node.queues) 128 && nat_eq (count_from origin node) 0
+    && is_some (link_of c node.parts (flow_of (unavailable c m)))
+
+-- if it is told, what is left is the node with its count one higher, and UPU at the end of the queue of that link
 abbrev pub told_by_one : Type 0
 told_by_one =
-    (c : Configuration) (link origin : ℕ) (m : Message) (node : Node WholeQueues) → lacks_part c m ≡ true →
-    destination_place c (opc_of m) ≡ Some origin → sender_is_told c (Some origin) node ≡ true →
-    (distribute whole c link m node).left
-    ≡ send_routed whole c (unavailable c m) (with_parts node (unequipped_counted origin node.parts))
+    (c : Configuration) (link origin way : ℕ) (m : Message) (node : Node WholeQueues) → lacks_part c m ≡ true →
+    c.user_part_unavailable ≡ true → destination_place c (opc_of m) ≡ Some origin →
+    is_sender_told c origin m node ≡ true → link_of c node.parts (flow_of (unavailable c m)) ≡ Some way →
+    (distribute whole c link m node).left ≡ queue_on whole c way (unavailable c m) (with_one_more origin node)
 
--- otherwise nothing is queued
-abbrev pub else_by_none : Type 0
-else_by_none =
+-- if it isn't, what is left is the node with its count one higher
+abbrev pub else_counted : Type 0
+else_counted =
+    (c : Configuration) (link origin : ℕ) (m : Message) (node : Node WholeQueues) → lacks_part c m ≡ true →
+    c.user_part_unavailable ≡ true → destination_place c (opc_of m) ≡ Some origin →
+    is_sender_told c origin m node ≡ false → (distribute whole c link m node).left ≡ with_one_more origin node
+
+-- if the settings don't say so, or it is no destination, the node is left as it was
+abbrev pub else_untouched : Type 0
+else_untouched =
     (c : Configuration) (link : ℕ) (m : Message) (node : Node WholeQueues) → lacks_part c m ≡ true →
-    sender_is_told c (destination_place c (opc_of m)) node ≡ false →
-    (distribute whole c link m node).left.queues ≡ node.queues
+    (c.user_part_unavailable && is_some (destination_place c (opc_of m))) ≡ false →
+    (distribute whole c link m node).left ≡ node
+
+-- the count of its origin rises by one, modulo 8, and all others stay: so just one of each eight finds it at 0
+abbrev pub counts_modulo_eight : Type 0
+counts_modulo_eight =
+    (c : Configuration) (link origin : ℕ) (m : Message) (node : Node WholeQueues) → HasPlacesFor c node.parts →
+    lacks_part c m ≡ true → c.user_part_unavailable ≡ true → destination_place c (opc_of m) ≡ Some origin →
+    (count_from origin (distribute whole c link m node).left ≡ (count_from origin node + 1) % 8)
+    × ((other : ℕ) → other ≢ origin → count_from other (distribute whole c link m node).left ≡ count_from other node)
+
+-- UPU is management of this network, from this point to the sender, and says that this point has no such user part
+abbrev pub upu_reads_back : Type 0
+upu_reads_back =
+    (c : Configuration) (m : Message) → c.own < 2 ^ 14 →
+    ((unavailable c m).sio ≡ c.network * 64)
+    × (label_at (unavailable c m).sif ≡ record { dpc = opc_of m; opc = c.own; sls = 0 })
+    × (read_management (unavailable c m).sif ≡ Ok (UserPartUnavailable c.own (service_indicator m) Unequipped))
 
 -- the same settings with which nobody is told
 abbrev pub silent : Configuration → Configuration

@@ -166,7 +166,8 @@ is_unavailability _ = false
 abbrev pub says_unavailable : Message → Bool
 says_unavailable m = nat_eq (service_indicator m) 0 && is_unavailability (read_management m.sif)
 
--- such a message asks for nothing: its users learn of it otherwise. It is left out if this node doesn't say so itself
+-- such a message is handled and has no other effect: nothing tells the users here. It is left out if this node doesn't
+-- say so itself
 abbrev pub on_unavailable : Configuration → Outcome
 on_unavailable c = if c.user_part_unavailable then Handled else Refused NotInProfile
 

@@ -1,5 +1,5 @@
 -- HMRT, message routing (Q.704 §2.3): management that this node makes, or that a link left over when it failed.
-use Rattle.std.specs.Prelude.{ℕ, ◌+◌, ◌*◌, ◌%◌, nat_eq, slice_index_or, slice_set, Option, Some, None, Bool, ◌&&◌, ◌||◌, not, nat_lt, List, [], ◌∷◌, Result, Ok, Err, if◌then◌else◌}
+use Rattle.std.specs.Prelude.{ℕ, ◌+◌, ◌*◌, ◌%◌, nat_eq, slice_index_or, slice_set, is_some, Option, Some, None, Bool, ◌&&◌, ◌||◌, not, nat_lt, List, [], ◌∷◌, Result, Ok, Err, if◌then◌else◌}
 use Rattle.signalling_types.specs.Message.{Message, dpc_of, flow_of, opc_of, service_indicator}
 use Rattle.settings_rows.specs.Configuration.{Configuration}
 use Rattle.signalling_types.specs.declared.cause.Cause.{Cause}
@@ -161,9 +161,11 @@ module _ {Q : Type 0} (q : QueueKind Q) (c : Configuration) where
 
   -- ---- a message for a user part that isn't here
 
-  -- whether one from this destination is answered
-  abbrev pub is_unequipped_told : (origin : ℕ) → Node Q → Bool
-  is_unequipped_told origin node = may_tell node && nat_eq (unequipped_from origin node.parts) 0
+  -- whether one from this destination is answered: there is room, it is the first, and the answer has a link
+  abbrev pub is_unequipped_told : (origin : ℕ) → Message → Node Q → Bool
+  is_unequipped_told origin m node =
+      may_tell node && nat_eq (unequipped_from origin node.parts) 0
+      && is_some (link_of c node.parts (flow_of (unavailable c m)))
 
   abbrev pub send_if : Bool → Message → Node Q → Node Q
   send_if is_told m node = if is_told then send_routed q c m node else node
@@ -172,7 +174,7 @@ module _ {Q : Type 0} (q : QueueKind Q) (c : Configuration) where
   abbrev pub tell_unavailable : (origin : ℕ) → Message → Node Q → Node Q
   tell_unavailable origin m node =
       with_parts node (unequipped_counted origin node.parts)
-      ▷ send_if (is_unequipped_told origin node) (unavailable c m)
+      ▷ send_if (is_unequipped_told origin m node) (unavailable c m)
 
   -- the link that it came by, if any, and its origin, if that is a destination
   abbrev pub answer_no_user_part : (link origin : Option ℕ) → Message → Node Q → Node Q

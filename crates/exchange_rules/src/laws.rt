@@ -30,17 +30,20 @@ ghost use Rattle.exchange_rules.specs.LawsOfReturns.{flows_return_by_their_proce
 ghost use Rattle.exchange_rules.specs.LawsOfShares.{full_shares_refuse, others_know_no_shares};
 
 pub mod links;
+pub mod user_parts;
 
 pub use links::{
     links_are_proved_before_they_enter_service, links_have_the_timers_of_their_states,
     links_open_where_they_want_to, links_stay_steady, links_that_fail_are_named,
     only_links_in_service_are_given_messages, other_links_are_left, what_was_received_is_counted,
 };
+pub use user_parts::absent_user_parts_are_told_once_in_eight;
 
 /// A refused event changes nothing, but that a refused message may be answered: one of SCCP for this point is returned,
 /// if it can be, by a UDTS or an XUDTS; where a message in a frame found no route the point at the other end of its
-/// link is told, and of one for a user part that isn't here its sender. Of a message in a frame also what accepting
-/// that frame did stands, with a notice, and what then found room to be told.
+/// link is told, by TFP; and where one is for a user part that isn't here it is counted, and its sender is told, by UPU,
+/// as `absent_user_parts_are_told_once_in_eight` says. Of a message in a frame also what accepting that frame did
+/// stands, with a notice, and what then found room to be told.
 pub fn refusals_change_nothing()
     ensures { refusals_leave }
 {}

@@ -2,7 +2,6 @@
 #![tactic(auto)]
 
 pub mod laws;
-pub mod laws_of_user_parts;
 pub mod wants;
 
 pub use wants::Wants;

@@ -84,7 +84,7 @@ module _ (c z : Configuration) (j : Joint c z) (w : World) (arrived rest : List 
       let next : Node WholeQueues = with_parts n (unequipped_counted origin n.parts) in
       both _ _ _
       (aside-passes c z j w n arrived rest (unequipped_counted origin n.parts) ((fit-steps c).unequipped _ n (length-set n.parts.unequipped origin _)) refl refl refl refl refl refl (λ e. e))
-      (either (is_unequipped_told whole c origin n) next (send_routed whole c (unavailable c m) next) (telling-unavailable m next))
+      (either (is_unequipped_told whole c origin m n) next (send_routed whole c (unavailable c m) next) (telling-unavailable m next))
 
   pub answer_no_user_part-passes : (link origin : Option ℕ) (m : Message) (n : Node WholeQueues) → Pass n (answer_no_user_part whole c link origin m n)
   answer_no_user_part-passes (Some link) (Some origin) m n = either c.user_part_unavailable n (tell_unavailable whole c origin m n) (tell_unavailable-passes origin m n)

@@ -113,7 +113,7 @@ module _ (c : Configuration) (fine : Message → Bool) (f : IsFine c fine) {R : 
       let next : Node WholeQueues = with_parts n (unequipped_counted origin n.parts) in
       either c.user_part_unavailable n (tell_unavailable whole c origin m n) n
       (r.both n next _ (r.same n next refl)
-      (either (is_unequipped_told whole c origin n) next (send_routed whole c (unavailable c m) next) next
+      (either (is_unequipped_told whole c origin m n) next (send_routed whole c (unavailable c m) next) next
       (routed (unavailable c m) next (f.made (opc_of m) (UserPartUnavailable c.own (service_indicator m) Unequipped) (opc-fits m))) (stays next)))
       (stays n)
   no_part-keeps (Some link) None m n = stays n

@@ -113,7 +113,8 @@ impl Exchange {
         }
     }
 
-    /// A user part unavailable: its users learn of it otherwise. It is left out if this node doesn't say so itself.
+    /// A user part unavailable: it has no effect, and nothing tells the users here. It is left out if this node doesn't
+    /// say so itself.
     fn on_unavailable(&self) -> Outcome
         ensures { result ≡ rule.on_unavailable self.now.settings }
     {

@@ -1,11 +1,11 @@
 //! HMRT, message routing (Q.704 §2.3): management that this node makes, or that a link left over when it failed.
 
-ghost use Rattle.std.specs.Prelude.{◌≡◌, ◌<◌, ◌≤◌, Some, None, length, IfErr, OnOk, is_ok, if◌then◌else◌};
-ghost use Rattle.signalling_types.specs.Message.{lent, dpc_of};
+ghost use Rattle.std.specs.Prelude.{◌≡◌, ◌<◌, ◌≤◌, Some, None, length, IfErr, OnOk, is_ok, is_some, if◌then◌else◌};
+ghost use Rattle.signalling_types.specs.Message.{lent, dpc_of, flow_of};
 ghost use Rattle.exchange_rules.specs.State.{with_node, with_parts, note, flagged};
 ghost use Rattle.exchange.specs.KeptQueues.{kept};
 ghost use Rattle.signalling_types.specs.declared.notice.Notice.TheVariants as notices;
-ghost use Rattle.exchange_rules.specs.Routing.{no_room, queue_on};
+ghost use Rattle.exchange_rules.specs.Routing.{link_of, no_room, queue_on};
 ghost use Rattle.exchange_rules.specs.Telling as rule;
 
 use super::Exchange;
@@ -47,6 +47,22 @@ impl Exchange {
         let count = message.write(point, self.settings.own(), &mut octets);
         let sio = self.own_sio(MANAGEMENT);
         self.send_routed(MsuRef {
+            sio,
+            sif: &octets[..count],
+        });
+    }
+
+    /// A management message made here for a point goes out on the link of its flow; without a link none is made.
+    pub(super) fn send_management_if_led(&mut self, point: PointCode, message: &Management)
+        ensures { self.new ≡ with_node self.old (rule.send_if kept self.old.settings
+            (is_some (link_of self.old.settings self.old.node.parts
+            (flow_of (rule.management_to self.old.settings point message.now))))
+            (rule.management_to self.old.settings point message.now) self.old.node) }
+    {
+        let mut octets = [0; MANAGEMENT_OCTETS];
+        let count = message.write(point, self.settings.own(), &mut octets);
+        let sio = self.own_sio(MANAGEMENT);
+        self.send_if_led(MsuRef {
             sio,
             sif: &octets[..count],
         });
@@ -97,6 +113,20 @@ impl Exchange {
         match self.link_of(&label) {
             Some(link) => self.send_on(link, label.dpc, message),
             None => self.unsent(Cause::NoRoute, label.dpc),
+        }
+    }
+
+    /// A message made here goes out on the link of its flow; without a link nothing happens.
+    fn send_if_led(&mut self, message: MsuRef<'_>)
+        requires label { 4 ≤ length message.sif.now }
+        requires fits { length message.sif.now ≤ Limits.SIF_OCTETS }
+        ensures { self.new ≡ with_node self.old (rule.send_if kept self.old.settings
+            (is_some (link_of self.old.settings self.old.node.parts (flow_of (lent message.entry))))
+            (lent message.entry) self.old.node) }
+    {
+        let label = Label::at(message.sif);
+        if let Some(link) = self.link_of(&label) {
+            self.send_on(link, label.dpc, message);
         }
     }
 

@@ -1,10 +1,11 @@
 //! TSFC, signalling traffic flow control (Q.704 §11.2.7): messages for user parts that aren't here.
 
-ghost use Rattle.std.specs.Prelude.{◌≡◌, ◌<◌, ◌≤◌, length};
-ghost use Rattle.signalling_types.specs.Message.{lent, opc_of};
+ghost use Rattle.std.specs.Prelude.{◌≡◌, ◌<◌, ◌≤◌, length, is_some};
+ghost use Rattle.signalling_types.specs.Message.{lent, opc_of, flow_of};
 ghost use Rattle.settings.specs.Readings.{destination_place};
 ghost use Rattle.exchange_rules.specs.State.{with_node, with_parts};
 ghost use Rattle.exchange.specs.KeptQueues.{kept};
+ghost use Rattle.exchange_rules.specs.Routing.{link_of};
 ghost use Rattle.exchange_rules.specs.Telling as rule;
 
 use super::Exchange;
@@ -13,7 +14,7 @@ use settings::{LinkId, MsuRef, PointCode};
 
 impl Exchange {
     /// A message for a user part that isn't here. If it arrived on a link, its origin is a destination, and the settings
-    /// say so, it is counted, and the first of each eight of an origin is answered by UPU, if there is room.
+    /// say so, it is counted, and the first of each eight of an origin is answered by UPU, if there is room and a link.
     #[inline(never)]
     pub(super) fn answer_no_user_part(&mut self, from: Option<LinkId>, message: MsuRef<'_>)
         ensures { self.new ≡ with_node self.old (rule.answer_no_user_part kept self.old.settings from
@@ -39,9 +40,9 @@ impl Exchange {
         ensures { self.new ≡ with_node self.old
             (rule.tell_unavailable kept self.old.settings origin (lent message.entry) self.old.node) }
     {
-        let is_told = self.may_tell() && self.unequipped.is_first(origin);
+        let is_due = self.may_tell() && self.unequipped.is_first(origin);
         self.count_unequipped(origin);
-        if is_told {
+        if is_due {
             self.send_unavailable(point, message);
         }
     }
@@ -55,15 +56,17 @@ impl Exchange {
         self.unequipped.count(origin);
     }
 
-    /// Tells the origin of a message that its user part isn't here.
+    /// Tells the origin of a message that its user part isn't here, if the flow of UPU has a link.
     fn send_unavailable(&mut self, point: PointCode, message: MsuRef<'_>)
         requires { point ≡ opc_of (lent message) }
-        ensures { self.new ≡ with_node self.old (rule.send_routed kept self.old.settings
+        ensures { self.new ≡ with_node self.old (rule.send_if kept self.old.settings
+            (is_some (link_of self.old.settings self.old.node.parts
+            (flow_of (rule.unavailable self.old.settings (lent message.entry)))))
             (rule.unavailable self.old.settings (lent message.entry)) self.old.node) }
     {
         let part = UserPart::of_low_half(message.sio);
         let cause = UnavailabilityCause::Unequipped;
         let told = Management::UserPartUnavailable(self.settings.own(), part, cause);
-        self.send_management(point, &told);
+        self.send_management_if_led(point, &told);
     }
 }
