@@ -138,6 +138,11 @@ abbrev pub way_text : TitleRoute → List ℕ
 way_text (route.Title ssn) = title_way_text ssn
 way_text (route.Ssn ssn) = codes " ssn " ++ decimal ssn
 
+-- a row's backup point; nothing, if it has none
+abbrev pub backup_text : PointFormat → Option ℕ → List ℕ
+backup_text points (Some point) = codes " backup " ++ point_text points point
+backup_text points None = []
+
 -- a number, or - for none
 abbrev pub given_text : Option ℕ → List ℕ
 given_text (Some n) = decimal n
@@ -164,7 +169,7 @@ abbrev pub title_text : PointFormat → TitleEntry → List ℕ
 title_text points row =
     codes "title " ++ decimal row.translation ++ codes " " ++ decimal row.plan ++ codes " " ++ decimal row.nature
     ++ codes " " ++ map digit_octet row.digits ++ codes " " ++ point_text points row.point ++ way_text row.route
-    ++ change_text row.change
+    ++ backup_text points row.backup ++ change_text row.change
 
 -- the line of row k, in the order of the rows
 abbrev pub title_line : {Q : Type 0} → PointFormat → State Q → ℕ → Option (List ℕ)

@@ -91,8 +91,20 @@ changed_by row (word ∷ plan ∷ nature ∷ removed ∷ added ∷ []) =
     else None
 changed_by row _ = None
 
--- the row of this name that these words write: `POINT ROUTE SSN`, and the words of a change, if any
+-- the row with the backup that the first of these words writes, and with the change of titles that the rest write
+abbrev pub backed_by : PointFormat → TitleEntry → List (List ℕ) → Option TitleEntry
+backed_by points row [] = None
+backed_by points row (point ∷ behind) =
+    option_and_then (λ p. changed_by (record row { backup = Some p }) behind) (point_in points point)
+
+-- the row with what these words write: `backup POINT`, if it has a backup, and the words of a change, if any
+abbrev pub completed_by : PointFormat → TitleEntry → List (List ℕ) → Option TitleEntry
+completed_by points row [] = Some row
+completed_by points row (word ∷ behind) =
+    if bytes_eq word (codes "backup") then backed_by points row behind else changed_by row (word ∷ behind)
+
+-- the row of this name that these words write: `POINT ROUTE SSN`, and the words of a backup and of a change, if any
 abbrev pub row_written : PointFormat → RowName → List (List ℕ) → Option TitleEntry
 row_written points name (point ∷ way ∷ ssn ∷ behind) =
-    option_and_then (λ row. changed_by row behind) (row_of points name point way ssn)
+    option_and_then (λ row. completed_by points row behind) (row_of points name point way ssn)
 row_written points name _ = None

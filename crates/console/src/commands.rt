@@ -24,8 +24,9 @@ pub enum Command {
     Activate,
     /// `deactivate LINK`: the link goes out of service, and can't open.
     Deactivate,
-    /// `title add T P N DIGITS POINT ROUTE SSN`, with `changed PLAN NATURE REMOVE ADD` after it if titles change, or
-    /// `title remove T P N DIGITS`: a translation row is added or removed.
+    /// `title add T P N DIGITS POINT ROUTE SSN`, then `backup POINT` if there is a backup, and
+    /// `changed PLAN NATURE REMOVE ADD` if titles change, or `title remove T P N DIGITS`: a translation row is added or
+    /// removed.
     Title,
     /// `show links`, `show routes`, `show titles` or `show notices`.
     Show,

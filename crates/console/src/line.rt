@@ -9,8 +9,8 @@ use itoa::Buffer;
 use point_format::{POINT_OCTETS, PointFormat, point_text};
 use settings::{Cause, PointCode};
 
-/// Octets of a line, at most.
-pub const LINE_OCTETS: usize = 128;
+/// Octets of a line, at most: a translation row with a backup and a change of titles has the longest one.
+pub const LINE_OCTETS: usize = 136;
 
 /// Puts a word and a number in decimal digits at the end of the line.
 pub(crate) fn push_number(line: &mut ArrayString<LINE_OCTETS>, word: &str, number: u64)

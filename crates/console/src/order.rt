@@ -24,8 +24,8 @@ pub enum OrderText<'a> {
         /// The link's name; no link need have it.
         link: &'a [u8],
     },
-    /// `title add T P N DIGITS POINT ROUTE SSN`, and `changed PLAN NATURE REMOVE ADD` if titles change: the translation
-    /// row is added.
+    /// `title add T P N DIGITS POINT ROUTE SSN`, then `backup POINT` if there is a backup, and
+    /// `changed PLAN NATURE REMOVE ADD` if titles change: the translation row is added.
     AddTitle {
         /// The row.
         row: TitleRow,

@@ -8,7 +8,7 @@ ghost use Rattle.settings.specs.Checks.{is_digit};
 ghost use Rattle.settings.specs.Meaning.{digit_of};
 ghost use Rattle.console.specs.Words.{words};
 ghost use Rattle.console.specs.TitleWords.{key_written, digits_written, name_written, ssn_written, route_named};
-ghost use Rattle.console.specs.TitleWords.{row_leading, row_of, row_written};
+ghost use Rattle.console.specs.TitleWords.{row_leading, row_of, row_written, completed_by};
 
 use crate::change_words::changed_by;
 use crate::numbers::read_number;
@@ -55,7 +55,7 @@ pub(crate) fn read_name(
 }
 
 /// A row of this name, which these words complete: `POINT ROUTE SSN`, the point in this format, and the words of a
-/// change of titles, if any.
+/// backup and of a change of titles, if any.
 pub(crate) fn read_row(name: &RowName, text: &[u8], points: PointFormat) -> Option<TitleRow>
     requires { HasTitleRanges name.now.key.plan name.now.key.nature name.now.digits.items }
     ensures { result ≡ row_written points name.now (words text.now) }
@@ -66,11 +66,28 @@ pub(crate) fn read_row(name: &RowName, text: &[u8], points: PointFormat) -> Opti
     let row = row_of(name, point, route, ssn, points)?;
     match rest {
         None => Some(row),
+        Some(rest) => completed_by(row, rest, points),
+    }
+}
+
+/// The row with the backup that these words write, `backup POINT`, the point in this format, and with the change of
+/// titles. One of the two may be missing.
+fn completed_by(row: TitleRow, text: &[u8], points: PointFormat) -> Option<TitleRow>
+    ensures { result ≡ completed_by points row (words text.now) }
+{
+    let (word, rest) = cut(text);
+    if word != b"backup".as_slice() {
+        return changed_by(row, text);
+    }
+    let (backup, rest) = cut(rest?);
+    let row = row.with_backup(parse_point(backup, points)?);
+    match rest {
+        None => Some(row),
         Some(rest) => changed_by(row, rest),
     }
 }
 
-/// A row of this name, with the words of its other values. It changes no titles.
+/// A row of this name, with the words of its other values. It has no backup, and changes no titles.
 fn row_of(
     name: &RowName,
     point: &[u8],

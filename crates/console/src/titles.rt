@@ -4,18 +4,18 @@ ghost use Rattle.std.specs.Prelude.{◌≡◌, ◌+◌, ◌≤◌, ◌<◌, ◌^
 ghost use Rattle.exchange_rules.specs.First.{Abstract};
 ghost use Rattle.exchange.specs.Calls.{StandsFor};
 ghost use Rattle.console.specs.Texts.{Shows, title_line, title_text, digit_octet, way_text, title_way_text};
-ghost use Rattle.console.specs.Texts.{given_text, added_text, is_change, change_text};
+ghost use Rattle.console.specs.Texts.{backup_text, given_text, added_text, is_change, change_text};
 
 use crate::line::{LINE_OCTETS, push_octet, push_point};
 use arrayvec::ArrayString;
 use exchange::Exchange;
 use point_format::PointFormat;
-use settings::{Limits, Ssn, TitleChange, TitleRoute, TitleRow};
+use settings::{Limits, PointCode, Ssn, TitleChange, TitleRoute, TitleRow};
 
 /// Writes line `k`, from 0, of the text of the translation rows: `title T P N DIGITS POINT ROUTE SSN`, one line for
 /// each row, by translation type, plan, nature, then digits, a prefix before the longer ones. ROUTE is `title` or
-/// `ssn`, and SSN `-` if the row has none. If the row changes titles, ` changed PLAN NATURE REMOVE ADD` comes after,
-/// with `-` for each but REMOVE that it lacks. Points are shown in this format.
+/// `ssn`, and SSN `-` if the row has none. If the row has a backup, ` backup POINT` comes after, and if it changes
+/// titles, ` changed PLAN NATURE REMOVE ADD`, with `-` for each but REMOVE that it lacks. Points are shown in this format.
 ///
 /// False past the last line, and then nothing is written.
 pub fn show_titles(
@@ -49,6 +49,7 @@ fn write_title(row: &TitleRow, points: PointFormat, out: &mut ArrayString<LINE_O
     push_digits(out, row.digits());
     push_point(out, " ", row.point(), points);
     push_way(out, row.route());
+    push_backup(out, row.backup(), points);
     push_change(out, row.change());
 }
 
@@ -107,6 +108,17 @@ fn push_ssn(line: &mut ArrayString<LINE_OCTETS>, ssn: Option<Ssn>)
     match ssn {
         Some(ssn) => push_octet(line, " title ", ssn.number()),
         None => line.push_str(" title -"),
+    }
+}
+
+/// Appends a backup point, if there is one: ` backup POINT`.
+fn push_backup(line: &mut ArrayString<LINE_OCTETS>, backup: Option<PointCode>, points: PointFormat)
+    requires { length line.old.bytes + 15 ≤ LINE_OCTETS }
+    ensures text { line.new.bytes ≡ line.old.bytes ++ backup_text points backup }
+    ensures short { length line.new.bytes ≤ length line.old.bytes + 15 }
+{
+    if let Some(backup) = backup {
+        push_point(line, " backup ", backup, points);
     }
 }
 
