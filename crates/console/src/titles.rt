@@ -15,7 +15,8 @@ use settings::{Limits, PointCode, Ssn, TitleChange, TitleRoute, TitleRow};
 /// Writes line `k`, from 0, of the text of the translation rows: `title T P N DIGITS POINT ROUTE SSN`, one line for
 /// each row, by translation type, plan, nature, then digits, a prefix before the longer ones. ROUTE is `title` or
 /// `ssn`, and SSN `-` if the row has none. If the row has a backup, ` backup POINT` comes after, and if it changes
-/// titles, ` changed PLAN NATURE REMOVE ADD`, with `-` for each but REMOVE that it lacks. Points are shown in this format.
+/// titles, ` changed PLAN NATURE REMOVE ADD`, with `-` for each but REMOVE that it lacks. Points are shown in this
+/// format.
 ///
 /// False past the last line, and then nothing is written.
 pub fn show_titles(
