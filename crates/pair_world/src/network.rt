@@ -194,7 +194,11 @@ impl Network {
     /// as many user messages entered the network, by any test, as were received at a node that they aren't to leave, as
     /// wait in nodes, and as were refused by a node on the way (`specs/Totals.antt` of `network_rules`). So it is of
     /// the messages for each node, if all have its network indicator: of those as many entered as it received, as wait,
-    /// and as were refused. This says so by its contract, and does nothing.
+    /// and as were refused.
+    ///
+    /// And what holds between any two nodes that share a set, the laws (i) to (iv) of a pair and that nothing is
+    /// awaited in vain while neither of the two may have lost a message, and that nothing is held in vain whatever was
+    /// lost (`laws` of `network_rules`). This says so by its contract, and does nothing.
     pub fn laws(&self)
         ensures accounted { (w : NetworkState) → NetworkStandsFor self.now w →
             HaveLostNothing (points_of self.now) w → IsAccounted (points_of self.now) w }
