@@ -13,7 +13,8 @@ submit HEX                a user part submits a message: its SIO, then its SIF
 activate LINK             the link may open
 deactivate LINK           the link goes out of service, and stays out
 title add T P N DIGITS POINT ROUTE SSN
-                          a translation row is added
+                          a translation row is added; behind SSN perhaps backup POINT, then perhaps
+                          changed PLAN NATURE REMOVE ADD
 title remove T P N DIGITS a translation row is removed
 users                     from now on each message for this point: local LINK HEX
 watch                     from now on each notice as it falls
