@@ -261,20 +261,20 @@ module _ (a : Abstract) (sound : IsSound a) (places : HasAllPlaces a.settings a.
       abbrev more_stand : Bool
       more_stand = not (nat_eq (kept_standing_if (is_sccp m) number k) (kept_standing_if (is_sccp m) number (after kept came k)))
 
-      abbrev own : OwnValue
-      own = own_of a.settings (after kept came k).node.parts
+      abbrev own_behind : OwnValue
+      own_behind = own_of a.settings (after kept came k).node.parts
 
-      abbrev out : Node WholeQueues
-      out = (after whole came a).node
+      abbrev left : Node WholeQueues
+      left = (after whole came a).node
 
-      alike : LeadsAlike own a.settings m mid
-        alike label here is =
+      leads-alike : LeadsAlike own_behind a.settings m mid
+      leads-alike label here is =
           ap (λ (x : Kept). own_of a.settings x.node.parts) (stands-after came k a (stands-itself a sound)).kept
-          ∙ own-same a.settings out (receive whole a.settings link text a.node).left (after-facts a.settings came a.node)
+          ∙ own-same a.settings left (receive whole a.settings link text a.node).left (after-facts a.settings came a.node)
           ∙ received-as a.settings link m (λ d x. own_of a.settings d.left.parts ≡ own_of a.settings x.parts)
           (λ n. own-same a.settings (deliver whole a.settings link m n).left n (deliver-facts a.settings link m label n (user-of m is) here)) text a.node new
 
-      frame-back : IsToldBack own a.settings m mid more_stand alike (outcome_of whole came a)
+      frame-back : IsToldBack own_behind a.settings m mid more_stand leads-alike (outcome_of whole came a)
       frame-back cause label e here is =
           let udts : Option (List ℕ) = returned (own_of a.settings mid.parts) mid.parts.titles m.sif cause in
           ap (λ (b : Bool). if not (nat_eq (kept_standing_if b number k) (kept_standing_if b number (after kept came k))) then udts_as udts m else []) is
@@ -292,8 +292,8 @@ module _ (a : Abstract) (sound : IsSound a) (places : HasAllPlaces a.settings a.
       message-came : kept_in number k (after kept came k) (outcome_of kept came k) m ≡ brought_to (whither_goes a.settings m) (outcome_of whole came a) a.settings m mid
       message-came =
           ap (λ (o : Outcome). kept_in number k (after kept came k) o m) (stands-outcome came k a (stands-itself a sound))
-          ∙ ap (λ (rows : List TitleEntry). told_in (outcome_of whole came a) more_stand own a.settings rows m) (sym (accepted-titles a.settings link (read_frame text) a.node))
-          ∙ told-so own a.settings m mid more_stand alike (outcome_of whole came a) frame-back
+          ∙ ap (λ (rows : List TitleEntry). told_in (outcome_of whole came a) more_stand own_behind a.settings rows m) (sym (accepted-titles a.settings link (read_frame text) a.node))
+          ∙ told-so own_behind a.settings m mid more_stand leads-alike (outcome_of whole came a) frame-back
 
     by-message : (o : Option Message) → new_message link text a ≡ o
         → kept_in_all number k (after kept came k) (outcome_of kept came k) (option_to_list o) ≡ brought_by o (outcome_of whole came a) a.settings mid

@@ -4,6 +4,7 @@ use Rattle.std.specs.Prelude.{slice_get}
 use Rattle.settings_rows.specs.Configuration.{Configuration}
 use Rattle.settings.specs.Facing.{IsFacing}
 use Rattle.exchange_rules.specs.First.{Abstract}
+use Rattle.exchange_rules.specs.Messages.{own_of}
 use Rattle.pair_rules.specs.Pairs as pairs
 use Rattle.pair_rules.specs.Pairs.{PairState, Streams, Turn, deliver_frame, first_pair, in_flight, without_data, without_status}
 use Rattle.pair_rules.specs.Deliveries.{ComesTo, Tells, TellsOf, TellsWhatCame}
@@ -28,8 +29,8 @@ use Rattle.pair_world.proofs.Promised.{alone-always}
 
 abbrev TellsBy : PairState → Turn → Type 0
 TellsBy p t =
-    ComesTo p.near.exchange.settings p.near.exchange.node.parts.titles (drop (length p.near.received) t.left.near.received)
-    (drop (length p.near.accepted) t.left.near.accepted) t.outcome
+    ComesTo (own_of p.near.exchange.settings t.left.near.exchange.node.parts) p.near.exchange.settings p.near.exchange.node.parts.titles
+    (drop (length p.near.received) t.left.near.received) (drop (length p.near.accepted) t.left.near.accepted) t.outcome
 
 tells-alike : (p q : PairState) (text : Option (List ℕ)) (link : ℕ) (one other : Streams)
     → TellsBy (written p q) (deliver_frame text link one (written p q)) → TellsBy p (deliver_frame text link other p)
