@@ -39,13 +39,7 @@ pub(crate) fn hand_over(exchange: &mut Exchange, rows: &Translations, message: &
     let before = count_standing(exchange, counts, Number24::zero());
     let outcome = exchange.step(&Event::Submit(message.lend()));
     let after = count_standing(exchange, counts, Number24::zero());
-    let brought = told_in(
-        &outcome,
-        before != after,
-        exchange,
-        rows,
-        message,
-    );
+    let brought = told_in(&outcome, before != after, exchange, rows, message);
     Heard {
         outcome,
         carried: None,
@@ -104,13 +98,7 @@ fn hand_in_message(
             brought: None,
         };
     }
-    let brought = told_in(
-        &outcome,
-        before != after,
-        exchange,
-        rows,
-        &message,
-    );
+    let brought = told_in(&outcome, before != after, exchange, rows, &message);
     Heard {
         outcome,
         carried: Some(message),
