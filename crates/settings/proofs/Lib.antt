@@ -6,6 +6,7 @@ pub mod Adjacent
 pub mod Rows
 pub mod Codes
 pub mod WellNumbers
+pub mod WellTimers
 pub mod WellSets
 pub mod WellLinks
 pub mod WellDestinations

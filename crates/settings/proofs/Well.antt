@@ -1,19 +1,13 @@
 -- Settings without a fault satisfy every limit, and every name is known.
-use Rattle.settings.proofs.Basics.{◌≡◌, [], All, arith, None, All-from_recursion, natural, range_fault, numbers_fault, settings_of, ticks_of, first_fault, scalars_fault, timers_fault, tables_fault, arrays_fault, ticks_fault, timers_written, ticks_in, timer_in, sets_fault, links_fault, destinations_fault, titles_fault, unreached_fault, Own, Network, Window, Pool, Users, Subsystems, Timer, WINDOW, POOL, TICKS, IsWithin, IsWell, all_ticks}
+use Rattle.settings.proofs.Basics.{◌≡◌, arith, None, natural, range_fault, numbers_fault, settings_of, first_fault, scalars_fault, timers_fault, tables_fault, arrays_fault, sets_fault, links_fault, destinations_fault, titles_fault, unreached_fault, Own, Network, Window, Pool, Users, Subsystems, WINDOW, POOL, IsWithin, IsWell}
 use Rattle.settings_rows.specs.declared.draft.Draft.{Draft}
-use Rattle.settings_rows.specs.declared.draft.TimersDraft.{TimersDraft}
-use Rattle.settings.proofs.Rows.{three_none, four_none, five_none, each_entry, each_made}
+use Rattle.settings.proofs.Rows.{three_none, four_none, five_none}
 use Rattle.settings.proofs.WellNumbers.{in_range, numbers_within, numbers_differ}
+use Rattle.settings.proofs.WellTimers.{timers_within}
 use Rattle.settings.proofs.WellSets.{set_count_well, sets_well, set_names_well, adjacent_points_well}
 use Rattle.settings.proofs.WellLinks.{link_count_well, links_well, link_names_well, link_codes_well, links_of_a_set_well}
 use Rattle.settings.proofs.WellDestinations.{destination_count_well, destinations_well, points_well, adjacent_points_led_well}
 use Rattle.settings.proofs.WellTitles.{title_count_well, titles_well, titles_differ_well}
-
-timers_within : (t : TimersDraft) → timers_fault t ≡ None → All (IsWithin 1 TICKS) (all_ticks (ticks_of t))
-unfolding timers_fault
-timers_within t h =
-    All-from_recursion (IsWithin 1 TICKS) (all_ticks (ticks_of t)) (each_made (λ w. IsWithin 1 TICKS (natural (ticks_in w))) (IsWithin 1 TICKS) (λ w. natural (ticks_in w)) (λ w k. k) (timers_written t)
-    (each_entry ticks_fault (λ w. IsWithin 1 TICKS (natural (ticks_in w))) (λ earlier w k. in_range 1 TICKS (Timer (timer_in w)) (ticks_in w) k) [] (timers_written t) h))
 
 scalars_none : (d : Draft) → scalars_fault d ≡ None → (range_fault 0 16383 Own d.own ≡ None) × (range_fault 0 3 Network d.network ≡ None) × (range_fault 1 WINDOW Window d.window ≡ None) × (range_fault 1 POOL Pool d.pool ≡ None)
 unfolding scalars_fault

@@ -13,6 +13,7 @@ configuration_in c = record {
   extended_unitdata = c.extended_unitdata;
   subsystem_tests = c.subsystem_tests;
   user_part_unavailable = c.user_part_unavailable;
+  processor_outage = c.processor_outage;
   timers = c.timers;
   sets = c.sets.items;
   links = c.links.items;

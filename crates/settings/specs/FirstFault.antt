@@ -1,6 +1,6 @@
 -- The first fault of settings as they were written.
 use Rattle.std.specs.Prelude.{false, String, string_eq, ℕ, Bool, not, ◌&&◌, ◌||◌, nat_eq, nat_le, ℤ, List, [], ◌∷◌}
-use Rattle.std.specs.Prelude.{Option, length, is_some, string_bytes}
+use Rattle.std.specs.Prelude.{Option, Some, None, length, is_some, string_bytes}
 use Rattle.std.specs.declared.alloc.Global.{Global}
 use Rattle.std.specs.List.{list_any, list_all}
 use Rattle.std.specs.Str.{bytes_eq}
@@ -14,6 +14,7 @@ use Rattle.settings_rows.specs.declared.fault.DraftFault.{DraftFault}
 use Rattle.settings_rows.specs.declared.fault.FaultKind.TheVariants.{Range, Duplicate, UnknownName, TooMany}
 use Rattle.settings_rows.specs.declared.key.TimerKey.{TimerKey}
 use Rattle.settings_rows.specs.declared.key.TimerKey.TheVariants.{L1, L2, L3, L4, L6, L7, T1, T2, T3, T4, T6, T8, T10}
+use Rattle.settings_rows.specs.declared.key.TimerKey.TheVariants.{Slt1, Slt2, L4e, Sst}
 use Rattle.settings_rows.specs.declared.key.Key.{Key}
 use Rattle.settings_rows.specs.declared.key.Key.TheVariants.{Own, Network, Window, Pool, Users, Subsystems, Timer, Set}
 use Rattle.settings_rows.specs.declared.key.Key.TheVariants.{SetName, SetAdjacent, Link, LinkName, LinkSet, LinkSlc}
@@ -27,6 +28,7 @@ use Rattle.signalling_types.specs.declared.limits.TheConstants.Limits.{DESTINATI
 use Rattle.settings.specs.declared.timers.Written.{Written}
 use Rattle.settings_rows.specs.declared.draft.Draft.{Draft}
 use Rattle.settings_rows.specs.declared.draft.TimersDraft.{TimersDraft}
+use Rattle.settings_rows.specs.declared.draft.LinkTestsDraft.{LinkTestsDraft}
 use Rattle.settings_rows.specs.declared.draft.SetDraft.{SetDraft}
 use Rattle.settings_rows.specs.declared.draft.LinkDraft.{LinkDraft}
 use Rattle.settings_rows.specs.declared.draft.DestinationDraft.{DestinationDraft}
@@ -66,7 +68,7 @@ timer_in w = w.timer
 abbrev pub ticks_in : Written → ℤ
 ticks_in w = w.ticks
 
--- the timers, each with the ticks that were written for it
+-- the timers that each node has, each with the ticks that were written for it
 abbrev pub timers_written : TimersDraft → List Written
 timers_written t =
     written L1 t.l1
@@ -88,9 +90,22 @@ timers_written t =
 abbrev pub ticks_fault : List Written → Written → Option DraftFault
 ticks_fault earlier w = range_fault 1 TICKS (Timer w.timer) w.ticks
 
--- the timers, in their order
+-- the timers of link tests, which may be left out
+unfoldable pub link_tests_fault : Option LinkTestsDraft → Option DraftFault
+link_tests_fault None = None
+link_tests_fault (Some tests) = first_of (
+    range_fault 1 TICKS (Timer Slt1) tests.slt1
+    ∷ range_fault 1 TICKS (Timer Slt2) tests.slt2
+    ∷ [])
+
+-- the timers, in their order; last those that may be left out
 unfoldable pub timers_fault : TimersDraft → Option DraftFault
-timers_fault t = entries_fault ticks_fault [] (timers_written t)
+timers_fault t = first_of (
+    entries_fault ticks_fault [] (timers_written t)
+    ∷ link_tests_fault t.link_tests
+    ∷ optional_fault 1 TICKS (Timer L4e) t.l4e
+    ∷ optional_fault 1 TICKS (Timer Sst) t.sst
+    ∷ [])
 
 -- whether a link of this name is among these
 abbrev pub has_link_named : List LinkDraft → List ℕ → Bool

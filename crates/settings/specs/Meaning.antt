@@ -9,13 +9,18 @@ use Rattle.settings_rows.specs.Configuration.{TitleEntry}
 use Rattle.settings_rows.specs.declared.title_row.TitleRoute.{TitleRoute}
 use Rattle.settings_rows.specs.declared.title_row.TitleRoute.TheVariants.{Title, Ssn}
 use Rattle.settings_rows.specs.declared.timer_ticks.TimerTicks.{TimerTicks}
+use Rattle.settings_rows.specs.declared.timer_ticks.LinkTestTicks.{LinkTestTicks}
 use Rattle.settings_rows.specs.declared.draft.Draft.{Draft}
 use Rattle.settings_rows.specs.declared.draft.TimersDraft.{TimersDraft}
+use Rattle.settings_rows.specs.declared.draft.LinkTestsDraft.{LinkTestsDraft}
 use Rattle.settings_rows.specs.declared.draft.SetDraft.{SetDraft}
 use Rattle.settings_rows.specs.declared.draft.LinkDraft.{LinkDraft}
 use Rattle.settings_rows.specs.declared.draft.DestinationDraft.{DestinationDraft}
 use Rattle.settings_rows.specs.declared.draft.TitleDraft.{TitleDraft}
 use Rattle.settings_rows.specs.declared.draft.ChangeDraft.{ChangeDraft}
+
+abbrev pub test_ticks_of : LinkTestsDraft → LinkTestTicks
+test_ticks_of t = record { slt1 = natural t.slt1; slt2 = natural t.slt2 }
 
 abbrev pub ticks_of : TimersDraft → TimerTicks
 ticks_of t = record {
@@ -32,6 +37,9 @@ ticks_of t = record {
   t6 = natural t.t6;
   t8 = natural t.t8;
   t10 = natural t.t10;
+  link_tests = option_map test_ticks_of t.link_tests;
+  l4e = option_map natural t.l4e;
+  sst = option_map natural t.sst;
 }
 
 -- the place of the set of this name
@@ -107,6 +115,7 @@ settings_of d = record {
   extended_unitdata = d.extended_unitdata;
   subsystem_tests = d.subsystem_tests;
   user_part_unavailable = d.user_part_unavailable;
+  processor_outage = d.processor_outage;
   timers = ticks_of d.timers;
   sets = map set_of d.sets.items;
   links = map (link_of d.sets.items) d.links.items;

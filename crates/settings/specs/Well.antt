@@ -1,5 +1,6 @@
 -- What holds of all checked settings.
-use Rattle.std.specs.Prelude.{ℕ, Bool, true, false, ◌&&◌, ◌≡◌, ◌≢◌, ◌≤◌, ◌<◌, ◌^◌, List, [], ◌∷◌, Some, IfSome}
+use Rattle.std.specs.Prelude.{ℕ, Bool, true, false, ◌&&◌, ◌≡◌, ◌≢◌, ◌≤◌, ◌<◌, ◌^◌, List, [], ◌∷◌, ◌++◌, Option}
+use Rattle.std.specs.Prelude.{Some, None, IfSome}
 use Rattle.std.specs.Prelude.{All, IsTrue, length, nat_eq, slice_get}
 use Rattle.std.specs.List.{IsDistinct, count_by, list_any}
 use Rattle.std.specs.Str.{bytes_eq}
@@ -7,6 +8,7 @@ use Rattle.settings_rows.specs.Configuration.{Configuration, SetEntry, LinkEntry
 use Rattle.settings_rows.specs.Names.{is_name}
 use Rattle.settings_rows.specs.Titles.{HasTitleRanges, HasChangeRanges}
 use Rattle.settings_rows.specs.declared.timer_ticks.TimerTicks.{TimerTicks}
+use Rattle.settings_rows.specs.declared.timer_ticks.LinkTestTicks.{LinkTestTicks}
 use Rattle.settings_rows.specs.declared.title_row.TitleRoute.{TitleRoute}
 use Rattle.settings_rows.specs.declared.title_row.TitleRoute.TheVariants.{Title, Ssn}
 use Rattle.signalling_types.specs.declared.limits.TheConstants.Limits.{LINKS, LINKS_PER_SET, SETS, SETS_PER_DESTINATION}
@@ -17,8 +19,21 @@ pub record IsWithin (low : ℕ) (high : ℕ) (n : ℕ) : Type 0 where
   pub above : low ≤ n
   pub below : n ≤ high
 
+-- the ticks of link tests, if they weren't left out
+abbrev pub test_ticks : Option LinkTestTicks → List ℕ
+test_ticks None = []
+test_ticks (Some tests) = tests.slt1 ∷ tests.slt2 ∷ []
+
+-- those of a timer that may be left out
+abbrev pub ticks_if_any : Option ℕ → List ℕ
+ticks_if_any None = []
+ticks_if_any (Some ticks) = ticks ∷ []
+
+-- the ticks of each timer that isn't left out
 abbrev pub all_ticks : TimerTicks → List ℕ
-all_ticks t = t.l1 ∷ t.l2 ∷ t.l3 ∷ t.l4 ∷ t.l6 ∷ t.l7 ∷ t.t1 ∷ t.t2 ∷ t.t3 ∷ t.t4 ∷ t.t6 ∷ t.t8 ∷ t.t10 ∷ []
+all_ticks t =
+    t.l1 ∷ t.l2 ∷ t.l3 ∷ t.l4 ∷ t.l6 ∷ t.l7 ∷ t.t1 ∷ t.t2 ∷ t.t3 ∷ t.t4 ∷ t.t6 ∷ t.t8 ∷ t.t10
+    ∷ (test_ticks t.link_tests ++ (ticks_if_any t.l4e ++ ticks_if_any t.sst))
 
 -- a point of 14 bits, other than the node's own
 pub record IsFarPoint (own : ℕ) (point : ℕ) : Type 0 where

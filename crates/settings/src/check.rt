@@ -48,6 +48,7 @@ pub struct Checked {
     pub subsystem_tests: bool,
     /// Whether the sender of a message for a user part that isn't on this node is told so (UPU).
     pub user_part_unavailable: bool,
+    pub processor_outage: bool,
     /// How long each timer runs.
     pub timers: TimerTicks,
     /// The link sets.
@@ -99,6 +100,7 @@ pub fn check_draft(alloc: Global, draft: &Draft) -> Result<Checked, DraftFault>
         extended_unitdata: draft.extended_unitdata,
         subsystem_tests: draft.subsystem_tests,
         user_part_unavailable: draft.user_part_unavailable,
+        processor_outage: draft.processor_outage,
         timers,
         sets,
         links,

@@ -20,8 +20,8 @@ mod titles;
 pub use settings::Settings;
 pub use settings_rows::{
     ChangeDraft, DestinationDraft, DestinationRow, Draft, DraftFault, FaultKind, Key, LinkDraft,
-    LinkRow, SetDraft, SetRow, TimerKey, TimerTicks, TimersDraft, TitleChange, TitleDraft,
-    TitleRoute, TitleRow,
+    LinkRow, LinkTestTicks, LinkTestsDraft, SetDraft, SetRow, TimerKey, TimerTicks, TimersDraft,
+    TitleChange, TitleDraft, TitleRoute, TitleRow,
 };
 pub use signalling_types::{
     Cause, ChangeoverTimer, FailureReason, Flow, FrameFault, LateTimer, Limits, LinkId, Msu,

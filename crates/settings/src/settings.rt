@@ -133,7 +133,14 @@ impl Settings {
         self.checked.user_part_unavailable
     }
 
-    /// How many ticks each timer runs: 1 to 65,535.
+    /// Whether a link stays in service while its peer's processor is out (Q.703 §8), or fails by that status.
+    pub fn processor_outage(&self) -> bool
+        ensures { result ≡ self.now.processor_outage }
+    {
+        self.checked.processor_outage
+    }
+
+    /// How many ticks each timer runs: 1 to 65,535. A timer that is left out has none.
     pub fn timers(&self) -> TimerTicks
         ensures value { result ≡ self.now.timers }
         ensures ticks { All (IsWithin 1 Limits.TICKS) (all_ticks self.now.timers) }

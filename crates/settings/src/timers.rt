@@ -1,15 +1,20 @@
 //! Ticks of timers.
 
 ghost use Rattle.std.specs.Prelude.{◌≡◌, [], None, Some, map, IfOk, OnOk, IfErr};
-ghost use Rattle.settings.specs.Checks.{natural, entries_fault};
-ghost use Rattle.settings.specs.Meaning.{ticks_of};
-ghost use Rattle.settings.specs.FirstFault.{timers_written, ticks_fault, timers_fault};
+ghost use Rattle.std.specs.Option.{option_map};
+ghost use Rattle.settings.specs.Checks.{natural, entries_fault, optional_fault};
+ghost use Rattle.settings.specs.Meaning.{ticks_of, test_ticks_of};
+ghost use Rattle.settings.specs.FirstFault.{timers_written, ticks_fault, link_tests_fault, timers_fault};
+ghost use Rattle.settings_rows.specs.declared.key.Key.TheVariants.{Timer};
+ghost use Rattle.signalling_types.specs.declared.limits.TheConstants.Limits.{TICKS};
 
-use crate::numbers::number;
-use settings_rows::{DraftFault, Key, TimerKey, TimerTicks, TimersDraft};
+use crate::numbers::{number, optional_number};
+use settings_rows::{
+    DraftFault, Key, LinkTestTicks, LinkTestsDraft, TimerKey, TimerTicks, TimersDraft,
+};
 use signalling_types::Limits;
 
-/// How many timers there are.
+/// How many timers each node has.
 const TIMERS: usize = 13;
 
 /// A timer with the ticks that were written for it.
@@ -27,6 +32,9 @@ pub(crate) fn timer_ticks(timers: &TimersDraft) -> Result<TimerTicks, DraftFault
     ensures fault { IfErr result (λ fault. timers_fault timers.now ≡ Some fault) }
 {
     let [l1, l2, l3, l4, l6, l7, t1, t2, t3, t4, t6, t8, t10] = all_ticks(&all_written(timers))?;
+    let link_tests = link_test_ticks(timers.link_tests)?;
+    let l4e = optional_ticks(timers.l4e, TimerKey::L4e)?;
+    let sst = optional_ticks(timers.sst, TimerKey::Sst)?;
     Ok(TimerTicks {
         l1,
         l2,
@@ -41,10 +49,13 @@ pub(crate) fn timer_ticks(timers: &TimersDraft) -> Result<TimerTicks, DraftFault
         t6,
         t8,
         t10,
+        link_tests,
+        l4e,
+        sst,
     })
 }
 
-/// The timers in their order.
+/// The timers that each node has, in their order.
 fn all_written(timers: &TimersDraft) -> [Written; TIMERS]
     ensures { result ≡ timers_written timers.now }
 {
@@ -116,6 +127,41 @@ fn ticks(written: &Written) -> Result<u16, DraftFault>
         Limits::TICKS as u16,
         Key::Timer(written.timer),
     )
+}
+
+/// The ticks of the timers of link tests, if they weren't left out.
+#[tactic(auto, unfolding(crate::specs::FirstFault::link_tests_fault))]
+fn link_test_ticks(tests: Option<LinkTestsDraft>) -> Result<Option<LinkTestTicks>, DraftFault>
+    ensures value { IfOk result (λ ticks. ticks ≡ option_map test_ticks_of tests) }
+    ensures well { OnOk result (link_tests_fault tests ≡ None) }
+    ensures fault { IfErr result (λ fault. link_tests_fault tests ≡ Some fault) }
+{
+    let Some(tests) = tests else {
+        return Ok(None);
+    };
+    Ok(Some(LinkTestTicks {
+        slt1: number(
+            tests.slt1,
+            1,
+            Limits::TICKS as u16,
+            Key::Timer(TimerKey::Slt1),
+        )?,
+        slt2: number(
+            tests.slt2,
+            1,
+            Limits::TICKS as u16,
+            Key::Timer(TimerKey::Slt2),
+        )?,
+    }))
+}
+
+/// The ticks of a timer, if they weren't left out.
+fn optional_ticks(ticks: Option<i64>, timer: TimerKey) -> Result<Option<u16>, DraftFault>
+    ensures value { IfOk result (λ n. n ≡ option_map natural ticks) }
+    ensures well { OnOk result (optional_fault 1 TICKS (Timer timer) ticks ≡ None) }
+    ensures fault { IfErr result (λ fault. optional_fault 1 TICKS (Timer timer) ticks ≡ Some fault) }
+{
+    optional_number(ticks, 1, Limits::TICKS as u16, Key::Timer(timer))
 }
 
 fn all_ticks(timers: &[Written; TIMERS]) -> Result<[u16; TIMERS], DraftFault>

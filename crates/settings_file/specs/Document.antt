@@ -1,17 +1,21 @@
 -- What a document says of settings. Its keys are read in their order, and the first fault among them is the
 -- document's; keys of other names are ignored.
-use Rattle.std.specs.Prelude.{ℤ, Bool, Result, Ok, codes}
-use Rattle.toml.specs.Data.{Members}
+use Rattle.std.specs.Prelude.{ℤ, Bool, ◌&&◌, ◌||◌, Option, Some, None, is_some, Result, Ok, codes}
+use Rattle.std.specs.Prelude.{if◌then◌else◌}
+use Rattle.toml.specs.Data.{Members, get_member}
 use Rattle.settings_file.specs.TimerNames.{timer_name}
 use Rattle.settings_rows.specs.declared.draft.TimersDraft.{TimersDraft}
+use Rattle.settings_rows.specs.declared.draft.LinkTestsDraft.{LinkTestsDraft}
 use Rattle.settings_rows.specs.declared.key.Key.TheVariants as key
 use Rattle.settings_rows.specs.declared.key.TimerKey.{TimerKey}
 use Rattle.settings_rows.specs.declared.key.TimerKey.TheVariants.{L1, L2, L3, L4, L6, L7, T1, T2, T3, T4, T6, T8, T10}
+use Rattle.settings_rows.specs.declared.key.TimerKey.TheVariants.{Slt1, Slt2, L4e, Sst}
 use Rattle.settings_file.specs.declared.fault.SettingsFault.{SettingsFault}
 use Rattle.settings_file.specs.declared.document.Numbers.{Numbers}
 use Rattle.settings_file.specs.declared.document.Services.{Services}
 use Rattle.settings_file.specs.Versions.{has_joined, has_extensions}
-use Rattle.settings_file.specs.Shapes.{and_then, value_at, table_in, integer_at, integers_at, truth_at}
+use Rattle.settings_file.specs.Shapes.{and_then, value_at, table_in, integer_at, optional_integer_at, integers_at}
+use Rattle.settings_file.specs.Shapes.{truth_at}
 use Rattle.settings_file.specs.Written.{Written}
 use Rattle.settings_file.specs.Entries.{sets_at, links_at, destinations_at, titles_at}
 
@@ -19,9 +23,27 @@ use Rattle.settings_file.specs.Entries.{sets_at, links_at, destinations_at, titl
 unfoldable pub ticks_at : TimerKey → Members → Result ℤ SettingsFault
 ticks_at timer t = integer_at (timer_name timer) (key.Timer timer) t
 
+-- the same of a timer that may be left out, in a file whose version has its key, or doesn't have it: there it is
+-- ignored
+unfoldable pub optional_ticks_at : (has_keys : Bool) → TimerKey → Members → Result (Option ℤ) SettingsFault
+optional_ticks_at has_keys timer t = optional_integer_at has_keys (timer_name timer) (key.Timer timer) t
+
+-- whether a timer has a key in the table
+abbrev pub has_timer : TimerKey → Members → Bool
+has_timer timer t = is_some (get_member (timer_name timer) t)
+
+-- the timers of link tests: both, or neither
+unfoldable pub link_tests_at : (has_keys : Bool) → Members → Result (Option LinkTestsDraft) SettingsFault
+link_tests_at has_keys t =
+    if has_keys && (has_timer Slt1 t || has_timer Slt2 t)
+    then and_then (ticks_at Slt1 t) (λ slt1.
+    and_then (ticks_at Slt2 t) (λ slt2.
+    Ok (Some (record { slt1 = slt1; slt2 = slt2 }))))
+    else Ok None
+
 -- how many ticks each timer runs
-unfoldable pub timers_in : Members → Result TimersDraft SettingsFault
-timers_in t =
+unfoldable pub timers_in : (has_keys : Bool) → Members → Result TimersDraft SettingsFault
+timers_in has_keys t =
     and_then (ticks_at L1 t) (λ l1.
     and_then (ticks_at L2 t) (λ l2.
     and_then (ticks_at L3 t) (λ l3.
@@ -35,6 +57,9 @@ timers_in t =
     and_then (ticks_at T6 t) (λ t6.
     and_then (ticks_at T8 t) (λ t8.
     and_then (ticks_at T10 t) (λ t10.
+    and_then (link_tests_at has_keys t) (λ link_tests.
+    and_then (optional_ticks_at has_keys L4e t) (λ l4e.
+    and_then (optional_ticks_at has_keys Sst t) (λ sst.
     Ok (record {
       l1 = l1;
       l2 = l2;
@@ -49,11 +74,15 @@ timers_in t =
       t6 = t6;
       t8 = t8;
       t10 = t10;
-    }))))))))))))))
+      link_tests = link_tests;
+      l4e = l4e;
+      sst = sst;
+    })))))))))))))))))
 
 -- the table of timers
-unfoldable pub timers_at : Members → Result TimersDraft SettingsFault
-timers_at t = and_then (value_at (codes "timers") key.Timers t) (λ d. and_then (table_in key.Timers d) timers_in)
+unfoldable pub timers_at : (has_keys : Bool) → Members → Result TimersDraft SettingsFault
+timers_at has_keys t =
+    and_then (value_at (codes "timers") key.Timers t) (λ d. and_then (table_in key.Timers d) (timers_in has_keys))
 
 -- the numbers that a file begins with
 unfoldable pub numbers_at : Members → Result Numbers SettingsFault
@@ -65,18 +94,20 @@ numbers_at t =
     and_then (integer_at (codes "pool") key.Pool t) (λ pool.
     Ok (record { version = version; own = own; network = network; window = window; pool = pool }))))))
 
--- what a file asks for, if its version has these keys: that extended unitdata are relayed, that a test of a subsystem is
--- answered, and that it is told where a user part isn't here
+-- what a file asks for, if its version has these keys: that extended unitdata are relayed, that a test of a subsystem
+-- is answered, that it is told where a user part isn't here, and that links outlive outages of their peers' processors
 unfoldable pub services_at : (has_keys : Bool) → Members → Result Services SettingsFault
 services_at has_keys t =
     and_then (truth_at has_keys (codes "extended_unitdata") key.ExtendedUnitdata t) (λ extended_unitdata.
     and_then (truth_at has_keys (codes "subsystem_tests") key.SubsystemTests t) (λ subsystem_tests.
     and_then (truth_at has_keys (codes "user_part_unavailable") key.UserPartUnavailable t) (λ user_part_unavailable.
+    and_then (truth_at has_keys (codes "processor_outage") key.ProcessorOutage t) (λ processor_outage.
     Ok (record {
       extended_unitdata = extended_unitdata;
       subsystem_tests = subsystem_tests;
       user_part_unavailable = user_part_unavailable;
-    }))))
+      processor_outage = processor_outage;
+    })))))
 
 -- what a document says: the version of its format, and settings
 pub record Document : Type 0 where
@@ -89,7 +120,7 @@ document t =
     and_then (integers_at (codes "users") key.Users t) (λ users.
     and_then (integers_at (codes "subsystems") key.Subsystems t) (λ subsystems.
     and_then (services_at (has_extensions numbers.version) t) (λ services.
-    and_then (timers_at t) (λ timers.
+    and_then (timers_at (has_extensions numbers.version) t) (λ timers.
     and_then (sets_at t) (λ sets.
     and_then (links_at (has_extensions numbers.version) t) (λ links.
     and_then (destinations_at (has_joined numbers.version) t) (λ destinations.
@@ -106,6 +137,7 @@ document t =
         extended_unitdata = services.extended_unitdata;
         subsystem_tests = services.subsystem_tests;
         user_part_unavailable = services.user_part_unavailable;
+        processor_outage = services.processor_outage;
         timers = timers;
         sets = sets;
         links = links;

@@ -33,11 +33,21 @@ abbrev pub top_keys : (may_have_extensions : Bool) → List (List ℕ)
 top_keys true =
     codes "version" ∷ codes "own" ∷ codes "network" ∷ codes "window" ∷ codes "pool" ∷ codes "users"
     ∷ codes "subsystems" ∷ codes "extended_unitdata" ∷ codes "subsystem_tests" ∷ codes "user_part_unavailable"
-    ∷ codes "timers" ∷ codes "set" ∷ codes "link" ∷ codes "destination" ∷ codes "title" ∷ codes "serve" ∷ []
+    ∷ codes "processor_outage" ∷ codes "timers" ∷ codes "set" ∷ codes "link" ∷ codes "destination" ∷ codes "title"
+    ∷ codes "serve" ∷ []
 top_keys false =
     codes "version" ∷ codes "own" ∷ codes "network" ∷ codes "window" ∷ codes "pool" ∷ codes "users"
     ∷ codes "subsystems" ∷ codes "timers" ∷ codes "set" ∷ codes "link" ∷ codes "destination" ∷ codes "title"
     ∷ codes "serve" ∷ []
+
+-- the keys of the table of timers
+abbrev pub timer_keys : (may_have_extensions : Bool) → List (List ℕ)
+timer_keys true =
+    codes "l1" ∷ codes "l2" ∷ codes "l3" ∷ codes "l4" ∷ codes "l6" ∷ codes "l7" ∷ codes "t1" ∷ codes "t2" ∷ codes "t3"
+    ∷ codes "t4" ∷ codes "t6" ∷ codes "t8" ∷ codes "t10" ∷ codes "slt1" ∷ codes "slt2" ∷ codes "l4e" ∷ codes "sst" ∷ []
+timer_keys false =
+    codes "l1" ∷ codes "l2" ∷ codes "l3" ∷ codes "l4" ∷ codes "l6" ∷ codes "l7" ∷ codes "t1" ∷ codes "t2" ∷ codes "t3"
+    ∷ codes "t4" ∷ codes "t6" ∷ codes "t8" ∷ codes "t10" ∷ []
 
 -- the keys of a link, with those of a server
 abbrev pub link_keys : (may_have_share : Bool) → List (List ℕ)

@@ -20,6 +20,7 @@ abbrev pub has_joined : ℤ → Bool
 has_joined version = int_eq version SECOND_VERSION || int_eq version LAST_VERSION
 
 -- whether a file of this version may ask for extended unitdata, tests of subsystems, and to tell of user parts that
--- aren't here; may give links shares of the pool, rows a backup, and change titles
+-- aren't here; may give links shares of the pool, rows a backup, and change titles; and may have timers of tests and of
+-- emergency proving
 abbrev pub has_extensions : ℤ → Bool
 has_extensions version = int_eq version LAST_VERSION

@@ -51,6 +51,7 @@ pub record Written : Type 0 where
   pub extended_unitdata : Bool
   pub subsystem_tests : Bool
   pub user_part_unavailable : Bool
+  pub processor_outage : Bool
   pub timers : TimersDraft
   pub sets : List WrittenSet
   pub links : List WrittenLink
@@ -97,6 +98,7 @@ written d = record {
   extended_unitdata = d.extended_unitdata;
   subsystem_tests = d.subsystem_tests;
   user_part_unavailable = d.user_part_unavailable;
+  processor_outage = d.processor_outage;
   timers = d.timers;
   sets = map set_written d.sets.items;
   links = map link_written d.links.items;

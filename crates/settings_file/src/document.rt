@@ -52,7 +52,7 @@ impl Numbers {
     }
 }
 
-/// What a file asks for about subsystems and user parts.
+/// What a file asks for about subsystems, user parts and processors.
 #[derive(Clone, Copy)]
 pub(crate) struct Services {
     /// Whether extended unitdata (XUDT, XUDTS) are relayed.
@@ -61,6 +61,8 @@ pub(crate) struct Services {
     pub subsystem_tests: bool,
     /// Whether the sender of a message for a user part that isn't on this node is told so (UPU).
     pub user_part_unavailable: bool,
+    /// Whether a link stays in service while its peer's processor is out.
+    pub processor_outage: bool,
 }
 
 /// What a document says: the version of its format, and settings.
@@ -95,7 +97,7 @@ fn leading_numbers(table: &Table) -> Result<Numbers, SettingsFault>
     })
 }
 
-/// What a file asks for about subsystems and user parts, if its version has these keys.
+/// What a file asks for about subsystems, user parts and processors, if its version has these keys.
 #[tactic(auto, unfolding(crate::specs::Document::services_at))]
 fn asked_services(has_keys: bool, table: &Table) -> Result<Services, SettingsFault>
     ensures { result ≡ services_at has_keys (table_view table.now) }
@@ -109,6 +111,7 @@ fn asked_services(has_keys: bool, table: &Table) -> Result<Services, SettingsFau
             "user_part_unavailable",
             Key::UserPartUnavailable,
         )?,
+        processor_outage: truth(has_keys, table, "processor_outage", Key::ProcessorOutage)?,
     })
 }
 
@@ -122,7 +125,7 @@ fn contents(alloc: Global, table: &Table) -> Result<Document, SettingsFault>
     let users = integers(alloc, table, "users", Key::Users)?;
     let subsystems = integers(alloc, table, "subsystems", Key::Subsystems)?;
     let services = asked_services(numbers.has_extensions(), table)?;
-    let timers = timers(table)?;
+    let timers = timers(numbers.has_extensions(), table)?;
     let sets = sets(alloc, table)?;
     let links = links(alloc, numbers.has_extensions(), table)?;
     let destinations = destinations(alloc, numbers.has_joined(), table)?;
@@ -139,6 +142,7 @@ fn contents(alloc: Global, table: &Table) -> Result<Document, SettingsFault>
             extended_unitdata: services.extended_unitdata,
             subsystem_tests: services.subsystem_tests,
             user_part_unavailable: services.user_part_unavailable,
+            processor_outage: services.processor_outage,
             timers,
             sets,
             links,

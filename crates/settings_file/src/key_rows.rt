@@ -68,6 +68,7 @@ pub(crate) fn key_row(key: Key) -> KeyRow
         Key::ExtendedUnitdata => lone_key("extended_unitdata", TRUTH, ""),
         Key::SubsystemTests => lone_key("subsystem_tests", TRUTH, ""),
         Key::UserPartUnavailable => lone_key("user_part_unavailable", TRUTH, ""),
+        Key::ProcessorOutage => lone_key("processor_outage", TRUTH, ""),
         Key::Timers => lone_key("timers", TABLE, ""),
         Key::Timer(timer) => lone_key(timer.path(), INTEGER, TICKS),
         Key::Set => lone_key("set", TABLES, "1 to 32"),

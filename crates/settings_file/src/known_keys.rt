@@ -2,7 +2,7 @@
 
 ghost use Rattle.std.specs.Prelude.{◌≡◌, map};
 ghost use Rattle.toml.specs.View.{table_view};
-ghost use Rattle.settings_file.specs.KnownKeys.{version_of, may_be_joined, may_have_extensions, top_keys, link_keys};
+ghost use Rattle.settings_file.specs.KnownKeys.{version_of, may_be_joined, may_have_extensions, top_keys, timer_keys, link_keys};
 ghost use Rattle.settings_file.specs.KnownKeys.{destination_keys, title_keys, arrays_of, known_in};
 
 use crate::versions::{has_extensions, has_joined};
@@ -37,6 +37,7 @@ const TOP_OF_THREE: &[&str] = &[
     "extended_unitdata",
     "subsystem_tests",
     "user_part_unavailable",
+    "processor_outage",
     "timers",
     "set",
     "link",
@@ -46,8 +47,14 @@ const TOP_OF_THREE: &[&str] = &[
 ];
 
 /// The keys of the table `timers`.
-pub(crate) const TIMERS: [&str; 13] = [
+const TIMERS: &[&str] = &[
     "l1", "l2", "l3", "l4", "l6", "l7", "t1", "t2", "t3", "t4", "t6", "t8", "t10",
+];
+
+/// The same in a file of version 3.
+const TIMERS_OF_THREE: &[&str] = &[
+    "l1", "l2", "l3", "l4", "l6", "l7", "t1", "t2", "t3", "t4", "t6", "t8", "t10", "slt1", "slt2",
+    "l4e", "sst",
 ];
 
 /// The keys of the table `serve`.
@@ -184,6 +191,18 @@ pub(crate) fn top_of(document: &Table) -> &'static [&'static str]
         TOP_OF_THREE
     } else {
         TOP
+    }
+}
+
+/// The keys of the table `timers` of a document, by its version.
+pub(crate) fn timers_of(document: &Table) -> &'static [&'static str]
+    ensures { map (λ key. key.now) result.now
+        ≡ timer_keys (may_have_extensions (version_of (table_view document.now))) }
+{
+    if may_have_extensions(document) {
+        TIMERS_OF_THREE
+    } else {
+        TIMERS
     }
 }
 

@@ -3,11 +3,11 @@
 ghost use Rattle.std.specs.Prelude.{◌≡◌};
 ghost use Rattle.toml.specs.View.{table_view};
 ghost use Rattle.settings_file.specs.TimerNames.{timer_name};
-ghost use Rattle.settings_file.specs.Document.{ticks_at, timers_in, timers_at};
+ghost use Rattle.settings_file.specs.Document.{ticks_at, optional_ticks_at, has_timer, link_tests_at, timers_in, timers_at};
 
 use crate::fault::SettingsFault;
-use crate::shapes::{integer, table_in, value};
-use settings::{Key, TimerKey, TimersDraft};
+use crate::shapes::{found, integer, optional_integer, table_in, value};
+use settings::{Key, LinkTestsDraft, TimerKey, TimersDraft};
 use toml::Table;
 
 /// The name of a timer in its table.
@@ -28,6 +28,10 @@ fn name(timer: TimerKey) -> &'static str
         TimerKey::T6 => "t6",
         TimerKey::T8 => "t8",
         TimerKey::T10 => "t10",
+        TimerKey::Slt1 => "slt1",
+        TimerKey::Slt2 => "slt2",
+        TimerKey::L4e => "l4e",
+        TimerKey::Sst => "sst",
     }
 }
 
@@ -39,10 +43,44 @@ fn ticks(table: &Table, timer: TimerKey) -> Result<i64, SettingsFault>
     integer(table, name(timer), Key::Timer(timer))
 }
 
+/// The ticks that a timer runs which may be left out. If the file's version doesn't have its key it is ignored.
+#[tactic(auto, unfolding(crate::specs::Document::optional_ticks_at))]
+fn optional_ticks(
+    has_keys: bool,
+    table: &Table,
+    timer: TimerKey,
+) -> Result<Option<i64>, SettingsFault>
+    ensures { result ≡ optional_ticks_at has_keys timer (table_view table.now) }
+{
+    optional_integer(has_keys, table, name(timer), Key::Timer(timer))
+}
+
+/// Whether a timer has a key in a table.
+fn has_timer(table: &Table, timer: TimerKey) -> bool
+    ensures { result ≡ has_timer timer (table_view table.now) }
+{
+    found(table, name(timer)).is_some()
+}
+
+/// The ticks that the timers of link tests run: both, or neither. If the file's version doesn't have their keys they
+/// are ignored.
+#[tactic(auto, unfolding(crate::specs::Document::link_tests_at))]
+fn link_tests(has_keys: bool, table: &Table) -> Result<Option<LinkTestsDraft>, SettingsFault>
+    ensures { result ≡ link_tests_at has_keys (table_view table.now) }
+{
+    if !(has_keys && (has_timer(table, TimerKey::Slt1) || has_timer(table, TimerKey::Slt2))) {
+        return Ok(None);
+    }
+    Ok(Some(LinkTestsDraft {
+        slt1: ticks(table, TimerKey::Slt1)?,
+        slt2: ticks(table, TimerKey::Slt2)?,
+    }))
+}
+
 /// The ticks that each timer of a table runs.
 #[tactic(auto, unfolding(crate::specs::Document::timers_in))]
-fn timers_in(table: &Table) -> Result<TimersDraft, SettingsFault>
-    ensures { result ≡ timers_in (table_view table.now) }
+fn timers_in(has_keys: bool, table: &Table) -> Result<TimersDraft, SettingsFault>
+    ensures { result ≡ timers_in has_keys (table_view table.now) }
 {
     Ok(TimersDraft {
         l1: ticks(table, TimerKey::L1)?,
@@ -58,15 +96,18 @@ fn timers_in(table: &Table) -> Result<TimersDraft, SettingsFault>
         t6: ticks(table, TimerKey::T6)?,
         t8: ticks(table, TimerKey::T8)?,
         t10: ticks(table, TimerKey::T10)?,
+        link_tests: link_tests(has_keys, table)?,
+        l4e: optional_ticks(has_keys, table, TimerKey::L4e)?,
+        sst: optional_ticks(has_keys, table, TimerKey::Sst)?,
     })
 }
 
-/// The timers of a file.
+/// The timers of a file, whose version has the keys of those that may be left out, or doesn't have them.
 #[tactic(auto, unfolding(crate::specs::Document::timers_at))]
-pub(crate) fn timers(table: &Table) -> Result<TimersDraft, SettingsFault>
-    ensures { result ≡ timers_at (table_view table.now) }
+pub(crate) fn timers(has_keys: bool, table: &Table) -> Result<TimersDraft, SettingsFault>
+    ensures { result ≡ timers_at has_keys (table_view table.now) }
 {
     let value = value(table, "timers", Key::Timers)?;
     let timers = table_in(value, Key::Timers)?;
-    timers_in(timers)
+    timers_in(has_keys, timers)
 }

@@ -3,7 +3,7 @@
 ghost use Rattle.std.specs.Prelude.{◌≡◌, IfOk, OnOk, string_bytes};
 ghost use Rattle.settings_file.specs.Warnings.{Ignored, warning, AreWarnings, IsSoFar, GoesOn};
 
-use crate::known_keys::{SCTP, SERVE, TIMERS, arrays_of, top_of};
+use crate::known_keys::{SCTP, SERVE, arrays_of, timers_of, top_of};
 use crate::values::is_shown;
 use std::alloc::{AllocError, Global};
 use strsim::osa_distance;
@@ -47,7 +47,7 @@ impl WarningText<'_> {
         ensures { OnOk result (GoesOn self.old self.new) }
     {
         self.add_table(alloc, "", document, top_of(document))?;
-        self.add_inner_table(alloc, document, "timers", "timers.", &TIMERS)?;
+        self.add_inner_table(alloc, document, "timers", "timers.", timers_of(document))?;
         self.add_serve(alloc, document)?;
         self.add_arrays(alloc, document)
     }

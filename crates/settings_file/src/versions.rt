@@ -10,8 +10,8 @@ const FIRST_VERSION: i64 = 1;
 /// The version that brought combined link sets and larger limits.
 const SECOND_VERSION: i64 = 2;
 
-/// The version that brought extended unitdata, tests of subsystems, user parts that are told of, shares of the pool and
-/// changed titles.
+/// The version that brought extended unitdata, tests of subsystems, user parts that are told of, shares of the pool,
+/// changed titles, and timers of tests and of emergency proving.
 const LAST_VERSION: i64 = 3;
 
 /// Whether this is the first version.
@@ -35,8 +35,9 @@ pub(crate) fn has_joined(version: i64) -> bool
     version == SECOND_VERSION || version == LAST_VERSION
 }
 
-/// Whether a file of this version has the keys `extended_unitdata`, `subsystem_tests`, `user_part_unavailable`, `share`,
-/// `new_plan`, `new_nature`, `remove` and `add`.
+/// Whether a file of this version has the keys `extended_unitdata`, `subsystem_tests`, `user_part_unavailable`,
+/// `processor_outage`, `share`, `backup`, `new_plan`, `new_nature`, `remove`, `add`, and of `timers` `slt1`, `slt2`, `l4e`
+/// and `sst`.
 pub(crate) fn has_extensions(version: i64) -> bool
     ensures { result ≡ has_extensions version }
 {

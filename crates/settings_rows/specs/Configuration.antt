@@ -36,8 +36,8 @@ pub record ChangeEntry : Type 0 where
 abbrev pub unchanged : ChangeEntry
 unchanged = record { plan = None; nature = None; removed = 0; added = [] }
 
--- a translation row: what its addresses begin with, where they lead, the point that they lead to while that one can't be
--- reached, if any, and how their titles change (Q.714 §2.4)
+-- a translation row: what its addresses begin with, where they lead, the point that they lead to while that one can't
+-- be reached, if any, and how their titles change (Q.714 §2.4)
 pub record TitleEntry : Type 0 where
   pub translation : ℕ
   pub plan : ℕ
@@ -48,9 +48,9 @@ pub record TitleEntry : Type 0 where
   pub route : TitleRoute
   pub change : ChangeEntry
 
--- all settings of a node, its sets, links and destinations by number in the order of the settings; among them whether it
--- relays extended unitdata (XUDT, XUDTS), whether it answers a test of a subsystem that it has (SST), and whether it tells
--- the sender of a message for a user part that it doesn't have so (UPU, Q.704 §11.2.7)
+-- all settings of a node, its sets, links and destinations by number in the order of the settings; among them whether
+-- it relays extended unitdata (XUDT, XUDTS), whether it answers a test of a subsystem that it has (SST), and whether it
+-- tells the sender of a message for a user part that it doesn't have so (UPU, Q.704 §11.2.7)
 pub record Configuration : Type 0 where
   pub own : ℕ
   pub network : ℕ
@@ -61,6 +61,7 @@ pub record Configuration : Type 0 where
   pub extended_unitdata : Bool
   pub subsystem_tests : Bool
   pub user_part_unavailable : Bool
+  pub processor_outage : Bool
   pub timers : TimerTicks
   pub sets : List SetEntry
   pub links : List LinkEntry

@@ -3,9 +3,10 @@ use Rattle.std.specs.Prelude.{ℕ, List, [], ◌++◌, Option, Some, None, codes
 use Rattle.std.specs.Fmt.{decimal}
 use Rattle.settings_rows.specs.declared.key.TimerKey.{TimerKey}
 use Rattle.settings_rows.specs.declared.key.TimerKey.TheVariants.{L1, L2, L3, L4, L6, L7, T1, T2, T3, T4, T6, T8, T10}
+use Rattle.settings_rows.specs.declared.key.TimerKey.TheVariants.{Slt1, Slt2, L4e, Sst}
 use Rattle.settings_rows.specs.declared.key.Key.{Key}
 use Rattle.settings_rows.specs.declared.key.Key.TheVariants.{Version, Own, Network, Window, Pool, Users, Subsystems}
-use Rattle.settings_rows.specs.declared.key.Key.TheVariants.{ExtendedUnitdata, SubsystemTests, UserPartUnavailable}
+use Rattle.settings_rows.specs.declared.key.Key.TheVariants.{ExtendedUnitdata, SubsystemTests, UserPartUnavailable, ProcessorOutage}
 use Rattle.settings_rows.specs.declared.key.Key.TheVariants.{Timers, Timer, Set, SetEntry, SetName, SetAdjacent, Link}
 use Rattle.settings_rows.specs.declared.key.Key.TheVariants.{LinkEntry, LinkName, LinkSet, LinkSlc, LinkShare, Destination}
 use Rattle.settings_rows.specs.declared.key.Key.TheVariants.{DestinationEntry, DestinationPoint, DestinationSets}
@@ -30,6 +31,10 @@ timer_path T4 = codes "timers.t4"
 timer_path T6 = codes "timers.t6"
 timer_path T8 = codes "timers.t8"
 timer_path T10 = codes "timers.t10"
+timer_path Slt1 = codes "timers.slt1"
+timer_path Slt2 = codes "timers.slt2"
+timer_path L4e = codes "timers.l4e"
+timer_path Sst = codes "timers.sst"
 
 -- how a key is written; of a key in an entry of an array, how the array is
 abbrev pub key_front : Key → List ℕ
@@ -43,6 +48,7 @@ key_front Subsystems = codes "subsystems"
 key_front ExtendedUnitdata = codes "extended_unitdata"
 key_front SubsystemTests = codes "subsystem_tests"
 key_front UserPartUnavailable = codes "user_part_unavailable"
+key_front ProcessorOutage = codes "processor_outage"
 key_front Timers = codes "timers"
 key_front (Timer timer) = timer_path timer
 key_front Set = codes "set"

@@ -25,6 +25,8 @@ pub struct Draft {
     pub subsystem_tests: bool,
     /// Whether the sender of a message for a user part that isn't on this node is told so (UPU).
     pub user_part_unavailable: bool,
+    /// Whether a link stays in service while its peer's processor is out (Q.703 §8).
+    pub processor_outage: bool,
     /// How long each timer runs.
     pub timers: TimersDraft,
     /// The link sets.
@@ -66,6 +68,21 @@ pub struct TimersDraft {
     pub t8: i64,
     /// Between two route set tests.
     pub t10: i64,
+    /// Those of the node's own link tests; without them it makes none.
+    pub link_tests: Option<LinkTestsDraft>,
+    /// Emergency proving; if there is one, links align as RFC 4165 has it as a whole.
+    pub l4e: Option<i64>,
+    /// Between two tests of a prohibited subsystem; if there is one, the node hears of other points' subsystems.
+    pub sst: Option<i64>,
+}
+
+/// How many ticks the timers of the node's own link tests run, as it was written.
+#[derive(Clone, Copy)]
+pub struct LinkTestsDraft {
+    /// Waiting for the answer to a test.
+    pub slt1: i64,
+    /// Between a test and the next.
+    pub slt2: i64,
 }
 
 /// A link set, as it was written.

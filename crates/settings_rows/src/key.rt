@@ -34,6 +34,14 @@ pub enum TimerKey {
     T8,
     /// `t10`.
     T10,
+    /// `slt1`.
+    Slt1,
+    /// `slt2`.
+    Slt2,
+    /// `l4e`.
+    L4e,
+    /// `sst`.
+    Sst,
 }
 
 impl TimerKey {
@@ -55,6 +63,10 @@ impl TimerKey {
             TimerKey::T6 => "timers.t6",
             TimerKey::T8 => "timers.t8",
             TimerKey::T10 => "timers.t10",
+            TimerKey::Slt1 => "timers.slt1",
+            TimerKey::Slt2 => "timers.slt2",
+            TimerKey::L4e => "timers.l4e",
+            TimerKey::Sst => "timers.sst",
         }
     }
 }
@@ -83,6 +95,8 @@ pub enum Key {
     SubsystemTests,
     /// `user_part_unavailable`.
     UserPartUnavailable,
+    /// `processor_outage`.
+    ProcessorOutage,
     /// `timers`, the table itself.
     Timers,
     /// A key of `timers`.
@@ -163,6 +177,7 @@ impl Key {
             Key::ExtendedUnitdata => "extended_unitdata",
             Key::SubsystemTests => "subsystem_tests",
             Key::UserPartUnavailable => "user_part_unavailable",
+            Key::ProcessorOutage => "processor_outage",
             Key::Timers => "timers",
             Key::Timer(timer) => timer.path(),
             Key::Set | Key::SetEntry(_) | Key::SetName(_) | Key::SetAdjacent(_) => "set",

@@ -16,12 +16,13 @@ pub mod title_row;
 
 pub use destination_row::DestinationRow;
 pub use draft::{
-    ChangeDraft, DestinationDraft, Draft, LinkDraft, SetDraft, TimersDraft, TitleDraft,
+    ChangeDraft, DestinationDraft, Draft, LinkDraft, LinkTestsDraft, SetDraft, TimersDraft,
+    TitleDraft,
 };
 pub use fault::{DraftFault, FaultKind};
 pub use key::{Key, TimerKey};
 pub use link_row::LinkRow;
 pub use set_row::SetRow;
-pub use timer_ticks::TimerTicks;
+pub use timer_ticks::{LinkTestTicks, TimerTicks};
 pub use title_change::TitleChange;
 pub use title_row::{TitleRoute, TitleRow};

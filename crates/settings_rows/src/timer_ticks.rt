@@ -1,5 +1,14 @@
 //! The ticks of the timers.
 
+/// How many ticks the timers of the node's own link tests run (Q.707 §5.5).
+#[derive(Clone, Copy, PartialEq, Eq)]
+pub struct LinkTestTicks {
+    /// T1: waiting for the answer to a test.
+    pub slt1: u16,
+    /// T2: between a test and the next.
+    pub slt2: u16,
+}
+
 /// How many ticks each timer runs.
 #[derive(Clone, Copy, PartialEq, Eq)]
 pub struct TimerTicks {
@@ -29,4 +38,10 @@ pub struct TimerTicks {
     pub t8: u16,
     /// Between two route set tests.
     pub t10: u16,
+    /// Those of the node's own link tests; without them it makes none.
+    pub link_tests: Option<LinkTestTicks>,
+    /// Emergency proving, where links align as RFC 4165 has it as a whole.
+    pub l4e: Option<u16>,
+    /// Between two tests of a prohibited subsystem, where the node hears of other points' subsystems.
+    pub sst: Option<u16>,
 }

@@ -7,7 +7,7 @@ use Rattle.signalling_types.specs.declared.cause.Cause.TheVariants.{BadSccp, NoN
 use Rattle.signalling_types.specs.declared.cause.Cause.TheVariants.{LostUnconfirmed, ManagementFull, NotFromAdjacent}
 use Rattle.signalling_types.specs.declared.cause.Cause.TheVariants.{LinkNotReady, ChangeoverPending, NoMemory}
 use Rattle.signalling_types.specs.declared.cause.Cause.TheVariants.{TableFull, DuplicateRow, NoSuchName}
-use Rattle.signalling_types.specs.declared.cause.Cause.TheVariants.{HopCounter, ShareFull}
+use Rattle.signalling_types.specs.declared.cause.Cause.TheVariants.{HopCounter, ShareFull, SubsystemProhibited}
 
 abbrev pub cause_number : Cause → ℕ
 cause_number WrongNetwork = 1
@@ -34,6 +34,7 @@ cause_number DuplicateRow = 21
 cause_number NoSuchName = 22
 cause_number HopCounter = 23
 cause_number ShareFull = 24
+cause_number SubsystemProhibited = 25
 
 -- a cause's name, as texts print it
 abbrev pub cause_name : Cause → List ℕ
@@ -61,3 +62,4 @@ cause_name DuplicateRow = codes "DuplicateRow"
 cause_name NoSuchName = codes "NoSuchName"
 cause_name HopCounter = codes "HopCounter"
 cause_name ShareFull = codes "ShareFull"
+cause_name SubsystemProhibited = codes "SubsystemProhibited"

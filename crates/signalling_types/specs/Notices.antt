@@ -5,7 +5,7 @@ use Rattle.signalling_types.specs.declared.notice.FrameFault.TheVariants.{Short,
 use Rattle.signalling_types.specs.declared.notice.FailureReason.{FailureReason}
 use Rattle.signalling_types.specs.declared.notice.FailureReason.TheVariants.{Association, Timer, Sequence, Status}
 use Rattle.signalling_types.specs.declared.notice.FailureReason.TheVariants.{Length as WrongLength, Changeover}
-use Rattle.signalling_types.specs.declared.notice.FailureReason.TheVariants.{Operator}
+use Rattle.signalling_types.specs.declared.notice.FailureReason.TheVariants.{Operator, Test}
 
 abbrev pub frame_fault_number : FrameFault → ℕ
 frame_fault_number Short = 1
@@ -28,3 +28,4 @@ failure_name Status = codes "status"
 failure_name WrongLength = codes "length"
 failure_name Changeover = codes "changeover"
 failure_name Operator = codes "operator"
+failure_name Test = codes "test"

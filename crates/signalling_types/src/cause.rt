@@ -54,10 +54,13 @@ pub enum Cause {
     HopCounter = 23,
     /// The link of the message keeps as many messages as its share allows.
     ShareFull = 24,
+    /// The subsystem of an SCCP message is known to be prohibited at the point that the message is led to, and so is the
+    /// backup's (Q.714 §5.3.2).
+    SubsystemProhibited = 25,
 }
 
 impl Cause {
-    /// The cause's number, 1 to 24.
+    /// The cause's number, 1 to 25.
     pub fn number(self) -> u8
         ensures { result ≡ cause_number self }
     {
@@ -93,6 +96,7 @@ impl Cause {
             Cause::NoSuchName => "NoSuchName",
             Cause::HopCounter => "HopCounter",
             Cause::ShareFull => "ShareFull",
+            Cause::SubsystemProhibited => "SubsystemProhibited",
         }
     }
 }

@@ -57,6 +57,8 @@ pub enum FailureReason {
     Changeover,
     /// An order of the operator.
     Operator,
+    /// Two tests of the link in a row that weren't answered (Q.707 §2.2).
+    Test,
 }
 
 impl FailureReason {
@@ -72,6 +74,7 @@ impl FailureReason {
             FailureReason::Length => "length",
             FailureReason::Changeover => "changeover",
             FailureReason::Operator => "operator",
+            FailureReason::Test => "test",
         }
     }
 }

@@ -17,7 +17,7 @@ pub enum Outcome {
     Handled,
     /// The event asks for nothing here. What accepting its frame did stays, and a frame that can't be read is noted.
     Ignored,
-    /// The event was refused, and changed nothing; but a refused message may be answered (TFP, UDTS), and what
-    /// accepting its frame did stays.
+    /// The event was refused, and changed nothing; but a refused message may be answered by one that this node makes
+    /// (TFP, UPU, UDTS, XUDTS), and what accepting its frame did stays.
     Refused(Cause),
 }

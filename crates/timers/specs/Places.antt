@@ -4,6 +4,7 @@ use Rattle.std.specs.Prelude.{ℕ, ◌+◌, ◌-◌, ◌*◌, ◌/◌, ◌%◌, 
 use Rattle.signalling_types.specs.declared.limits.TheConstants.Limits.{CHANGEBACK_CODES}
 use Rattle.timers.specs.declared.name.TimerName.{TimerName}
 use Rattle.timers.specs.declared.name.TimerName.TheVariants.{L1, L2, L3, L4, L6, L7, T1, T2, T3, T4, T6, T8, T10}
+use Rattle.timers.specs.declared.name.TimerName.TheVariants.{Slt1, Slt2, Sst}
 use Rattle.timers.specs.declared.name.NodeCounts.{NodeCounts}
 use Rattle.timers.specs.declared.name.RouteTimer.{RouteTimer}
 use Rattle.timers.specs.declared.name.RouteTimer.TheVariants as route
@@ -13,7 +14,7 @@ use Rattle.timers.specs.Timers.{has_name}
 abbrev pub named_sets : NodeCounts → NodeCounts
 named_sets n = record n { sets = min n.sets 256 }
 
--- where the places of T4, T6, T8 and T10 begin; those of links come first
+-- where the places of T4, T6, T8, T10 and of tests begin; those of links come first
 abbrev pub codes_from : NodeCounts → ℕ
 codes_from n = 9 * n.links
 
@@ -25,6 +26,15 @@ t8_from n = destinations_from n + n.destinations
 
 abbrev pub t10_from : NodeCounts → ℕ
 t10_from n = t8_from n + n.sets * n.destinations
+
+abbrev pub slt1_from : NodeCounts → ℕ
+slt1_from n = t10_from n + n.sets * n.destinations
+
+abbrev pub slt2_from : NodeCounts → ℕ
+slt2_from n = slt1_from n + n.links
+
+abbrev pub sst_from : NodeCounts → ℕ
+sst_from n = slt2_from n + n.links
 
 abbrev pub place_in : NodeCounts → TimerName → ℕ
 place_in n (L1 link) = 0 * n.links + link
@@ -40,6 +50,9 @@ place_in n (T4 set code) = codes_from n + (set * CHANGEBACK_CODES + code)
 place_in n (T6 destination) = destinations_from n + destination
 place_in n (T8 set destination) = t8_from n + (set * n.destinations + destination)
 place_in n (T10 set destination) = t10_from n + (set * n.destinations + destination)
+place_in n (Slt1 link) = slt1_from n + link
+place_in n (Slt2 link) = slt2_from n + link
+place_in n Sst = sst_from n
 
 -- nothing for a name that the node doesn't have
 abbrev pub place_of : NodeCounts → TimerName → Option ℕ
@@ -67,6 +80,13 @@ abbrev pub name_of_route : RouteTimer → (set destination : ℕ) → TimerName
 name_of_route route.T8 set destination = T8 set destination
 name_of_route route.T10 set destination = T10 set destination
 
+-- the name of the timer at a place behind those of T10
+abbrev pub test_name : NodeCounts → ℕ → TimerName
+test_name n place =
+    if nat_lt place (slt2_from n) then Slt1 (place - slt1_from n)
+    else if nat_lt place (sst_from n) then Slt2 (place - slt2_from n)
+    else Sst
+
 -- the name of the timer at a place
 abbrev pub name_at : NodeCounts → ℕ → TimerName
 name_at n place =
@@ -74,4 +94,5 @@ name_at n place =
     else if nat_lt place (destinations_from n) then code_name (place - codes_from n)
     else if nat_lt place (t8_from n) then T6 (place - destinations_from n)
     else if nat_lt place (t10_from n) then route_name T8 n.destinations (place - t8_from n)
-    else route_name T10 n.destinations (place - t10_from n)
+    else if nat_lt place (slt1_from n) then route_name T10 n.destinations (place - t10_from n)
+    else test_name n place

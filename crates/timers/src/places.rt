@@ -1,14 +1,14 @@
 //! The places of timers. They rise in name order.
 
 ghost use Rattle.std.specs.Prelude.{◌≡◌, ◌≤◌, ◌<◌, ◌+◌, ◌*◌, ◌^◌, ◌/◌, ◌%◌, ◌&&◌, nat_lt, if◌then◌else◌, Some, None};
-ghost use Rattle.timers.specs.declared.name.TimerName.TheVariants.{T8, T10};
+ghost use Rattle.timers.specs.declared.name.TimerName.TheVariants.{T8, T10, Slt1, Slt2};
 ghost use Rattle.timers.specs.Timers.{has_name, count_of};
-ghost use Rattle.timers.specs.Places.{named_sets, codes_from, destinations_from, t8_from, t10_from, place_of, link_name, code_name, route_name, name_at};
+ghost use Rattle.timers.specs.Places.{named_sets, codes_from, destinations_from, t8_from, t10_from, slt1_from, slt2_from, sst_from, place_of, link_name, code_name, route_name, test_name, name_at};
 
 use crate::name::{NodeCounts, TimerName};
 use signalling_types::{Limits, LinkId, SetId};
 
-/// Kinds of timers that a link has: L1, L2, L3, L4, L6, L7, T1, T2, T3.
+/// Kinds of timers that a link has in front of all others: L1, L2, L3, L4, L6, L7, T1, T2, T3.
 const KINDS: usize = 9;
 
 /// A link set is named by an octet.
@@ -50,6 +50,9 @@ pub(crate) fn place_of(counts: NodeCounts, name: TimerName) -> Option<usize>
         TimerName::T10(set, destination) => {
             route_place(counts, t10_from(counts), set, destination)
         }
+        TimerName::Slt1(link) => test_place(counts, slt1_from(counts), link),
+        TimerName::Slt2(link) => test_place(counts, slt2_from(counts), link),
+        TimerName::Sst => Some(sst_from(counts)),
     }
 }
 
@@ -102,6 +105,16 @@ fn route_place(counts: NodeCounts, from: usize, set: SetId, destination: u16) ->
     )
 }
 
+/// The place of a timer of a link's test, where those of its kind begin here.
+fn test_place(counts: NodeCounts, from: usize, link: LinkId) -> Option<usize>
+    requires { from < 2 ^ 48 }
+    ensures { result ≡ if nat_lt link counts.links then Some (from + link) else None }
+{
+    let links = usize::from(counts.links);
+    let link = link.index();
+    (link < links).then_some(from + link)
+}
+
 /// Where the places of T4 begin.
 fn codes_from(counts: NodeCounts) -> usize
     ensures value { result ≡ codes_from counts }
@@ -142,12 +155,36 @@ fn routes(counts: NodeCounts) -> usize
     usize::from(counts.sets) * usize::from(counts.destinations)
 }
 
+/// Where those of T1 of link tests begin.
+fn slt1_from(counts: NodeCounts) -> usize
+    ensures value { result ≡ slt1_from counts }
+    ensures fits { result < 2 ^ 34 }
+{
+    t10_from(counts) + routes(counts)
+}
+
+/// Where those of T2 of link tests begin.
+fn slt2_from(counts: NodeCounts) -> usize
+    ensures value { result ≡ slt2_from counts }
+    ensures fits { result < 2 ^ 35 }
+{
+    slt1_from(counts) + usize::from(counts.links)
+}
+
+/// Where the timer of subsystem tests is, the last of all.
+fn sst_from(counts: NodeCounts) -> usize
+    ensures value { result ≡ sst_from counts }
+    ensures fits { result < 2 ^ 36 }
+{
+    slt2_from(counts) + usize::from(counts.links)
+}
+
 /// How many places there are.
 pub(crate) fn count_of(counts: NodeCounts) -> usize
     ensures count { result ≡ count_of counts }
     ensures fits { result < 2 ^ 48 }
 {
-    t10_from(counts) + routes(counts)
+    sst_from(counts) + 1
 }
 
 pub(crate) fn name_at(counts: NodeCounts, place: usize) -> TimerName
@@ -164,9 +201,26 @@ pub(crate) fn name_at(counts: NodeCounts, place: usize) -> TimerName
     } else if place < t10_from(counts) {
         let (set, destination) = route_at(counts, place - t8_from(counts));
         TimerName::T8(set, destination)
-    } else {
+    } else if place < slt1_from(counts) {
         let (set, destination) = route_at(counts, place - t10_from(counts));
         TimerName::T10(set, destination)
+    } else {
+        test_name(counts, place)
+    }
+}
+
+/// The name of the timer at a place behind those of T10.
+fn test_name(counts: NodeCounts, place: usize) -> TimerName
+    requires from { slt1_from counts ≤ place }
+    requires place { place < count_of counts }
+    ensures { result ≡ test_name counts place }
+{
+    if place < slt2_from(counts) {
+        TimerName::Slt1(LinkId::new((place - slt1_from(counts)) as u8))
+    } else if place < sst_from(counts) {
+        TimerName::Slt2(LinkId::new((place - slt2_from(counts)) as u8))
+    } else {
+        TimerName::Sst
     }
 }
 
