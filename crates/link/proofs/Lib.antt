@@ -5,4 +5,5 @@ pub mod Sound
 pub mod Keeping
 pub mod Lanes
 pub mod Naming
+pub mod Periods
 pub mod SequenceExamples

@@ -6,5 +6,6 @@ pub mod Inside
 pub mod Fields
 pub mod Outgoing
 pub mod Naming
+pub mod Periods
 pub mod Faults
 pub mod SequenceExamples

@@ -9,6 +9,8 @@ use Rattle.link.specs.declared.action.LinkTimer.{LinkTimer}
 use Rattle.link.specs.declared.action.LinkTimer.TheVariants.{L1, L2, L3, L4, L6, L7}
 use Rattle.link.specs.declared.action.Input.{Input}
 use Rattle.link.specs.declared.action.Input.TheVariants.{Status, UserData, Expiry}
+use Rattle.link.specs.declared.period.Period.{Period}
+use Rattle.link.specs.declared.period.Period.TheVariants.{Fixed, Normal, Emergency}
 use Rattle.link.specs.declared.action.Action.{Action}
 use Rattle.link.specs.declared.action.Action.TheVariants.{Ignored, Fail, Go}
 use Rattle.link.specs.declared.action.Transition.{Transition}
@@ -23,8 +25,12 @@ pub data Effect : Type 0 where
   Enters : (state : Alignment) (sent : Option LinkStatus) (started : Option LinkTimer) → Effect
   -- the link enters service, and the input is then handled there
   EntersServing : Effect
+  -- the peer began anew: the link is aligned again, and what waited to go out doesn't
+  BeginsAgain : Effect
   -- the rules of a link in service handle the input
   Serves : Effect
+  -- nothing, as in a cell that isn't there
+  Passes : Effect
 
 pub record Cell : Type 0 where
   pub state : Alignment
@@ -34,11 +40,31 @@ pub record Cell : Type 0 where
 abbrev pub cell : Alignment → Input → Effect → Cell
 cell state input effect = record { state = state; input = input; effect = effect }
 
-abbrev pub table : List Cell
-table =
-    cell NotAligned (Status AlignmentStatus) (Enters Aligned (Some ProvingNormal) (Some L3))
-    ∷ cell NotAligned (Status ProvingNormal) (Enters (Proving false) (Some ProvingNormal) (Some L4))
-    ∷ cell NotAligned (Status ProvingEmergency) (Enters (Proving false) (Some ProvingNormal) (Some L4))
+-- the status by which a link asks to be proved (Q.703 §7.2)
+abbrev pub proving_status : Period → LinkStatus
+proving_status Fixed = ProvingNormal
+proving_status Normal = ProvingNormal
+proving_status Emergency = ProvingEmergency
+
+-- the peer asks for emergency proving while a link is proved: normal proving ends, and emergency proving begins
+-- (Q.703 §7.3)
+abbrev pub hurrying : Period → (ready : Bool) → Effect
+hurrying Fixed ready = Passes
+hurrying Normal ready = Enters (Proving ready) None (Some L4)
+hurrying Emergency ready = Passes
+
+-- the peer aligns anew while a link is proved (Q.703 §7.3)
+abbrev pub beginning_again : Period → Effect
+beginning_again Fixed = Passes
+beginning_again Normal = BeginsAgain
+beginning_again Emergency = BeginsAgain
+
+-- by the period before the input
+abbrev pub table : Period → List Cell
+table period =
+    cell NotAligned (Status AlignmentStatus) (Enters Aligned (Some (proving_status period)) (Some L3))
+    ∷ cell NotAligned (Status ProvingNormal) (Enters (Proving false) (Some (proving_status period)) (Some L4))
+    ∷ cell NotAligned (Status ProvingEmergency) (Enters (Proving false) (Some (proving_status period)) (Some L4))
     ∷ cell NotAligned (Expiry L2) Fails
     ∷ cell NotAligned UserData Fails
     ∷ cell Aligned (Status ProvingNormal) (Enters (Proving false) None (Some L4))
@@ -48,6 +74,10 @@ table =
     ∷ cell Aligned UserData Fails
     ∷ cell (Proving false) (Status Ready) Remembers
     ∷ cell (Proving true) (Status Ready) Remembers
+    ∷ cell (Proving false) (Status ProvingEmergency) (hurrying period false)
+    ∷ cell (Proving true) (Status ProvingEmergency) (hurrying period true)
+    ∷ cell (Proving false) (Status AlignmentStatus) (beginning_again period)
+    ∷ cell (Proving true) (Status AlignmentStatus) (beginning_again period)
     ∷ cell (Proving false) (Expiry L4) (Enters AlignedReady (Some Ready) (Some L1))
     ∷ cell (Proving true) (Expiry L4) (Enters InService (Some Ready) None)
     ∷ cell (Proving false) (Status OutOfService) Fails
@@ -116,28 +146,54 @@ timer_of (Proving ready) = Some L4
 timer_of AlignedReady = Some L1
 timer_of InService = None
 
+-- the period after an input: either end's wish for emergency proving makes both use it (Q.703 §7.3)
+abbrev pub period_after : Period → Input → Period
+period_after Fixed input = Fixed
+period_after Normal input = if is_same_input input (Status ProvingEmergency) then Emergency else Normal
+period_after Emergency input = Emergency
+
 -- entering a state stops the timer of the state before
-abbrev pub entering : (before after : Alignment) → Option LinkStatus → Option LinkTimer → Transition
-entering before after sent started =
-    record { state = after; stop = timer_of before; send = sent; start = started; serve = false }
+abbrev pub entering : (before after : Alignment) → Period → Option LinkStatus → Option LinkTimer → Transition
+entering before after period sent started = record {
+  state = after;
+  period = period;
+  stop = timer_of before;
+  anew = false;
+  send = sent;
+  start = started;
+  serve = false;
+}
 
 -- the state stays, and no timer with it
-abbrev pub staying : Alignment → Transition
-staying state = record { state = state; stop = None; send = None; start = None; serve = false }
+abbrev pub staying : Alignment → Period → Transition
+staying state period =
+    record { state = state; period = period; stop = None; anew = false; send = None; start = None; serve = false }
 
--- every other cell is Ignored
-abbrev pub action_of : Alignment → Option Effect → Action
-action_of state None = Ignored
-action_of state (Some Fails) = Fail
-action_of state (Some Remembers) = Go (staying (Proving true))
-action_of state (Some (Enters after sent started)) = Go (entering state after sent started)
-action_of state (Some EntersServing) = Go (record (entering state InService None None) { serve = true })
-action_of state (Some Serves) = Go (record (staying state) { serve = true })
+-- every other cell is Ignored; the period is that after the input
+abbrev pub action_of : Period → Alignment → Option Effect → Action
+action_of after state None = Ignored
+action_of after state (Some Fails) = Fail
+action_of after state (Some Remembers) = Go (staying (Proving true) after)
+action_of after state (Some (Enters next sent started)) = Go (entering state next after sent started)
+action_of after state (Some EntersServing) = Go (record (entering state InService after None None) { serve = true })
+action_of after state (Some BeginsAgain) =
+    Go (record (entering state Aligned after (Some (proving_status after)) (Some L3)) { anew = true })
+action_of after state (Some Serves) = Go (record (staying state after) { serve = true })
+action_of after state (Some Passes) = Ignored
 
 -- an association leads from Down to NotAligned
-abbrev pub opening : Transition
-opening = record { state = NotAligned; stop = None; send = Some AlignmentStatus; start = Some L2; serve = false }
+abbrev pub opening : Period → Transition
+opening period = record {
+  state = NotAligned;
+  period = period;
+  stop = None;
+  anew = false;
+  send = Some AlignmentStatus;
+  start = Some L2;
+  serve = false;
+}
 
 -- what a link in a state does about an input
-abbrev pub action_at : Alignment → Input → Action
-action_at state input = action_of state (effect_in table state input)
+abbrev pub action_at : Period → Alignment → Input → Action
+action_at period state input =
+    action_of (period_after period input) state (effect_in (table period) state input)

@@ -3,6 +3,7 @@
 ghost use Rattle.std.specs.Prelude.{◌≡◌, true};
 
 use crate::alignment::Alignment;
+use crate::period::Period;
 use m2pa_codec::LinkStatus;
 
 /// The timers of one link (Q.703 §12.3).
@@ -49,8 +50,12 @@ pub enum Action {
 pub struct Transition {
     /// The state afterwards.
     pub state: Alignment,
+    /// How long the link is proved from then on.
+    pub period: Period,
     /// The timer that stops, if one does: that of the state before, if the link enters another.
     pub stop: Option<LinkTimer>,
+    /// Whether the statuses that wait to go out are dropped.
+    pub anew: bool,
     /// The status that is sent, if one is.
     pub send: Option<LinkStatus>,
     /// The timer that starts, if one does.
@@ -68,5 +73,12 @@ impl Transition {
             serve: true,
             ..self
         }
+    }
+
+    /// The same step, with the statuses that wait dropped before it.
+    pub(crate) fn begin_anew(self) -> Transition
+        ensures { result ≡ record self { anew = true } }
+    {
+        Transition { anew: true, ..self }
     }
 }

@@ -1,9 +1,10 @@
 //! The states of a link, and the table that leads from one to the other.
 
 ghost use Rattle.std.specs.Prelude.{◌≡◌, Option, Some, None};
-ghost use Rattle.link.specs.Table.{action_at, entering, opening, staying, timer_of};
+ghost use Rattle.link.specs.Table.{action_at, entering, opening, period_after, staying, timer_of};
 
 use crate::action::{Action, Input, LinkTimer, Transition};
+use crate::period::Period;
 use m2pa_codec::LinkStatus;
 
 /// Where a link stands on its way into service (Q.703 §7, RFC 4165 §4.1.3; the table is this project's own).
@@ -31,29 +32,31 @@ impl Alignment {
     const UNREADY: Alignment = Alignment::Proving { ready: false };
 
     /// The first step of a link that was down and has an association now.
-    pub fn open() -> Transition
-        ensures { result ≡ opening }
+    pub fn open(period: Period) -> Transition
+        ensures { result ≡ opening period }
     {
         Transition {
             state: Alignment::NotAligned,
+            period,
             stop: None,
+            anew: false,
             send: Some(LinkStatus::Alignment),
             start: Some(LinkTimer::L2),
             serve: false,
         }
     }
 
-    /// What a link in this state does about an input.
-    pub fn on(self, input: Input) -> Action
-        ensures { result ≡ action_at self input }
+    /// What a link in this state does about an input, with its proving period.
+    pub fn on(self, period: Period, input: Input) -> Action
+        ensures { result ≡ action_at period self input }
     {
         match self {
             Alignment::Down => Action::Ignored,
-            Alignment::NotAligned => in_not_aligned(input),
-            Alignment::Aligned => in_aligned(input),
-            Alignment::Proving { ready } => in_proving(ready, input),
-            Alignment::AlignedReady => in_aligned_ready(input),
-            Alignment::InService => in_service(input),
+            Alignment::NotAligned => in_not_aligned(period, input),
+            Alignment::Aligned => in_aligned(period, input),
+            Alignment::Proving { ready } => in_proving(ready, period, input),
+            Alignment::AlignedReady => in_aligned_ready(period, input),
+            Alignment::InService => in_service(period, input),
         }
     }
 
@@ -70,18 +73,21 @@ impl Alignment {
         }
     }
 
-    /// The step to another state, with the status that is sent and the timer that starts.
+    /// The step to another state, with the period from then on, the status that is sent and the timer that starts.
     fn enter(
         self,
         state: Alignment,
+        period: Period,
         send: Option<LinkStatus>,
         start: Option<LinkTimer>,
     ) -> Transition
-        ensures { result ≡ entering self state send start }
+        ensures { result ≡ entering self state period send start }
     {
         Transition {
             state,
+            period,
             stop: self.timer(),
+            anew: false,
             send,
             start,
             serve: false,
@@ -89,12 +95,14 @@ impl Alignment {
     }
 
     /// No step: this state, and nothing is sent, started or stopped.
-    fn stay(self) -> Transition
-        ensures { result ≡ staying self }
+    fn stay(self, period: Period) -> Transition
+        ensures { result ≡ staying self period }
     {
         Transition {
             state: self,
+            period,
             stop: None,
+            anew: false,
             send: None,
             start: None,
             serve: false,
@@ -103,18 +111,18 @@ impl Alignment {
 }
 
 /// A link that waits for its peer to align.
-fn in_not_aligned(input: Input) -> Action
-    ensures { result ≡ action_at Alignment.NotAligned input }
+fn in_not_aligned(period: Period, input: Input) -> Action
+    ensures { result ≡ action_at period Alignment.NotAligned input }
 {
     let here = Alignment::NotAligned;
-    // A link is proved at length, even if its peer is in a hurry.
-    let proving = Some(LinkStatus::ProvingNormal);
+    let after = period.after(input);
+    let proving = Some(period.status());
     match input {
         Input::Status(LinkStatus::Alignment) => {
-            Action::Go(here.enter(Alignment::Aligned, proving, Some(LinkTimer::L3)))
+            Action::Go(here.enter(Alignment::Aligned, after, proving, Some(LinkTimer::L3)))
         }
         Input::Status(LinkStatus::ProvingNormal | LinkStatus::ProvingEmergency) => {
-            Action::Go(here.enter(Alignment::UNREADY, proving, Some(LinkTimer::L4)))
+            Action::Go(here.enter(Alignment::UNREADY, after, proving, Some(LinkTimer::L4)))
         }
         Input::Expiry(LinkTimer::L2) | Input::UserData => Action::Fail,
         _ => Action::Ignored,
@@ -122,12 +130,14 @@ fn in_not_aligned(input: Input) -> Action
 }
 
 /// A link whose peer is aligned.
-fn in_aligned(input: Input) -> Action
-    ensures { result ≡ action_at Alignment.Aligned input }
+fn in_aligned(period: Period, input: Input) -> Action
+    ensures { result ≡ action_at period Alignment.Aligned input }
 {
+    let here = Alignment::Aligned;
     match input {
         Input::Status(LinkStatus::ProvingNormal | LinkStatus::ProvingEmergency) => {
-            Action::Go(Alignment::Aligned.enter(Alignment::UNREADY, None, Some(LinkTimer::L4)))
+            let after = period.after(input);
+            Action::Go(here.enter(Alignment::UNREADY, after, None, Some(LinkTimer::L4)))
         }
         Input::Expiry(LinkTimer::L3) | Input::Status(LinkStatus::OutOfService) | Input::UserData =>
             Action::Fail,
@@ -136,35 +146,69 @@ fn in_aligned(input: Input) -> Action
 }
 
 /// A link that is proved.
-fn in_proving(ready: bool, input: Input) -> Action
-    ensures { result ≡ action_at (Alignment.Proving ready) input }
+fn in_proving(ready: bool, period: Period, input: Input) -> Action
+    ensures { result ≡ action_at period (Alignment.Proving ready) input }
 {
-    let here = Alignment::Proving { ready };
     match input {
         Input::Status(LinkStatus::Ready) => {
-            Action::Go(Alignment::Proving { ready: true }.stay())
+            Action::Go(Alignment::Proving { ready: true }.stay(period))
         }
-        Input::Expiry(LinkTimer::L4) if ready => Action::Go(here.enter(
-            Alignment::InService,
-            Some(LinkStatus::Ready),
-            None,
-        )),
-        Input::Expiry(LinkTimer::L4) => Action::Go(here.enter(
-            Alignment::AlignedReady,
-            Some(LinkStatus::Ready),
-            Some(LinkTimer::L1),
-        )),
+        Input::Status(LinkStatus::ProvingEmergency) => hurry(ready, period),
+        Input::Status(LinkStatus::Alignment) => begin_again(ready, period),
+        Input::Expiry(LinkTimer::L4) => end_proving(ready, period),
         Input::Status(LinkStatus::OutOfService | LinkStatus::ProcessorOutage) | Input::UserData =>
             Action::Fail,
         _ => Action::Ignored,
     }
 }
 
-/// A link that is proved, whose peer isn't ready.
-fn in_aligned_ready(input: Input) -> Action
-    ensures { result ≡ action_at Alignment.AlignedReady input }
+/// The peer asks for emergency proving while a link is proved (Q.703 §7.3).
+fn hurry(ready: bool, period: Period) -> Action
+    ensures { result ≡
+        action_at period (Alignment.Proving ready) (Input.Status LinkStatus.ProvingEmergency) }
 {
-    let step = Alignment::AlignedReady.enter(Alignment::InService, None, None);
+    let here = Alignment::Proving { ready };
+    match period {
+        Period::Normal => {
+            Action::Go(here.enter(here, Period::Emergency, None, Some(LinkTimer::L4)))
+        }
+        Period::Fixed | Period::Emergency => Action::Ignored,
+    }
+}
+
+/// The peer aligns anew while a link is proved (Q.703 §7.3).
+fn begin_again(ready: bool, period: Period) -> Action
+    ensures { result ≡ action_at period (Alignment.Proving ready) (Input.Status LinkStatus.Alignment) }
+{
+    let here = Alignment::Proving { ready };
+    let proving = Some(period.status());
+    match period {
+        Period::Fixed => Action::Ignored,
+        Period::Normal | Period::Emergency => {
+            let step = here.enter(Alignment::Aligned, period, proving, Some(LinkTimer::L3));
+            Action::Go(step.begin_anew())
+        }
+    }
+}
+
+/// The proving of a link succeeds (Q.703 §7.3).
+fn end_proving(ready: bool, period: Period) -> Action
+    ensures { result ≡ action_at period (Alignment.Proving ready) (Input.Expiry LinkTimer.L4) }
+{
+    let here = Alignment::Proving { ready };
+    let told = Some(LinkStatus::Ready);
+    Action::Go(if ready {
+        here.enter(Alignment::InService, period, told, None)
+    } else {
+        here.enter(Alignment::AlignedReady, period, told, Some(LinkTimer::L1))
+    })
+}
+
+/// A link that is proved, whose peer isn't ready.
+fn in_aligned_ready(period: Period, input: Input) -> Action
+    ensures { result ≡ action_at period Alignment.AlignedReady input }
+{
+    let step = Alignment::AlignedReady.enter(Alignment::InService, period, None, None);
     match input {
         Input::Status(LinkStatus::Ready) => Action::Go(step),
         Input::UserData => Action::Go(step.then_serve()),
@@ -177,12 +221,12 @@ fn in_aligned_ready(input: Input) -> Action
 }
 
 /// A link that carries messages.
-fn in_service(input: Input) -> Action
-    ensures { result ≡ action_at Alignment.InService input }
+fn in_service(period: Period, input: Input) -> Action
+    ensures { result ≡ action_at period Alignment.InService input }
 {
     match input {
         Input::Status(LinkStatus::Busy | LinkStatus::BusyEnded) | Input::UserData => {
-            Action::Go(Alignment::InService.stay().then_serve())
+            Action::Go(Alignment::InService.stay(period).then_serve())
         }
         Input::Expiry(LinkTimer::L6 | LinkTimer::L7)
         | Input::Status(

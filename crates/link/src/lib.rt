@@ -6,9 +6,11 @@ pub mod action;
 pub mod alignment;
 pub mod fault;
 pub mod laws;
+pub mod period;
 pub mod sequence;
 
 pub use action::{Action, Input, LinkTimer, Transition};
 pub use alignment::Alignment;
 pub use fault::SeqFault;
+pub use period::Period;
 pub use sequence::Sequence;

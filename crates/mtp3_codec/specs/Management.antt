@@ -19,7 +19,8 @@ unavailable_in [] = Err Short
 unavailable_in (low ∷ []) = Err Short
 unavailable_in (low ∷ high ∷ []) = Err Short
 unavailable_in (low ∷ high ∷ octet ∷ rest) =
-    with_field (λ point. UserPartUnavailable point (octet % 16) (cause_of_code (octet / 16))) (point_in (low ∷ high ∷ []))
+    with_field (λ point. UserPartUnavailable point (octet % 16) (cause_of_code (octet / 16)))
+    (point_in (low ∷ high ∷ []))
 
 -- the message of a heading, of the link code in the label, and of the fields after the heading; what is after the
 -- fields is ignored

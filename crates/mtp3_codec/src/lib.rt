@@ -15,7 +15,7 @@ mod writing;
 pub use discrimination::{Discrimination, discriminate};
 pub use fault::MgmtFault;
 pub use label::Label;
-pub use link_test::{ANSWER_OCTETS, LinkTest, TestKind};
+pub use link_test::{LinkTest, TEST_OCTETS, TestKind};
 pub use management::{MANAGEMENT_OCTETS, Management};
 pub use unavailability::UnavailabilityCause;
 pub use user_part::UserPart;

@@ -13,8 +13,8 @@ use signalling_types::{PointCode, Sls};
 /// Octets of a pattern, at most.
 const PATTERN_OCTETS: usize = 15;
 
-/// Octets of the answer to a link test, at most: label, heading, length and pattern.
-pub const ANSWER_OCTETS: usize = 6 + PATTERN_OCTETS;
+/// Octets of a link test or of its answer, at most: label, heading, length and pattern.
+pub const TEST_OCTETS: usize = 6 + PATTERN_OCTETS;
 
 /// What kind of message it is (Q.707 §5).
 #[derive(Clone, Copy, Debug, PartialEq, Eq)]
@@ -83,11 +83,26 @@ impl<'a> LinkTest<'a> {
 
     /// Writes the answer to this test at the front of a buffer, from the point `opc` to the point `dpc`, and returns
     /// how many octets it has. It has the same code and pattern (Q.707 §2.2).
-    pub fn answer(&self, dpc: PointCode, opc: PointCode, out: &mut [u8; ANSWER_OCTETS]) -> usize
+    pub fn answer(&self, dpc: PointCode, opc: PointCode, out: &mut [u8; TEST_OCTETS]) -> usize
         requires { length self.now.pattern.now ≤ 15 }
         ensures count { result ≡ 6 + length self.now.pattern.now }
         ensures text { take result out.new ≡ spelled dpc opc (answer_to (test_value self.now)) }
         ensures read_back { read_link_test (take result out.new) ≡ Ok (answer_to (test_value self.now)) }
+    {
+        let answer = LinkTest {
+            kind: TestKind::Acknowledgement,
+            slc: self.slc,
+            pattern: self.pattern,
+        };
+        answer.write(dpc, opc, out)
+    }
+
+    /// Writes it at the front of a buffer, from the point `opc` to the point `dpc`, and returns how many octets it has.
+    pub fn write(&self, dpc: PointCode, opc: PointCode, out: &mut [u8; TEST_OCTETS]) -> usize
+        requires { length self.now.pattern.now ≤ 15 }
+        ensures count { result ≡ 6 + length self.now.pattern.now }
+        ensures text { take result out.new ≡ spelled dpc opc (test_value self.now) }
+        ensures read_back { read_link_test (take result out.new) ≡ Ok (test_value self.now) }
     {
         let label = Label {
             dpc,
@@ -95,10 +110,7 @@ impl<'a> LinkTest<'a> {
             sls: self.slc,
         };
         let at = write_at(out, 0, &label.write());
-        let head = [
-            TestKind::Acknowledgement.heading(),
-            self.pattern.len() as u8 * 16,
-        ];
+        let head = [self.kind.heading(), self.pattern.len() as u8 * 16];
         let at = write_at(out, at, &head);
         write_at(out, at, self.pattern)
     }

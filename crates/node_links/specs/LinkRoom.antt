@@ -1,5 +1,5 @@
 -- How the state of a link is kept, and the room that its statuses have.
-use Rattle.std.specs.Prelude.{ℕ, ◌≤◌, length}
+use Rattle.std.specs.Prelude.{ℕ, ◌≤◌, length, Bool, true, false}
 use Rattle.link.specs.declared.alignment.Alignment.{Alignment}
 use Rattle.link.specs.declared.alignment.Alignment.TheVariants.{Down, NotAligned, Aligned, Proving, AlignedReady, InService}
 use Rattle.node_links.specs.NodeLinks.{Link}
@@ -8,14 +8,18 @@ use Rattle.node_links.specs.declared.link_state.LinkState.TheInside.{Inside}
 abbrev pub link_state_in : Inside → Link
 link_state_in s = record {
   alignment = s.alignment;
+  period = s.period;
   association = s.association;
   active = s.active;
   waiting = s.waiting.items;
   peer_busy = s.peer_busy;
+  peer_outage = s.peer_outage;
   acknowledgement_owed = s.acknowledgement_owed;
+  test_failed = s.test_failed;
 }
 
--- how many statuses were sent on the way into a state, at most: Alignment, Proving Normal, Ready
+-- how many statuses were sent on the way into a state, at most: Alignment, Proving, Ready; a link that begins anew drops
+-- those before
 abbrev pub sent_by : Alignment → ℕ
 sent_by Down = 0
 sent_by NotAligned = 1
@@ -23,6 +27,11 @@ sent_by Aligned = 2
 sent_by (Proving ready) = 2
 sent_by AlignedReady = 3
 sent_by InService = 3
+
+-- how many of these may still wait as a step is taken
+abbrev pub left_by : (anew : Bool) → Alignment → ℕ
+left_by true state = 0
+left_by false state = sent_by state
 
 -- no more wait than were sent
 pub record HasPlaces (s : Inside) : Type 0 where

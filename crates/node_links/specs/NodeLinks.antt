@@ -7,7 +7,10 @@ use Rattle.link.specs.declared.alignment.Alignment.TheVariants.{Down, NotAligned
 use Rattle.link.specs.declared.action.Transition.{Transition}
 use Rattle.link.specs.declared.action.Action.{Action}
 use Rattle.link.specs.declared.action.Action.TheVariants.{Ignored, Fail, Go}
-use Rattle.link.specs.Table.{opening}
+use Rattle.link.specs.declared.action.Input.{Input}
+use Rattle.link.specs.declared.period.Period.{Period}
+use Rattle.link.specs.declared.period.Period.TheVariants.{Fixed}
+use Rattle.link.specs.Table.{action_at, opening}
 use Rattle.settings_rows.specs.Configuration.{LinkEntry, DestinationEntry}
 use Rattle.routes.specs.declared.route.Route.{Route}
 use Rattle.routes.specs.Routes.{Facts, first_sets, first_routes}
@@ -17,6 +20,8 @@ use Rattle.routes.specs.Routes as facts
 pub record Link : Type 0 where
   -- where it stands on its way into service
   pub alignment : Alignment
+  -- how long it is proved on that way
+  pub period : Period
   pub association : Bool
   -- whether the operator lets it open
   pub active : Bool
@@ -24,8 +29,12 @@ pub record Link : Type 0 where
   pub waiting : List LinkStatus
   -- whether its peer takes no messages for now
   pub peer_busy : Bool
+  -- whether that is because the peer's processor is out
+  pub peer_outage : Bool
   -- whether a message that came isn't acknowledged yet
   pub acknowledgement_owed : Bool
+  -- whether its last test failed (Q.707 §2.2)
+  pub test_failed : Bool
 
 -- ---- The state of one link, apart from its queue.
 
@@ -33,16 +42,32 @@ pub record Link : Type 0 where
 abbrev pub down_link : Link
 down_link = record {
   alignment = Down;
+  period = Fixed;
   association = false;
   active = true;
   waiting = [];
   peer_busy = false;
+  peer_outage = false;
   acknowledgement_owed = false;
+  test_failed = false;
 }
+
+-- what a link does about an input
+abbrev pub acts_on : Link → Input → Action
+acts_on l input = action_at l.period l.alignment input
+
+-- the statuses that wait before a step sends one: none of them if the link begins anew
+abbrev pub kept_waiting : (anew : Bool) → List LinkStatus → List LinkStatus
+kept_waiting true waiting = []
+kept_waiting false waiting = waiting
 
 -- a link after a step of its alignment; the status that the step sends waits after the others
 abbrev pub stepped : Transition → Link → Link
-stepped step l = record l { alignment = step.state; waiting = l.waiting ++ option_to_list step.send }
+stepped step l = record l {
+  alignment = step.state;
+  period = step.period;
+  waiting = kept_waiting step.anew l.waiting ++ option_to_list step.send;
+}
 
 -- a link after what its alignment does about an input
 abbrev pub after_action : Action → Link → Link
@@ -50,13 +75,21 @@ after_action Ignored l = l
 after_action Fail l = l
 after_action (Go step) l = stepped step l
 
--- a link that failed: no status waits, and Busy and an acknowledgement that was owed are forgotten
+-- a link that failed: no status waits, and Busy, an outage, an acknowledgement that was owed and a test that failed are
+-- forgotten
 abbrev pub after_failure : Link → Link
-after_failure l = record l { alignment = Down; waiting = []; peer_busy = false; acknowledgement_owed = false }
+after_failure l = record l {
+  alignment = Down;
+  waiting = [];
+  peer_busy = false;
+  peer_outage = false;
+  acknowledgement_owed = false;
+  test_failed = false;
+}
 
--- a link that got an association restarts
-abbrev pub opened : Link → Link
-opened l = stepped opening (record (after_failure l) { association = true })
+-- a link that got an association restarts, with a proving period
+abbrev pub opened : Period → Link → Link
+opened period l = stepped (opening period) (record (after_failure l) { association = true })
 
 -- a link that is down takes no frames
 abbrev pub is_down : Alignment → Bool

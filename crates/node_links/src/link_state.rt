@@ -2,27 +2,29 @@
 
 ghost use Rattle.std.specs.Prelude.{◌≡◌, ◌+◌, ◌≤◌, false, drop, length, slice_get};
 ghost use Rattle.std.specs.Option.{option_to_list};
-ghost use Rattle.link.specs.Table.{action_at};
-ghost use Rattle.node_links.specs.NodeLinks.{down_link, stepped, after_action, opened, after_failure, is_down, is_in_service};
-ghost use Rattle.node_links.specs.LinkRoom.{sent_by};
+ghost use Rattle.node_links.specs.NodeLinks.{acts_on, down_link, stepped, after_action, opened, after_failure, is_down, is_in_service};
+ghost use Rattle.node_links.specs.LinkRoom.{left_by, sent_by};
 
 use arrayvec::ArrayVec;
-use link::{Action, Alignment, Input, Transition};
+use link::{Action, Alignment, Input, Period, Transition};
 use m2pa_codec::LinkStatus;
 use std::marker::Model;
 
-/// How many statuses may wait: Alignment, Proving Normal and Ready each go out once in an epoch.
+/// How many statuses may wait: Alignment, Proving and Ready each go out once, until the peer begins anew.
 const STATUSES: usize = 3;
 
 /// The state of a link, apart from its queue.
 #[derive(Drop)]
 pub struct LinkState {
     alignment: Alignment,
+    period: Period,
     association: bool,
     active: bool,
     waiting: ArrayVec<LinkStatus, STATUSES>,
     peer_busy: bool,
+    peer_outage: bool,
     acknowledgement_owed: bool,
+    test_failed: bool,
 }
 
 impl Model for LinkState {
@@ -44,11 +46,14 @@ impl LinkState {
     {
         LinkState {
             alignment: Alignment::Down,
+            period: Period::Fixed,
             association: false,
             active: true,
             waiting: ArrayVec::new(),
             peer_busy: false,
+            peer_outage: false,
             acknowledgement_owed: false,
+            test_failed: false,
         }
     }
 
@@ -94,11 +99,25 @@ impl LinkState {
         self.peer_busy
     }
 
+    /// Whether that is because the peer's processor is out.
+    pub fn is_peer_out(&self) -> bool
+        ensures { result ≡ self.now.peer_outage }
+    {
+        self.peer_outage
+    }
+
     /// Whether a message that came isn't acknowledged yet.
     pub fn owes_acknowledgement(&self) -> bool
         ensures { result ≡ self.now.acknowledgement_owed }
     {
         self.acknowledgement_owed
+    }
+
+    /// Whether its last test failed (Q.707 §2.2).
+    pub fn has_failed_test(&self) -> bool
+        ensures { result ≡ self.now.test_failed }
+    {
+        self.test_failed
     }
 
     /// The status that has waited longest.
@@ -110,34 +129,38 @@ impl LinkState {
 
     /// Does what its alignment does about an input, and says what that is. If the link must fail, nothing changes here.
     pub fn on(&mut self, input: Input) -> Action
-        ensures action { result ≡ action_at self.old.alignment input }
+        ensures action { result ≡ acts_on self.old input }
         ensures state { self.new ≡ after_action result self.old }
     {
-        let action = self.alignment.on(input);
+        let action = self.alignment.on(self.period, input);
         if let Action::Go(step) = action {
             self.take_step(step);
         }
         action
     }
 
-    /// Takes a step: the status that it sends waits after the others.
+    /// Takes a step: the status that it sends waits after the others, which are dropped if the link begins anew.
     fn take_step(&mut self, step: Transition)
-        requires { sent_by self.old.alignment + length (option_to_list step.send) ≤ sent_by step.state }
+        requires { left_by step.anew self.old.alignment + length (option_to_list step.send) ≤ sent_by step.state }
         ensures { self.new ≡ stepped step self.old }
     {
         self.alignment = step.state;
+        self.period = step.period;
+        if step.anew {
+            self.waiting.clear();
+        }
         if let Some(status) = step.send {
             self.waiting.push(status);
         }
     }
 
     /// Begins to align, with an association.
-    pub fn open(&mut self)
-        ensures { self.new ≡ opened self.old }
+    pub fn open(&mut self, period: Period)
+        ensures { self.new ≡ opened period self.old }
     {
         self.fail();
         self.association = true;
-        self.take_step(Alignment::open());
+        self.take_step(Alignment::open(period));
     }
 
     /// Fails. The association stays.
@@ -147,7 +170,9 @@ impl LinkState {
         self.alignment = Alignment::Down;
         self.waiting.clear();
         self.peer_busy = false;
+        self.peer_outage = false;
         self.acknowledgement_owed = false;
+        self.test_failed = false;
     }
 
     /// Loses its association.
@@ -171,11 +196,25 @@ impl LinkState {
         self.peer_busy = busy;
     }
 
+    /// Sets whether its peer's processor counts as out.
+    pub fn set_peer_outage(&mut self, out: bool)
+        ensures { self.new ≡ record self.old { peer_outage = out } }
+    {
+        self.peer_outage = out;
+    }
+
     /// Sets whether it owes an acknowledgement.
     pub fn set_owed(&mut self, owed: bool)
         ensures { self.new ≡ record self.old { acknowledgement_owed = owed } }
     {
         self.acknowledgement_owed = owed;
+    }
+
+    /// Sets whether its last test failed.
+    pub fn set_test_failed(&mut self, failed: bool)
+        ensures { self.new ≡ record self.old { test_failed = failed } }
+    {
+        self.test_failed = failed;
     }
 
     /// Forgets the status that waited longest, if one waits.

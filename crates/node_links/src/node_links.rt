@@ -1,16 +1,15 @@
 //! The links of a node, and the routes that they open.
 
 ghost use Rattle.std.specs.Prelude.{◌≡◌, ◌<◌, ◌≤◌, false, drop, length, replicate, slice_set, nat_lt, IfOk, IfSome};
-ghost use Rattle.link.specs.Table.{action_at};
 ghost use Rattle.routes.specs.Routes.{with_link, chosen_link};
-ghost use Rattle.node_links.specs.NodeLinks.{after_action, down_link, after_failure, opened, facts_of, first_network, link_in, serving, with_state};
+ghost use Rattle.node_links.specs.NodeLinks.{acts_on, after_action, down_link, after_failure, opened, facts_of, first_network, link_in, serving, with_state};
 ghost use Rattle.node_links.specs.FormerLink.{former_link};
 
 mod statuses;
 
 use crate::link_state::LinkState;
 use arrayvec::ArrayVec;
-use link::{Action, Input};
+use link::{Action, Input, Period};
 use routes::{RouteFacts, Routes};
 use settings_rows::{DestinationRow, LinkRow};
 use signalling_types::{Limits, LinkId, SetId, Sls};
@@ -149,7 +148,7 @@ impl NodeLinks {
     #[tactic(auto, using(crate::proofs::Serving::kept))]
     pub fn on(&mut self, link: LinkId, input: Input) -> Action
         requires { link < length self.old.links }
-        ensures action { result ≡ action_at (link_in self.old.links link).alignment input }
+        ensures action { result ≡ acts_on (link_in self.old.links link) input }
         ensures state { self.new ≡ with_state self.old link (after_action result (link_in self.old.links link)) }
     {
         let state = &mut self.states[link.index()];
@@ -158,13 +157,13 @@ impl NodeLinks {
         action
     }
 
-    /// A link begins to align, with an association.
+    /// A link begins to align, with an association and a proving period.
     #[tactic(auto, using(crate::proofs::Serving::kept))]
-    pub fn open(&mut self, link: LinkId)
+    pub fn open(&mut self, link: LinkId, period: Period)
         requires { link < length self.old.links }
-        ensures { self.new ≡ with_state self.old link (opened (link_in self.old.links link)) }
+        ensures { self.new ≡ with_state self.old link (opened period (link_in self.old.links link)) }
     {
-        self.states[link.index()].open();
+        self.states[link.index()].open(period);
         self.routes.set_link(link, false);
     }
 
@@ -202,6 +201,14 @@ impl NodeLinks {
         self.states[link.index()].set_peer_busy(busy);
     }
 
+    /// Sets whether the processor of a link's peer counts as out.
+    pub fn set_peer_outage(&mut self, link: LinkId, out: bool)
+        requires { link < length self.old.links }
+        ensures { self.new ≡ with_state self.old link (record (link_in self.old.links link) { peer_outage = out }) }
+    {
+        self.states[link.index()].set_peer_outage(out);
+    }
+
     /// Sets whether a link owes an acknowledgement.
     pub fn set_owed(&mut self, link: LinkId, owed: bool)
         requires { link < length self.old.links }
@@ -209,6 +216,14 @@ impl NodeLinks {
             (record (link_in self.old.links link) { acknowledgement_owed = owed }) }
     {
         self.states[link.index()].set_owed(owed);
+    }
+
+    /// Sets whether a link's last test failed.
+    pub fn set_test_failed(&mut self, link: LinkId, failed: bool)
+        requires { link < length self.old.links }
+        ensures { self.new ≡ with_state self.old link (record (link_in self.old.links link) { test_failed = failed }) }
+    {
+        self.states[link.index()].set_test_failed(failed);
     }
 
     /// A link forgets the status that waited longest, if one waits.

@@ -25,7 +25,8 @@ pub use Rattle.sccp_relay.specs.Digits.{DigitMap, behind, found_at, longest, lon
 pub use Rattle.sccp_relay.specs.Laws.{added_leaves, added_stands, removed_is_gone, removed_leaves, rows_at}
 pub use Rattle.sccp_relay.specs.Nodes.{IsTree, KeepsWays, bare, child, if_there, linked, node_at, node_of, none, reached, root, stored, stored_from, value, value_there, with_value_at}
 pub use Rattle.sccp_relay.specs.Places.{FitsAt, StandsAt}
-unfoldable pub use Rattle.sccp_relay.specs.Relay.{relay, returned}
+unfoldable pub use Rattle.sccp_relay.specs.Relay.{relay}
+unfoldable pub use Rattle.sccp_relay.specs.Returning.{returned}
 pub use Rattle.sccp_relay.specs.Rows.{IsOrdered, has_row, is_at, is_before, is_behind, is_same_place, key_of, place_of, place_order, row_place, table_of, with_row, without_row}
 pub use Rattle.sccp_relay.specs.Translation.{IsTranslation, has_key, leads, longer, longest_from, or_refusal, translation, translation_refusal}
 pub use Rattle.sccp_relay.specs.Ways.{IsRoute, IsRow, IsSsn, key_digits, lead_of, leads_of, route_number, route_of, row_led, way_of}

@@ -16,19 +16,22 @@ use Rattle.sccp_codec.specs.Messages.{AddressValue, AreOctets, PartsValue, UdtVa
 use Rattle.sccp_codec.specs.Extended.{first_named, has_its_length, is_parameter, type_of, after_type}
 use Rattle.sccp_codec.specs.Titles.{read_title}
 use Rattle.sccp_relay.specs.Sccp.{SccpValue, Plain, Extended, sccp_parts, read_sccp, asks_for_return, is_kind_returned}
-use Rattle.sccp_relay.specs.Relay.{OwnValue, row_of, point_by, written, return_cause, parameter_of, returned_parameters, service, return_to, return_by, return_led, return_by_row, return_read, translated, returned, sent_back, led_back}
+use Rattle.sccp_relay.specs.Points.{OwnValue, point_by, unless_barred}
+use Rattle.sccp_relay.specs.Statuses.{TitlesValue}
+use Rattle.sccp_relay.specs.Relay.{row_of, written, translated}
+use Rattle.sccp_relay.specs.Returning.{return_cause, parameter_of, returned_parameters, service, return_to, return_by, return_led, return_by_row, return_read, returned, sent_back, led_back}
 use Rattle.sccp_relay.specs.Led.{GoesBack, IsReturned, AreInRange, type_octet, second_octet, hops_of, optional_of, a_udts_returns_a_udt}
 use Rattle.sccp_relay.specs.Ways.{IsRow}
 use Rattle.sccp_relay.proofs.KeptParameters.{named-length}
 use Rattle.sccp_relay.proofs.LedAddresses.{translated-led, translated-fits, title-row, label-fits}
 use Rattle.sccp_relay.proofs.SaidMessages.{IsSccpValue, IsReadHere, HasOctetTitles, fits-read, titles-read, here-read, written-reads, sent}
-use Rattle.sccp_relay.proofs.RowPoints.{led-to, point-fits}
-use Rattle.sccp_relay.proofs.Titles.{octets-dropped}
+use Rattle.sccp_relay.proofs.RowPoints.{led-to, open-found, point-fits}
+use Rattle.sccp_relay.proofs.ReadTitles.{octets-dropped}
 use Rattle.sccp_relay.proofs.GoingOn.{in-case, parts-fit}
 
 -- ---- where it goes
 
-record Returns (own : OwnValue) (rows : List TitleEntry) (label : Label) (number : ℕ) (came : SccpValue) (field : List ℕ) : Type 0 where
+record Returns (own : OwnValue) (titles : TitlesValue) (label : Label) (number : ℕ) (came : SccpValue) (field : List ℕ) : Type 0 where
   pub point : ℕ
   pub point_fits : point < 2 ^ 14
   pub elsewhere : point ≢ own.point
@@ -36,7 +39,7 @@ record Returns (own : OwnValue) (rows : List TitleEntry) (label : Label) (number
   pub fits : IsPartsValue goes
   pub writes : written point own.point label (service number came goes) ≡ Some field
   pub calling : goes.calling ≡ (sccp_parts came).called
-  pub back : GoesBack own rows label (sccp_parts came).calling point goes.called
+  pub back : GoesBack own titles label (sccp_parts came).calling point goes.called
   pub carried : goes.data ≡ (sccp_parts came).data
 
 otherwise : (b : Bool) (text : Option (List ℕ)) (field : List ℕ) → cond b None text ≡ Some field → (b ≡ false) × (text ≡ Some field)
@@ -66,32 +69,33 @@ pub is-led_back : (own : OwnValue) (label : Label) (number : ℕ) (came : SccpVa
 is-led_back own label number came point (Err cause) field e = absurd cc
 is-led_back own label number came point (Ok called) field e = record { called = called; is = refl; returns = e }
 
-row-returns : (own : OwnValue) (rows : List TitleEntry) (label : Label) (number : ℕ) (came : SccpValue) (found : Result TitleEntry Cause) (field : List ℕ) → (sccp_parts came).calling.routing ≡ Title
-    → All IsRow rows → IsPartsValue (sccp_parts came) → HasOctetTitles came → row_of rows (sccp_parts came).calling ≡ found → return_by_row own label number came found ≡ Some field → Returns own rows label number came field
-row-returns own rows label number came (Err cause) field t all h titles f e = absurd cc
-row-returns own rows label number came (Ok row) field t all h titles f e =
+row-returns : (own : OwnValue) (titles : TitlesValue) (label : Label) (number : ℕ) (came : SccpValue) (found : Result TitleEntry Cause) (field : List ℕ) → (sccp_parts came).calling.routing ≡ Title
+    → All IsRow titles.rows → IsPartsValue (sccp_parts came) → HasOctetTitles came → unless_barred own titles.prohibited None label.sls (row_of titles.rows (sccp_parts came).calling) ≡ found → return_by_row own titles.prohibited label number came found ≡ Some field → Returns own titles label number came field
+row-returns own titles label number came (Err cause) field t all h octets f e = absurd cc
+row-returns own titles label number came (Ok row) field t all h octets f e =
     let caller = (sccp_parts came).calling in
-    let is = title-row rows (read_title caller.title_indicator caller.title) row all f in
-    let point = point_by own label.sls row in
+    let f = open-found own titles.prohibited None label.sls (row_of titles.rows caller) row f in
+    let is = title-row titles.rows (read_title caller.title_indicator caller.title) row all f in
+    let point = point_by own titles.prohibited None label.sls row in
     let l = is-led_back own label number came point (translated row caller) field e in
     let b = goes-back own.point label point (service number came (led_back l.called (sccp_parts came))) field l.returns in
-    let led = translated-led row caller l.called is titles.calling l.is in
+    let led = translated-led row caller l.called is octets.calling l.is in
     record {
       point = point;
-      point_fits = point-fits own label.sls row is;
+      point_fits = point-fits own titles.prohibited None label.sls row is;
       elsewhere = b.elsewhere;
       goes = led_back l.called (sccp_parts came);
       fits = record { called = translated-fits row caller l.called is h.calling l.is; calling = h.called };
       writes = b.writes;
       calling = refl;
-      back = record { by_number = λ s. absurd (let no = t in cc); by_title = λ s. (row, f, led-to own label.sls row, led) };
+      back = record { by_number = λ s. absurd (let no = t in cc); by_title = λ s. (row, f, led-to own titles.prohibited None label.sls row, led) };
       carried = refl;
     }
 
-routing-returns : (routing : Routing) (own : OwnValue) (rows : List TitleEntry) (label : Label) (number : ℕ) (came : SccpValue) (field : List ℕ) → (sccp_parts came).calling.routing ≡ routing
-    → label.opc < 2 ^ 14 → All IsRow rows → IsPartsValue (sccp_parts came) → HasOctetTitles came → return_by routing own rows label number came ≡ Some field → Returns own rows label number came field
-routing-returns Title own rows label number came field r l all h titles e = row-returns own rows label number came (row_of rows (sccp_parts came).calling) field r all h titles refl e
-routing-returns Ssn own rows label number came field r l all h titles e =
+routing-returns : (routing : Routing) (own : OwnValue) (titles : TitlesValue) (label : Label) (number : ℕ) (came : SccpValue) (field : List ℕ) → (sccp_parts came).calling.routing ≡ routing
+    → label.opc < 2 ^ 14 → All IsRow titles.rows → IsPartsValue (sccp_parts came) → HasOctetTitles came → return_by routing own titles label number came ≡ Some field → Returns own titles label number came field
+routing-returns Title own titles label number came field r l all h octets e = row-returns own titles label number came (unless_barred own titles.prohibited None label.sls (row_of titles.rows (sccp_parts came).calling)) field r all h octets refl e
+routing-returns Ssn own titles label number came field r l all h octets e =
     let caller = (sccp_parts came).calling in
     let b = goes-back own.point label (unwrap_or caller.point label.opc) (service number came (sent_back (sccp_parts came))) field e in
     record {
@@ -106,20 +110,20 @@ routing-returns Ssn own rows label number came field r l all h titles e =
       carried = refl;
     }
 
-pub record ReadsAndReturns (own : OwnValue) (rows : List TitleEntry) (label : Label) (caused : Option ℕ) (read : Result SccpValue SccpFault) (field : List ℕ) : Type 0 where
+pub record ReadsAndReturns (own : OwnValue) (titles : TitlesValue) (label : Label) (caused : Option ℕ) (read : Result SccpValue SccpFault) (field : List ℕ) : Type 0 where
   pub came : SccpValue
   pub number : ℕ
   pub reads : read ≡ Ok came
   pub asks : asks_for_return came ≡ true
   pub has : caused ≡ Some number
-  pub returns : return_by (sccp_parts came).calling.routing own rows label number came ≡ Some field
+  pub returns : return_by (sccp_parts came).calling.routing own titles label number came ≡ Some field
 
-pub read-returns : (own : OwnValue) (rows : List TitleEntry) (label : Label) (caused : Option ℕ) (read : Result SccpValue SccpFault) (field : List ℕ)
-    → return_read own rows label caused read ≡ Some field → ReadsAndReturns own rows label caused read field
-read-returns own rows label None (Ok came) field e = absurd cc
-read-returns own rows label None (Err fault) field e = absurd cc
-read-returns own rows label (Some number) (Err fault) field e = absurd cc
-read-returns own rows label (Some number) (Ok came) field e =
+pub read-returns : (own : OwnValue) (titles : TitlesValue) (label : Label) (caused : Option ℕ) (read : Result SccpValue SccpFault) (field : List ℕ)
+    → return_read own titles label caused read ≡ Some field → ReadsAndReturns own titles label caused read field
+read-returns own titles label None (Ok came) field e = absurd cc
+read-returns own titles label None (Err fault) field e = absurd cc
+read-returns own titles label (Some number) (Err fault) field e = absurd cc
+read-returns own titles label (Some number) (Ok came) field e =
     let r = in-case (asks_for_return came) _ field e in
     record { came = came; number = number; reads = refl; asks = r.0; has = refl; returns = r.1 }
 
@@ -170,11 +174,11 @@ service-here : (extended : Bool) (number : ℕ) (came : SccpValue) (goes : Parts
 service-here extended number (Plain u) goes r = tt
 service-here extended number (Extended v) goes r = r
 
-is-returned : (own : OwnValue) (rows : List TitleEntry) (sif : List ℕ) (cause : Cause) (field : List ℕ) → AreInRange own rows → AreOctets (drop 4 sif)
-    → ReadsAndReturns own rows (label_at sif) (return_cause cause) (read_sccp own.extended (drop 4 sif)) field → IsReturned own rows sif cause field
-is-returned own rows sif cause field range octets r =
+is-returned : (own : OwnValue) (titles : TitlesValue) (sif : List ℕ) (cause : Cause) (field : List ℕ) → AreInRange own titles → AreOctets (drop 4 sif)
+    → ReadsAndReturns own titles (label_at sif) (return_cause cause) (read_sccp own.extended (drop 4 sif)) field → IsReturned own titles sif cause field
+is-returned own titles sif cause field range octets r =
     let fits = fits-read own.extended (drop 4 sif) r.came octets r.reads in
-    let b = routing-returns (sccp_parts r.came).calling.routing own rows (label_at sif) r.number r.came field refl (label-fits sif).opc range.each (parts-fit r.came fits) (titles-read own.extended (drop 4 sif) r.came octets r.reads) r.returns in
+    let b = routing-returns (sccp_parts r.came).calling.routing own titles (label_at sif) r.number r.came field refl (label-fits sif).opc range.each (parts-fit r.came fits) (titles-read own.extended (drop 4 sif) r.came octets r.reads) r.returns in
     let goes = service r.number r.came b.goes in
     let s = serves r.number r.came b.goes r.asks in
     let w = written-reads own.extended b.point own.point (label_at sif) goes field b.point_fits range.point (label-fits sif)
@@ -193,12 +197,12 @@ is-returned own rows sif cause field range octets r =
       second = s.second;
       hops = s.hops;
       calling = rw s.same b.calling;
-      back = rw s.same (subst (λ (point : ℕ). GoesBack own rows (label_at sif) (sccp_parts r.came).calling point b.goes.called) (sym (ap (λ (label : Label). label.dpc) w.labelled)) b.back);
+      back = rw s.same (subst (λ (point : ℕ). GoesBack own titles (label_at sif) (sccp_parts r.came).calling point b.goes.called) (sym (ap (λ (label : Label). label.dpc) w.labelled)) b.back);
       carried = rw s.same b.carried;
       optional = s.optional;
     }
 
 pub returned-udt : a_udts_returns_a_udt
 unfolding returned
-returned-udt own rows sif cause field range octets e =
-    is-returned own rows sif cause field range (octets-dropped 4 sif octets) (read-returns own rows (label_at sif) (return_cause cause) (read_sccp own.extended (drop 4 sif)) field e)
+returned-udt own titles sif cause field range octets e =
+    is-returned own titles sif cause field range (octets-dropped 4 sif octets) (read-returns own titles (label_at sif) (return_cause cause) (read_sccp own.extended (drop 4 sif)) field e)

@@ -17,24 +17,27 @@ use Rattle.sccp_codec.specs.Messages.{AddressValue, AreOctets, IsAddressValue, I
 use Rattle.sccp_codec.specs.Management.{ManagementValue, read_management}
 use Rattle.sccp_codec.proofs.ManagementTexts.{read_management-written}
 use Rattle.sccp_relay.specs.Sccp.{SccpValue, Plain, Extended, sccp_parts, with_new_parts, read_sccp, is_connectionless, has_valid_hops, lowered, is_spent}
-use Rattle.sccp_relay.specs.Relay.{OwnValue, RelayedValue, Delivered, Onward, Refused, relay, relay_read, relay_by_routing, relay_by_row, row_of, ssn_by, point_by, translated, written, onward, led_on, lead_on, is_equipped, for_subsystem, answered_or, answer, answer_to, allowed, is_answered, is_management, is_test, management_address}
+use Rattle.sccp_relay.specs.Points.{OwnValue, point_by, unless_barred}
+use Rattle.sccp_relay.specs.Relay.{RelayedValue, Delivered, Onward, Refused, relay, relay_read, relay_by_routing, relay_by_row, row_of, ssn_by, translated, written, onward, led_on, lead_on, is_equipped, for_subsystem, news, heard_or, answered_or, answer, answer_to, allowed, is_answered, is_management, is_test, management_address}
 use Rattle.sccp_relay.specs.Led.{IsLed, IsLedTo, IsSeenFrom, IsLowered, GoesOn, IsForManagement, IsTestAnswer, AreInRange, type_octet, second_octet, hops_of, optional_of, what_goes_on_reads_back}
+use Rattle.sccp_relay.specs.Statuses.{TitlesValue}
 use Rattle.sccp_relay.specs.Ways.{IsRow}
+use Rattle.sccp_relay.specs.declared.subsystem.SubsystemNews.{SubsystemNews}
 use Rattle.sccp_relay.proofs.LedAddresses.{translated-led, seen_from-of, translated-fits, cond-fits, title-row, label-fits}
-use Rattle.sccp_relay.proofs.RowPoints.{led-to, point-fits}
-use Rattle.sccp_relay.proofs.Titles.{octets-dropped}
+use Rattle.sccp_relay.proofs.RowPoints.{led-to, open-found, point-fits}
+use Rattle.sccp_relay.proofs.ReadTitles.{octets-dropped}
 use Rattle.sccp_relay.proofs.SaidMessages.{IsSccpValue, IsReadHere, HasOctetTitles, fits-read, titles-read, here-read, plain-read, written-reads, sent}
 
 -- ---- to a row's point
 
-pub record Leads (own : OwnValue) (rows : List TitleEntry) (label : Label) (came : SccpValue) (field : List ℕ) : Type 0 where
+pub record Leads (own : OwnValue) (titles : TitlesValue) (label : Label) (came : SccpValue) (field : List ℕ) : Type 0 where
   pub row : TitleEntry
-  pub finds : row_of rows (sccp_parts came).called ≡ Ok row
-  pub elsewhere : point_by own label.sls row ≢ own.point
+  pub finds : row_of titles.rows (sccp_parts came).called ≡ Ok row
+  pub elsewhere : point_by own titles.prohibited (Some label.opc) label.sls row ≢ own.point
   pub left : is_spent (lowered came) ≡ false
   pub called : AddressValue
   pub leads_on : translated row (sccp_parts came).called ≡ Ok called
-  pub writes : written (point_by own label.sls row) own.point label (with_new_parts (lowered came) (led_on called label.opc (sccp_parts came))) ≡ Some field
+  pub writes : written (point_by own titles.prohibited (Some label.opc) label.sls row) own.point label (with_new_parts (lowered came) (led_on called label.opc (sccp_parts came))) ≡ Some field
 
 -- ---- as an answer
 
@@ -49,9 +52,9 @@ pub record Answers (own : OwnValue) (label : Label) (ssn : Option ℕ) (came : S
   pub answered : is_answered own label.opc test ≡ true
   pub writes : written label.opc own.point label (allowed test) ≡ Some field
 
-pub record Answered (own : OwnValue) (rows : List TitleEntry) (label : Label) (came : SccpValue) (field : List ℕ) : Type 0 where
+pub record Answered (own : OwnValue) (titles : TitlesValue) (label : Label) (came : SccpValue) (field : List ℕ) : Type 0 where
   pub ssn : Option ℕ
-  pub for_management : IsForManagement own rows label.sls (sccp_parts came).called
+  pub for_management : IsForManagement own titles label (sccp_parts came).called
   pub answers : Answers own label ssn came field
 
 not-onward : (b : Bool) (cause : Cause) (field : List ℕ) → cond b Delivered (Refused cause) ≢ Onward field
@@ -105,6 +108,10 @@ subsystem-answers own label ssn came field e = answer-answers own label ssn came
 
 -- ---- either
 
+not-heard : (news : Option SubsystemNews) (other : RelayedValue) (field : List ℕ) → heard_or news other ≡ Onward field → other ≡ Onward field
+not-heard None other field e = e
+not-heard (Some news) other field e = absurd cc
+
 onward-some : (text : Option (List ℕ)) (field : List ℕ) → onward text ≡ Onward field → text ≡ Some field
 onward-some None field e = absurd cc
 onward-some (Some text) field e = let same : text ≡ field = cc in ap Some same
@@ -119,18 +126,20 @@ is-led_on : (own : OwnValue) (label : Label) (came : SccpValue) (point : ℕ) (t
 is-led_on own label came point (Err cause) field e = absurd cc
 is-led_on own label came point (Ok called) field e = record { called = called; is = refl; writes = onward-some _ field e }
 
-module _ (own : OwnValue) (rows : List TitleEntry) (label : Label) (came : SccpValue) (field : List ℕ) where
-  row-leads : (found : Result TitleEntry Cause) → (sccp_parts came).called.routing ≡ Title → is_spent (lowered came) ≡ false → row_of rows (sccp_parts came).called ≡ found
-      → relay_by_row own label came found ≡ Onward field → Leads own rows label came field ⊎ Answered own rows label came field
+module _ (own : OwnValue) (titles : TitlesValue) (label : Label) (came : SccpValue) (field : List ℕ) where
+  row-leads : (found : Result TitleEntry Cause) → (sccp_parts came).called.routing ≡ Title → is_spent (lowered came) ≡ false
+      → unless_barred own titles.prohibited (Some label.opc) label.sls (row_of titles.rows (sccp_parts came).called) ≡ found
+      → relay_by_row own titles.prohibited label came found ≡ Onward field → Leads own titles label came field ⊎ Answered own titles label came field
   row-leads (Err cause) t left f e = absurd cc
   row-leads (Ok row) t left f e =
-      let point = point_by own label.sls row in
+      let f = open-found own titles.prohibited (Some label.opc) label.sls (row_of titles.rows (sccp_parts came).called) row f in
+      let point = point_by own titles.prohibited (Some label.opc) label.sls row in
       elim (cases_eq point own.point) [
         | inl same ↦
             let a = subsystem-answers own label (ssn_by row.route (sccp_parts came).called.ssn) came field (rw (eq-eqb point own.point same) at e) in
             inr (record {
               ssn = ssn_by row.route (sccp_parts came).called.ssn;
-              for_management = record { by_number = λ s. absurd (let no = t in cc); by_title = λ s. (row, f, subst (IsLedTo own label.sls row) same (led-to own label.sls row), a.number) };
+              for_management = record { by_number = λ s. absurd (let no = t in cc); by_title = λ s. (row, f, subst (IsLedTo own titles.prohibited (Some label.opc) label.sls row) same (led-to own titles.prohibited (Some label.opc) label.sls row), a.number) };
               answers = a;
             })
         | inr other ↦
@@ -139,38 +148,38 @@ module _ (own : OwnValue) (rows : List TitleEntry) (label : Label) (came : SccpV
       ]
 
   title-leads : (spent : Bool) → is_spent (lowered came) ≡ spent → (sccp_parts came).called.routing ≡ Title
-      → (if spent then Refused HopCounter else relay_by_row own label came (row_of rows (sccp_parts came).called)) ≡ Onward field → Leads own rows label came field ⊎ Answered own rows label came field
+      → (if spent then Refused HopCounter else relay_by_row own titles.prohibited label came (unless_barred own titles.prohibited (Some label.opc) label.sls (row_of titles.rows (sccp_parts came).called))) ≡ Onward field → Leads own titles label came field ⊎ Answered own titles label came field
   title-leads true left t e = absurd cc
-  title-leads false left t e = row-leads (row_of rows (sccp_parts came).called) t left refl e
+  title-leads false left t e = row-leads (unless_barred own titles.prohibited (Some label.opc) label.sls (row_of titles.rows (sccp_parts came).called)) t left refl e
 
-  routing-leads : (routing : Routing) → (sccp_parts came).called.routing ≡ routing → relay_by_routing routing own rows label came ≡ Onward field
-      → Leads own rows label came field ⊎ Answered own rows label came field
+  routing-leads : (routing : Routing) → (sccp_parts came).called.routing ≡ routing → relay_by_routing routing own titles label came ≡ Onward field
+      → Leads own titles label came field ⊎ Answered own titles label came field
   routing-leads Title t e = title-leads (is_spent (lowered came)) refl t e
   routing-leads Ssn t e =
-      let a = subsystem-answers own label (sccp_parts came).called.ssn came field e in
+      let a = subsystem-answers own label (sccp_parts came).called.ssn came field (not-heard (news own label.opc came (sccp_parts came).called.ssn) _ field e) in
       inr (record {
         ssn = (sccp_parts came).called.ssn;
         for_management = record { by_number = λ s. a.number; by_title = λ s. absurd (let no = t in cc) };
         answers = a;
       })
 
-pub record ReadsAndLeads (own : OwnValue) (rows : List TitleEntry) (label : Label) (read : Result SccpValue SccpFault) (field : List ℕ) : Type 0 where
+pub record ReadsAndLeads (own : OwnValue) (titles : TitlesValue) (label : Label) (read : Result SccpValue SccpFault) (field : List ℕ) : Type 0 where
   pub came : SccpValue
   pub reads : read ≡ Ok came
   pub hops : has_valid_hops came ≡ true
-  pub leads : Leads own rows label came field ⊎ Answered own rows label came field
+  pub leads : Leads own titles label came field ⊎ Answered own titles label came field
 
 past-tests : (a b : Bool) (r : RelayedValue) (field : List ℕ) → (if not a then Refused NotInProfile else if not b then Refused HopCounter else r) ≡ Onward field → (b ≡ true) × (r ≡ Onward field)
 past-tests true true r field e = (refl, e)
 past-tests true false r field e = absurd cc
 past-tests false b r field e = absurd cc
 
-pub read-leads : (own : OwnValue) (rows : List TitleEntry) (label : Label) (read : Result SccpValue SccpFault) (field : List ℕ) → relay_read own rows label read ≡ Onward field
-    → ReadsAndLeads own rows label read field
-read-leads own rows label (Err fault) field e = absurd cc
-read-leads own rows label (Ok came) field e =
+pub read-leads : (own : OwnValue) (titles : TitlesValue) (label : Label) (read : Result SccpValue SccpFault) (field : List ℕ) → relay_read own titles label read ≡ Onward field
+    → ReadsAndLeads own titles label read field
+read-leads own titles label (Err fault) field e = absurd cc
+read-leads own titles label (Ok came) field e =
     let r = past-tests (is_connectionless came) (has_valid_hops came) _ field e in
-    record { came = came; reads = refl; hops = r.0; leads = routing-leads own rows label came field (sccp_parts came).called.routing refl r.1 }
+    record { came = came; reads = refl; hops = r.0; leads = routing-leads own titles label came field (sccp_parts came).called.routing refl r.1 }
 
 -- ---- the message with other parts, after a translation
 
@@ -214,16 +223,16 @@ led-fits row called sender parts r s h e =
 
 -- ---- what goes on
 
-module _ (own : OwnValue) (rows : List TitleEntry) (sif field : List ℕ) (range : AreInRange own rows) (came : SccpValue) where
-  goes-on : read_sccp own.extended (drop 4 sif) ≡ Ok came → IsSccpValue came → HasOctetTitles came → has_valid_hops came ≡ true → Leads own rows (label_at sif) came field → GoesOn own rows sif field
-  goes-on reads fits titles hops l =
+module _ (own : OwnValue) (titles : TitlesValue) (sif field : List ℕ) (range : AreInRange own titles) (came : SccpValue) where
+  goes-on : read_sccp own.extended (drop 4 sif) ≡ Ok came → IsSccpValue came → HasOctetTitles came → has_valid_hops came ≡ true → Leads own titles (label_at sif) came field → GoesOn own titles sif field
+  goes-on reads fits octets hops l =
       let parts = led_on l.called (label_at sif).opc (sccp_parts came) in
       let goes = with_new_parts (lowered came) parts in
-      let row = title-row rows _ l.row range.each l.finds in
+      let row = title-row titles.rows _ l.row range.each l.finds in
       let k = kept came parts in
       let there = led-fits l.row l.called (label_at sif).opc (sccp_parts came) row (label-fits sif).opc (parts-fit came fits) l.leads_on in
-      let point = point_by own (label_at sif).sls l.row in
-      let w = written-reads own.extended point own.point (label_at sif) goes field (point-fits own (label_at sif).sls l.row row) range.point (label-fits sif)
+      let point = point_by own titles.prohibited (Some (label_at sif).opc) (label_at sif).sls l.row in
+      let w = written-reads own.extended point own.point (label_at sif) goes field (point-fits own titles.prohibited (Some (label_at sif).opc) (label_at sif).sls l.row row) range.point (label-fits sif)
       (new-here own.extended came parts (here-read own.extended (drop 4 sif) came reads)) (new-fits came parts fits there) l.writes in
       record {
         came = came;
@@ -231,13 +240,13 @@ module _ (own : OwnValue) (rows : List TitleEntry) (sif field : List ℕ) (range
         row = l.row;
         finds = l.finds;
         label = sent own point goes sif field l.elsewhere w;
-        to_row = subst (IsLedTo own (label_at sif).sls l.row) (sym (ap (λ (label : Label). label.dpc) w.labelled)) (led-to own (label_at sif).sls l.row);
+        to_row = subst (IsLedTo own titles.prohibited (Some (label_at sif).opc) (label_at sif).sls l.row) (sym (ap (λ (label : Label). label.dpc) w.labelled)) (led-to own titles.prohibited (Some (label_at sif).opc) (label_at sif).sls l.row);
         goes = goes;
         reads_back = w.back;
         type = k.type;
         second = k.second;
         hops = is-lowered came parts hops l.left;
-        called = subst (λ (p : PartsValue). IsLed l.row (sccp_parts came).called p.called) (sym k.same) (translated-led l.row (sccp_parts came).called l.called row titles.called l.leads_on);
+        called = subst (λ (p : PartsValue). IsLed l.row (sccp_parts came).called p.called) (sym k.same) (translated-led l.row (sccp_parts came).called l.called row octets.called l.leads_on);
         calling = subst (λ (p : PartsValue). IsSeenFrom (label_at sif).opc (sccp_parts came).calling p.calling) (sym k.same) (seen_from-of (label_at sif).opc (sccp_parts came).calling);
         carried = ap (λ (p : PartsValue). p.data) k.same;
         optional = k.optional;
@@ -273,9 +282,9 @@ is-tested own sender test e =
 management-fits : IsAddressValue management_address
 management-fits = record { title_indicator = omega arith; point = tt; ssn = omega arith }
 
-is-test_answer : (own : OwnValue) (rows : List TitleEntry) (sif field : List ℕ) → own.point < 2 ^ 14 → (came : SccpValue) → read_sccp own.extended (drop 4 sif) ≡ Ok came
-    → Answered own rows (label_at sif) came field → IsTestAnswer own rows sif field
-is-test_answer own rows sif field range came reads answered =
+is-test_answer : (own : OwnValue) (titles : TitlesValue) (sif field : List ℕ) → own.point < 2 ^ 14 → (came : SccpValue) → read_sccp own.extended (drop 4 sif) ≡ Ok came
+    → Answered own titles (label_at sif) came field → IsTestAnswer own titles sif field
+is-test_answer own titles sif field range came reads answered =
     let a = answered.answers in
     let t = is-tested own (label_at sif).opc a.test a.answered in
     let w = written-reads own.extended (label_at sif).opc own.point (label_at sif) (allowed a.test) field (label-fits sif).opc range (label-fits sif) tt
@@ -285,7 +294,7 @@ is-test_answer own rows sif field range came reads answered =
       class_octet = a.class_octet;
       came = a.parts;
       reads = plain-read own.extended (drop 4 sif) (UdtValue a.class_octet a.parts) (reads ∙ ap Ok a.plain);
-      for_management = subst (λ (m : SccpValue). IsForManagement own rows (label_at sif).sls (sccp_parts m).called) a.plain answered.for_management;
+      for_management = subst (λ (m : SccpValue). IsForManagement own titles (label_at sif) (sccp_parts m).called) a.plain answered.for_management;
       test = a.test;
       says = a.says;
       kind = t.kind;
@@ -300,13 +309,13 @@ is-test_answer own rows sif field range came reads answered =
       answer = read_management-written (record a.test { kind = SubsystemAllowed; multiplicity = 0 }) (rw t.point range);
     }
 
-reads-back : (own : OwnValue) (rows : List TitleEntry) (sif field : List ℕ) → AreInRange own rows → AreOctets (drop 4 sif) → (came : SccpValue) → read_sccp own.extended (drop 4 sif) ≡ Ok came → has_valid_hops came ≡ true
-    → Leads own rows (label_at sif) came field ⊎ Answered own rows (label_at sif) came field → GoesOn own rows sif field ⊎ IsTestAnswer own rows sif field
-reads-back own rows sif field range octets came reads hops (inl leads) = inl (goes-on own rows sif field range came reads (fits-read own.extended (drop 4 sif) came octets reads) (titles-read own.extended (drop 4 sif) came octets reads) hops leads)
-reads-back own rows sif field range octets came reads hops (inr answered) = inr (is-test_answer own rows sif field range.point came reads answered)
+reads-back : (own : OwnValue) (titles : TitlesValue) (sif field : List ℕ) → AreInRange own titles → AreOctets (drop 4 sif) → (came : SccpValue) → read_sccp own.extended (drop 4 sif) ≡ Ok came → has_valid_hops came ≡ true
+    → Leads own titles (label_at sif) came field ⊎ Answered own titles (label_at sif) came field → GoesOn own titles sif field ⊎ IsTestAnswer own titles sif field
+reads-back own titles sif field range octets came reads hops (inl leads) = inl (goes-on own titles sif field range came reads (fits-read own.extended (drop 4 sif) came octets reads) (titles-read own.extended (drop 4 sif) came octets reads) hops leads)
+reads-back own titles sif field range octets came reads hops (inr answered) = inr (is-test_answer own titles sif field range.point came reads answered)
 
 pub goes_on-onward : what_goes_on_reads_back
 unfolding relay
-goes_on-onward own rows sif field range octets e =
-    let r = read-leads own rows (label_at sif) (read_sccp own.extended (drop 4 sif)) field e in
-    reads-back own rows sif field range (octets-dropped 4 sif octets) r.came r.reads r.hops r.leads
+goes_on-onward own titles sif field range octets e =
+    let r = read-leads own titles (label_at sif) (read_sccp own.extended (drop 4 sif)) field e in
+    reads-back own titles sif field range (octets-dropped 4 sif octets) r.came r.reads r.hops r.leads

@@ -6,7 +6,7 @@ use Rattle.std.specs.Prelude.{◌==◌}
 use Rattle.sccp_codec.specs.Extended.{ParameterValue, first_named, has_its_length, is_parameter, parameters_octets, read_parameters}
 use Rattle.sccp_codec.specs.Optional.{OptionallyGives}
 use Rattle.sccp_codec.proofs.OptionalTexts.{read-back}
-use Rattle.sccp_relay.specs.Relay.{parameter_of}
+use Rattle.sccp_relay.specs.Returning.{parameter_of}
 
 -- ---- their octets read as them
 

@@ -18,7 +18,7 @@ use Rattle.sccp_relay.specs.Changing.{title_after}
 use Rattle.sccp_relay.specs.Relay.{row_of_title, led, led_with, translated, from_point, ssn_by}
 use Rattle.sccp_relay.specs.Ways.{IsRow, IsRoute}
 use Rattle.sccp_relay.proofs.LongestRow.{is_translation-longest}
-use Rattle.sccp_relay.proofs.Titles.{HasTitle, has-title}
+use Rattle.sccp_relay.proofs.ReadTitles.{HasTitle, has-title}
 
 -- ---- addresses
 

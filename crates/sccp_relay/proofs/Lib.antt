@@ -17,7 +17,7 @@ pub mod Translating
 pub mod KeyRows
 pub mod TitleExamples
 pub mod KeptParameters
-pub mod Titles
+pub mod ReadTitles
 pub mod ChangedDigits
 pub mod LedAddresses
 pub mod SaidMessages

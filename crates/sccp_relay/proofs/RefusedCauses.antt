@@ -3,7 +3,7 @@ use Rattle.std.proofs.Common.{◌≡◌, ℕ, Bool, true, false, List, [], ◌�
 use Rattle.std.specs.List.{list_any}
 use Rattle.std.specs.Prelude.{◌%◌, nat_eq, nat_lt, if◌then◌else◌}
 use Rattle.signalling_types.specs.declared.cause.Cause.{Cause}
-use Rattle.signalling_types.specs.declared.cause.Cause.TheVariants.{NoNature, NoDigits, NotInProfile, BadSccp, Unequipped, HopCounter, TooLong}
+use Rattle.signalling_types.specs.declared.cause.Cause.TheVariants.{NoNature, NoDigits, SubsystemProhibited, NotInProfile, BadSccp, Unequipped, HopCounter, TooLong}
 use Rattle.settings_rows.specs.Configuration.{ChangeEntry, TitleEntry}
 use Rattle.mtp3_codec.specs.declared.label.Label.{Label}
 use Rattle.mtp3_codec.specs.Headings.{label_at}
@@ -16,11 +16,15 @@ use Rattle.sccp_codec.specs.declared.fault.SccpFault.TheVariants.{Short, Pointer
 use Rattle.sccp_relay.specs.Translation.{has_key, or_refusal}
 use Rattle.sccp_relay.specs.Sccp.{SccpValue, sccp_parts, with_new_parts, read_sccp, is_connectionless, has_valid_hops, lowered, is_spent}
 use Rattle.sccp_relay.specs.Changing.{is_unchanged, changed_key, changed_digits, changed_octets, title_after}
-use Rattle.sccp_relay.specs.Relay.{OwnValue, RelayedValue, Delivered, Onward, Refused, relay, relay_read, relay_by_routing, relay_by_row, row_of, point_by, row_of_title, ssn_by, led_with, translated, written, onward, led_on, lead_on, is_equipped, answered_or, answer}
+use Rattle.sccp_relay.specs.Points.{OwnValue, is_barred, point_by, unless_barred}
+use Rattle.sccp_relay.specs.Statuses.{TitlesValue}
+use Rattle.sccp_relay.specs.declared.subsystem.SubsystemNews.{SubsystemNews}
+use Rattle.sccp_relay.specs.Relay.{RelayedValue, Delivered, Onward, Heard, Refused, relay, relay_read, relay_by_routing, relay_by_row, row_of, row_of_title, ssn_by, led_with, translated, written, onward, led_on, lead_on, is_equipped, answered_or, answer, news, heard_or}
 
 abbrev pub is_relay_cause : Cause → Bool
 is_relay_cause NoNature = true
 is_relay_cause NoDigits = true
+is_relay_cause SubsystemProhibited = true
 is_relay_cause NotInProfile = true
 is_relay_cause BadSccp = true
 is_relay_cause Unequipped = true
@@ -31,6 +35,7 @@ is_relay_cause cause = false
 abbrev pub is_refused_so : RelayedValue → Bool
 is_refused_so Delivered = true
 is_refused_so (Onward sif) = true
+is_refused_so (Heard news) = true
 is_refused_so (Refused cause) = is_relay_cause cause
 
 either-so : (b : Bool) (v w : RelayedValue) → is_refused_so v ≡ true → is_refused_so w ≡ true → is_refused_so (if b then v else w) ≡ true
@@ -114,33 +119,48 @@ led-so row a =
 
 -- ---- a message
 
-module _ (own : OwnValue) (label : Label) where
+module _ (own : OwnValue) (label : Label) (titles : TitlesValue) where
   lead_on-so : (m : SccpValue) (point : ℕ) (to : Result AddressValue Cause) → is_address_so to ≡ true → is_refused_so (lead_on own label m point to) ≡ true
   lead_on-so m point (Err cause) h = h
   lead_on-so m point (Ok called) h = onward-so (written point own.point label (with_new_parts (lowered m) (led_on called label.opc (sccp_parts m))))
 
-  by_row-so : (m : SccpValue) (row : Result TitleEntry Cause) → is_row_so row ≡ true → is_refused_so (relay_by_row own label m row) ≡ true
+  by_row-so : (m : SccpValue) (row : Result TitleEntry Cause) → is_row_so row ≡ true → is_refused_so (relay_by_row own titles.prohibited label m row) ≡ true
   by_row-so m (Err cause) h = h
   by_row-so m (Ok row) h =
-      either-so (nat_eq (point_by own label.sls row) own.point) _ _ (answered-so (answer own label m (ssn_by row.route (sccp_parts m).called.ssn)) (is_equipped own (ssn_by row.route (sccp_parts m).called.ssn)))
-      (lead_on-so m (point_by own label.sls row) (translated row (sccp_parts m).called) (led-so row (sccp_parts m).called))
+      either-so (nat_eq (point_by own titles.prohibited (Some label.opc) label.sls row) own.point) _ _ (answered-so (answer own label m (ssn_by row.route (sccp_parts m).called.ssn)) (is_equipped own (ssn_by row.route (sccp_parts m).called.ssn)))
+      (lead_on-so m (point_by own titles.prohibited (Some label.opc) label.sls row) (translated row (sccp_parts m).called) (led-so row (sccp_parts m).called))
 
-  routing-so : (routing : Routing) (rows : List TitleEntry) (m : SccpValue) → is_refused_so (relay_by_routing routing own rows label m) ≡ true
-  routing-so Ssn rows m = answered-so (answer own label m (sccp_parts m).called.ssn) (is_equipped own (sccp_parts m).called.ssn)
-  routing-so Title rows m =
+  heard-so : (news : Option SubsystemNews) (v : RelayedValue) → is_refused_so v ≡ true → is_refused_so (heard_or news v) ≡ true
+  heard-so (Some news) v h = refl
+  heard-so None v h = h
+
+  open-so : (row : Result TitleEntry Cause) → is_row_so row ≡ true → is_row_so (unless_barred own titles.prohibited (Some label.opc) label.sls row) ≡ true
+  open-so (Err cause) h = h
+  open-so (Ok row) h = by (is_barred own titles.prohibited (Some label.opc) label.sls row)
+    where
+      by : (b : Bool) → is_row_so (if b then Err SubsystemProhibited else Ok row) ≡ true
+      by true = refl
+      by false = refl
+
+  routing-so : (routing : Routing) (m : SccpValue) → is_refused_so (relay_by_routing routing own titles label m) ≡ true
+  routing-so Ssn m =
+      heard-so (news own label.opc m (sccp_parts m).called.ssn) _
+      (answered-so (answer own label m (sccp_parts m).called.ssn) (is_equipped own (sccp_parts m).called.ssn))
+  routing-so Title m =
       either-so (is_spent (lowered m)) (Refused HopCounter) _ refl
-      (by_row-so m (row_of rows (sccp_parts m).called)
-      (row-so rows (read_title (sccp_parts m).called.title_indicator (sccp_parts m).called.title)
-      (title-so (nat_eq (sccp_parts m).called.title_indicator 4) (sccp_parts m).called.title)))
+      (by_row-so m (unless_barred own titles.prohibited (Some label.opc) label.sls (row_of titles.rows (sccp_parts m).called))
+      (open-so (row_of titles.rows (sccp_parts m).called)
+      (row-so titles.rows (read_title (sccp_parts m).called.title_indicator (sccp_parts m).called.title)
+      (title-so (nat_eq (sccp_parts m).called.title_indicator 4) (sccp_parts m).called.title))))
 
-  read-so : (rows : List TitleEntry) (r : Result SccpValue SccpFault) → is_refused_so (relay_read own rows label r) ≡ true
-  read-so rows (Err Short) = refl
-  read-so rows (Err Pointer) = refl
-  read-so rows (Err Kind) = refl
-  read-so rows (Ok m) =
+  read-so : (r : Result SccpValue SccpFault) → is_refused_so (relay_read own titles label r) ≡ true
+  read-so (Err Short) = refl
+  read-so (Err Pointer) = refl
+  read-so (Err Kind) = refl
+  read-so (Ok m) =
       either-so (not (is_connectionless m)) (Refused NotInProfile) _ refl
-      (either-so (not (has_valid_hops m)) (Refused HopCounter) _ refl (routing-so (sccp_parts m).called.routing rows m))
+      (either-so (not (has_valid_hops m)) (Refused HopCounter) _ refl (routing-so (sccp_parts m).called.routing m))
 
-pub refused-so : (own : OwnValue) (rows : List TitleEntry) (sif : List ℕ) → is_refused_so (relay own rows sif) ≡ true
+pub refused-so : (own : OwnValue) (titles : TitlesValue) (sif : List ℕ) → is_refused_so (relay own titles sif) ≡ true
 unfolding relay
-refused-so own rows sif = read-so own (label_at sif) rows (read_sccp own.extended (drop 4 sif))
+refused-so own titles sif = read-so own (label_at sif) titles (read_sccp own.extended (drop 4 sif))

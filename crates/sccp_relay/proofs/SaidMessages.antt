@@ -12,11 +12,12 @@ use Rattle.sccp_codec.specs.declared.extended.ExtendedKind.TheVariants.{Xudt, Xu
 use Rattle.sccp_codec.specs.Messages.{AreOctets, UnitdataValue, UdtValue, UdtsValue, IsUnitdataValue, PartsValue, parts_of, address_in, part_at, parts_in, fault_of, value_in, read_unitdata}
 use Rattle.sccp_codec.specs.Extended.{ExtendedValue, ParameterValue, IsExtendedValue, HasOptional, is_parameter, type_of, extended_octets, extended_fault, extended_in, read_extended}
 use Rattle.sccp_codec.proofs.AddressTexts.{unless-ok}
-use Rattle.sccp_relay.proofs.Titles.{octets-taken, octets-dropped}
+use Rattle.sccp_relay.proofs.ReadTitles.{octets-taken, octets-dropped}
 use Rattle.sccp_codec.proofs.MessageTexts.{is_unitdata-read, read_unitdata-spelled}
 use Rattle.sccp_codec.proofs.ExtendedTexts.{is_extended-read, read_extended-written}
 use Rattle.sccp_relay.specs.Sccp.{SccpValue, Plain, Extended, sccp_parts, as_plain, as_extended, is_extended, read_sccp, sccp_octets, is_sccp_writable}
-use Rattle.sccp_relay.specs.Relay.{OwnValue, label_to, written}
+use Rattle.sccp_relay.specs.Points.{OwnValue}
+use Rattle.sccp_relay.specs.Relay.{label_to, written}
 use Rattle.sccp_relay.specs.Led.{IsSent}
 
 -- ---- how a message was read

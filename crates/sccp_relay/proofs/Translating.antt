@@ -3,7 +3,7 @@ use Rattle.sccp_relay.proofs.Basics.{◌≡◌, ℕ, ◌+◌, ◌*◌, ◌<◌, 
 use Rattle.settings_rows.specs.Configuration.{ChangeEntry, unchanged}
 use Rattle.sccp_relay.specs.Changing.{is_unchanged}
 use Rattle.sccp_relay.specs.Ways.{is_plain}
-use Rattle.sccp_relay.proofs.Titles.{same-unchanged}
+use Rattle.sccp_relay.proofs.ReadTitles.{same-unchanged}
 use Rattle.std.specs.Prelude.{if◌then◌else◌, Contains, false, is_none, ◌∷◌, Result, Ok, IfOk, OnErr}
 use Rattle.sccp_relay.proofs.Basics.{is_at, is_eq, has_row, place_of, row_place, place_order, IsOrdered, list_any_at, tied_itself, nat_list_cmp_total, Equal}
 use Rattle.sccp_relay.proofs.OneRow.{same-row, translation-is_translation}

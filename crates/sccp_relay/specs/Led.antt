@@ -12,8 +12,12 @@ use Rattle.sccp_codec.specs.Extended.{ParameterValue, type_of, after_type}
 use Rattle.sccp_codec.specs.Management.{ManagementValue, read_management}
 use Rattle.sccp_codec.specs.Titles.{TitleValue, read_title, digits_in, title_octets}
 use Rattle.sccp_relay.specs.Sccp.{SccpValue, Plain, Extended, sccp_parts, is_extended, read_sccp}
-use Rattle.sccp_relay.specs.Relay.{OwnValue, Onward, relay, row_of, ssn_by, is_equipped, management_address, return_cause, returned_parameters, returned, is_reached}
+use Rattle.sccp_relay.specs.Points.{OwnValue, is_open, is_backup_open}
+use Rattle.sccp_relay.specs.Relay.{Onward, relay, row_of, ssn_by, is_equipped, management_address}
+use Rattle.sccp_relay.specs.Returning.{return_cause, returned_parameters, returned}
+use Rattle.sccp_relay.specs.Statuses.{TitlesValue}
 use Rattle.sccp_relay.specs.Ways.{IsRow}
+use Rattle.sccp_relay.specs.declared.subsystem.Subsystem.{Subsystem}
 
 -- ---- the fields of a message
 
@@ -70,14 +74,16 @@ pub record IsLed (row : TitleEntry) (a b : AddressValue) : Type 0 where
   pub by_title : (ssn : ℕ) → row.route ≡ route.Title (Some ssn) → (b.routing ≡ Title) × (b.ssn ≡ Some ssn)
   pub by_title_alone : row.route ≡ route.Title None → (b.routing ≡ Title) × (b.ssn ≡ a.ssn)
 
--- the point that a row leads messages of a link selection to: its own; but its backup, if it has one, while they reach
--- that and don't reach the first
-pub record IsLedTo (own : OwnValue) (sls : ℕ) (row : TitleEntry) (point : ℕ) : Type 0 where
+-- the point that a row leads a message of a link selection to, which came from this sender, if from any: its own; but
+-- its backup, if it has one, while that can be led to, and the first can't
+pub record IsLedTo (own : OwnValue) (prohibited : List Subsystem) (sender : Option ℕ) (sls : ℕ) (row : TitleEntry)
+    (point : ℕ) : Type 0 where
   pub alone : row.backup ≡ None → point ≡ row.point
-  pub first : is_reached own sls row.point ≡ true → point ≡ row.point
-  pub backup : (backup : ℕ) → row.backup ≡ Some backup → is_reached own sls row.point ≡ false
-      → is_reached own sls backup ≡ true → point ≡ backup
-  pub neither : (backup : ℕ) → row.backup ≡ Some backup → is_reached own sls backup ≡ false → point ≡ row.point
+  pub first : is_open own prohibited sls row.route row.point ≡ true → point ≡ row.point
+  pub backup : (backup : ℕ) → row.backup ≡ Some backup → is_open own prohibited sls row.route row.point ≡ false
+      → is_backup_open own prohibited sender sls row.route backup ≡ true → point ≡ backup
+  pub neither : (backup : ℕ) → row.backup ≡ Some backup
+      → is_backup_open own prohibited sender sls row.route backup ≡ false → point ≡ row.point
 
 -- the calling address further on: one that is routed by subsystem number, and named no point, names that of the sender
 pub record IsSeenFrom (origin : ℕ) (a b : AddressValue) : Type 0 where
@@ -103,13 +109,13 @@ IsLowered (Some hops) after = (2 ≤ hops) × (hops ≤ 15) × (after ≡ Some (
 
 -- a message goes on to where the row that its title finds leads it: of its type, with its class or return cause, its data
 -- and its optional parameters
-pub record GoesOn (own : OwnValue) (rows : List TitleEntry) (sif field : List ℕ) : Type 0 where
+pub record GoesOn (own : OwnValue) (titles : TitlesValue) (sif field : List ℕ) : Type 0 where
   pub came : SccpValue
   pub reads : read_sccp own.extended (drop 4 sif) ≡ Ok came
   pub row : TitleEntry
-  pub finds : row_of rows (sccp_parts came).called ≡ Ok row
+  pub finds : row_of titles.rows (sccp_parts came).called ≡ Ok row
   pub label : IsSent own sif field
-  pub to_row : IsLedTo own (label_at sif).sls row (label_at field).dpc
+  pub to_row : IsLedTo own titles.prohibited (Some (label_at sif).opc) (label_at sif).sls row (label_at field).dpc
   pub goes : SccpValue
   pub reads_back : read_sccp own.extended (drop 4 field) ≡ Ok goes
   pub type : type_octet goes ≡ type_octet came
@@ -121,19 +127,21 @@ pub record GoesOn (own : OwnValue) (rows : List TitleEntry) (sif field : List �
   pub optional : optional_of goes ≡ optional_of came
 
 -- a message to this address is for SCCP management here: by its subsystem number, or where the row of its title leads
-pub record IsForManagement (own : OwnValue) (rows : List TitleEntry) (sls : ℕ) (called : AddressValue) : Type 0 where
+pub record IsForManagement (own : OwnValue) (titles : TitlesValue) (label : Label) (called : AddressValue)
+    : Type 0 where
   pub by_number : called.routing ≡ Ssn → called.ssn ≡ Some 1
   pub by_title : called.routing ≡ Title →
-      (row : TitleEntry) × (row_of rows called ≡ Ok row) × IsLedTo own sls row own.point
+      (row : TitleEntry) × (row_of titles.rows called ≡ Ok row)
+      × IsLedTo own titles.prohibited (Some label.opc) label.sls row own.point
       × (ssn_by row.route called.ssn ≡ Some 1)
 
 -- an SSA goes back in the place of an SST about a subsystem that is here
-pub record IsTestAnswer (own : OwnValue) (rows : List TitleEntry) (sif field : List ℕ) : Type 0 where
+pub record IsTestAnswer (own : OwnValue) (titles : TitlesValue) (sif field : List ℕ) : Type 0 where
   pub answers : own.answers_tests ≡ true
   pub class_octet : ℕ
   pub came : PartsValue
   pub reads : read_unitdata (drop 4 sif) ≡ Ok (UdtValue class_octet came)
-  pub for_management : IsForManagement own rows (label_at sif).sls came.called
+  pub for_management : IsForManagement own titles (label_at sif) came.called
   pub test : ManagementValue
   pub says : read_management came.data ≡ Ok test
   pub kind : test.kind ≡ SubsystemStatusTest
@@ -151,15 +159,16 @@ pub record IsTestAnswer (own : OwnValue) (rows : List TitleEntry) (sif field : L
 
 -- The point that a message goes back to, and how its called address reads there. By subsystem number it is the point
 -- that the address names, or if there is none the point that the message came from; by title, where its row leads.
-pub record GoesBack (own : OwnValue) (rows : List TitleEntry) (label : Label) (to : AddressValue) (point : ℕ)
+pub record GoesBack (own : OwnValue) (titles : TitlesValue) (label : Label) (to : AddressValue) (point : ℕ)
     (called : AddressValue) : Type 0 where
   pub by_number : to.routing ≡ Ssn → (point ≡ unwrap_or to.point label.opc) × (called ≡ to)
   pub by_title : to.routing ≡ Title →
-      (row : TitleEntry) × (row_of rows to ≡ Ok row) × IsLedTo own label.sls row point × IsLed row to called
+      (row : TitleEntry) × (row_of titles.rows to ≡ Ok row) × IsLedTo own titles.prohibited None label.sls row point
+      × IsLed row to called
 
 -- A message that asks for it is returned: a UDT by a UDTS, an XUDT by an XUDTS, with the return cause, the addresses
 -- exchanged, and the data. The hop counter of an XUDTS is 15
-pub record IsReturned (own : OwnValue) (rows : List TitleEntry) (sif : List ℕ) (cause : Cause) (field : List ℕ)
+pub record IsReturned (own : OwnValue) (titles : TitlesValue) (sif : List ℕ) (cause : Cause) (field : List ℕ)
     : Type 0 where
   pub came : SccpValue
   pub reads : read_sccp own.extended (drop 4 sif) ≡ Ok came
@@ -174,37 +183,37 @@ pub record IsReturned (own : OwnValue) (rows : List TitleEntry) (sif : List ℕ)
   pub second : second_octet goes ≡ number
   pub hops : IfSome (hops_of goes) (λ hops. hops ≡ 15)
   pub calling : (sccp_parts goes).calling ≡ (sccp_parts came).called
-  pub back : GoesBack own rows (label_at sif) (sccp_parts came).calling (label_at field).dpc (sccp_parts goes).called
+  pub back : GoesBack own titles (label_at sif) (sccp_parts came).calling (label_at field).dpc (sccp_parts goes).called
   pub carried : (sccp_parts goes).data ≡ (sccp_parts came).data
   pub optional : optional_of goes ≡ returned_parameters (optional_of came)
 
 -- ---- the laws
 
 -- a node whose point has 14 bits, and rows in their ranges
-pub record AreInRange (own : OwnValue) (rows : List TitleEntry) : Type 0 where
+pub record AreInRange (own : OwnValue) (titles : TitlesValue) : Type 0 where
   pub point : own.point < 2 ^ 14
-  pub each : All IsRow rows
+  pub each : All IsRow titles.rows
 
 abbrev pub what_goes_on_reads_back : Type 0
 what_goes_on_reads_back =
-    (own : OwnValue) (rows : List TitleEntry) (sif field : List ℕ) → AreInRange own rows → AreOctets sif
-    → relay own rows sif ≡ Onward field → GoesOn own rows sif field ⊎ IsTestAnswer own rows sif field
+    (own : OwnValue) (titles : TitlesValue) (sif field : List ℕ) → AreInRange own titles → AreOctets sif
+    → relay own titles sif ≡ Onward field → GoesOn own titles sif field ⊎ IsTestAnswer own titles sif field
 
 abbrev pub a_udts_returns_a_udt : Type 0
 a_udts_returns_a_udt =
-    (own : OwnValue) (rows : List TitleEntry) (sif : List ℕ) (cause : Cause) (field : List ℕ) → AreInRange own rows
-    → AreOctets sif → returned own rows sif cause ≡ Some field → IsReturned own rows sif cause field
+    (own : OwnValue) (titles : TitlesValue) (sif : List ℕ) (cause : Cause) (field : List ℕ) → AreInRange own titles
+    → AreOctets sif → returned own titles sif cause ≡ Some field → IsReturned own titles sif cause field
 
 -- a node that relays: its point, and its rows
 pub record RelayingNode : Type 0 where
   pub own : OwnValue
-  pub rows : List TitleEntry
+  pub titles : TitlesValue
 
 -- each of these nodes in turn relays what the one before sent on, from this field to that
 abbrev pub GoesThrough : List RelayingNode → List ℕ → List ℕ → Type 0
 GoesThrough [] sif field = sif ≡ field
 GoesThrough (node ∷ nodes) sif field =
-    (next : List ℕ) × (relay node.own node.rows sif ≡ Onward next) × GoesThrough nodes next field
+    (next : List ℕ) × (relay node.own node.titles sif ≡ Onward next) × GoesThrough nodes next field
 
 -- an extended message goes through 14 nodes at most, whatever rows they have
 abbrev pub loops_of_titles_end : Type 0

@@ -1,7 +1,11 @@
 pub mod Translation
 pub mod Changing
 pub mod Sccp
+pub mod Statuses
+pub mod ProhibitedRoom
+pub mod Points
 pub mod Relay
+pub mod Returning
 pub mod Values
 pub mod Faults
 pub mod Digits

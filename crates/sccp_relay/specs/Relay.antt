@@ -1,10 +1,10 @@
--- SCRC and SCLC, SCCP routing control and connectionless control: what becomes of an SCCP message for this point, and
--- what returns one that is refused (Q.714 §2.3, §4.2).
-use Rattle.std.specs.Prelude.{ℕ, Bool, true, false, not, ◌&&◌, ◌||◌, if◌then◌else◌, nat_eq, List, [], ◌∷◌, ◌++◌, take, drop, Option, Some, None, is_none, unwrap_or, Result, Ok, Err}
+-- SCRC, SCCP routing control: what becomes of an SCCP message for this point (Q.714 §2.3). By its called address it is
+-- for a subsystem here, or goes on, written again (§2.4).
+use Rattle.std.specs.Prelude.{ℕ, Bool, true, false, not, ◌&&◌, ◌||◌, if◌then◌else◌, nat_eq, List, [], ◌++◌, take, drop, Option, Some, None, is_none, Result, Ok, Err}
 use Rattle.std.specs.List.{list_any}
 use Rattle.settings_rows.specs.Configuration.{TitleEntry}
 use Rattle.signalling_types.specs.declared.cause.Cause.{Cause}
-use Rattle.signalling_types.specs.declared.cause.Cause.TheVariants.{NoNature, NoDigits, NotInProfile, BadSccp, Unequipped, HopCounter, TooLong, UnknownDestination, NoRoute}
+use Rattle.signalling_types.specs.declared.cause.Cause.TheVariants.{NotInProfile, BadSccp, Unequipped, HopCounter, TooLong}
 use Rattle.signalling_types.specs.declared.limits.TheConstants.Limits.{TITLE_DIGITS}
 use Rattle.settings_rows.specs.declared.title_row.TitleRoute.{TitleRoute}
 use Rattle.settings_rows.specs.declared.title_row.TitleRoute.TheVariants as route
@@ -15,35 +15,25 @@ use Rattle.sccp_codec.specs.declared.fault.SccpFault.TheVariants.{Short, Pointer
 use Rattle.sccp_codec.specs.declared.address.Routing.{Routing}
 use Rattle.sccp_codec.specs.declared.address.Routing.TheVariants as routing
 use Rattle.sccp_codec.specs.declared.address.Routing.TheVariants.{Title, Ssn}
-use Rattle.sccp_codec.specs.declared.extended.ExtendedKind.TheVariants.{Xudts}
 use Rattle.sccp_codec.specs.declared.management.ManagementKind.{ManagementKind}
 use Rattle.sccp_codec.specs.declared.management.ManagementKind.TheVariants.{SubsystemAllowed, SubsystemProhibited, SubsystemStatusTest}
 use Rattle.sccp_codec.specs.Messages.{AddressValue, is_by_ssn, PartsValue, UdtValue, UdtsValue}
 use Rattle.sccp_codec.specs.Management.{ManagementValue, management_octets, read_management}
-use Rattle.sccp_codec.specs.Extended.{ExtendedValue, ParameterValue, first_named}
 use Rattle.sccp_codec.specs.Titles.{TitleValue, read_title, digits_in}
 use Rattle.sccp_relay.specs.Changing.{title_after}
+use Rattle.sccp_relay.specs.Points.{OwnValue, point_by, unless_barred}
+use Rattle.sccp_relay.specs.Statuses.{TitlesValue}
+use Rattle.sccp_relay.specs.declared.subsystem.Subsystem.{Subsystem}
+use Rattle.sccp_relay.specs.declared.subsystem.SubsystemNews.{SubsystemNews}
 use Rattle.sccp_relay.specs.Translation.{translation}
-use Rattle.sccp_relay.specs.Sccp.{SccpValue, Plain, Extended, sccp_parts, with_new_parts, read_sccp, is_connectionless, asks_for_return, has_valid_hops, lowered, is_spent, is_sccp_writable, sccp_octets}
-
--- ---- What becomes of a message: by its called address it is for a subsystem here, or goes on, written again (Q.714
--- §2.3, §2.4).
-
--- the point that a node is, and the numbers of the subsystems that are there; whether extended messages are relayed,
--- and whether tests of these subsystems are answered; and whether a link leads to a point, for messages of a link
--- selection
-pub record OwnValue : Type 0 where
-  pub point : ℕ
-  pub subsystems : List ℕ
-  pub extended : Bool
-  pub answers_tests : Bool
-  pub leads : (point sls : ℕ) → Bool
+use Rattle.sccp_relay.specs.Sccp.{SccpValue, Plain, Extended, sccp_parts, with_new_parts, read_sccp, is_connectionless, has_valid_hops, lowered, is_spent, is_sccp_writable, sccp_octets}
 
 -- what becomes of a message: a subsystem here gets it, one with this signalling information field goes on in its place,
--- or it is refused
+-- it is heard what it says of a subsystem at another point, or it is refused
 pub data RelayedValue : Type 0 where
   Delivered : RelayedValue
   Onward : (sif : List ℕ) → RelayedValue
+  Heard : (news : SubsystemNews) → RelayedValue
   Refused : (cause : Cause) → RelayedValue
 
 -- ---- for another point
@@ -56,19 +46,6 @@ row_of_title rows (Ok title) =
 
 abbrev pub row_of : List TitleEntry → AddressValue → Result TitleEntry Cause
 row_of rows address = row_of_title rows (read_title address.title_indicator address.title)
-
--- whether messages of this link selection reach a point: it is this one, or a link leads to it
-abbrev pub is_reached : OwnValue → (sls point : ℕ) → Bool
-is_reached own sls point = nat_eq point own.point || own.leads point sls
-
-abbrev pub point_or : OwnValue → (sls point : ℕ) → (backup : Option ℕ) → ℕ
-point_or own sls point None = point
-point_or own sls point (Some backup) =
-    if not (is_reached own sls point) && is_reached own sls backup then backup else point
-
--- the point that a row leads to: its own; its backup while they reach that alone
-unfoldable pub point_by : OwnValue → (sls : ℕ) → TitleEntry → ℕ
-point_by own sls row = point_or own sls row.point row.backup
 
 -- what the address is routed by at the point that a row leads to, and the subsystem number there: that of the row if it
 -- has one, else that of the address if it has one
@@ -195,6 +172,43 @@ answered_or None other = other
 abbrev pub for_subsystem : OwnValue → Label → SccpValue → Option ℕ → RelayedValue
 for_subsystem own label message ssn = answered_or (answer own label message ssn) (to_subsystem own ssn)
 
+-- ---- what other points say of their subsystems (Q.714 §5.3.2, §5.3.3)
+
+abbrev pub is_status : ManagementKind → Bool
+is_status SubsystemAllowed = true
+is_status SubsystemProhibited = true
+is_status SubsystemStatusTest = false
+
+abbrev pub prohibits : ManagementKind → Bool
+prohibits SubsystemAllowed = false
+prohibits SubsystemProhibited = true
+prohibits SubsystemStatusTest = false
+
+-- what an SSP or an SSA says, and who says it
+abbrev pub news_from : (sender : ℕ) → ManagementValue → SubsystemNews
+news_from sender about = record {
+  sender = sender;
+  subsystem = record { point = about.point; ssn = about.ssn };
+  is_prohibited = prohibits about.kind;
+}
+
+-- it is heard if another point says it
+abbrev pub news_in : OwnValue → (sender : ℕ) → Result ManagementValue SccpFault → Option SubsystemNews
+news_in own sender (Err fault) = None
+news_in own sender (Ok about) =
+    if is_status about.kind && not (nat_eq sender own.point) then Some (news_from sender about) else None
+
+-- the same, of a message for this subsystem: only the data of a UDT for SCCP management are looked at
+abbrev pub news : OwnValue → (sender : ℕ) → SccpValue → Option ℕ → Option SubsystemNews
+news own sender (Plain (UdtValue class_octet parts)) ssn =
+    if own.hears_statuses && is_management ssn then news_in own sender (read_management parts.data) else None
+news own sender (Plain (UdtsValue return_cause parts)) ssn = None
+news own sender (Extended extended) ssn = None
+
+abbrev pub heard_or : Option SubsystemNews → RelayedValue → RelayedValue
+heard_or (Some news) other = Heard news
+heard_or None other = other
+
 -- ---- a message
 
 -- a message goes on to the point of a row, with this called address
@@ -205,23 +219,28 @@ lead_on own label message point (Ok called) =
     (with_new_parts (lowered message) (led_on called label.opc (sccp_parts message))))
 
 -- a message whose called address is by title, by the row of that title
-abbrev pub relay_by_row : OwnValue → Label → SccpValue → Result TitleEntry Cause → RelayedValue
-relay_by_row own label message (Err cause) = Refused cause
-relay_by_row own label message (Ok row) =
-    if nat_eq (point_by own label.sls row) own.point
+abbrev pub relay_by_row : OwnValue → List Subsystem → Label → SccpValue → Result TitleEntry Cause → RelayedValue
+relay_by_row own prohibited label message (Err cause) = Refused cause
+relay_by_row own prohibited label message (Ok row) =
+    if nat_eq (point_by own prohibited (Some label.opc) label.sls row) own.point
     then for_subsystem own label message (ssn_by row.route (sccp_parts message).called.ssn)
-    else lead_on own label message (point_by own label.sls row) (translated row (sccp_parts message).called)
+    else lead_on own label message (point_by own prohibited (Some label.opc) label.sls row)
+    (translated row (sccp_parts message).called)
 
 -- before it is translated its hop counter is lowered, and it is refused if this comes to 0 (Q.714 §2.3.1)
-abbrev pub relay_by_title : OwnValue → List TitleEntry → Label → SccpValue → RelayedValue
-relay_by_title own rows label message =
+abbrev pub relay_by_title : OwnValue → TitlesValue → Label → SccpValue → RelayedValue
+relay_by_title own titles label message =
     if is_spent (lowered message) then Refused HopCounter
-    else relay_by_row own label message (row_of rows (sccp_parts message).called)
+    else relay_by_row own titles.prohibited label message
+    (unless_barred own titles.prohibited (Some label.opc) label.sls (row_of titles.rows (sccp_parts message).called))
 
--- by subsystem number a message is for this point, whatever point the address names; by title a row leads it
-abbrev pub relay_by_routing : Routing → OwnValue → List TitleEntry → Label → SccpValue → RelayedValue
-relay_by_routing routing.Ssn own rows label message = for_subsystem own label message (sccp_parts message).called.ssn
-relay_by_routing routing.Title own rows label message = relay_by_title own rows label message
+-- by subsystem number a message is for this point, whatever point the address names; by title a row leads it. What
+-- other points say of their subsystems is addressed by subsystem number
+abbrev pub relay_by_routing : Routing → OwnValue → TitlesValue → Label → SccpValue → RelayedValue
+relay_by_routing routing.Ssn own titles label message =
+    heard_or (news own label.opc message (sccp_parts message).called.ssn)
+    (for_subsystem own label message (sccp_parts message).called.ssn)
+relay_by_routing routing.Title own titles label message = relay_by_title own titles label message
 
 -- why a message that can't be read is refused
 abbrev pub sccp_cause : SccpFault → Cause
@@ -229,94 +248,13 @@ sccp_cause Short = BadSccp
 sccp_cause Pointer = BadSccp
 sccp_cause Kind = NotInProfile
 
-abbrev pub relay_read : OwnValue → List TitleEntry → Label → Result SccpValue SccpFault → RelayedValue
-relay_read own rows label (Err fault) = Refused (sccp_cause fault)
-relay_read own rows label (Ok message) =
+abbrev pub relay_read : OwnValue → TitlesValue → Label → Result SccpValue SccpFault → RelayedValue
+relay_read own titles label (Err fault) = Refused (sccp_cause fault)
+relay_read own titles label (Ok message) =
     if not (is_connectionless message) then Refused NotInProfile
     else if not (has_valid_hops message) then Refused HopCounter
-    else relay_by_routing (sccp_parts message).called.routing own rows label message
+    else relay_by_routing (sccp_parts message).called.routing own titles label message
 
 -- what becomes of a message with this signalling information field
-unfoldable pub relay : OwnValue → List TitleEntry → List ℕ → RelayedValue
-relay own rows sif = relay_read own rows (label_at sif) (read_sccp own.extended (drop 4 sif))
-
--- ---- The message that returns one that was refused: a UDTS, or an XUDTS (Q.714 §4.2).
-
--- the return cause (Q.713 §3.12); nothing is returned for any other refusal
-abbrev pub return_cause : Cause → Option ℕ
-return_cause NoNature = Some 0
-return_cause NoDigits = Some 1
-return_cause Unequipped = Some 4
-return_cause UnknownDestination = Some 5
-return_cause NoRoute = Some 5
-return_cause TooLong = Some 7
-return_cause HopCounter = Some 12
-return_cause _ = None
-
--- the first parameter of this name, if there is one
-abbrev pub parameter_of : (name : ℕ) → Option (List ℕ) → List ParameterValue
-parameter_of name None = []
-parameter_of name (Some octets) = record { name = name; octets = octets } ∷ []
-
--- the first segmentation and the first importance of optional parameters
-abbrev pub returned_parameters : List ParameterValue → List ParameterValue
-returned_parameters ps = parameter_of 16 (first_named 16 ps) ++ parameter_of 18 (first_named 18 ps)
-
--- an XUDTS, with a hop counter of 15
-abbrev pub xudts : (return_cause : ℕ) → PartsValue → List ParameterValue → ExtendedValue
-xudts number parts optional = record {
-  kind = Xudts number;
-  hop_counter = 15;
-  parts = parts;
-  optional = optional;
-}
-
--- the message that returns one, with these parts
-abbrev pub service : (return_cause : ℕ) → SccpValue → PartsValue → SccpValue
-service number (Plain unitdata) parts = Plain (UdtsValue number parts)
-service number (Extended extended) parts = Extended (xudts number parts (returned_parameters extended.optional))
-
--- it goes to another point, if it can be written
-abbrev pub return_to : (own : ℕ) → Label → ℕ → SccpValue → Option (List ℕ)
-return_to own label point message = if nat_eq point own then None else written point own label message
-
--- the parts, sent back: to the address that called, from the one that was called
-abbrev pub sent_back : PartsValue → PartsValue
-sent_back parts = record parts { called = parts.calling; calling = parts.called }
-
--- the same, sent to the calling address as a row leads it on; the called address stays
-abbrev pub led_back : (calling : AddressValue) → PartsValue → PartsValue
-led_back calling parts = record parts { called = calling; calling = parts.called }
-
-abbrev pub return_led : OwnValue → Label → ℕ → SccpValue → (point : ℕ) → Result AddressValue Cause → Option (List ℕ)
-return_led own label number message point (Err cause) = None
-return_led own label number message point (Ok calling) =
-    return_to own.point label point (service number message (led_back calling (sccp_parts message)))
-
-abbrev pub return_by_row : OwnValue → Label → ℕ → SccpValue → Result TitleEntry Cause → Option (List ℕ)
-return_by_row own label number message (Err cause) = None
-return_by_row own label number message (Ok row) =
-    return_led own label number message (point_by own label.sls row) (translated row (sccp_parts message).calling)
-
--- It goes to the address that called. By subsystem number that is the point that it names, else the point that the
--- message came from; by title it is where a row leads
-abbrev pub return_by : Routing → OwnValue → List TitleEntry → Label → ℕ → SccpValue → Option (List ℕ)
-return_by Ssn own rows label number message =
-    return_to own.point label (unwrap_or (sccp_parts message).calling.point label.opc)
-    (service number message (sent_back (sccp_parts message)))
-return_by Title own rows label number message =
-    return_by_row own label number message (row_of rows (sccp_parts message).calling)
-
--- a message is returned if it asks for that and there is a return cause
-abbrev pub return_read : OwnValue → List TitleEntry → Label → Option ℕ → Result SccpValue SccpFault → Option (List ℕ)
-return_read own rows label (Some number) (Ok message) =
-    if asks_for_return message
-    then return_by (sccp_parts message).calling.routing own rows label number message
-    else None
-return_read own rows label _ _ = None
-
--- the signalling information field of the message that returns one with this field, which was refused for a cause, if
--- one does
-unfoldable pub returned : OwnValue → List TitleEntry → List ℕ → Cause → Option (List ℕ)
-returned own rows sif cause =
-    return_read own rows (label_at sif) (return_cause cause) (read_sccp own.extended (drop 4 sif))
+unfoldable pub relay : OwnValue → TitlesValue → List ℕ → RelayedValue
+relay own titles sif = relay_read own titles (label_at sif) (read_sccp own.extended (drop 4 sif))

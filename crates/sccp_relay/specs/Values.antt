@@ -9,7 +9,8 @@ use Rattle.sccp_relay.specs.declared.message.Message.TheVariants as message
 use Rattle.sccp_relay.specs.declared.relayed.Relayed.{Relayed}
 use Rattle.sccp_relay.specs.declared.relayed.Relayed.TheVariants as said
 use Rattle.sccp_relay.specs.Sccp.{SccpValue, Plain, Extended}
-use Rattle.sccp_relay.specs.Relay.{OwnValue, RelayedValue, Delivered, Onward, Refused}
+use Rattle.sccp_relay.specs.Points.{OwnValue}
+use Rattle.sccp_relay.specs.Relay.{RelayedValue, Delivered, Onward, Heard, Refused}
 
 abbrev pub own_value : {W : Type 0} → (leads : W → ℕ → ℕ → Bool) → Own W → OwnValue
 own_value leads own = record {
@@ -17,6 +18,7 @@ own_value leads own = record {
   subsystems = own.subsystems.now;
   extended = own.extended;
   answers_tests = own.answers_tests;
+  hears_statuses = own.hears_statuses;
   leads = leads own.ways;
 }
 
@@ -28,12 +30,14 @@ sccp_of (message.Extended extended) = Extended (extended_of extended)
 abbrev pub relayed_of : Relayed → List ℕ → RelayedValue
 relayed_of said.Delivered field = Delivered
 relayed_of (said.Onward count) field = Onward (take count field)
+relayed_of (said.Heard news) field = Heard news
 relayed_of (said.Refused cause) field = Refused cause
 
 -- a fact of how many octets go on, if any do
 abbrev pub IfOnward : Relayed → (ℕ → Type 0) → Type 0
 IfOnward said.Delivered P = ⊤
 IfOnward (said.Onward count) P = P count
+IfOnward (said.Heard news) P = ⊤
 IfOnward (said.Refused cause) P = ⊤
 
 -- the octets that were written at the front of a field, if any were

@@ -26,7 +26,8 @@ pub(crate) fn answer<W: Ways>(
     own: &Own<'_, W>,
     field: &mut Field,
 ) -> Option<usize>
-    ensures text { written_in result field.new ≡ rule.answer (own_value W.leads own.now) label (sccp_of message.now) ssn }
+    ensures text { written_in result field.new
+        ≡ rule.answer (own_value W.leads own.now) label (sccp_of message.now) ssn }
     ensures label { IfSome result (λ count. 4 ≤ count) }
     ensures fits { IfSome result (λ count. count ≤ Limits.SIF_OCTETS) }
 {
@@ -41,7 +42,7 @@ pub(crate) fn answer<W: Ways>(
 }
 
 /// Whether a subsystem number is that of SCCP management.
-fn is_management(ssn: Option<u8>) -> bool
+pub(crate) fn is_management(ssn: Option<u8>) -> bool
     ensures { result ≡ rule.is_management ssn }
 {
     match ssn {

@@ -1,5 +1,6 @@
 //! What becomes of a message.
 
+use crate::subsystem::SubsystemNews;
 use signalling_types::Cause;
 
 /// What becomes of an SCCP message for this point (Q.714 §2.3).
@@ -9,6 +10,8 @@ pub enum Relayed {
     Delivered,
     /// It goes on, rewritten: this many octets of the field that was lent, from its front.
     Onward(usize),
+    /// It is heard what it says of a subsystem at another point (Q.714 §5.3.2, §5.3.3).
+    Heard(SubsystemNews),
     /// It is refused for this cause.
     Refused(Cause),
 }

@@ -3,13 +3,15 @@
 ghost use Rattle.std.specs.Prelude.{◌≡◌, ◌≤◌, length, drop, List, ℕ, Ok};
 ghost use Rattle.mtp3_codec.specs.Headings.{label_at};
 ghost use Rattle.sccp_codec.specs.Values.{address_of};
+ghost use Rattle.sccp_relay.specs.Points.{unless_barred};
 ghost use Rattle.sccp_relay.specs.Relay as rule;
 ghost use Rattle.sccp_relay.specs.Sccp.{sccp_parts};
 ghost use Rattle.sccp_relay.specs.Values.{own_value, relayed_of, sccp_of, IfOnward};
 
-use crate::Translations;
+use crate::Titles;
 use crate::answering::answer;
 use crate::changing::changed_title;
+use crate::hearing::news;
 use crate::message::Message;
 use crate::own::{Own, Ways};
 use crate::relayed::Relayed;
@@ -17,7 +19,7 @@ use crate::writing::{led, ssn_by, write_lowered};
 use mtp3_codec::Label;
 use sccp_codec::{Address, Field, Parts, Routing, SccpFault};
 use settings_rows::TitleRow;
-use signalling_types::{Cause, Limits, PointCode};
+use signalling_types::{Cause, Limits, PointCode, Sls};
 
 /// Octets of the routing label, which comes before the message (Q.704 §2.2).
 const LABEL_OCTETS: usize = 4;
@@ -29,24 +31,21 @@ const LABEL_OCTETS: usize = 4;
 /// Refused, in this order: NotInProfile if it is neither a UDT nor a UDTS, nor an XUDT nor an XUDTS where these are
 /// relayed, and BadSccp if it can't be read; NotInProfile if it is a UDT or an XUDT of a class above 1; HopCounter if
 /// it has a hop counter of 0 or above 15, or of 1 if it is routed by title; if it is routed by title, as
-/// `Address::global_title` and then `Translations::translate` refuse the title of its called address; Unequipped if it
-/// is for a subsystem that isn't here; TooLong if it goes on and a pointer is over 255, or the field over 272 octets.
+/// `Address::global_title` and then `Titles::translate` refuse the title of its called address; SubsystemProhibited if
+/// neither the row's point nor its backup serves it, and the subsystem at one that is reached is prohibited (§5.3.2);
+/// Unequipped if it is for a subsystem that isn't here; TooLong if it goes on and a pointer is over 255, or the field
+/// over 272 octets.
 #[tactic(auto, unfolding(crate::specs::Relay::relay))]
-pub fn relay<W: Ways>(
-    sif: &[u8],
-    rows: &Translations,
-    own: &Own<'_, W>,
-    field: &mut Field,
-) -> Relayed
+pub fn relay<W: Ways>(sif: &[u8], titles: &Titles, own: &Own<'_, W>, field: &mut Field) -> Relayed
     requires label { 4 ≤ length sif.now }
-    ensures exact { relayed_of result field.new ≡ rule.relay (own_value W.leads own.now) rows.now sif.now }
+    ensures exact { relayed_of result field.new ≡ rule.relay (own_value W.leads own.now) titles.now sif.now }
     ensures label { IfOnward result (λ count. 4 ≤ count) }
     ensures fits { IfOnward result (λ count. count ≤ Limits.SIF_OCTETS) }
 {
     let label = Label::at(sif);
     match Message::read(own.extended, behind_label(sif)) {
         Err(fault) => Relayed::Refused(sccp_cause(fault)),
-        Ok(message) => relay_read(&message, label, rows, own, field),
+        Ok(message) => relay_read(&message, label, titles, own, field),
     }
 }
 
@@ -72,12 +71,12 @@ fn sccp_cause(fault: SccpFault) -> Cause
 fn relay_read<W: Ways>(
     message: &Message<'_>,
     label: Label,
-    rows: &Translations,
+    titles: &Titles,
     own: &Own<'_, W>,
     field: &mut Field,
 ) -> Relayed
     ensures exact { relayed_of result field.new
-        ≡ rule.relay_read (own_value W.leads own.now) rows.now label (Ok (sccp_of message.now)) }
+        ≡ rule.relay_read (own_value W.leads own.now) titles.now label (Ok (sccp_of message.now)) }
     ensures label { IfOnward result (λ count. 4 ≤ count) }
     ensures fits { IfOnward result (λ count. count ≤ Limits.SIF_OCTETS) }
 {
@@ -89,8 +88,11 @@ fn relay_read<W: Ways>(
     }
     let called = &message.parts().called;
     match called.routing {
-        Routing::Ssn => for_subsystem(message, called.ssn, label, own, field),
-        Routing::Title => relay_by_title(message, label, rows, own, field),
+        Routing::Ssn => match news(message, called.ssn, label.opc, own) {
+            Some(news) => Relayed::Heard(news),
+            None => for_subsystem(message, called.ssn, label, own, field),
+        },
+        Routing::Title => relay_by_title(message, label, titles, own, field),
     }
 }
 
@@ -130,12 +132,12 @@ fn to_subsystem<W: Ways>(own: &Own<'_, W>, ssn: Option<u8>) -> Relayed
 fn relay_by_title<W: Ways>(
     message: &Message<'_>,
     label: Label,
-    rows: &Translations,
+    titles: &Titles,
     own: &Own<'_, W>,
     field: &mut Field,
 ) -> Relayed
     ensures exact { relayed_of result field.new
-        ≡ rule.relay_by_title (own_value W.leads own.now) rows.now label (sccp_of message.now) }
+        ≡ rule.relay_by_title (own_value W.leads own.now) titles.now label (sccp_of message.now) }
     ensures label { IfOnward result (λ count. 4 ≤ count) }
     ensures fits { IfOnward result (λ count. count ≤ Limits.SIF_OCTETS) }
 {
@@ -143,9 +145,9 @@ fn relay_by_title<W: Ways>(
         return Relayed::Refused(Cause::HopCounter);
     }
     let called = &message.parts().called;
-    match row_of(rows, called) {
+    match open_row(called, Some(label.opc), label.sls, titles, own) {
         Err(cause) => Relayed::Refused(cause),
-        Ok(row) => relay_by_row(message, &row, label, own, field),
+        Ok(row) => relay_by_row(message, &row, label, titles, own, field),
     }
 }
 
@@ -154,15 +156,16 @@ fn relay_by_row<W: Ways>(
     message: &Message<'_>,
     row: &TitleRow,
     label: Label,
+    titles: &Titles,
     own: &Own<'_, W>,
     field: &mut Field,
 ) -> Relayed
     ensures exact { relayed_of result field.new
-        ≡ rule.relay_by_row (own_value W.leads own.now) label (sccp_of message.now) (Ok row.now) }
+        ≡ rule.relay_by_row (own_value W.leads own.now) titles.now.prohibited label (sccp_of message.now) (Ok row.now) }
     ensures label { IfOnward result (λ count. 4 ≤ count) }
     ensures fits { IfOnward result (λ count. count ≤ Limits.SIF_OCTETS) }
 {
-    let point = own.point_by(row, label.sls);
+    let point = own.point_by(row, Some(label.opc), label.sls, titles);
     if point == own.point {
         let ssn = ssn_by(row.route(), message.parts().called.ssn);
         return for_subsystem(message, ssn, label, own, field);
@@ -170,12 +173,31 @@ fn relay_by_row<W: Ways>(
     lead_on(point, message, row, label, own, field)
 }
 
+/// The row that leads on a message of this link selection, from this sender, if from any, to an address by title.
+/// Refused as `Address::global_title` and then `Titles::translate` refuse the title; SubsystemProhibited if it can be
+/// led neither to the row's point nor to its backup, and the subsystem at one that is reached is prohibited.
+pub(crate) fn open_row<W: Ways>(
+    address: &Address<'_>,
+    sender: Option<PointCode>,
+    sls: Sls,
+    titles: &Titles,
+    own: &Own<'_, W>,
+) -> Result<TitleRow, Cause>
+    ensures { result ≡ unless_barred (own_value W.leads own.now) titles.now.prohibited sender sls
+        (rule.row_of titles.now.rows (address_of address.now)) }
+{
+    match row_of(titles, address) {
+        Ok(row) => own.unless_barred(row, sender, sls, titles),
+        Err(cause) => Err(cause),
+    }
+}
+
 /// The row that the title of an address is translated by.
-pub(crate) fn row_of(rows: &Translations, address: &Address<'_>) -> Result<TitleRow, Cause>
-    ensures { result ≡ rule.row_of rows.now (address_of address.now) }
+fn row_of(titles: &Titles, address: &Address<'_>) -> Result<TitleRow, Cause>
+    ensures { result ≡ rule.row_of titles.now.rows (address_of address.now) }
 {
     match address.global_title() {
-        Ok(title) => rows.translate(title.key, title.digits().as_slice()),
+        Ok(title) => titles.translate(title.key, title.digits().as_slice()),
         Err(cause) => Err(cause),
     }
 }

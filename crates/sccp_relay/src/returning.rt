@@ -1,18 +1,20 @@
 //! The message that returns another: a UDTS, or an XUDTS.
 
-ghost use Rattle.std.specs.Prelude.{◌≡◌, ◌≤◌, ◌++◌, [], length, IsSome, IfSome, Some, unwrap_or, Ok};
+ghost use Rattle.std.specs.Prelude.{◌≡◌, ◌≤◌, ◌++◌, [], length, IsSome, IfSome, Some, None, unwrap_or, Ok};
 ghost use Rattle.sccp_codec.specs.Extended.{first_named, read_parameters};
 ghost use Rattle.sccp_codec.specs.ExtendedValues.{extended_of, parameters_of};
 ghost use Rattle.sccp_codec.specs.Values.{address_of, parts_value};
-ghost use Rattle.sccp_relay.specs.Relay as rule;
+ghost use Rattle.sccp_relay.specs.Returning as rule;
+ghost use Rattle.sccp_relay.specs.Points.{point_by};
+ghost use Rattle.sccp_relay.specs.Relay.{translated};
 ghost use Rattle.sccp_relay.specs.Sccp.{sccp_parts};
 ghost use Rattle.sccp_relay.specs.Values.{four_octets, one_octet, own_value, sccp_of, written_in};
 
-use crate::Translations;
+use crate::Titles;
 use crate::changing::changed_title;
 use crate::message::{MAX_HOPS, Message};
 use crate::own::{Own, Ways};
-use crate::relaying::{behind_label, row_of};
+use crate::relaying::{behind_label, open_row};
 use crate::writing::{anew, label_to, led, same, same_parts};
 use mtp3_codec::Label;
 use sccp_codec::{
@@ -41,25 +43,25 @@ const KEPT_OCTETS: usize = 2 + 4 + 2 + 1 + 1;
 /// may hold anything (Q.714 §4.2).
 ///
 /// None if the message is neither a UDT nor an XUDT, or doesn't ask for a return on error; if the cause is none of
-/// NoNature, NoDigits, Unequipped, HopCounter, UnknownDestination, NoRoute and TooLong; and if what returns it would go
-/// to this point, finds no translation, or would be too long.
-#[tactic(auto, unfolding(crate::specs::Relay::returned))]
+/// NoNature, NoDigits, SubsystemProhibited, Unequipped, HopCounter, UnknownDestination, NoRoute and TooLong; and if what
+/// returns it would go to this point or to a prohibited subsystem, finds no translation, or would be too long.
+#[tactic(auto, unfolding(crate::specs::Returning::returned))]
 pub fn returned<W: Ways>(
     sif: &[u8],
     cause: Cause,
-    rows: &Translations,
+    titles: &Titles,
     own: &Own<'_, W>,
     field: &mut Field,
 ) -> Option<usize>
     requires label { 4 ≤ length sif.now }
-    ensures exact { written_in result field.new ≡ rule.returned (own_value W.leads own.now) rows.now sif.now cause }
+    ensures exact { written_in result field.new ≡ rule.returned (own_value W.leads own.now) titles.now sif.now cause }
     ensures label { IfSome result (λ count. 4 ≤ count) }
     ensures fits { IfSome result (λ count. count ≤ Limits.SIF_OCTETS) }
 {
     let label = Label::at(sif);
     let number = return_cause(cause)?;
     match Message::read(own.extended, behind_label(sif)) {
-        Ok(message) => return_read(&message, number, label, rows, own, field),
+        Ok(message) => return_read(&message, number, label, titles, own, field),
         Err(_) => None,
     }
 }
@@ -71,6 +73,7 @@ fn return_cause(cause: Cause) -> Option<u8>
     match cause {
         Cause::NoNature => Some(0),
         Cause::NoDigits => Some(1),
+        Cause::SubsystemProhibited => Some(3),
         Cause::Unequipped => Some(4),
         Cause::UnknownDestination | Cause::NoRoute => Some(5),
         Cause::TooLong => Some(7),
@@ -84,17 +87,17 @@ fn return_read<W: Ways>(
     message: &Message<'_>,
     number: u8,
     label: Label,
-    rows: &Translations,
+    titles: &Titles,
     own: &Own<'_, W>,
     field: &mut Field,
 ) -> Option<usize>
     ensures text { written_in result field.new
-        ≡ rule.return_read (own_value W.leads own.now) rows.now label (Some number) (Ok (sccp_of message.now)) }
+        ≡ rule.return_read (own_value W.leads own.now) titles.now label (Some number) (Ok (sccp_of message.now)) }
     ensures label { IfSome result (λ count. 4 ≤ count) }
     ensures fits { IfSome result (λ count. count ≤ Limits.SIF_OCTETS) }
 {
     if message.asks_for_return() {
-        return_by(number, message, label, rows, own, field)
+        return_by(number, message, label, titles, own, field)
     } else {
         None
     }
@@ -106,12 +109,12 @@ fn return_by<W: Ways>(
     number: u8,
     message: &Message<'_>,
     label: Label,
-    rows: &Translations,
+    titles: &Titles,
     own: &Own<'_, W>,
     field: &mut Field,
 ) -> Option<usize>
     ensures text { written_in result field.new ≡ rule.return_by (sccp_parts (sccp_of message.now)).calling.routing
-        (own_value W.leads own.now) rows.now label number (sccp_of message.now) }
+        (own_value W.leads own.now) titles.now label number (sccp_of message.now) }
     ensures label { IfSome result (λ count. 4 ≤ count) }
     ensures fits { IfSome result (λ count. count ≤ Limits.SIF_OCTETS) }
 {
@@ -122,8 +125,8 @@ fn return_by<W: Ways>(
         let parts = sent_back(parts);
         return return_to(point, own.point, label, number, message, &parts, field);
     }
-    match row_of(rows, caller) {
-        Ok(row) => return_led(number, message, &row, label, own, field),
+    match open_row(caller, None, label.sls, titles, own) {
+        Ok(row) => return_led(number, message, &row, label, titles, own, field),
         Err(_) => None,
     }
 }
@@ -134,11 +137,13 @@ fn return_led<W: Ways>(
     message: &Message<'_>,
     row: &TitleRow,
     label: Label,
+    titles: &Titles,
     own: &Own<'_, W>,
     field: &mut Field,
 ) -> Option<usize>
     ensures text { written_in result field.new ≡ rule.return_led (own_value W.leads own.now) label number
-        (sccp_of message.now) (rule.point_by (own_value W.leads own.now) label.sls row.now) (rule.translated row.now (sccp_parts (sccp_of message.now)).calling) }
+        (sccp_of message.now) (point_by (own_value W.leads own.now) titles.now.prohibited None label.sls row.now)
+        (translated row.now (sccp_parts (sccp_of message.now)).calling) }
     ensures label { IfSome result (λ count. 4 ≤ count) }
     ensures fits { IfSome result (λ count. count ≤ Limits.SIF_OCTETS) }
 {
@@ -151,7 +156,7 @@ fn return_led<W: Ways>(
         calling: same(&came.called),
         data: came.data,
     };
-    let point = own.point_by(row, label.sls);
+    let point = own.point_by(row, None, label.sls, titles);
     return_to(point, own.point, label, number, message, &parts, field)
 }
 

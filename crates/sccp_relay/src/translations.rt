@@ -1,19 +1,21 @@
 //! A table of translation rows.
 
 ghost use Rattle.std.specs.Prelude.{◌≡◌, ◌≤◌, ◌↔◌, [], length, slice_get, IsTrue, Some, None, Err, IsOk, IfOk, IfErr, OnOk, OnErr, IsOkUnless, if◌then◌else◌};
-ghost use Rattle.std.specs.List.{IsDistinct, insert};
+ghost use Rattle.std.specs.List.{IsDistinct, insert, list_any};
 ghost use Rattle.std.specs.Result.{is_ok};
 ghost use Rattle.sccp_relay.specs.Digits.{with_value};
 ghost use Rattle.sccp_relay.specs.Nodes.{stored};
 ghost use Rattle.sccp_relay.specs.Rows.{IsOrdered, place_of, has_row, with_row, without_row, add_refusal, is_same_place, table_of};
+ghost use Rattle.sccp_relay.specs.Statuses.{is_for, leads_to};
 ghost use Rattle.sccp_relay.specs.Translation.{translation, IsTranslation};
 ghost use Rattle.sccp_relay.specs.Ways.{IsRow, way_of, lead_of};
 
 use crate::Trie;
 use crate::places::{has_key, key_of, place, row_at, sort};
+use crate::subsystem::Subsystem;
 use crate::ways::{MORE, enter, key_digits, row_led, trie_of, way_of};
 use sccp_codec::TitleKey;
-use settings_rows::TitleRow;
+use settings_rows::{TitleRoute, TitleRow};
 use signalling_types::{Cause, Limits};
 use std::alloc::{AllocError, Global};
 use std::marker::Model;
@@ -60,6 +62,15 @@ impl Translations {
     {
         let mut rows = Vec::from_slice(alloc, rows)?;
         sort(&mut rows);
+        let trie = trie_of(alloc, &rows)?;
+        Ok(Translations { rows, trie })
+    }
+
+    /// A copy, which allocates from this allocator, now and as rows are added to it.
+    pub fn copy(&self, alloc: Global) -> Result<Translations, AllocError>
+        ensures { IfOk result (λ table. table ≡ self.now) }
+    {
+        let rows = Vec::from_slice(alloc, &self.rows)?;
         let trie = trie_of(alloc, &rows)?;
         Ok(Translations { rows, trie })
     }
@@ -129,8 +140,8 @@ impl Translations {
 
     /// The row that translates an address of this key and these digits: of the rows of the key whose digits begin
     /// these, the one with the most. It takes a step for each digit, however many rows there are, and a binary search
-    /// among the rows more if that row has a backup or changes titles. If none begins them, it looks for a row of the key by binary
-    /// search.
+    /// among the rows more if that row has a backup or changes titles. If none begins them, it looks for a row of the
+    /// key by binary search.
     ///
     /// Refused NoNature if there is no row of the key; otherwise NoDigits if none of these begins the digits (Q.714
     /// §2.8).
@@ -146,6 +157,31 @@ impl Translations {
             None if has_key(&self.rows, key) => Err(Cause::NoDigits),
             None => Err(Cause::NoNature),
         }
+    }
+
+    /// Whether a row leads to a subsystem, by a walk over all rows.
+    pub(crate) fn lead_to(&self, subsystem: &Subsystem) -> bool
+        ensures { result ≡ list_any (leads_to subsystem.now) self.now }
+    {
+        self.rows.iter().any(|row| leads_to(row, subsystem))
+    }
+}
+
+/// Whether a row leads to a subsystem, at its point or at its backup.
+fn leads_to(row: &TitleRow, subsystem: &Subsystem) -> bool
+    ensures { result ≡ leads_to subsystem.now row.now }
+{
+    is_for(row.route(), subsystem.ssn)
+        && (row.point() == subsystem.point || row.backup() == Some(subsystem.point))
+}
+
+/// Whether a row is routed by this subsystem number.
+fn is_for(route: TitleRoute, ssn: u8) -> bool
+    ensures { result ≡ is_for route ssn }
+{
+    match route {
+        TitleRoute::Title(_) => false,
+        TitleRoute::Ssn(number) => number.number() == ssn,
     }
 }
 

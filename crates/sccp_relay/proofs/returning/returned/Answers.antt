@@ -1,6 +1,6 @@
 -- What is read after the label is what the rule reads there.
 use Rattle.sccp_relay.proofs.Basics.{◌≡◌, refl, sym, ◌∙◌, Some, returned}
-use Rattle.sccp_relay.specs.Relay as rule
+use Rattle.sccp_relay.specs.Returning as rule
 use Rattle.sccp_relay.proofs.returning.returned.Goals as goal
 
 pub returns-in-Ok-clause-exact : goal.returns-in-Ok-clause-exact
