@@ -1,6 +1,6 @@
 -- Words and lemmas of std and of the crates below that the proofs here use, and the definitions that they are about.
 pub use Rattle.exchange_rules.proofs.Basics.{Bool, Contains, Err, List, None, Ok, Option, Result, Some, [], ap, append-nil, append_assoc, arith, cases_eq, cases_lt, count_by, drop, drop-append-le, eq-eqb, eqb-true, false, filter, get_or, get_or-map, get_or-set_other, get_or-set_same, get_or_past, if◌then◌else◌, inl, inr, is_some, length, length-append, length-map, length-replicate, length-set, list_any, map, map-set, nat_eq, nat_lt, nat_tests, not, option_eq, option_map, option_or, refl, replicate, set, set-get_or, slice_get, slice_index_or, slice_set, subst, suc, sum_by-cons, sym, take, true, zero, ℕ, ⊎_elim, ◌&&◌, ◌++◌, ◌+◌, ◌-◌, ◌<◌, ◌||◌, ◌∙◌, ◌∷◌, ◌≡◌, ◌≢◌, ◌≤◌, ◌⊎◌}
-pub use Rattle.exchange_rules.proofs.Definitions.{Abstract, Action, Alignment, Allowed, AreQueues, Asking, AsksWants, Carrying, Cause, Changeover, Codes, Configuration, DestinationEntry, Done, Facts, Found, Handled, Happening, Happens, HasCodes, HasHoldsFor, HasPlacesFor, HoldSet, IsAnyFlow, IsQueue, IsSameNode, IsSound, Link, LostUnconfirmed, Message, NoRoute, Node, Notice, Outcome, Owed, Parts, Procedure, Queue, QueueKind, Refused, Reroute, RouteStatus, Running, SELECTIONS, SeqFault, SetEntry, Standing, Takes, TitleEntry, ToldTable, Transition, UserData, WINDOW, WholeQueues, accept_answer, accepted_count, act_by_data, action_at, add_title_unless, advance, after_failure, all_wait, begun_anew_if, change_back, chosen_link, code_for, conclude, concluded, count_confirmed, counts_in, declare_by, destination_place, down_link, facts, fail, first_queue, first_routes, first_shape, first_state, flagged, flow_of, free_code, go, go_by, go_each, go_on, goes_by, handle, handle_by, has_other, hold_flows, holds, in_service, is_failed, is_in_service, is_link, is_management, is_of_flow, is_outstanding, is_own_point, is_reachable, is_taken_back, keep, lifted_parts, link_at, link_of, links_with, lose, lose_each, loses_flows, lost, may_hold, may_parts, may_tell, moved, no_changeover, no_codes, no_holds, opened, owed_at, procedure_by, queue_at, receive_data, release, reset_shape, return_if, row_of, run_next, run_times, send, send_anew, send_each, set_at, set_of, shape_of, sound-accepted, sound-appended, sound-emptied, sound-first, sound-sent_one, status_to_advertise, step_on, stepped, suspended, take_back, tell, tell_each, tell_if, told_at, told_shape, unconfirmed, unconfirmed-accepted, unconfirmed-appended, unconfirmed-sent_one, usable, users_of, waits, whole, with_hold, with_node, with_parts, with_queue, with_status_over, with_titles, with_told}
+pub use Rattle.exchange_rules.proofs.Definitions.{begin_test, test_if, Abstract, Action, Alignment, Allowed, AreQueues, Asking, AsksWants, Carrying, Cause, Changeover, Codes, Configuration, DestinationEntry, Done, Facts, Found, Handled, Happening, Happens, HasCodes, HasHoldsFor, HasPlacesFor, HoldSet, IsAnyFlow, IsQueue, IsSameNode, IsSound, Link, LostUnconfirmed, Message, NoRoute, Node, Notice, Outcome, Owed, Parts, Procedure, Queue, QueueKind, Refused, Reroute, RouteStatus, Running, SELECTIONS, SeqFault, SetEntry, Standing, Takes, TitleEntry, ToldTable, Transition, UserData, WINDOW, WholeQueues, accept_answer, accepted_count, act_by_data, action_at, add_title_unless, advance, after_failure, all_wait, begun_anew_if, change_back, chosen_link, code_for, conclude, concluded, count_confirmed, counts_in, declare_by, destination_place, down_link, facts, fail, first_queue, first_routes, first_shape, first_state, flagged, flow_of, free_code, go, go_by, go_each, go_on, goes_by, handle, handle_by, has_other, hold_flows, holds, in_service, is_failed, is_in_service, is_link, is_management, is_of_flow, is_outstanding, is_own_point, is_reachable, is_taken_back, keep, lifted_parts, link_at, link_of, links_with, lose, lose_each, loses_flows, lost, may_hold, may_parts, may_tell, moved, no_changeover, no_codes, no_holds, opened, owed_at, procedure_by, queue_at, receive_data, release, reset_shape, return_if, row_of, run_next, run_times, send, send_anew, send_each, set_at, set_of, shape_of, sound-accepted, sound-appended, sound-emptied, sound-first, sound-sent_one, status_to_advertise, step_on, stepped, suspended, take_back, tell, tell_each, tell_if, told_at, told_shape, unconfirmed, unconfirmed-accepted, unconfirmed-appended, unconfirmed-sent_one, usable, users_of, waits, whole, with_hold, with_node, with_parts, with_queue, with_status_over, with_titles, with_told}
 pub use Rattle.std.proofs.Common.{add-one}
 pub use Rattle.std.proofs.lemmas.Bool.Decides.{eqb_tells, leb_tells}
 pub use Rattle.std.proofs.lemmas.Grind.{common_steps}
@@ -83,7 +83,8 @@ pub use Rattle.route_management.specs.Updates.{Updates, first_updates, has_all_f
 pub use Rattle.route_management.specs.declared.updates.Extent.{Extent}
 pub use Rattle.route_management.specs.declared.updates.Extent.TheVariants.{From, Marked, Nothing}
 pub use Rattle.routes.specs.Routes.{with_link, with_status, has_link}
-pub use Rattle.sccp_relay.specs.Rows.{add_refusal, table_of, with_row}
+pub use Rattle.sccp_relay.specs.Rows.{add_refusal, with_row}
+pub use Rattle.sccp_relay.specs.Statuses.{TitlesValue, first_titles}
 pub use Rattle.signalling_types.specs.Message.{lent}
 pub use Rattle.signalling_types.specs.declared.cause.Cause.TheVariants.{NoMemory}
 pub use Rattle.signalling_types.specs.declared.limits.TheConstants.Limits.{LINKS}

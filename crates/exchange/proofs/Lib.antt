@@ -18,3 +18,4 @@ pub mod Returning
 pub mod Serving
 pub mod Accepting
 pub mod Waiting
+pub mod OwnPattern

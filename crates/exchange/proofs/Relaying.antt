@@ -1,8 +1,8 @@
 -- What the table of translation rows answers to an order, and what it leaves, is what the rule does.
-use Rattle.exchange.proofs.Basics.{◌≡◌, List, Option, Some, None, Result, Ok, Err, refl, ap, OnOk, OnErr, IfErr, if◌then◌else◌, option_or, TitleEntry, Cause, NoMemory, Outcome, Refused, with_row, State, with_node, with_parts, Ends, with_titles, add_title_unless, is_memory_refused, handled_or_refused}
+use Rattle.exchange.proofs.Basics.{◌≡◌, List, Option, Some, None, Result, Ok, Err, refl, ap, OnOk, OnErr, IfErr, if◌then◌else◌, option_or, TitleEntry, TitlesValue, Cause, NoMemory, Outcome, Refused, with_row, State, with_node, with_parts, Ends, with_titles, add_title_unless, is_memory_refused, handled_or_refused}
 
 -- the state with other rows
-abbrev pub titled : {Q : Type 0} → State Q → List TitleEntry → State Q
+abbrev pub titled : {Q : Type 0} → State Q → TitlesValue → State Q
 titled s titles = with_node s (with_parts s.node (with_titles titles s.node.parts))
 
 -- why a row isn't added, by what was answered
@@ -13,8 +13,8 @@ abbrev cause_or : {T : Type 0} → Cause → Result T Cause → Cause
 cause_or other (Ok done) = other
 cause_or other (Err cause) = cause
 
-pub adding : {T Q : Type 0} (s : State Q) (row : TitleEntry) (refusal : Option Cause) (r : Result T Cause) (new : List TitleEntry)
-    → OnOk r (new ≡ with_row row s.node.parts.titles) → OnErr r (new ≡ s.node.parts.titles) → ((cause : Cause) → refusal ≡ Some cause → r ≡ Err cause)
+pub adding : {T Q : Type 0} (s : State Q) (row : TitleEntry) (refusal : Option Cause) (r : Result T Cause) (new : TitlesValue)
+    → OnOk r (new ≡ record s.node.parts.titles { rows = with_row row s.node.parts.titles.rows }) → OnErr r (new ≡ s.node.parts.titles) → ((cause : Cause) → refusal ≡ Some cause → r ≡ Err cause)
     → (refusal ≡ None → IfErr r (λ cause. cause ≡ NoMemory))
     → Ends s (handled_or_refused r) (titled s new) (add_title_unless (refusal_by refusal (handled_or_refused r)) row s.node)
 adding s row None (Ok done) new added unchanged refused memory = (refl, ap (titled s) added)

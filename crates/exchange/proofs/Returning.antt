@@ -1,7 +1,8 @@
 -- A link that returns: declarations go out one by one and change no link, and it takes its flows back once it enters
 -- service.
-use Rattle.exchange.proofs.Basics.{add-one, ◌≡◌, ◌<◌, ◌≤◌, ℕ, zero, suc, ◌+◌, arith, replicate, Bool, true, false, ◌&&◌, not, List, length, Option, Some, None, refl, ap, sym, ◌∙◌, if◌then◌else◌, slice_set, set, ⊎_elim, cases_lt, get_or-set_same, get_or_past, length-set, LINKS, Configuration, Action, Transition, Facts, with_link, Link, is_in_service, stepped, down_link, Procedure, returned, gives_up, held_by, alike_before, QueueKind, Parts, Node, State, with_node, with_parts, KeptQueues, kept, link_at, in_service, with_holds, facts, code_for, declare_by, change_back, HasPlacesFor, holder, declare, declare_each, holders, set_of, has_other, begun_anew_if, return_if, act_by, step_on, stepped_by, is_first_in, entered, known_before, known_links}
+use Rattle.exchange.proofs.Basics.{◌⊎◌, begin_test, test_if, add-one, ◌≡◌, ◌<◌, ◌≤◌, ℕ, zero, suc, ◌+◌, arith, replicate, Bool, true, false, ◌&&◌, not, List, length, Option, Some, None, refl, ap, sym, ◌∙◌, if◌then◌else◌, slice_set, set, ⊎_elim, cases_lt, get_or-set_same, get_or_past, length-set, LINKS, Configuration, Action, Transition, Facts, with_link, Link, is_in_service, stepped, down_link, Procedure, returned, gives_up, held_by, alike_before, QueueKind, Parts, Node, State, with_node, with_parts, KeptQueues, kept, link_at, in_service, with_holds, facts, code_for, declare_by, change_back, HasPlacesFor, holder, declare, declare_each, holders, set_of, has_other, begun_anew_if, return_if, act_by, step_on, stepped_by, is_first_in, entered, known_before, known_links}
 use Rattle.link.specs.declared.action.Action.TheVariants as act
+use Rattle.exchange_rules.specs.Frames.{enters}
 use Rattle.exchange.proofs.TakingOver.{taken_over}
 
 -- ---- one more link declares
@@ -131,10 +132,46 @@ entered_service (act.Go step) s t u link e b i f =
     let known_then : Facts = with_link link false (facts c (anew first)) in
     f
     ∙ ap (λ (x : State KeptQueues). with_node x (entered kept x.settings link x.node)) e
-    ∙ ap (λ (k : Facts). with_node s (change_back kept c link (with_link link false (facts c (anew (is_first_in k (set_of c link))))) (with_parts s.node (anew (is_first_in k (set_of c link))))))
+    ∙ ap (λ (k : Facts). with_node s (begin_test kept c link (change_back kept c link (with_link link false (facts c (anew (is_first_in k (set_of c link))))) (with_parts s.node (anew (is_first_in k (set_of c link)))))))
     (known_before c link step p b)
-    ∙ ap (λ (n : Node KeptQueues). with_node s n)
+    ∙ ap (λ (n : Node KeptQueues). with_node s (begin_test kept c link n))
     (alike_before kept c known_then (facts c p) (facts c (anew first)) link (known_links c link step p first b (not_first (has_other c link p)))
     (length c.links) (with_parts s.node (anew first)))
-    ∙ ap (λ (x : Bool). with_node s (return_if kept c x link (facts c p) (with_parts s.node (anew (x && first)))))
+    ∙ ap (λ (x : Bool). with_node s (test_if kept c x link (return_if kept c x link (facts c p) (with_parts s.node (anew (x && first))))))
     (sym (enters_so (is_in_service step.state) (in_service p link) led b))
+
+-- a link that was in service, or isn't after a step, didn't enter it
+not_led : (c : Configuration) (link : ℕ) (step : Transition) (p : Parts) → link < length p.links → in_service (step_on c link step p) link ≡ false → is_in_service step.state ≡ false
+not_led c link step p h e =
+    sym (ap (λ (l : Link). is_in_service l.alignment) (get_or-set_same p.links link (stepped step (link_at p link)) down_link h)) ∙ e
+
+unless_led : (b d : Bool) → b ≡ false → (b && not d) ≡ false
+unless_led true d e = absurd cc
+unless_led false d e = refl
+
+already_so : (b d : Bool) → d ≡ true → (b && not d) ≡ false
+already_so true true e = refl
+already_so false true e = refl
+already_so b false e = absurd cc
+
+-- so it does no more than the step
+step_alone : (s : State KeptQueues) (step : Transition) (link : ℕ) → enters link step s.node.parts ≡ false
+    → with_node s (stepped_by s.settings (act.Go step) link s.node) ≡ with_node s (act_by kept s.settings (act.Go step) link s.node)
+step_alone s step link e =
+    let c : Configuration = s.settings in
+    let p : Parts = s.node.parts in
+    ap (λ (x : Bool). with_node s (test_if kept c x link (return_if kept c x link (facts c p) (with_parts s.node (begun_anew_if (x && not (has_other c link p)) c link (step_on c link step p)))))) (sym e)
+
+pub stayed_out : (a : Action) (s t : State KeptQueues) (link : ℕ) → link < length s.node.parts.links → t ≡ with_node s (stepped_by s.settings a link s.node)
+    → (in_service s.node.parts link ≡ true) ⊎ (in_service t.node.parts link ≡ false)
+    → t ≡ with_node s (act_by kept s.settings a link s.node)
+stayed_out act.Ignored s t link h e out = e
+stayed_out act.Fail s t link h e out = e
+stayed_out (act.Go step) s t link h e out =
+    e ∙ step_alone s step link
+    (⊎_elim
+    (λ (served : in_service s.node.parts link ≡ true). already_so (is_in_service step.state) (in_service s.node.parts link) served)
+    (λ (down : in_service t.node.parts link ≡ false).
+    unless_led (is_in_service step.state) (in_service s.node.parts link)
+    (not_led s.settings link step s.node.parts h (sym (ap (λ (x : State KeptQueues). in_service x.node.parts link) e) ∙ down)))
+    out)

@@ -1,5 +1,5 @@
 -- An exchange that stands for an abstract state still does after each event and each frame that goes out.
-use Rattle.exchange.proofs.Basics.{◌≡◌, ℕ, suc, List, [], refl, ap, ◌∙◌, length, ◌≤◌, replicate, Configuration, TitleEntry, Message, WINDOW, Notice, IsQueue, first_queue, unconfirmed, Counts, counts_of, kept_first, sound-first, Running, none_running, Network, first_network_of, Node, Done, keep, whole, KeptQueues, kept, Happening, apply, outcome_of, after, frame_to_take, taken, wants_of, Abstract, AreQueues, IsSound, Kept, StandsFor, kept_of, kept_queues_of, counts_in, first_state, Keeps, apply-kept, frame_taken-kept, after_take-kept, Standing, no_changeover, Codes, no_codes, ToldTable, first_told, HoldSet, no_holds, table_of, take-waits, done-waits, done-told, take-told, first-told, each-replicate, map-replicate}
+use Rattle.exchange.proofs.Basics.{◌≡◌, ℕ, suc, List, [], refl, ap, ◌∙◌, length, ◌≤◌, replicate, Configuration, TitlesValue, Message, WINDOW, Notice, IsQueue, first_queue, unconfirmed, Counts, counts_of, kept_first, sound-first, Running, none_running, Network, first_network_of, Node, Done, keep, whole, KeptQueues, kept, Happening, apply, outcome_of, after, frame_to_take, taken, wants_of, Abstract, AreQueues, IsSound, Kept, StandsFor, kept_of, kept_queues_of, counts_in, first_state, Keeps, apply-kept, frame_taken-kept, after_take-kept, Standing, no_changeover, Codes, no_codes, ToldTable, first_told, HoldSet, no_holds, first_titles, take-waits, done-waits, done-told, take-told, first-told, each-replicate, map-replicate}
 use Rattle.exchange.proofs.KeptQueues.{keeps_whole}
 
 applied : (what : Happening) (a : Abstract) → IsSound a →
@@ -48,9 +48,9 @@ stands-first c k h e = record {
 
 -- the parts that boot makes
 pub first-kept : (c : Configuration) (n : ℕ) (lanes : List (List Message)) (counts : List Counts) (network : Network) (told : ToldTable) (changeovers : List Standing) (codes : Codes) (holds : HoldSet)
-    (titles : List TitleEntry) (unequipped : List ℕ) (timers : Running) (notices : List Notice)
+    (titles : TitlesValue) (unequipped : List ℕ) (timers : Running) (notices : List Notice)
     → n ≡ length c.links → lanes ≡ replicate (suc n) [] → counts ≡ replicate n kept_first → network ≡ first_network_of c → told ≡ first_told c.sets c.destinations → changeovers ≡ replicate n no_changeover
-    → codes ≡ no_codes (length c.sets) → holds ≡ no_holds n (length c.sets) (length c.destinations) → titles ≡ table_of c.titles → unequipped ≡ replicate (length c.destinations) 0 → timers ≡ none_running (counts_in c) → notices ≡ []
+    → codes ≡ no_codes (length c.sets) → holds ≡ no_holds n (length c.sets) (length c.destinations) → titles ≡ first_titles c.titles → unequipped ≡ replicate (length c.destinations) 0 → timers ≡ none_running (counts_in c) → notices ≡ []
     → record {
       settings = c;
       node = record {

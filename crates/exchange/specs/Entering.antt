@@ -8,6 +8,7 @@ use Rattle.link.specs.declared.action.Action.{Action}
 use Rattle.link.specs.declared.action.Action.TheVariants as act
 use Rattle.exchange_rules.specs.Frames.{begun_anew_if, step_on}
 use Rattle.exchange_rules.specs.ChangingBack.{change_back}
+use Rattle.exchange_rules.specs.LinkTests.{begin_test}
 
 -- whether no link of a set is in service
 abbrev pub is_first_in : Facts → (set : ℕ) → Bool
@@ -18,10 +19,14 @@ abbrev pub begun_anew : Configuration → (link : ℕ) → Parts → Parts
 begun_anew c link p = begun_anew_if (is_first_in (with_link link false (facts c p)) (set_of c link)) c link p
 
 -- then it takes its flows back from the links that have them without it
-abbrev pub entered : {Q : Type 0} → QueueKind Q → Configuration → (link : ℕ) → Node Q → Node Q
-entered q c link node =
+abbrev pub taken_back : {Q : Type 0} → QueueKind Q → Configuration → (link : ℕ) → Node Q → Node Q
+taken_back q c link node =
     let anew : Parts = begun_anew c link node.parts in
     change_back q c link (with_link link false (facts c anew)) (with_parts node anew)
+
+-- and is tested
+abbrev pub entered : {Q : Type 0} → QueueKind Q → Configuration → (link : ℕ) → Node Q → Node Q
+entered q c link node = begin_test q c link (taken_back q c link node)
 
 -- what a link's alignment does about an input, apart from an entry into service
 abbrev pub stepped_by : {Q : Type 0} → Configuration → Action → ℕ → Node Q → Node Q

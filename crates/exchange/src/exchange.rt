@@ -19,12 +19,14 @@ mod failing;
 mod frames;
 mod head;
 mod lanes;
+mod link_tests;
 mod links;
 mod local;
 mod made;
 mod messages;
 mod noting;
 mod opening;
+mod outages;
 mod points;
 mod relaying;
 mod releasing;
@@ -52,7 +54,7 @@ use m2pa_codec::BUFFER_OCTETS;
 use node_links::NodeLinks;
 pub use relaying::LinkWays;
 use route_management::{PendingUpdates, Told};
-use sccp_relay::Translations;
+use sccp_relay::Titles;
 use settings::{LinkId, Notice, Outcome, Settings};
 use std::marker::Model;
 use timers::Timers;
@@ -70,7 +72,7 @@ pub struct Exchange {
     changeovers: Changeover,
     changeback: Changeback,
     holds: Holds,
-    titles: Translations,
+    titles: Titles,
     unequipped: Unequipped,
     timers: Timers,
     notices: HeapCircularBuffer<Notice>,

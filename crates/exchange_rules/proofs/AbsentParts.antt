@@ -1,10 +1,13 @@
 -- What becomes of a message for a user part that isn't here: it is counted, and its sender is told by one message, or none.
 use Rattle.exchange_rules.proofs.Basics.{◌≡◌, ◌≢◌, ◌<◌, ◌^◌, ◌+◌, ◌*◌, ◌%◌, ◌&&◌, ◌||◌, ℕ, Bool, true, false, not, nat_eq, nat_lt, nat_le, is_some, slice_set, slice_index_or, length, List, [], Option, Some, None, refl, ap, sym, subst, ◌∙◌, arith, if◌then◌else◌, nat_tests, position-Some, get_or-set_same, get_or-set_other}
-use Rattle.exchange_rules.proofs.Definitions.{Message, flow_of, is_management, opc_of, service_indicator, Cause, Configuration, Management, IsManagement, destination_place, Node, Done, with_parts, answer, refuse, Local, link_of, no_room, queue_on, send, is_unequipped_told, send_if, tell_unavailable, answer_no_user_part, unavailable, unequipped_counted, is_user, sccp, on_unitdata, local, manage, distribute, HasPlacesFor, UserPartUnavailable, Unequipped, WholeQueues, whole}
+use Rattle.exchange_rules.proofs.Definitions.{Done, Message, flow_of, is_management, opc_of, service_indicator, Cause, Configuration, Management, IsManagement, destination_place, Node, with_parts, answer, refuse, Local, link_of, no_room, queue_on, send, is_unequipped_told, send_if, tell_unavailable, answer_no_user_part, unavailable, unequipped_counted, is_user, sccp, on_unitdata, local, manage, distribute, UserPartUnavailable, Unequipped, WholeQueues, whole}
 use Rattle.signalling_types.specs.declared.cause.Cause.TheVariants as causes
 use Rattle.settings_rows.specs.Configuration.{DestinationEntry}
 use Rattle.mtp3_codec.proofs.Reading.{its-label, message-back}
-use Rattle.exchange_rules.specs.LawsOfUserParts.{lacks_part, count_from, is_sender_told, told_by_one, else_counted, else_untouched, counts_modulo_eight, upu_reads_back, silent, others_go_the_same, submissions_tell_nobody}
+use Rattle.exchange_rules.specs.LawsOfUserParts.{lacks_part, count_from, is_sender_told, lacking_is_refused, told_by_one, else_counted, else_untouched, counts_modulo_eight, upu_reads_back, parts_get_their_messages, silent, others_go_the_same, submissions_tell_nobody, none_is_counted_at_first, takes_count_none}
+use Rattle.signalling_types.specs.declared.outcome.Outcome.{Outcome}
+use Rattle.signalling_types.specs.declared.outcome.Outcome.TheVariants.{Refused}
+use Rattle.exchange_rules.specs.Sending.{Outgoing, SendsStatus, SendsMessage, Acknowledges, SendsNothing, goes_out, after_sending}
 
 -- what leaves room for a telling leaves room for management
 few : (k : ℕ) → nat_lt k 128 ≡ true → nat_le 256 k ≡ false
@@ -25,6 +28,26 @@ module _ (c : Configuration) (link : ℕ) (m : Message) (n : Node WholeQueues) w
   lacking false true user e = absurd cc
   lacking false false true e = absurd cc
   lacking false false false e = refl
+
+  refusing : (management is_sccp user : Bool) → (not management && not (is_sccp || user)) ≡ true
+      → (if management then manage whole c link m n else (if is_sccp then on_unitdata whole c m n else (if user then answer Local n else refuse causes.NoUserPart absent))).outcome ≡ Refused causes.NoUserPart
+  refusing true is_sccp user e = absurd cc
+  refusing false true user e = absurd cc
+  refusing false false true e = absurd cc
+  refusing false false false e = refl
+
+  -- a message for a user part that is here
+  giving : (management is_sccp user : Bool) → management ≡ false → is_sccp ≡ false → user ≡ true
+      → (if management then manage whole c link m n else (if is_sccp then on_unitdata whole c m n else (if user then answer Local n else refuse causes.NoUserPart absent))) ≡ answer Local n
+  giving true is_sccp user e f g = absurd cc
+  giving false true user e f g = absurd cc
+  giving false false false e f g = absurd cc
+  giving false false true e f g = refl
+
+  -- one that isn't for SCCP
+  but-sccp : (is_sccp : Bool) (d : Done WholeQueues) → is_sccp ≡ false → (if is_sccp then on_unitdata whole c m n else d) ≡ d
+  but-sccp true d e = absurd cc
+  but-sccp false d e = refl
 
   pub left-absent : lacks_part c m ≡ true → (distribute whole c link m n).left ≡ absent
   left-absent e = lacking (is_management m) (nat_eq (service_indicator m) sccp) (is_user c (service_indicator m)) e
@@ -131,4 +154,23 @@ the-same c link m n e f =
     user e f = ap (λ (b : Bool). not b && not (nat_eq (service_indicator m) sccp || is_user c (service_indicator m))) (sym e) ∙ f
 
 pub nobody : submissions_tell_nobody
-nobody c m n = refl
+nobody c m n e =
+    but-sccp c 0 m n (nat_eq (service_indicator m) sccp) (if is_user c (service_indicator m) then answer Local n else refuse causes.NoUserPart n) e
+
+pub refused : lacking_is_refused
+refused c link m n e = refusing c link m n (is_management m) (nat_eq (service_indicator m) sccp) (is_user c (service_indicator m)) e
+
+pub given : parts_get_their_messages
+given c link m n e f g = giving c link m n (is_management m) (nat_eq (service_indicator m) sccp) (is_user c (service_indicator m)) e f g
+
+pub zeros : none_is_counted_at_first
+zeros c = refl
+
+pub taking : takes_count_none
+taking a link = by (goes_out whole a.settings link a.node)
+  where
+    by : (out : Outgoing) → (after_sending whole a.settings link a.node out).parts.unequipped ≡ a.node.parts.unequipped
+    by (SendsStatus status) = refl
+    by (SendsMessage next) = refl
+    by Acknowledges = refl
+    by SendsNothing = refl

@@ -1,6 +1,6 @@
 -- A link that returns leaves Held as it is, and holds flows beside those that were held: what waited still waits.
 use Rattle.exchange_rules.proofs.Basics.{◌≡◌, ℕ, zero, suc, Bool, true, false, ◌&&◌, not, List, [], ◌∷◌, length, Option, Some, None, refl, ap, ◌∙◌, if◌then◌else◌, and_from as pair}
-use Rattle.exchange_rules.proofs.Definitions.{Message, flow_of, is_management, Configuration, destination_place, Transition, Facts, HoldSet, is_held, Parts, Node, with_parts, WholeQueues, whole, facts, is_held_at, is_flow_held, waits, all_wait, loses_flows, code_for, declare_by, hold_flows, take_back_each, change_back, has_other, enters, begun_anew_if, moved_on, return_if, advance, step_on}
+use Rattle.exchange_rules.proofs.Definitions.{take_step, test_if, queue_if, send_test, awaiting_test, link_test, tests_links, no_room, in_service, Cause, Message, flow_of, is_management, Configuration, destination_place, Transition, Facts, HoldSet, is_held, Parts, Node, with_parts, WholeQueues, whole, facts, is_held_at, is_flow_held, waits, all_wait, loses_flows, code_for, declare_by, hold_flows, take_back_each, change_back, has_other, enters, begun_anew_if, moved_on, return_if, advance, step_on}
 use Rattle.exchange_rules.proofs.TakenPairs.{flows_stay_held}
 
 -- ---- holds are added
@@ -74,9 +74,26 @@ module _ (c : Configuration) where
   anew-waits true link p ms w = w
   anew-waits false link p ms w = w
 
+  -- nor does it change as a test goes out
+  queued-waits : (room : Option Cause) (link : ℕ) (n : Node WholeQueues) → all_wait c n.parts.holds n.queues.held ≡ true
+      → all_wait c (queue_if whole c room link (link_test c link) n).parts.holds (queue_if whole c room link (link_test c link) n).queues.held ≡ true
+  queued-waits (Some cause) link n w = w
+  queued-waits None link n w = w
+
+  begun-waits : (begins : Bool) (link : ℕ) (n : Node WholeQueues) → all_wait c n.parts.holds n.queues.held ≡ true
+      → all_wait c (if begins then send_test whole c link n else n).parts.holds (if begins then send_test whole c link n else n).queues.held ≡ true
+  begun-waits true link n w = queued-waits (no_room whole c (link_test c link) n.queues) link (with_parts n (awaiting_test c link n.parts)) w
+  begun-waits false link n w = w
+
+  tested-waits : (entered : Bool) (link : ℕ) (n : Node WholeQueues) → all_wait c n.parts.holds n.queues.held ≡ true
+      → all_wait c (test_if whole c entered link n).parts.holds (test_if whole c entered link n).queues.held ≡ true
+  tested-waits true link n w = begun-waits (tests_links c && in_service n.parts link) link n w
+  tested-waits false link n w = w
+
   -- what waited still waits when a link takes a step of its alignment
   pub advance-waits : (link : ℕ) (step : Transition) (n : Node WholeQueues) → all_wait c n.parts.holds n.queues.held ≡ true
       → all_wait c (advance whole c link step n).parts.holds (advance whole c link step n).queues.held ≡ true
   advance-waits link step n w =
+      tested-waits (enters link step n.parts) link (take_step whole c link step n) (
       return_if-waits (enters link step n.parts) link (facts c n.parts) (with_parts n (moved_on c link step n.parts))
-      (anew-waits (enters link step n.parts && not (has_other c link n.parts)) link (step_on c link step n.parts) n.queues.held w)
+      (anew-waits (enters link step n.parts && not (has_other c link n.parts)) link (step_on c link step n.parts) n.queues.held w))

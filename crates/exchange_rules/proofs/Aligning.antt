@@ -1,6 +1,6 @@
 -- Whatever happens, each link has the timer of its state.
 use Rattle.exchange_rules.proofs.Basics.{◌≡◌, ◌≢◌, ◌<◌, ℕ, Bool, true, false, ◌&&◌, not, nat_lt, length, List, [], ◌∷◌, Option, Some, None, refl, ap, sym, subst, ◌∙◌, arith, ⊎_elim, cases_eq, if◌then◌else◌, is_some, get_or-set_same, length-set}
-use Rattle.exchange_rules.proofs.Definitions.{Configuration, Message, FailureReason, ChangeoverTimer, Facts, opening, carries, completed, LinkTimer, TimerName, NodeCounts, Running, counts-set, counts-clear, counts-clear_set, left-set_other, left-clear_other, set_timer, clear_timer, timer_name, has_other, Found, Link, down_link, after_failure, Parts, Node, with_parts, link_at, in_service, down, is_link, set_of, suspended, fail_link, without_tests, make_unavailable, changing, begin, change_over, begin_by_peer, fail_by_peer, fail_by_order, complete_by_order, complete_if, concluded, lose_each, judged, changeover_of, with_changeover, changeover_order, changeover_acknowledgement, on_changeover_order, with_changeover_acknowledged, with_expiry, hold_flows, held_by_rerouting, answer, Handled, Ignored, WholeQueues, whole}
+use Rattle.exchange_rules.proofs.Definitions.{period_of, Configuration, Message, FailureReason, ChangeoverTimer, Facts, opening, carries, completed, LinkTimer, TimerName, NodeCounts, Running, counts-set, counts-clear, counts-clear_set, left-set_other, left-clear_other, set_timer, clear_timer, timer_name, has_other, Found, Link, down_link, after_failure, Parts, Node, with_parts, link_at, in_service, down, is_link, set_of, suspended, fail_link, without_tests, make_unavailable, changing, begin, change_over, begin_by_peer, fail_by_peer, fail_by_order, complete_by_order, complete_if, concluded, lose_each, judged, changeover_of, with_changeover, changeover_order, changeover_acknowledgement, on_changeover_order, with_changeover_acknowledged, with_expiry, hold_flows, held_by_rerouting, answer, Handled, Ignored, WholeQueues, whole}
 use Rattle.timers.specs.declared.name.TimerName.TheVariants as name
 use Rattle.timers.specs.declared.name.RouteTimer.TheVariants as of_set
 use Rattle.link.specs.declared.action.LinkTimer.TheVariants as timer
@@ -8,7 +8,7 @@ use Rattle.signalling_types.specs.declared.notice.FailureReason.TheVariants as r
 use Rattle.signalling_types.specs.declared.notice.ChangeoverTimer.TheVariants as which
 use Rattle.exchange_rules.proofs.Eased.{losses-timers, judged-timers}
 use Rattle.exchange_rules.proofs.LinkTimers.{AreTimedFor, same-for, without_timers-for, timed-for, timed_sending-for, timed_confirming-for, timed_busy-for, timed_busy_ended-for}
-use Rattle.exchange_rules.proofs.LinkWaits.{other-link}
+use Rattle.exchange_rules.proofs.LinkWaits.{no-first, no-second, other-link}
 use Rattle.exchange_rules.proofs.OnLink.{IsSet, is-set, is-same}
 use Rattle.exchange_rules.proofs.Waiting.{Waits, waits-as, waits-linked, waits-parted, waits-failed, waits-stepped, waits-opened, waits-busied, waits-resumed, waits-but_seven, sending-others, confirming-others}
 use Rattle.exchange_rules.proofs.Steps.{IsOfSends, IsOfRules, is_of_link}
@@ -79,7 +79,7 @@ module _ (l : ℕ) where
         (λ (apart : l ≢ k). record {
           there = omega (arith, h.there, s.size);
           named = ap (λ (c : NodeCounts). nat_lt l c.links) t.counts ∙ h.named;
-          waits = waits-as l _ _ _ _ (s.others l apart) (λ its. ap is_some (t.rest (timer_name l its) (λ u. other-link k l u its apart))) h.waits;
+          waits = waits-as l _ _ _ _ (s.others l apart) (λ its. ap is_some (t.rest (timer_name l its) (λ u. other-link k l u its apart) (no-first l k its) (no-second l k its))) h.waits;
         })
         (cases_eq l k);
   }
@@ -253,6 +253,7 @@ module _ (l : ℕ) where
     keeps-rules = record {
       sends = sends;
       tested = λ link point test n e f. same n _ refl refl;
+      probed = λ link n e. same n _ refl refl;
       held = λ m n e. same n _ refl refl;
       taken_out = λ n. same n _ refl refl;
       late = λ notice n e. same n _ refl refl;
@@ -261,19 +262,19 @@ module _ (l : ℕ) where
       told = λ t n e. same n _ refl refl;
       titled = λ rows n. same n _ refl refl;
       unequipped = λ counts n e. same n _ refl refl;
-      linked = λ link x n e.
+      linked = λ link x n e o.
           on-link link x n _ (is-set n.parts.links link x down_link) (same-for link n.parts.timers) (λ h. waits-linked link (link_at n.parts link) x n.parts.timers e.alignment e.association e.busy h.waits);
       parted = λ link n e.
           on-link link _ n _ (is-set n.parts.links link _ down_link) (same-for link n.parts.timers) (λ h. waits-parted link (link_at n.parts link) n.parts.timers e h.waits);
       opened = λ link n own there e f may.
-          on-link link _ n _ (is-set n.parts.links link _ down_link) (timed-for link c opening n.parts.timers)
-          (λ h. waits-opened link c (link_at n.parts link) n.parts.timers h.named (not-associated (link_at n.parts link).association (link_at n.parts link).active e) h.waits);
+          on-link link _ n _ (is-set n.parts.links link _ down_link) (timed-for link c (opening (period_of c link n.parts)) n.parts.timers)
+          (λ h. waits-opened link c (period_of c link n.parts) (link_at n.parts link) n.parts.timers h.named (not-associated (link_at n.parts link).association (link_at n.parts link).active e) h.waits);
       stepped = λ link input step n own e k.
           on-link link _ n _ (is-set n.parts.links link _ down_link) (timed-for link c step n.parts.timers)
           (λ h. waits-stepped link c (link_at n.parts link) n.parts.timers input step h.named e h.waits);
       busied = λ link n own e f.
           on-link link _ n _ (is-set n.parts.links link _ down_link) (timed_busy-for link c n.parts.timers) (λ h. waits-busied link c (link_at n.parts link) n.parts.timers h.named e h.waits);
-      resumed = λ link n own e f.
+      resumed = λ link n own e f o.
           on-link link _ n _ (is-set n.parts.links link _ down_link) (timed_busy_ended-for link c (whole.outstanding n.queues link) n.parts.timers)
           (λ h. waits-resumed link c (link_at n.parts link) (whole.outstanding n.queues link) n.parts.timers h.named e h.waits);
       accepted = λ link d confirmed n own e f.
@@ -285,6 +286,8 @@ module _ (l : ℕ) where
           on-link link _ n _ (is-set n.parts.links link _ down_link) (timed_sending-for link c n.parts.timers)
           (λ h. waits-but_seven link c _ n.parts.timers _ (λ t g. sending-others link c t n.parts.timers h.named g)
           (waits-linked link (link_at n.parts link) _ n.parts.timers refl refl refl h.waits));
+      put = λ link n set e b. on-link link _ n _ (is-set n.parts.links link _ down_link) (same-for link n.parts.timers) (λ h. waits-linked link (link_at n.parts link) _ n.parts.timers refl refl refl h.waits);
+      back = λ link n e may. on-link link _ n _ (is-set n.parts.links link _ down_link) (same-for link n.parts.timers) (λ h. waits-linked link (link_at n.parts link) _ n.parts.timers refl refl refl h.waits);
       fails = λ link why n may up. fails-keeps (in_service n.parts link) link why n;
       orders = λ link number n falls ends. orders-keeps link number n;
       acknowledges = λ link number n may. acknowledges-keeps (changeover_of n.parts link).awaited link number n;

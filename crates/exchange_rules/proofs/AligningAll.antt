@@ -1,6 +1,6 @@
 -- Through ticks, too: a timer that runs out takes its link out of the state in which it runs.
 use Rattle.exchange_rules.proofs.Basics.{◌≡◌, ◌≢◌, ◌<◌, ◌≤◌, ℕ, Bool, true, false, ◌&&◌, not, nat_lt, length, Option, Some, None, refl, ap, sym, subst, ◌∙◌, arith, ⊎_elim, cases_eq, cases_lt, is_some, nat_tests, get_or_past, length-replicate}
-use Rattle.exchange_rules.proofs.Definitions.{Configuration, Alignment, Action, Expiry, Fail, Go, Transition, action_at, is_in_service, LinkTimer, TimerName, NodeCounts, Running, one_less, due_name, after_due, after-clear, after-none, due-left, counts-clear, left-clear_other, left-clear, left-ticked, left-none, clear_timer, timer_name, timed, with_timer_if, enters, has_other, begun_anew_if, return_if, advance, act_by_timer, run_out, links_with, stepped, Link, down_link, Node, with_parts, link_at, in_service, facts, with_timers, run_timer, run_due, first_state, counts_in, after_each, HasAllPlaces, WholeQueues, whole}
+use Rattle.exchange_rules.proofs.Definitions.{Period, paced, Configuration, Alignment, Action, Expiry, Fail, Go, Transition, action_at, is_in_service, LinkTimer, TimerName, NodeCounts, Running, one_less, due_name, after_due, after-clear, after-none, due-left, counts-clear, left-clear_other, left-clear, left-ticked, left-none, clear_timer, timer_name, timed, with_timer_if, enters, has_other, begun_anew_if, return_if, advance, act_by_timer, run_out, links_with, stepped, Link, down_link, Node, with_parts, link_at, in_service, facts, with_timers, run_timer, run_due, first_state, counts_in, after_each, HasAllPlaces, WholeQueues, whole, test_if}
 use Rattle.timers.specs.OneMap.{one_map}
 use Rattle.timers.specs.declared.name.TimerName.TheVariants as name
 use Rattle.link.specs.declared.action.LinkTimer.TheVariants as timer
@@ -22,55 +22,55 @@ use Rattle.exchange_rules.proofs.Asked.{IsOfAll, asked-all}
 -- ---- the state of a link whose timer runs out
 
 -- a link fails by the timer of its state, unless that is L4
-abbrev FailsBy : LinkTimer → Alignment → Type 0
-FailsBy its a = action_at a (Expiry its) ≡ act.Fail
+abbrev FailsBy : LinkTimer → Period → Alignment → Type 0
+FailsBy its period a = action_at period a (Expiry its) ≡ act.Fail
 
-fails-l1 : (a : Alignment) → is_that (waiting_in a) timer.L1 ≡ true → FailsBy timer.L1 a
-fails-l1 Down e = absurd cc
-fails-l1 NotAligned e = absurd cc
-fails-l1 Aligned e = absurd cc
-fails-l1 (Proving ready) e = absurd cc
-fails-l1 AlignedReady e = refl
-fails-l1 InService e = absurd cc
+fails-l1 : (period : Period) (a : Alignment) → is_that (waiting_in a) timer.L1 ≡ true → FailsBy timer.L1 period a
+fails-l1 period Down e = absurd cc
+fails-l1 period NotAligned e = absurd cc
+fails-l1 period Aligned e = absurd cc
+fails-l1 period (Proving ready) e = absurd cc
+fails-l1 period AlignedReady e = refl
+fails-l1 period InService e = absurd cc
 
-fails-l2 : (a : Alignment) → is_that (waiting_in a) timer.L2 ≡ true → FailsBy timer.L2 a
-fails-l2 Down e = absurd cc
-fails-l2 NotAligned e = refl
-fails-l2 Aligned e = absurd cc
-fails-l2 (Proving ready) e = absurd cc
-fails-l2 AlignedReady e = absurd cc
-fails-l2 InService e = absurd cc
+fails-l2 : (period : Period) (a : Alignment) → is_that (waiting_in a) timer.L2 ≡ true → FailsBy timer.L2 period a
+fails-l2 period Down e = absurd cc
+fails-l2 period NotAligned e = refl
+fails-l2 period Aligned e = absurd cc
+fails-l2 period (Proving ready) e = absurd cc
+fails-l2 period AlignedReady e = absurd cc
+fails-l2 period InService e = absurd cc
 
-fails-l3 : (a : Alignment) → is_that (waiting_in a) timer.L3 ≡ true → FailsBy timer.L3 a
-fails-l3 Down e = absurd cc
-fails-l3 NotAligned e = absurd cc
-fails-l3 Aligned e = refl
-fails-l3 (Proving ready) e = absurd cc
-fails-l3 AlignedReady e = absurd cc
-fails-l3 InService e = absurd cc
+fails-l3 : (period : Period) (a : Alignment) → is_that (waiting_in a) timer.L3 ≡ true → FailsBy timer.L3 period a
+fails-l3 period Down e = absurd cc
+fails-l3 period NotAligned e = absurd cc
+fails-l3 period Aligned e = refl
+fails-l3 period (Proving ready) e = absurd cc
+fails-l3 period AlignedReady e = absurd cc
+fails-l3 period InService e = absurd cc
 
-fails-l6 : (a : Alignment) (busy : Bool) → (is_in_service a && busy) ≡ true → FailsBy timer.L6 a
-fails-l6 Down busy e = absurd cc
-fails-l6 NotAligned busy e = absurd cc
-fails-l6 Aligned busy e = absurd cc
-fails-l6 (Proving ready) busy e = absurd cc
-fails-l6 AlignedReady busy e = absurd cc
-fails-l6 InService busy e = refl
+fails-l6 : (period : Period) (a : Alignment) (busy : Bool) → (is_in_service a && busy) ≡ true → FailsBy timer.L6 period a
+fails-l6 period Down busy e = absurd cc
+fails-l6 period NotAligned busy e = absurd cc
+fails-l6 period Aligned busy e = absurd cc
+fails-l6 period (Proving ready) busy e = absurd cc
+fails-l6 period AlignedReady busy e = absurd cc
+fails-l6 period InService busy e = refl
 
 -- L4 takes it on, and stops by that
-record Goes (a : Alignment) : Type 0 where
+record Goes (period : Period) (a : Alignment) : Type 0 where
   pub step : Transition
-  pub is : action_at a (Expiry timer.L4) ≡ act.Go step
+  pub is : action_at period a (Expiry timer.L4) ≡ act.Go step
   pub stop : step.stop ≡ Some timer.L4
 
-goes-l4 : (a : Alignment) → is_that (waiting_in a) timer.L4 ≡ true → Goes a
-goes-l4 Down e = absurd cc
-goes-l4 NotAligned e = absurd cc
-goes-l4 Aligned e = absurd cc
-goes-l4 (Proving true) e = record { step = _; is = refl; stop = refl }
-goes-l4 (Proving false) e = record { step = _; is = refl; stop = refl }
-goes-l4 AlignedReady e = absurd cc
-goes-l4 InService e = absurd cc
+goes-l4 : (period : Period) (a : Alignment) → is_that (waiting_in a) timer.L4 ≡ true → Goes period a
+goes-l4 period Down e = absurd cc
+goes-l4 period NotAligned e = absurd cc
+goes-l4 period Aligned e = absurd cc
+goes-l4 period (Proving true) e = record { step = _; is = refl; stop = refl }
+goes-l4 period (Proving false) e = record { step = _; is = refl; stop = refl }
+goes-l4 period AlignedReady e = absurd cc
+goes-l4 period InService e = absurd cc
 
 -- a timer that is stopped twice
 cleared-twice : (its : TimerName) (r : Running) → clear_timer its (clear_timer its r) ≡ clear_timer its r
@@ -85,15 +85,16 @@ module _ (c : Configuration) (l : ℕ) where
     where
       goes_on : Running → Node WholeQueues
       goes_on r =
-          return_if whole c (enters l step n.parts) l (facts c n.parts)
+          test_if whole c (enters l step n.parts) l
+          (return_if whole c (enters l step n.parts) l (facts c n.parts)
           (with_parts n (begun_anew_if (enters l step n.parts && not (has_other c l n.parts)) c l
-          (record n.parts { links = links_with n.parts l (stepped step (link_at n.parts l)); timers = r })))
+          (record n.parts { links = links_with n.parts l (stepped step (link_at n.parts l)); timers = r }))))
 
       same : (stop : Option LinkTimer) → stop ≡ Some timer.L4
           → timed c l (record step { stop = stop }) (clear_timer (name.L4 l) n.parts.timers) ≡ timed c l (record step { stop = stop }) n.parts.timers
       same stop f =
           subst (λ (o : Option LinkTimer). timed c l (record step { stop = o }) (clear_timer (name.L4 l) n.parts.timers) ≡ timed c l (record step { stop = o }) n.parts.timers) (sym f)
-          (ap (with_timer_if c l step.start) (cleared-twice (name.L4 l) n.parts.timers))
+          (ap (with_timer_if (paced step.period c.timers) l step.start) (cleared-twice (name.L4 l) n.parts.timers))
 
   -- ---- one timer is handed out
 
@@ -114,13 +115,13 @@ module _ (c : Configuration) (l : ℕ) where
   ran-keeps its n apart = both l n (handed its n) _ (other-keeps its n apart) (run_timer-steps (keeps-rules l c) its (handed its n) (λ link t e. tt))
 
   -- its own, by which it fails
-  failing : (its : LinkTimer) (n : Node WholeQueues) → FailsBy its (link_at n.parts l).alignment → At l n → At l (run_out whole c l its (handed (timer_name l its) n))
+  failing : (its : LinkTimer) (n : Node WholeQueues) → FailsBy its (link_at n.parts l).period (link_at n.parts l).alignment → At l n → At l (run_out whole c l its (handed (timer_name l its) n))
   failing its n e h =
       subst (λ (a : Action). At l (act_by_timer whole c a l (handed (timer_name l its) n))) (sym e)
       (fails-at l c (in_service n.parts l) reasons.Timer (handed (timer_name l its) n) h.there
       (ap (λ (k : NodeCounts). nat_lt l k.links) (counts-clear (timer_name l its) n.parts.timers) ∙ h.named))
 
-  going : (n : Node WholeQueues) → Goes (link_at n.parts l).alignment → At l n → At l (run_out whole c l timer.L4 (handed (name.L4 l) n))
+  going : (n : Node WholeQueues) → Goes (link_at n.parts l).period (link_at n.parts l).alignment → At l n → At l (run_out whole c l timer.L4 (handed (name.L4 l) n))
   going n g h =
       subst (λ (a : Action). At l (act_by_timer whole c a l (handed (name.L4 l) n))) (sym g.is)
       (subst (λ (m : Node WholeQueues). At l m) (sym (advanced-alike g.step n g.stop)) ((advance-steps (keeps-rules l c) l (Expiry timer.L4) g.step n tt g.is).stay h))
@@ -133,11 +134,11 @@ module _ (c : Configuration) (l : ℕ) where
   was_busy n e h = sym h.waits.timed.busy ∙ ap is_some (due-left (name.L6 l) n.parts.timers e)
 
   own-runs_out : (its : LinkTimer) (n : Node WholeQueues) → due_name n.parts.timers ≡ Some (timer_name l its) → Keeps l n (run_timer whole c (timer_name l its) (handed (timer_name l its) n))
-  own-runs_out timer.L1 n e = record { stay = λ h. failing timer.L1 n (fails-l1 (link_at n.parts l).alignment (waited timer.L1 n refl e h)) h }
-  own-runs_out timer.L2 n e = record { stay = λ h. failing timer.L2 n (fails-l2 (link_at n.parts l).alignment (waited timer.L2 n refl e h)) h }
-  own-runs_out timer.L3 n e = record { stay = λ h. failing timer.L3 n (fails-l3 (link_at n.parts l).alignment (waited timer.L3 n refl e h)) h }
-  own-runs_out timer.L4 n e = record { stay = λ h. going n (goes-l4 (link_at n.parts l).alignment (waited timer.L4 n refl e h)) h }
-  own-runs_out timer.L6 n e = record { stay = λ h. failing timer.L6 n (fails-l6 (link_at n.parts l).alignment (link_at n.parts l).peer_busy (was_busy n e h)) h }
+  own-runs_out timer.L1 n e = record { stay = λ h. failing timer.L1 n (fails-l1 (link_at n.parts l).period (link_at n.parts l).alignment (waited timer.L1 n refl e h)) h }
+  own-runs_out timer.L2 n e = record { stay = λ h. failing timer.L2 n (fails-l2 (link_at n.parts l).period (link_at n.parts l).alignment (waited timer.L2 n refl e h)) h }
+  own-runs_out timer.L3 n e = record { stay = λ h. failing timer.L3 n (fails-l3 (link_at n.parts l).period (link_at n.parts l).alignment (waited timer.L3 n refl e h)) h }
+  own-runs_out timer.L4 n e = record { stay = λ h. going n (goes-l4 (link_at n.parts l).period (link_at n.parts l).alignment (waited timer.L4 n refl e h)) h }
+  own-runs_out timer.L6 n e = record { stay = λ h. failing timer.L6 n (fails-l6 (link_at n.parts l).period (link_at n.parts l).alignment (link_at n.parts l).peer_busy (was_busy n e h)) h }
   own-runs_out timer.L7 n e = ran-keeps (name.L7 l) n (λ t f same. apart-seven t f same)
     where
       apart-seven : (t : LinkTimer) → is_that (Some timer.L7) t ≡ false → name.L7 l ≢ timer_name l t
@@ -174,6 +175,9 @@ module _ (c : Configuration) (l : ℕ) where
   runs_out-keeps (name.T6 destination) n e = no-link (name.T6 destination) n refl
   runs_out-keeps (name.T8 set destination) n e = no-link (name.T8 set destination) n refl
   runs_out-keeps (name.T10 set destination) n e = no-link (name.T10 set destination) n refl
+  runs_out-keeps (name.Slt1 link) n e = no-link (name.Slt1 link) n refl
+  runs_out-keeps (name.Slt2 link) n e = no-link (name.Slt2 link) n refl
+  runs_out-keeps name.Sst n e = no-link name.Sst n refl
 
   due-keeps : (due : Option TimerName) (n : Node WholeQueues) → due_name n.parts.timers ≡ due → Keeps l n (run_due whole c due (with_timers n (after_due n.parts.timers)))
   due-keeps None n e = alike l n _ (same-alike n _ refl (after-none n.parts.timers e))

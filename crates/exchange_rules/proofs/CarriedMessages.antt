@@ -1,7 +1,7 @@
 -- What was received on a link rises by one at most, exactly when a frame newly carries a message, and that is the one
 -- that is in the frame.
 use Rattle.exchange_rules.proofs.Basics.{◌≡◌, ◌&&◌, ℕ, Bool, true, false, not, List, Some, None, Result, Ok, Err, if◌then◌else◌}
-use Rattle.exchange_rules.proofs.Definitions.{Message, FrameFault, Configuration, FrameValue, EmptyFrame, MessageFrame, StatusFrame, read_frame, Action, UserData, action_at, SeqFault, Node, is_link, link_at, down, advance, Carrying, empty_data, message_data, numbers, WholeQueues, whole, carried_message, new_by, new_at, new_of, new_message, Abstract}
+use Rattle.exchange_rules.proofs.Definitions.{Message, FrameFault, Configuration, FrameValue, EmptyFrame, MessageFrame, StatusFrame, read_frame, Action, UserData, acts_on, SeqFault, Node, is_link, link_at, down, advance, Carrying, empty_data, message_data, numbers, WholeQueues, whole, carried_message, new_by, new_at, new_of, new_message, Abstract}
 use Rattle.link.specs.declared.action.Action.TheVariants as act
 
 -- ---- which message it is
@@ -17,8 +17,8 @@ module _ (link : ℕ) (c : Configuration) (n : Node WholeQueues) (m : Message) w
   at-carried (act.Go step) d e = by-carried (numbers whole c link d (advance whole c link step n)) d m e
 
   frame-carried : (r : Result FrameValue FrameFault) → new_of r link c n ≡ Some m → carried_message r ≡ Some m
-  frame-carried (Ok (EmptyFrame bsn fsn)) e = at-carried (action_at (link_at n.parts link).alignment UserData) (empty_data bsn fsn) e
-  frame-carried (Ok (MessageFrame bsn fsn sio sif)) e = at-carried (action_at (link_at n.parts link).alignment UserData) (message_data bsn fsn sio sif) e
+  frame-carried (Ok (EmptyFrame bsn fsn)) e = at-carried (acts_on (link_at n.parts link) UserData) (empty_data bsn fsn) e
+  frame-carried (Ok (MessageFrame bsn fsn sio sif)) e = at-carried (acts_on (link_at n.parts link) UserData) (message_data bsn fsn sio sif) e
   frame-carried (Ok (StatusFrame bsn fsn status)) e = absurd cc
   frame-carried (Err fault) e = absurd cc
 

@@ -1,9 +1,11 @@
 -- What an event may do, and what it does by this alone: a relation that holds of each rule, given what that event may
 -- do, and of each change of timers, holds between the node before it and the node after.
-use Rattle.exchange_rules.proofs.Basics.{◌≡◌, ◌⊎◌, inl, inr, ℕ, zero, suc, true, ap, subst}
-use Rattle.exchange_rules.proofs.Definitions.{Configuration, TimerName, Running, is_due, ticked, after_due, due_name, due_count, due-left, no_tick_left, Node, with_timers, run_next, run_times, tick, Happening, CameUp, Ticked, WholeQueues, whole, apply, Abstract}
-use Rattle.exchange_rules.specs.LawsOfCauses.{EndsByWord, EndsByTimer, MayFail}
+use Rattle.exchange_rules.proofs.Basics.{◌≡◌, ◌⊎◌, inl, inr, refl, ◌∙◌, Ok, ℕ, zero, suc, true, ap, subst}
+use Rattle.exchange_rules.proofs.Definitions.{Configuration, LinkStatus, StatusFrame, TimerName, Running, is_due, ticked, after_due, due_name, due_count, due-left, no_tick_left, Node, with_timers, run_next, run_times, tick, Happening, CameUp, Ticked, WholeQueues, whole, apply, Abstract}
+use Rattle.exchange_rules.specs.LawsOfCauses.{EndsByWord, EndsByTimer, EndsByRecovery, MayFail}
+use Rattle.m2pa_codec.specs.declared.status.LinkStatus.TheVariants.{ProcessorRecovered}
 use Rattle.exchange_rules.proofs.Asked.{any}
+use Rattle.exchange_rules.proofs.Outages.{recovery-is, recovers-says, recovery-out}
 use Rattle.exchange_rules.proofs.DueTimers.{next-dues}
 use Rattle.exchange_rules.proofs.Steps.{Deed, LinkOpens, LinkFails, HoldsEnd, IsOfDeeds}
 use Rattle.exchange_rules.proofs.SteppingEvents.{AllowsTimer, AllowsEvent, run_due-deeds, apply-deeds}
@@ -11,7 +13,7 @@ use Rattle.exchange_rules.proofs.SteppingEvents.{AllowsTimer, AllowsEvent, run_d
 abbrev pub Cause : Happening → Abstract → Deed → Type 0
 Cause what a (LinkOpens link) = what ≡ CameUp link
 Cause what a (LinkFails link why) = MayFail why link what a
-Cause what a (HoldsEnd procedure) = EndsByWord procedure what a ⊎ EndsByTimer procedure what a
+Cause what a (HoldsEnd procedure) = EndsByWord procedure what a ⊎ (EndsByTimer procedure what a ⊎ EndsByRecovery procedure what a)
 
 allows-event : (what : Happening) (c : Configuration) (n : Node WholeQueues) → AllowsEvent c (Cause what (record { settings = c; node = n })) what n
 allows-event what c n = record {
@@ -21,7 +23,17 @@ allows-event what c n = record {
   frame = λ link text e. record {
     wrong = λ f. (text, e, f);
     length = λ f. (text, e, f);
-    status = λ bsn fsn status f g. (status, record { text = text; bsn = bsn; fsn = fsn; came = e; reads = f }, g);
+    status = λ bsn fsn status f. record {
+      fails = λ none g. (status, record { text = text; bsn = bsn; fsn = fsn; came = e; reads = f }, none, g);
+      recovers = λ g.
+          let is : status ≡ ProcessorRecovered = recovery-is status (recovers-says link status n.parts g) in
+          inr (inr (record {
+            link = link;
+            says = record { text = text; bsn = bsn; fsn = fsn; came = e; reads = f ∙ ap (λ (x : LinkStatus). Ok (StatusFrame bsn fsn x)) is };
+            out = recovery-out link status n.parts g;
+            ends = refl;
+          }));
+    };
   };
   words = λ word e. record { ends = λ procedure f. inl (record { word = word; heard = e; ends = f }); fails = λ link f. (word, e, f) };
 }
@@ -29,8 +41,9 @@ allows-event what c n = record {
 allows-timer : (what : Happening) (c : Configuration) (n : Node WholeQueues) → what ≡ Ticked → (timer : TimerName) → is_due (ticked n.parts.timers) timer ≡ true
     → AllowsTimer (Cause what (record { settings = c; node = n })) timer
 allows-timer what c n is timer due = record {
-  ends = λ procedure e. inr (record { timer = timer; runs_out = (is, due); ends = e });
+  ends = λ procedure e. inr (inl (record { timer = timer; runs_out = (is, due); ends = e }));
   fails = λ link its e. (its, (is, subst (λ (x : TimerName). is_due (ticked n.parts.timers) x ≡ true) e due));
+  tests = λ link e. (is, subst (λ (x : TimerName). is_due (ticked n.parts.timers) x ≡ true) e due);
 }
 
 module _ {c : Configuration} {May : Deed → Type 0} {R : Node WholeQueues → Node WholeQueues → Type 0} (s : IsOfDeeds c any any May R)

@@ -1,7 +1,7 @@
 -- Rules that make only management, or change no queue: there are as many user messages after each as before.
 use Rattle.exchange_rules.proofs.Basics.{Bool, Err, List, None, Ok, Option, Result, Some, [], false, length, nat_lt, not, refl, suc, true, zero, ℕ, ◌&&◌, ◌∙◌, ◌∷◌, ◌≡◌, if◌then◌else◌}
-use Rattle.exchange_rules.proofs.Definitions.{is_outstanding, managements_of, action_at, Action, Expiry, Status, LinkTimer, Transition, Queue, appended, LinkStatus, LinkTestValue, MgmtFault, TestKind, Acknowledgement, Test, Management, ChangebackDeclaration, ExtendedChangeoverOrder, RouteSetTestProhibited, RouteSetTestRestricted, Owed, owed, Heard, RouteTest, Facts, status_of, RouteStatus, Allowed, Prohibited, Restricted, Configuration, Message, flow_of, is_management, Cause, FailureReason, FrameFault, Outcome, Handled, Ignored, code_for, code_in_use, declaration, freed, hold_flows, loses_flows, on_changeback_acknowledgement, take_back_each, fail_by_order, send_each, standing, begin, begin_by_peer, change_over, changing, fail, fail_by_peer, has_other, make_unavailable, leave_aside, down, in_service, is_link, link_at, do_kind, do_test, test_answer, management_to, send, send_anew, send_routed, activate, association_down, deactivate, end_association, fail_if_up, set_active, adjacent_of, entry_of, peer_of, point_of, set_of, no_room, queue_on, WholeQueues, queue_at, whole, apply_route_status, ask_again, ask_by, on_route_status, with_next_test, facts, link_of, Done, Node, answer, refuse, with_parts, act_by_status, act_by_timer, advance, enters, moved_on, on_link_status, return_if, run_out, serve_status, answer_no_route, answered_parts, inhibited, is_inhibited, may_tell, on_route_test, prohibit, send_route_status, tell_each, tell_if, tell_owed, telling, told_parts, answer_no_user_part, is_unequipped_told, tell_unavailable, unavailable, unequipped_counted, UserPartUnavailable, Unequipped, opc_of, service_indicator}
-use Rattle.exchange_rules.proofs.OwnManagement.{made-management, answer-management}
+use Rattle.exchange_rules.proofs.Definitions.{is_outstanding, managements_of, acts_on, Action, Expiry, Status, LinkTimer, Transition, Queue, appended, LinkStatus, LinkTestValue, MgmtFault, TestKind, Acknowledgement, Test, Management, ChangebackDeclaration, ExtendedChangeoverOrder, RouteSetTestProhibited, RouteSetTestRestricted, Owed, owed, Heard, RouteTest, Facts, status_of, RouteStatus, Allowed, Prohibited, Restricted, Configuration, Message, flow_of, is_management, Cause, FailureReason, FrameFault, Outcome, Handled, Ignored, code_for, code_in_use, declaration, freed, hold_flows, loses_flows, on_changeback_acknowledgement, take_back_each, fail_by_order, send_each, standing, begin, begin_by_peer, change_over, changing, fail, fail_by_peer, has_other, make_unavailable, leave_aside, down, in_service, is_link, link_at, do_kind, do_test, test_answer, management_to, send, send_anew, send_routed, activate, association_down, deactivate, end_association, fail_if_up, set_active, adjacent_of, entry_of, peer_of, point_of, set_of, no_room, queue_on, WholeQueues, queue_at, whole, apply_route_status, ask_again, ask_by, on_route_status, with_next_test, facts, link_of, Done, Node, answer, refuse, with_parts, act_by_status, act_by_timer, advance, enters, moved_on, on_link_status, return_if, run_out, serve_status, answer_no_route, answered_parts, inhibited, is_inhibited, may_tell, on_route_test, prohibit, send_route_status, tell_each, tell_if, tell_owed, telling, told_parts, answer_no_user_part, is_unequipped_told, tell_unavailable, unavailable, unequipped_counted, UserPartUnavailable, Unequipped, opc_of, service_indicator, tells_outage, tells_recovery, begin_outage, hear_outage, end_outage, take_step, test_if, queue_if, send_test, begin_test, repeat_test, test_unanswered, with_test_failed, awaiting_test, link_test, tests_links, passes_test, test_passed}
+use Rattle.exchange_rules.proofs.OwnManagement.{made-management, answer-management, test-management}
 use Rattle.exchange_rules.proofs.Tallies.{no-user-behind, queue-same}
 use Rattle.link.specs.declared.action.Action.TheVariants as act
 use Rattle.signalling_types.specs.declared.cause.Cause.TheVariants as causes
@@ -196,8 +196,34 @@ module _ (of : Message → Bool) (c : Configuration) where
   return-stand true link before n = take_back_each-stand before (facts c n.parts) link (length c.links) n
   return-stand false link before n = refl
 
+  -- ---- tests of links
+
+  queue_if-stand : (room : Option Cause) (link : ℕ) (n : Node WholeQueues) → stands of (queue_if whole c room link (link_test c link) n) ≡ stands of n
+  queue_if-stand (Some cause) link n = refl
+  queue_if-stand None link n = queued-stand link (link_test c link) n (test-management c link)
+
+  pub begin_test-stand : (link : ℕ) (n : Node WholeQueues) → stands of (begin_test whole c link n) ≡ stands of n
+  begin_test-stand link n =
+      either-stand (tests_links c && in_service n.parts link) (send_test whole c link n) n (stands of n)
+      (queue_if-stand (no_room whole c (link_test c link) n.queues) link (with_parts n (awaiting_test c link n.parts))) refl
+
+  repeat_test-stand : (again : Bool) (link : ℕ) (n : Node WholeQueues) → stands of (repeat_test whole c again link n) ≡ stands of n
+  repeat_test-stand true link n = fail-stand link reasons.Test n
+  repeat_test-stand false link n = begin_test-stand link (with_parts n (with_test_failed true link n.parts))
+
+  pub test_unanswered-stand : (link : ℕ) (n : Node WholeQueues) → stands of (test_unanswered whole c link n) ≡ stands of n
+  test_unanswered-stand link n =
+      let again : Bool = (link_at n.parts link).test_failed in
+      either-stand (in_service n.parts link) (repeat_test whole c again link n) n (stands of n) (repeat_test-stand again link n) refl
+
+  test_if-stand : (entered : Bool) (link : ℕ) (n : Node WholeQueues) → stands of (test_if whole c entered link n) ≡ stands of n
+  test_if-stand true link n = begin_test-stand link n
+  test_if-stand false link n = refl
+
   pub advance-stand : (link : ℕ) (step : Transition) (n : Node WholeQueues) → stands of (advance whole c link step n) ≡ stands of n
-  advance-stand link step n = return-stand (enters link step n.parts) link (facts c n.parts) (with_parts n (moved_on c link step n.parts))
+  advance-stand link step n =
+      test_if-stand (enters link step n.parts) link (take_step whole c link step n)
+      ∙ return-stand (enters link step n.parts) link (facts c n.parts) (with_parts n (moved_on c link step n.parts))
 
   -- ---- statuses and timers of links
 
@@ -220,8 +246,18 @@ module _ (of : Message → Bool) (c : Configuration) where
       either-stand step.serve (serve_status whole c link status moved) moved (stands of moved) (serve_status-stand link status moved) refl
       ∙ advance-stand link step n
 
+  hear_outage-stand : (out : Bool) (link : ℕ) (n : Node WholeQueues) → stands of (if out then n else begin_outage whole c link n) ≡ stands of n
+  hear_outage-stand true link n = refl
+  hear_outage-stand false link n = refl
+
   pub on_link_status-stand : (link : ℕ) (status : LinkStatus) (n : Node WholeQueues) → stands of (on_link_status whole c link status n).left ≡ stands of n
-  on_link_status-stand link status n = act_by_status-stand (action_at (link_at n.parts link).alignment (Status status)) link status n
+  on_link_status-stand link status n =
+      let back : Done WholeQueues = answer Handled (end_outage whole c link n) in
+      let acted : Done WholeQueues = act_by_status whole c (acts_on (link_at n.parts link) (Status status)) link status n in
+      either_done-stand (tells_outage c link status n.parts) (answer Handled (hear_outage whole c link n)) (if tells_recovery link status n.parts then back else acted) (stands of n)
+      (hear_outage-stand (link_at n.parts link).peer_outage link n)
+      (either_done-stand (tells_recovery link status n.parts) back acted (stands of n) refl
+      (act_by_status-stand (acts_on (link_at n.parts link) (Status status)) link status n))
 
   act_by_timer-stand : (a : Action) (link : ℕ) (n : Node WholeQueues) → stands of (act_by_timer whole c a link n) ≡ stands of n
   act_by_timer-stand act.Ignored link n = refl
@@ -229,7 +265,7 @@ module _ (of : Message → Bool) (c : Configuration) where
   act_by_timer-stand (act.Go step) link n = advance-stand link step n
 
   pub run_out-stand : (link : ℕ) (its : LinkTimer) (n : Node WholeQueues) → stands of (run_out whole c link its n) ≡ stands of n
-  run_out-stand link its n = act_by_timer-stand (action_at (link_at n.parts link).alignment (Expiry its)) link n
+  run_out-stand link its n = act_by_timer-stand (acts_on (link_at n.parts link) (Expiry its)) link n
 
   pub leave_aside-stand : (link : ℕ) (fault : FrameFault) (n : Node WholeQueues) → stands of (leave_aside whole c link fault n).left ≡ stands of n
   leave_aside-stand link faults.Length n = fail-stand link reasons.Length n
@@ -243,7 +279,8 @@ module _ (of : Message → Bool) (c : Configuration) where
   do_kind-stand Test link point test n =
       let m : Message = test_answer c point test in
       send-stand (no_room whole c m n.queues) (Some link) m n (answer-management c point test)
-  do_kind-stand Acknowledgement link point test n = refl
+  do_kind-stand Acknowledgement link point test n =
+      either_done-stand (passes_test c link point test n.parts) (answer Handled (with_parts n (test_passed c link n.parts))) (answer Ignored n) (stands of n) refl refl
 
   pub do_test-stand : (r : Result LinkTestValue MgmtFault) (link point : ℕ) (n : Node WholeQueues) → stands of (do_test whole c r link point n).left ≡ stands of n
   do_test-stand (Err fault) link point n = refl

@@ -1,6 +1,6 @@
 -- Every event conserves user messages, and every take leaves them.
 use Rattle.exchange_rules.proofs.Basics.{Bool, Err, List, None, Ok, Option, Result, Some, [], ap, arith, false, nat_eq, not, refl, suc, sym, true, zero, ℕ, ◌&&◌, ◌+◌, ◌∙◌, ◌≡◌, take-append-drop, if◌then◌else◌, take}
-use Rattle.exchange_rules.proofs.Definitions.{Standing, may_restart, has_row, place_of, without_row, action_at, Action, UserData, Alignment, unconfirmed-accepted, unconfirmed-sent_one, Queue, count_confirmed, first_queue, unconfirmed, SeqFault, EmptyFrame, FrameValue, MessageFrame, StatusFrame, read_frame, read_management, Link, is_down, is_in_service, Discrimination, Configuration, TitleEntry, Message, is_management, opc_of, service_indicator, Cause, FrameFault, Handled, Ignored, transfer, Gone, both_gone, brought_by, brought_here, brought_in, brought_to, confirmed_at, confirmed_by, confirmed_in, confirmed_of, gone, gone_by, only_accepted, gone_by_message, gone_by_new, gone_by_release, gone_by_tick, gone_by_word, gone_that, nothing_gone, taken_in, users_that, takes_leave_user_messages, user_messages_are_conserved, apply, handle_event, changeover_of, Carrying, accept, act_by_data, carries, carry, empty_data, handle_by, message_data, numbers, read, receive_data, Activated, CameUp, Deactivated, FrameCame, Happening, Submitted, Ticked, TitleAdded, TitleRemoved, WentDown, AreLinksSteady, IsSteady, is_l7_running, accept_data, accept_frame, accept_text, down, in_service, is_link, link_at, is_adjacent, local, manage, testing, deliver_to, submit, whither_goes, may_open, open_link, WholeQueues, queue_at, whole, new_at, new_by, new_in, new_of, add_title_unless, title_refusal, with_titles, release, Acknowledges, Outgoing, SendsMessage, SendsNothing, SendsStatus, after_sending, goes_out, Abstract, Done, Node, answer, refuse, with_parts, advance, tell_owed, tick}
+use Rattle.exchange_rules.proofs.Definitions.{Standing, may_restart, has_row, place_of, without_row, acts_on, Action, UserData, Alignment, unconfirmed-accepted, unconfirmed-sent_one, Queue, count_confirmed, first_queue, unconfirmed, SeqFault, EmptyFrame, FrameValue, MessageFrame, StatusFrame, read_frame, read_management, Link, is_down, is_in_service, Discrimination, Configuration, TitleEntry, Message, is_management, opc_of, service_indicator, Cause, FrameFault, Handled, Ignored, transfer, Gone, both_gone, brought_by, brought_here, brought_in, brought_to, confirmed_at, confirmed_by, confirmed_in, confirmed_of, gone, gone_by, only_accepted, gone_by_message, gone_by_new, gone_by_release, gone_by_tick, gone_by_word, gone_that, nothing_gone, taken_in, users_that, takes_leave_user_messages, user_messages_are_conserved, apply, handle_event, changeover_of, Carrying, accept, act_by_data, carries, carry, empty_data, handle_by, message_data, numbers, read, receive_data, Activated, CameUp, Deactivated, FrameCame, Happening, Submitted, Ticked, TitleAdded, TitleRemoved, WentDown, AreLinksSteady, IsSteady, is_l7_running, accept_data, accept_frame, accept_text, down, in_service, is_link, link_at, is_adjacent, local, manage, testing, deliver_to, submit, whither_goes, may_open, open_link, WholeQueues, queue_at, whole, new_at, new_by, new_in, new_of, add_title_unless, title_refusal, release, Acknowledges, Outgoing, SendsMessage, SendsNothing, SendsStatus, after_sending, goes_out, Abstract, Done, Node, answer, refuse, with_parts, advance, tell_owed, tick, with_rows}
 use Rattle.std.proofs.Common.{drop}
 use Rattle.exchange_rules.proofs.Changes.{activate-stand, advance-stand, association_down-stand, deactivate-stand, either_done-stand, fail-stand, leave_aside-stand, on_link_status-stand, stands, tell_owed-stand}
 use Rattle.exchange_rules.proofs.Departing.{both-that, manage-lets, release-lets, tick-lets}
@@ -94,7 +94,7 @@ module _ (of : Message → Bool) (c : Configuration) where
       (accepted-lets link d (Ok count) n e) (carry-moves link d.message took (accept-fits link d count n serves e f)) (data-that ms (gone_by_new d.message c took))
   handle-moves (Err fault) link d n f serves e = ap (λ (k : ℕ). k + 0) (sym (fail-stand of c link reasons.Sequence n))
 
-  act-moves : (a : Action) (link : ℕ) (d : Carrying) (n : Node WholeQueues) → Fits c n → action_at (link_at n.parts link).alignment UserData ≡ a
+  act-moves : (a : Action) (link : ℕ) (d : Carrying) (n : Node WholeQueues) → Fits c n → acts_on (link_at n.parts link) UserData ≡ a
       → stands of n + users_that of (brought_by (new_at a link d c n) (act_by_data whole c a link d n).outcome c (accept_data a link d c n))
       ≡ stands of (act_by_data whole c a link d n).left
       + gone_that of (both_gone (only_accepted (confirmed_at a link d c n)) (gone_by_new (new_at a link d c n) c (accept_data a link d c n)))
@@ -106,13 +106,13 @@ module _ (of : Message → Bool) (c : Configuration) where
       let took : Node WholeQueues = accept whole c link d (count_confirmed r) next in
       ap (λ (k : ℕ). k + users_that of (brought_by (new_by r d) (handle_by whole c r link d next).outcome c took)) (sym (advance-stand of c link step n))
       ∙ handle-moves r link d next ((advance-steps (rules-of (fit-steps c)) link UserData step n tt e).stay f)
-      (advance-serves c link UserData step n e ∙ data-serves (link_at n.parts link).alignment step e) refl
+      (advance-serves c link UserData step n e ∙ data-serves (link_at n.parts link).period (link_at n.parts link).alignment step e) refl
 
   data-moves : (link : ℕ) (d : Carrying) (n : Node WholeQueues) → Fits c n
       → stands of n + users_that of (brought_by (new_in (Some d) link c n) (receive_data whole c link d n).outcome c (accept_frame (Some d) link c n))
       ≡ stands of (receive_data whole c link d n).left
       + gone_that of (both_gone (only_accepted (confirmed_in (Some d) link c n)) (gone_by_new (new_in (Some d) link c n) c (accept_frame (Some d) link c n)))
-  data-moves link d n f = act-moves (action_at (link_at n.parts link).alignment UserData) link d n f refl
+  data-moves link d n f = act-moves (acts_on (link_at n.parts link) UserData) link d n f refl
 
 -- what a frame brings and lets go, by what it reads as
 module _ (of : Message → Bool) (a : Abstract) where
@@ -209,9 +209,9 @@ module _ (of : Message → Bool) (a : Abstract) where
       came-alone of set (stands of was) (stands of d.left) (users_that of (brought_to (whither_goes set m) d.outcome set m was)) (submit-brings of set m was f)
   rule-moves (Activated link) f h = quiet (activate-stand of set link was)
   rule-moves (Deactivated link) f h = quiet (deactivate-stand of set link was)
-  rule-moves (TitleAdded row refused) f h = quiet (titled-stand (title_refusal was.parts.titles row refused) row)
+  rule-moves (TitleAdded row refused) f h = quiet (titled-stand (title_refusal was.parts.titles.rows row refused) row)
   rule-moves (TitleRemoved key digits) f h =
-      quiet (either_done-stand of set (has_row was.parts.titles (place_of key digits)) (answer Handled (with_parts was (with_titles (without_row (place_of key digits) was.parts.titles) was.parts)))
+      quiet (either_done-stand of set (has_row was.parts.titles.rows (place_of key digits)) (answer Handled (with_parts was (with_rows (without_row (place_of key digits) was.parts.titles.rows) was.parts)))
       (refuse causes.NoSuchName was) (stands of was) refl refl)
 
   whole-sum : (n a m g o h u : ℕ) → n + a ≡ m + g → m ≡ o + h → u ≡ g + h → n + a ≡ o + u

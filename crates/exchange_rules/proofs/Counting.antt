@@ -103,6 +103,7 @@ makes-steps c = record {
   routed = λ link m n e. same-makes n _ refl;
   declared = λ link other code n e f. same-makes n _ refl;
   tested = λ link point test n e f. same-makes n _ refl;
+  probed = λ link n e. same-makes n _ refl;
   held = λ m n e. same-makes n _ refl;
   taken_out = λ n. same-makes n _ refl;
   noted = λ notice n e. record { made = notice ∷ []; by = refl };

@@ -1,14 +1,13 @@
 -- Changeovers that are completed, by the peer's messages and by timers, and the release: how many user messages leave
 -- for good.
 use Rattle.exchange_rules.proofs.Basics.{Bool, Err, List, None, Ok, Option, Result, Some, [], ap, arith, false, nat_eq, not, refl, subst, suc, sym, true, zero, ℕ, ◌&&◌, ◌+◌, ◌∙◌, ◌∷◌, ◌≡◌, filter_agree, filter, if◌then◌else◌, is_some}
-use Rattle.exchange_rules.proofs.Definitions.{accepted_count, behind, completed, IsQueue, Queue, read_link_test, read_management, MgmtFault, Management, ChangebackAcknowledgement, ChangebackDeclaration, EmergencyChangeoverAcknowledgement, EmergencyChangeoverOrder, ExtendedChangeoverAcknowledgement, ExtendedChangeoverOrder, RouteSetTestProhibited, RouteSetTestRestricted, TrafficRestartAllowed, TransferAllowed, TransferProhibited, TransferRestricted, Allowed, Prohibited, Restricted, Configuration, Message, flow_of, opc_of, service_indicator, ChangeoverTimer, Handled, Ignored, destination_place, set_place, after_due, due_count, due_name, ticked, TimerName, complete_if, concluded, fail_by_order, on_changeover_order, on_changeover_timer, with_changeover_acknowledged, with_expiry, Gone, both_gone, gone_by_answer, gone_by_completion, gone_by_expiry, gone_by_order, gone_by_release, gone_by_tick, gone_by_timer, gone_by_timers, gone_by_word, gone_that, is_stranded, nothing_gone, standing, users_that, changeover_of, with_changeover, hold, waits, is_link, do_acknowledgement, do_management, do_order, do_test, is_adjacent, link_with_code, manage, testing, entry_of, peer_of, route_about, queue_on, WholeQueues, queue_at, whole, go, go_by, go_each, go_on, release, link_of, Found, Node, answer, refuse, with_parts, run_due, run_next, run_times, tick, with_timers, from_afar, UserPartUnavailable}
-use Rattle.exchange_rules.proofs.Changes.{anew-stand, answered_back-stand, ask_again-stand, do_test-stand, fail_by_order-queues, made-stand, on_route_status-stand, on_route_test-stand, run_out-stand, stands}
+use Rattle.exchange_rules.proofs.Definitions.{accepted_count, behind, completed, IsQueue, Queue, read_link_test, read_management, MgmtFault, Management, ChangebackAcknowledgement, ChangebackDeclaration, EmergencyChangeoverAcknowledgement, EmergencyChangeoverOrder, ExtendedChangeoverAcknowledgement, ExtendedChangeoverOrder, RouteSetTestProhibited, RouteSetTestRestricted, TrafficRestartAllowed, TransferAllowed, TransferProhibited, TransferRestricted, Allowed, Prohibited, Restricted, Configuration, Message, flow_of, opc_of, service_indicator, ChangeoverTimer, Handled, Ignored, destination_place, set_place, after_due, due_count, due_name, ticked, TimerName, complete_if, concluded, fail_by_order, on_changeover_order, on_changeover_timer, with_changeover_acknowledged, with_expiry, Gone, both_gone, gone_by_answer, gone_by_completion, gone_by_expiry, gone_by_order, gone_by_release, gone_by_tick, gone_by_timer, gone_by_timers, gone_by_word, gone_that, is_stranded, nothing_gone, standing, users_that, changeover_of, with_changeover, hold, waits, is_link, do_acknowledgement, do_management, do_order, do_test, is_adjacent, link_with_code, manage, testing, entry_of, peer_of, route_about, queue_on, WholeQueues, queue_at, whole, go, go_by, go_each, go_on, release, link_of, Found, Node, answer, with_parts, run_due, run_next, run_times, tick, with_timers, from_afar, UserPartUnavailable}
+use Rattle.exchange_rules.proofs.Changes.{anew-stand, answered_back-stand, ask_again-stand, do_test-stand, fail_by_order-queues, made-stand, on_route_status-stand, on_route_test-stand, run_out-stand, stands, test_unanswered-stand, begin_test-stand}
 use Rattle.exchange_rules.proofs.Fitting.{Fits, fit-steps, handed-fit, next-fit, ticked-fit}
 use Rattle.exchange_rules.proofs.Moves.{completed-lets, queued-more}
 use Rattle.exchange_rules.proofs.SteppingEvents.{go_by-steps}
 use Rattle.exchange_rules.proofs.Tallies.{append, held-more-by, held-taken-out, none-first, none-more, one-first}
 use Rattle.exchange_rules.proofs.Rules.{rules-of}
-use Rattle.signalling_types.specs.declared.cause.Cause.TheVariants as causes
 use Rattle.timers.specs.declared.name.TimerName.TheVariants as name
 use Rattle.signalling_types.specs.declared.notice.ChangeoverTimer.TheVariants as which
 use Rattle.route_management.specs.declared.heard.RouteTest.TheVariants as tests
@@ -140,6 +139,9 @@ module _ (of : Message → Bool) (c : Configuration) where
   timer-lets (Some (name.T6 destination)) n f = none-more (stands of n)
   timer-lets (Some (name.T8 set destination)) n f = none-more (stands of n)
   timer-lets (Some (name.T10 set destination)) n f = none-let (ask_again-stand of c set destination n)
+  timer-lets (Some (name.Slt1 link)) n f = none-let (test_unanswered-stand of c link n)
+  timer-lets (Some (name.Slt2 link)) n f = none-let (begin_test-stand of c link n)
+  timer-lets (Some name.Sst) n f = none-more (stands of n)
 
   later-let : (n m o g h b : ℕ) → n ≡ m + g → m ≡ o + h → b ≡ g + h → n ≡ o + b
   later-let n m o g h b e f i = omega (arith, e, f, i)

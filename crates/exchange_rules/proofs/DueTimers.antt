@@ -1,6 +1,6 @@
 -- A tick hands out all timers that are due, and makes none due: afterwards none is.
 use Rattle.exchange_rules.proofs.Basics.{◌≡◌, ◌≢◌, ◌≤◌, ℕ, zero, suc, Bool, true, false, cond, List, [], ◌∷◌, length, filter, Option, Some, None, refl, ap, sym, ◌∙◌, arith}
-use Rattle.exchange_rules.proofs.Definitions.{Configuration, opening, carries, TimerName, Running, NodeCounts, is_due, due_name, after_due, after-clear, after-none, Node, link_at, with_timers, run_due, run_next, run_times, WholeQueues, whole}
+use Rattle.exchange_rules.proofs.Definitions.{period_of, Configuration, opening, carries, TimerName, Running, NodeCounts, is_due, due_name, after_due, after-clear, after-none, Node, link_at, with_timers, run_due, run_next, run_times, WholeQueues, whole}
 use Rattle.timers.specs.Timers.{names_of, due_count}
 use Rattle.timers.proofs.Dues.{count-after, count-none, due-none}
 use Rattle.exchange_rules.proofs.Steps.{IsOfSteps}
@@ -28,6 +28,7 @@ dues-steps c = record {
   routed = λ link m n e. same-dues n _ refl;
   declared = λ link other code n e f. same-dues n _ refl;
   tested = λ link point test n e f. same-dues n _ refl;
+  probed = λ link n e. same-dues n _ refl;
   held = λ m n e. same-dues n _ refl;
   taken_out = λ n. same-dues n _ refl;
   noted = λ notice n e. same-dues n _ refl;
@@ -46,7 +47,7 @@ dues-steps c = record {
   answered = λ link st n e f w. same-dues n _ refl;
   linked = λ link x n e. same-dues n _ refl;
   parted = λ link n e. same-dues n _ refl;
-  opened = λ link n own there e f. (let t = timed-for link c opening n.parts.timers in record { counts = t.counts; due = t.due });
+  opened = λ link n own there e f. (let t = timed-for link c (opening (period_of c link n.parts)) n.parts.timers in record { counts = t.counts; due = t.due });
   stepped = λ link input step n own e. (let t = timed-for link c step n.parts.timers in record { counts = t.counts; due = t.due });
   busied = λ link n own e f. (let t = timed_busy-for link c n.parts.timers in record { counts = t.counts; due = t.due });
   resumed = λ link n own e f. (let t = timed_busy_ended-for link c (whole.outstanding n.queues link) n.parts.timers in record { counts = t.counts; due = t.due });

@@ -1,7 +1,7 @@
 -- What a tick does to timers if no link enters service or leaves it: they run down and stop, and none is set but L1,
--- L2, L3, T8 and T10.
+-- L2, L3, T8, T10, and those of tests.
 use Rattle.exchange_rules.proofs.Basics.{◌≡◌, ◌≢◌, ◌⊎◌, inl, inr, ℕ, Bool, true, false, ◌&&◌, List, [], ◌∷◌, length, nat_lt, Option, Some, None, refl, ap, sym, ◌∙◌, ⊎_elim, subst, if◌then◌else◌}
-use Rattle.exchange_rules.proofs.Definitions.{Message, flow_of, Configuration, Cause, FailureReason, ChangeoverTimer, Alignment, Action, Expiry, LinkTimer, action_at, TimerName, Running, L6, L7, set_timer, clear_timer, left-set_other, left-clear, left-clear_other, without_timers, RouteStatus, status_of, Owed, owed, Parts, Node, Found, with_parts, is_link, link_at, in_service, facts, link_of, no_room, fail, fail_link, change_over, make_unavailable, send, send_anew, send_each, lose_each, judged, concluded, complete_if, changeover_of, with_expiry, told_parts, route_message, timed_telling, may_tell, tell, tell_if, tell_each, tell_owed, ask, ask_by, prohibited_test, restricted_test, with_next_test, go_on, go_by, go, go_each, release, waits, run_timer, WholeQueues, whole, Allowed, Restricted, Prohibited, is_in_service}
+use Rattle.exchange_rules.proofs.Definitions.{Period, Message, flow_of, Configuration, Cause, FailureReason, ChangeoverTimer, Alignment, Action, Expiry, LinkTimer, action_at, TimerName, Running, L6, L7, set_timer, clear_timer, left-set_other, left-clear, left-clear_other, without_timers, RouteStatus, status_of, Owed, owed, Parts, Node, Found, with_parts, is_link, link_at, in_service, facts, link_of, no_room, fail, fail_link, change_over, make_unavailable, send, send_anew, send_each, lose_each, judged, concluded, complete_if, changeover_of, with_expiry, told_parts, route_message, timed_telling, may_tell, tell, tell_if, tell_each, tell_owed, ask, ask_by, prohibited_test, restricted_test, with_next_test, go_on, go_by, go, go_each, release, waits, run_timer, WholeQueues, whole, Allowed, Restricted, Prohibited, is_in_service}
 use Rattle.exchange_rules.specs.ChangingOver.{with_losses}
 use Rattle.exchange_rules.specs.Frames.{act_by_timer}
 use Rattle.timers.specs.declared.name.TimerName.TheVariants as name
@@ -10,7 +10,7 @@ use Rattle.signalling_types.specs.declared.notice.FailureReason.TheVariants as r
 use Rattle.link.specs.declared.action.Action.TheVariants as act
 use Rattle.link.specs.declared.action.LinkTimer.TheVariants as timer
 use Rattle.link.specs.declared.alignment.Alignment.TheVariants.{Down, NotAligned, Aligned, Proving, AlignedReady, InService}
-use Rattle.exchange_rules.proofs.Steps.{takes_links}
+use Rattle.exchange_rules.proofs.Steps.{takes_links, moves_links}
 use Rattle.exchange_rules.proofs.WillEnding.{no-way}
 use Rattle.exchange_rules.proofs.TimerSettings.{cases-name}
 
@@ -21,6 +21,7 @@ is_waited_for (name.L2 link) = false
 is_waited_for (name.L3 link) = false
 is_waited_for (name.T8 set destination) = false
 is_waited_for (name.T10 set destination) = false
+is_waited_for name.Sst = false
 is_waited_for _ = true
 
 pub link-waited : (timer : TimerName) → takes_links timer ≡ true → is_waited_for timer ≡ true
@@ -37,6 +38,27 @@ link-waited (name.T4 set code) e = refl
 link-waited (name.T6 destination) e = refl
 link-waited (name.T8 set destination) e = absurd cc
 link-waited (name.T10 set destination) e = absurd cc
+link-waited (name.Slt1 link) e = absurd cc
+link-waited (name.Slt2 link) e = absurd cc
+link-waited name.Sst e = absurd cc
+
+pub moved-waited : (timer : TimerName) → moves_links timer ≡ true → is_waited_for timer ≡ true
+moved-waited (name.L4 link) e = refl
+moved-waited (name.L6 link) e = refl
+moved-waited (name.L7 link) e = refl
+moved-waited (name.L1 link) e = absurd cc
+moved-waited (name.L2 link) e = absurd cc
+moved-waited (name.L3 link) e = absurd cc
+moved-waited (name.T1 link) e = refl
+moved-waited (name.T2 link) e = refl
+moved-waited (name.T3 link) e = refl
+moved-waited (name.T4 set code) e = refl
+moved-waited (name.T6 destination) e = refl
+moved-waited (name.T8 set destination) e = absurd cc
+moved-waited (name.T10 set destination) e = absurd cc
+moved-waited (name.Slt1 link) e = refl
+moved-waited (name.Slt2 link) e = refl
+moved-waited name.Sst e = absurd cc
 
 -- none of these is set
 abbrev pub Less : (r s : Running) → Type 0
@@ -74,10 +96,13 @@ less-without link r timer w x h =
     let three : Running = clear_timer (name.L3 link) two in
     let four : Running = clear_timer (name.L4 link) three in
     let six : Running = clear_timer (name.L6 link) four in
+    let seven : Running = clear_timer (name.L7 link) six in
+    let tests : Running = clear_timer (name.Slt1 link) seven in
     less-clear (name.L1 link) r timer w x
     (less-clear (name.L2 link) one timer w x
     (less-clear (name.L3 link) two timer w x
-    (less-clear (name.L4 link) three timer w x (less-clear (name.L6 link) four timer w x (less-clear (name.L7 link) six timer w x h)))))
+    (less-clear (name.L4 link) three timer w x (less-clear (name.L6 link) four timer w x
+    (less-clear (name.L7 link) six timer w x (less-clear (name.Slt1 link) seven timer w x (less-clear (name.Slt2 link) tests timer w x h)))))))
 
 pub losses-timers : (ms : List Message) (p : Parts) → (lose_each ms p).timers ≡ p.timers
 losses-timers [] p = refl
@@ -90,35 +115,35 @@ judged-timers false p = refl
 -- ---- by the table of the alignment: where L1, L2 or L3 runs out nothing happens, or a link fails that isn't in
 -- service
 
-abbrev IsIdle : Alignment → LinkTimer → Type 0
-IsIdle a its = (action_at a (Expiry its) ≡ act.Ignored) ⊎ ((action_at a (Expiry its) ≡ act.Fail) × (is_in_service a ≡ false))
+abbrev pub IsIdle : Period → Alignment → LinkTimer → Type 0
+IsIdle period a its = (action_at period a (Expiry its) ≡ act.Ignored) ⊎ ((action_at period a (Expiry its) ≡ act.Fail) × (is_in_service a ≡ false))
 
-idle-l1 : (a : Alignment) → IsIdle a timer.L1
-idle-l1 Down = inl refl
-idle-l1 NotAligned = inl refl
-idle-l1 Aligned = inl refl
-idle-l1 (Proving true) = inl refl
-idle-l1 (Proving false) = inl refl
-idle-l1 AlignedReady = inr (refl, refl)
-idle-l1 InService = inl refl
+pub idle-l1 : (period : Period) (a : Alignment) → IsIdle period a timer.L1
+idle-l1 period Down = inl refl
+idle-l1 period NotAligned = inl refl
+idle-l1 period Aligned = inl refl
+idle-l1 period (Proving true) = inl refl
+idle-l1 period (Proving false) = inl refl
+idle-l1 period AlignedReady = inr (refl, refl)
+idle-l1 period InService = inl refl
 
-idle-l2 : (a : Alignment) → IsIdle a timer.L2
-idle-l2 Down = inl refl
-idle-l2 NotAligned = inr (refl, refl)
-idle-l2 Aligned = inl refl
-idle-l2 (Proving true) = inl refl
-idle-l2 (Proving false) = inl refl
-idle-l2 AlignedReady = inl refl
-idle-l2 InService = inl refl
+pub idle-l2 : (period : Period) (a : Alignment) → IsIdle period a timer.L2
+idle-l2 period Down = inl refl
+idle-l2 period NotAligned = inr (refl, refl)
+idle-l2 period Aligned = inl refl
+idle-l2 period (Proving true) = inl refl
+idle-l2 period (Proving false) = inl refl
+idle-l2 period AlignedReady = inl refl
+idle-l2 period InService = inl refl
 
-idle-l3 : (a : Alignment) → IsIdle a timer.L3
-idle-l3 Down = inl refl
-idle-l3 NotAligned = inl refl
-idle-l3 Aligned = inr (refl, refl)
-idle-l3 (Proving true) = inl refl
-idle-l3 (Proving false) = inl refl
-idle-l3 AlignedReady = inl refl
-idle-l3 InService = inl refl
+pub idle-l3 : (period : Period) (a : Alignment) → IsIdle period a timer.L3
+idle-l3 period Down = inl refl
+idle-l3 period NotAligned = inl refl
+idle-l3 period Aligned = inr (refl, refl)
+idle-l3 period (Proving true) = inl refl
+idle-l3 period (Proving false) = inl refl
+idle-l3 period AlignedReady = inl refl
+idle-l3 period InService = inl refl
 
 module _ (c : Configuration) where
   -- ---- messages
@@ -225,10 +250,10 @@ module _ (c : Configuration) where
 
   -- ---- a timer that runs out
 
-  pub ran-eased : (its : TimerName) (n : Node WholeQueues) → takes_links its ≡ false → Eased n (run_timer whole c its n)
-  ran-eased (name.L1 link) n e = acts-eased _ link n (idle-l1 (link_at n.parts link).alignment)
-  ran-eased (name.L2 link) n e = acts-eased _ link n (idle-l2 (link_at n.parts link).alignment)
-  ran-eased (name.L3 link) n e = acts-eased _ link n (idle-l3 (link_at n.parts link).alignment)
+  pub ran-eased : (its : TimerName) (n : Node WholeQueues) → moves_links its ≡ false → Eased n (run_timer whole c its n)
+  ran-eased (name.L1 link) n e = acts-eased _ link n (idle-l1 (link_at n.parts link).period (link_at n.parts link).alignment)
+  ran-eased (name.L2 link) n e = acts-eased _ link n (idle-l2 (link_at n.parts link).period (link_at n.parts link).alignment)
+  ran-eased (name.L3 link) n e = acts-eased _ link n (idle-l3 (link_at n.parts link).period (link_at n.parts link).alignment)
   ran-eased (name.L4 link) n e = absurd cc
   ran-eased (name.L6 link) n e = absurd cc
   ran-eased (name.L7 link) n e = absurd cc
@@ -239,3 +264,6 @@ module _ (c : Configuration) where
   ran-eased (name.T6 destination) n e = eased-same n _ refl
   ran-eased (name.T8 set destination) n e = eased-none n
   ran-eased (name.T10 set destination) n e = asks-eased (nat_lt set (length c.sets) && nat_lt destination (length c.destinations)) set destination n
+  ran-eased (name.Slt1 link) n e = absurd cc
+  ran-eased (name.Slt2 link) n e = absurd cc
+  ran-eased name.Sst n e = eased-none n

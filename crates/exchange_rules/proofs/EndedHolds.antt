@@ -8,7 +8,7 @@ use Rattle.flow_hold.proofs.Pairing.{leaves_others}
 use Rattle.flow_hold.proofs.Holding.{keeps_pairs}
 use Rattle.exchange_rules.specs.LawsOfCauses.{holds_end_so, takes_leave_holds}
 use Rattle.exchange_rules.proofs.Asked.{any}
-use Rattle.exchange_rules.proofs.Steps.{Deed, HoldsEnd, IsOfSends, IsOfDeeds, either-steps, either_done-steps}
+use Rattle.exchange_rules.proofs.Steps.{Deed, HoldsEnd, IsOfSends, IsOfDeeds, outed, either-steps, either_done-steps}
 use Rattle.exchange_rules.proofs.SteppingMessages.{send_routed-steps, send_each-steps}
 use Rattle.exchange_rules.proofs.WillEnding.{no-way, losses-alike, judged-alike}
 use Rattle.exchange_rules.proofs.EndingProcedures.{cases-procedure}
@@ -176,6 +176,7 @@ module _ (May : Deed → Type 0) where
     ends-deeds = record {
       sends = sends;
       tested = λ link point test n e f. same n _ refl;
+      probed = λ link n e. same n _ refl;
       held = λ m n e. same n _ refl;
       taken_out = λ n. same n _ refl;
       late = λ notice n e. same n _ refl;
@@ -184,14 +185,16 @@ module _ (May : Deed → Type 0) where
       told = λ t n e. same n _ refl;
       titled = λ rows n. same n _ refl;
       unequipped = λ counts n e. same n _ refl;
-      linked = λ link x n e. same n _ refl;
+      linked = λ link x n e o. same n _ refl;
       parted = λ link n e. same n _ refl;
       opened = λ link n own there e f may. same n _ refl;
       stepped = λ link input step n own e k. same n _ refl;
       busied = λ link n own e f. same n _ refl;
-      resumed = λ link n own e f. same n _ refl;
+      resumed = λ link n own e f o. same n _ refl;
       accepted = λ link d confirmed n own e f. same n _ refl;
       sent = λ link next n own e. same n _ refl;
+      put = λ link n set e b. grown n _ (kept-flows n.parts.holds (Changeover link) (is_failed c (facts c (outed link true n.parts)) link (whole.unconfirmed n.queues link)));
+      back = λ link n e may. lifts (Changeover link) n _ refl may;
       fails = λ link why n may up. fails link why n;
       orders = λ link number n falls may. orders link number n may;
       acknowledges = acknowledges;

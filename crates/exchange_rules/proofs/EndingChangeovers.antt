@@ -1,12 +1,12 @@
 -- A link fails, and its changeover goes on and ends: every hold has its timer or its word all the while.
-use Rattle.exchange_rules.proofs.Basics.{◌≡◌, inr, ◌<◌, ℕ, Bool, true, false, List, length, Option, None, refl, ap, sym, ◌∙◌, subst, arith, get_or-set_same, nat_lt, if◌then◌else◌}
-use Rattle.exchange_rules.proofs.Definitions.{Configuration, FailureReason, ChangeoverTimer, Changeover, HoldSet, holds, flows_leave, Standing, no_changeover, completed, acknowledged, failed, begun_by_peer, TimerName, Running, NodeCounts, is_running, clear_timer, left-clear_other, counts-clear, counts-clear_set, without_tests, answer, Handled, Ignored, Parts, Node, Found, with_parts, in_service, down, is_link, changeover_of, with_changeover, fail_link, has_other, set_of, suspended, is_failed, make_unavailable, changing, begin, change_over, fail_by_peer, begin_by_peer, facts, changeover_order, concluded, complete_if, fail_by_order, complete_by_order, changeover_acknowledgement, on_changeover_order, on_changeover_timer, with_expiry, with_changeover_acknowledged, WholeQueues, whole, HasAllPlaces}
+use Rattle.exchange_rules.proofs.Basics.{◌≡◌, inr, ◌<◌, ℕ, Bool, true, false, List, length, Option, None, refl, ap, sym, ◌∙◌, subst, arith, ⊎_elim, get_or-set_other, get_or-set_same, nat_lt, if◌then◌else◌}
+use Rattle.exchange_rules.proofs.Definitions.{Configuration, FailureReason, ChangeoverTimer, Changeover, HoldSet, holds, flows_leave, Standing, no_changeover, completed, acknowledged, failed, begun_by_peer, TimerName, Running, NodeCounts, is_running, clear_timer, left-clear_other, counts-clear, counts-clear_set, without_tests, answer, Handled, Ignored, Parts, Node, Found, with_parts, in_service, down, is_link, changeover_of, with_changeover, fail_link, has_other, set_of, suspended, is_failed, make_unavailable, changing, begin, change_over, fail_by_peer, begin_by_peer, facts, changeover_order, concluded, complete_if, fail_by_order, complete_by_order, changeover_acknowledgement, on_changeover_order, on_changeover_timer, with_expiry, with_changeover_acknowledged, Link, down_link, link_at, links_with, after_failure, in_outage, WholeQueues, whole, HasAllPlaces}
 use Rattle.std.proofs.lemmas.Bool.{lt-ltb}
 use Rattle.timers.specs.declared.name.TimerName.TheVariants as name
 use Rattle.timers.specs.declared.name.RouteTimer.TheVariants as of_set
 use Rattle.signalling_types.specs.declared.notice.FailureReason.TheVariants as reasons
 use Rattle.signalling_types.specs.declared.notice.ChangeoverTimer.TheVariants as which
-use Rattle.exchange_rules.specs.LastingHolds.{AllWillEnd}
+use Rattle.exchange_rules.specs.LastingHolds.{WillPass, AllWillEnd}
 use Rattle.exchange_rules.proofs.LinkTimers.{without_timers-for}
 use Rattle.exchange_rules.proofs.LastingPlaces.{places-steps, places-first, timers-keep}
 use Rattle.exchange_rules.proofs.LastingPlaces as kept
@@ -16,7 +16,7 @@ use Rattle.exchange_rules.proofs.Rules.{rules-of}
 use Rattle.exchange_rules.proofs.Asked.{any}
 use Rattle.exchange_rules.proofs.SteppingMessages.{send_routed-steps, send_each-steps}
 use Rattle.exchange_rules.proofs.SteppingFailures.{complete_by_order-steps, concluded-steps, fail_by_order-steps, failing_by_peer-steps, fell-steps, timed_changeover-timed}
-use Rattle.exchange_rules.proofs.WillEnding.{no-way, runs-as, Alike, untested-alike, But, but-of, but-moved, alike-stay, other-standing, completes, is-complete, begins}
+use Rattle.exchange_rules.proofs.WillEnding.{no-way, runs-as, LinkAs, link-same, link-both, links-same, link-set, idle-set, failed-passes, fails-passes, Alike, untested-alike, But, but-of, but-moved, alike-stay, other-standing, completes, is-complete, begins}
 
 -- ---- from one node to another
 
@@ -32,22 +32,23 @@ module _ (c : Configuration) where
   alike n m k e = record { places = k; ends = λ h a. alike-stay n.parts m.parts e a }
 
   pub same-ends : (n m : Node WholeQueues) → kept.Keeps c n m → m.parts.holds ≡ n.parts.holds → m.parts.changeovers ≡ n.parts.changeovers
-      → ((timer : TimerName) → ends_holds timer ≡ true → m.parts.timers.left timer ≡ n.parts.timers.left timer) → Stays c n m
-  same-ends n m k e f g = alike n m k (record { holds = e; changeovers = f; timers = g })
+      → ((timer : TimerName) → ends_holds timer ≡ true → m.parts.timers.left timer ≡ n.parts.timers.left timer)
+      → ((link : ℕ) → LinkAs (link_at n.parts link) (link_at m.parts link)) → Stays c n m
+  same-ends n m k e f g h = alike n m k (record { links = h; holds = e; changeovers = f; timers = g })
 
-  pub same-parts : (n m : Node WholeQueues) → kept.Keeps c n m → m.parts.holds ≡ n.parts.holds → m.parts.changeovers ≡ n.parts.changeovers → m.parts.timers ≡ n.parts.timers → Stays c n m
-  same-parts n m k e f g = same-ends n m k e f (λ timer ends. ap (λ (r : Running). r.left timer) g)
+  pub same-parts : (n m : Node WholeQueues) → kept.Keeps c n m → m.parts.holds ≡ n.parts.holds → m.parts.changeovers ≡ n.parts.changeovers → m.parts.timers ≡ n.parts.timers → m.parts.links ≡ n.parts.links → Stays c n m
+  same-parts n m k e f g h = same-ends n m k e f (λ timer ends. ap (λ (r : Running). r.left timer) g) (links-same n.parts m.parts h)
 
   pub both-stay : (n m o : Node WholeQueues) → Stays c n m → Stays c m o → Stays c n o
   both-stay n m o e f = record { places = record { stay = λ h. f.places.stay (e.places.stay h) }; ends = λ h a. f.ends (e.places.stay h) (e.ends h a) }
 
   pub sends-stay : IsOfSends c (Stays c)
   sends-stay = record {
-    none = λ n. same-parts n n (places.sends.none n) refl refl refl;
+    none = λ n. same-parts n n (places.sends.none n) refl refl refl refl;
     both = both-stay;
-    routed = λ link m n e. same-parts n _ (places.sends.routed link m n e) refl refl refl;
-    noted = λ notice n e. same-parts n _ (places.sends.noted notice n e) refl refl refl;
-    lost = λ notice n e. same-parts n _ (places.sends.lost notice n e) refl refl refl;
+    routed = λ link m n e. same-parts n _ (places.sends.routed link m n e) refl refl refl refl;
+    noted = λ notice n e. same-parts n _ (places.sends.noted notice n e) refl refl refl refl;
+    lost = λ notice n e. same-parts n _ (places.sends.lost notice n e) refl refl refl refl;
   }
 
   -- ---- a link fails
@@ -83,18 +84,32 @@ module _ (c : Configuration) where
         sym (flows_leave n.parts.holds (Changeover link) procedure (is_failed c (facts c n.parts) link (whole.unconfirmed n.queues link)) destination sls apart)
         ∙ sym (ap (λ (x : HoldSet). holds x procedure destination sls) gone-alike.holds) ∙ e)
         (λ other apart. ap (λ (all : List Standing). changeover_of (record n.parts { changeovers = all }) other) gone-alike.changeovers)
-        (λ timer ends out. gone-alike.timers timer ends ∙ (without_timers-for link n.parts.timers).endings timer ends) (but-of link n.parts a)
+        (λ timer ends out. gone-alike.timers timer ends ∙ (without_timers-for link n.parts.timers).endings timer ends)
+        (λ other apart. link-both (link_at n.parts other) (link_at (fail_link link why held) other) (link_at gone.parts other)
+        (subst (LinkAs (link_at n.parts other)) (sym (get_or-set_other n.parts.links link other (after_failure (link_at n.parts link)) down_link apart)) (link-same (link_at n.parts other)))
+        (gone-alike.links other)) (but-of link n.parts a)
+
+    gone-passes : AllWillEnd n.parts → WillPass (link_at gone.parts link)
+    gone-passes a = (gone-alike.links link).passes (fails-passes n.parts link)
 
   begun : (ordered : Bool) (link : ℕ) (why : FailureReason) (n : Node WholeQueues) → HasAllPlaces c n → in_service n.parts link ≡ true → AllWillEnd n.parts
       → AllWillEnd (changing c ordered link (gone link why n).parts)
   begun ordered link why n h e a =
       let named : nat_lt link (gone link why n).parts.timers.counts.links ≡ true = ap (λ (x : NodeCounts). nat_lt link x.links) (gone-counts link why n) ∙ has-own n link h e in
       begins c ordered link n.parts (gone link why n).parts (gone-but link why n a) named named
-      (subst (λ (all : List Standing). link < length all) (sym (gone-alike link why n).changeovers) (standing-there n link h e))
+      (subst (λ (all : List Standing). link < length all) (sym (gone-alike link why n).changeovers) (standing-there n link h e)) (gone-passes link why n a)
+
+  dropped-alike : (link : ℕ) (why : FailureReason) (n : Node WholeQueues) → in_service n.parts link ≡ false → Alike n.parts (fail_link link why n.parts)
+  dropped-alike link why n e = record {
+    links = link-set n.parts link (after_failure (link_at n.parts link)) (idle-set (link_at n.parts link) (after_failure (link_at n.parts link)) e (failed-passes (link_at n.parts link)));
+    holds = refl;
+    changeovers = refl;
+    timers = (without_timers-for link n.parts.timers).endings;
+  }
 
   pub fails-by : (served : Bool) (link : ℕ) (why : FailureReason) (n : Node WholeQueues) → in_service n.parts link ≡ served → HasAllPlaces c n → AllWillEnd n.parts
       → AllWillEnd (change_over whole c served link (make_unavailable whole c served link why n)).parts
-  fails-by false link why n e h a = alike-stay n.parts _ (record { holds = refl; changeovers = refl; timers = (without_timers-for link n.parts.timers).endings }) a
+  fails-by false link why n e h a = alike-stay n.parts _ (dropped-alike link why n e) a
   fails-by true link why n e h a = by (has_other c link (gone link why n).parts)
     where
       by : (ordered : Bool) → AllWillEnd (begin whole c ordered link (gone link why n)).parts
@@ -112,46 +127,49 @@ module _ (c : Configuration) where
   -- it is completed where it wasn't complete
   ended : (incomplete : Bool) (link : ℕ) (number : Option ℕ) (s : Standing) (n : Node WholeQueues) → (changeover_of n.parts link).incomplete ≡ incomplete
       → HasAllPlaces c n → But link n.parts → s.incomplete ≡ false → (s.awaited ≡ true → is_running (name.T2 link) n.parts.timers ≡ true)
-      → (incomplete ≡ false → (destination sls : ℕ) → holds n.parts.holds (Changeover link) destination sls ≡ true → ⊥)
+      → (incomplete ≡ false → (destination sls : ℕ) → holds n.parts.holds (Changeover link) destination sls ≡ true → in_outage n.parts link ≡ true)
+      → WillPass (link_at n.parts link)
       → AllWillEnd (complete_if whole c incomplete link number (with_parts n (with_changeover link s n.parts))).parts
-  ended true link number s n e h b i waits unheld =
+  ended true link number s n e h b i waits unheld passes =
       let found : Found = whole.found n.queues link number in
       let done : Node WholeQueues = record { queues = whole.completed n.queues link number; parts = with_changeover link s n.parts } in
       let next : Node WholeQueues = with_parts done (concluded link found done.parts) in
       let k : kept.Keeps c n next =
       (places-steps c).both _ _ _ ((places-steps c).completed link number s n e i) (concluded-steps (places-steps c) link found done) in
-      (send_each-steps sends-stay found.queued_anew next).ends (k.stay h) (completes link found s n.parts b i waits)
-  ended false link number s n e h b i waits unheld = is-complete link s n.parts b i waits (unheld refl)
+      (send_each-steps sends-stay found.queued_anew next).ends (k.stay h) (completes link found s n.parts b i waits passes)
+  ended false link number s n e h b i waits unheld passes = is-complete link s n.parts b i waits (unheld refl) passes
 
-  -- a changeover that is complete holds nothing
-  pub unheld-by : (link : ℕ) (p : Parts) → AllWillEnd p → (changeover_of p link).incomplete ≡ false → (destination sls : ℕ) → holds p.holds (Changeover link) destination sls ≡ true → ⊥
-  unheld-by link p a e destination sls held = no-way (changeover_of p link).incomplete e (a.holds (Changeover link) destination sls held)
+  -- a changeover that is complete holds nothing, but in an outage
+  pub unheld-by : (link : ℕ) (p : Parts) → AllWillEnd p → (changeover_of p link).incomplete ≡ false → (destination sls : ℕ) → holds p.holds (Changeover link) destination sls ≡ true
+      → in_outage p link ≡ true
+  unheld-by link p a e destination sls held =
+      ⊎_elim (λ (i : (changeover_of p link).incomplete ≡ true). no-way (changeover_of p link).incomplete e i) (λ (o : in_outage p link ≡ true). o) (a.holds (Changeover link) destination sls held)
 
   by_order : (link : ℕ) (number : Option ℕ) (n : Node WholeQueues) → HasAllPlaces c n → But link n.parts
       → ((changeover_of n.parts link).awaited ≡ true → is_running (name.T2 link) n.parts.timers ≡ true)
-      → ((changeover_of n.parts link).incomplete ≡ false → (destination sls : ℕ) → holds n.parts.holds (Changeover link) destination sls ≡ true → ⊥)
-      → AllWillEnd (complete_by_order whole c link number n).parts
-  by_order link number n h b waits unheld =
-      ended (changeover_of n.parts link).incomplete link number (completed (changeover_of n.parts link)) n refl h b refl waits unheld
+      → ((changeover_of n.parts link).incomplete ≡ false → (destination sls : ℕ) → holds n.parts.holds (Changeover link) destination sls ≡ true → in_outage n.parts link ≡ true)
+      → WillPass (link_at n.parts link) → AllWillEnd (complete_by_order whole c link number n).parts
+  by_order link number n h b waits unheld passes =
+      ended (changeover_of n.parts link).incomplete link number (completed (changeover_of n.parts link)) n refl h b refl waits unheld passes
 
   by_order-after : (link : ℕ) (number : Option ℕ) (n : Node WholeQueues) → HasAllPlaces c n → AllWillEnd n.parts → AllWillEnd (complete_by_order whole c link number n).parts
-  by_order-after link number n h a = by_order link number n h (but-of link n.parts a) (a.changeovers link).awaited (unheld-by link n.parts a)
+  by_order-after link number n h a = by_order link number n h (but-of link n.parts a) (a.changeovers link).awaited (unheld-by link n.parts a) (a.outages link)
 
   -- the order fails the link first, unless it is down
   fallen-by : (served : Bool) (link : ℕ) (number : Option ℕ) (n : Node WholeQueues) → in_service n.parts link ≡ served → HasAllPlaces c n → AllWillEnd n.parts
       → HasAllPlaces c (begin_by_peer whole c served link (make_unavailable whole c served link reasons.Changeover n))
       → AllWillEnd (complete_by_order whole c link number (begin_by_peer whole c served link (make_unavailable whole c served link reasons.Changeover n))).parts
   fallen-by false link number n e h a k =
-      by_order-after link number _ k (alike-stay n.parts _ (record { holds = refl; changeovers = refl; timers = (without_timers-for link n.parts.timers).endings }) a)
+      by_order-after link number _ k (alike-stay n.parts _ (dropped-alike link reasons.Changeover n e) a)
   fallen-by true link number n e h a k =
       by_order link number next k
       (but-moved link left.parts next.parts (λ procedure destination sls apart held. held) (λ other apart. other-standing left.parts.changeovers link other peers left.parts apart) (λ timer ends out. refl)
-      (gone-but link reasons.Changeover n a))
+      (λ other apart. link-same (link_at left.parts other)) (gone-but link reasons.Changeover n a))
       (λ waits. runs-as (name.T2 link) n.parts.timers next.parts.timers
       ((gone-alike link reasons.Changeover n).timers (name.T2 link) refl ∙ (without_timers-for link n.parts.timers).endings (name.T2 link) refl)
       ((a.changeovers link).awaited (sym (ap (λ (all : List Standing). (changeover_of (record n.parts { changeovers = all }) link).awaited) (gone-alike link reasons.Changeover n).changeovers)
       ∙ sym (ap (λ (s : Standing). s.awaited) is) ∙ waits)))
-      (λ complete destination sls held. no-way (changeover_of next.parts link).incomplete complete (ap (λ (s : Standing). s.incomplete) is))
+      (λ complete destination sls held. no-way (changeover_of next.parts link).incomplete complete (ap (λ (s : Standing). s.incomplete) is)) (gone-passes link reasons.Changeover n a)
     where
       left : Node WholeQueues
       left = gone link reasons.Changeover n
@@ -192,28 +210,29 @@ module _ (c : Configuration) where
       ended (changeover_of n.parts link).incomplete link number (acknowledged (changeover_of n.parts link)) (unwaited link n) refl
       ((timers-keep c (clear_timer (name.T2 link) n.parts.timers) n (counts-clear (name.T2 link) n.parts.timers)).stay h)
       (but-moved link n.parts (unwaited link n).parts (λ procedure destination sls apart e. e) (λ other apart. refl)
-      (λ timer ends out. left-clear_other (name.T2 link) timer n.parts.timers (λ e. out (inr (sym e)))) (but-of link n.parts a))
-      refl (λ e. absurd cc) (unheld-by link n.parts a)
+      (λ timer ends out. left-clear_other (name.T2 link) timer n.parts.timers (λ e. out (inr (sym e)))) (λ other apart. link-same (link_at n.parts other)) (but-of link n.parts a))
+      refl (λ e. absurd cc) (unheld-by link n.parts a) (a.outages link)
 
   -- a timer of it ran out, and doesn't run any more
   pub expires-at : (timer : ChangeoverTimer) (link : ℕ) (n : Node WholeQueues) → HasAllPlaces c n → But link n.parts
       → ((changeover_of n.parts link).awaited ≡ true → (timer ≡ which.T1) → is_running (name.T2 link) n.parts.timers ≡ true)
-      → ((changeover_of n.parts link).incomplete ≡ false → (destination sls : ℕ) → holds n.parts.holds (Changeover link) destination sls ≡ true → ⊥)
+      → ((changeover_of n.parts link).incomplete ≡ false → (destination sls : ℕ) → holds n.parts.holds (Changeover link) destination sls ≡ true → in_outage n.parts link ≡ true)
+      → WillPass (link_at n.parts link)
       → AllWillEnd (complete_if whole c (changeover_of n.parts link).incomplete link None (with_parts n (with_expiry timer link n.parts))).parts
-  expires-at which.T1 link n h b waits unheld =
+  expires-at which.T1 link n h b waits unheld passes =
       let noted : Node WholeQueues = with_parts n (record n.parts { notices = (with_expiry which.T1 link n.parts).notices }) in
       ended (changeover_of n.parts link).incomplete link None (completed (changeover_of n.parts link)) noted refl
       ((kept.notices-keep c noted.parts.notices n.parts.times_lost n.parts.times_late n).stay h)
-      (but-moved link n.parts noted.parts (λ procedure destination sls apart e. e) (λ other apart. refl) (λ timer ends out. refl) b) refl (λ e. waits e refl) unheld
-  expires-at which.T2 link n h b waits unheld =
+      (but-moved link n.parts noted.parts (λ procedure destination sls apart e. e) (λ other apart. refl) (λ timer ends out. refl) (λ other apart. link-same (link_at n.parts other)) b) refl (λ e. waits e refl) unheld passes
+  expires-at which.T2 link n h b waits unheld passes =
       let noted : Node WholeQueues = with_parts n (record n.parts { notices = (with_expiry which.T2 link n.parts).notices; times_lost = (with_expiry which.T2 link n.parts).times_lost }) in
       ended (changeover_of n.parts link).incomplete link None (acknowledged (changeover_of n.parts link)) noted refl
       ((kept.notices-keep c noted.parts.notices noted.parts.times_lost n.parts.times_late n).stay h)
-      (but-moved link n.parts noted.parts (λ procedure destination sls apart e. e) (λ other apart. refl) (λ timer ends out. refl) b) refl (λ e. absurd cc) unheld
+      (but-moved link n.parts noted.parts (λ procedure destination sls apart e. e) (λ other apart. refl) (λ timer ends out. refl) (λ other apart. link-same (link_at n.parts other)) b) refl (λ e. absurd cc) unheld passes
 
   pub expires-by : (timer : ChangeoverTimer) (link : ℕ) (n : Node WholeQueues) → HasAllPlaces c n → AllWillEnd n.parts → AllWillEnd (on_changeover_timer whole c timer link n).parts
   expires-by timer link n h a = by (is_link n.parts link)
     where
       by : (there : Bool) → AllWillEnd (if there then complete_if whole c (changeover_of n.parts link).incomplete link None (with_parts n (with_expiry timer link n.parts)) else n).parts
-      by true = expires-at timer link n h (but-of link n.parts a) (λ e t1. (a.changeovers link).awaited e) (unheld-by link n.parts a)
+      by true = expires-at timer link n h (but-of link n.parts a) (λ e t1. (a.changeovers link).awaited e) (unheld-by link n.parts a) (a.outages link)
       by false = a

@@ -1,6 +1,6 @@
 -- A procedure that holds other flows than before, with its timer: what ends the others' holds is unchanged.
 use Rattle.exchange_rules.proofs.Basics.{◌≡◌, ◌≢◌, ◌⊎◌, inl, inr, ℕ, Bool, true, false, ◌&&◌, List, [], ◌∷◌, refl, ap, sym, ◌∙◌, subst, arith, ⊎_elim, eqb-true, nat_lt}
-use Rattle.exchange_rules.proofs.Definitions.{Configuration, CHANGEBACK_CODES, Procedure, Changeover, Code, Time, Reroute, HoldSet, holds, with_hold, may_parts, Standing, TimerName, has_name, Parts, Node, changeover_of, WholeQueues, HasAllPlaces}
+use Rattle.exchange_rules.proofs.Definitions.{Configuration, CHANGEBACK_CODES, Procedure, Changeover, Code, Time, Reroute, HoldSet, holds, with_hold, may_parts, Standing, TimerName, has_name, Parts, Node, changeover_of, link_at, in_outage, WholeQueues, HasAllPlaces}
 use Rattle.std.proofs.lemmas.Bool.{lt-ltb}
 use Rattle.changeback.specs.Rerouting.{held_for}
 use Rattle.flow_hold.proofs.Holding.{MayHold, hold-leaves_others}
@@ -8,7 +8,7 @@ use Rattle.flow_hold.proofs.Numbers.{same, same-itself}
 use Rattle.flow_hold.specs.Holds as hold
 use Rattle.timers.specs.declared.name.TimerName.TheVariants as name
 use Rattle.exchange_rules.specs.LastingHolds.{WillEnd, AllWillEnd}
-use Rattle.exchange_rules.proofs.WillEnding.{no-way, runs-as, still-completes}
+use Rattle.exchange_rules.proofs.WillEnding.{no-way, runs-as, still-completes, links-same, still-out}
 
 -- ---- procedures, and their timers
 
@@ -63,8 +63,9 @@ has-timer c n h procedure destination sls e =
 pub held-else : (own : Procedure) (p q : Parts) → q.changeovers ≡ p.changeovers → ((timer : TimerName) → timer_of own ≢ timer → q.timers.left timer ≡ p.timers.left timer)
     → ((link : ℕ) → timer_of own ≢ name.T1 link) → ((link : ℕ) → timer_of own ≢ name.T2 link)
     → ((procedure : Procedure) (destination sls : ℕ) → procedure ≢ own → holds q.holds procedure destination sls ≡ true → holds p.holds procedure destination sls ≡ true)
-    → ((destination sls : ℕ) → holds q.holds own destination sls ≡ true → WillEnd own q) → AllWillEnd p → AllWillEnd q
-held-else own p q standings others first second fewer mine h = record {
+    → ((destination sls : ℕ) → holds q.holds own destination sls ≡ true → WillEnd own q) → q.links ≡ p.links → AllWillEnd p → AllWillEnd q
+held-else own p q standings others first second fewer mine links h = record {
+  outages = λ link. (links-same p q links link).passes (h.outages link);
   holds = λ procedure destination sls e. ⊎_elim
       (λ (same : procedure ≡ own). subst (λ (x : Procedure). WillEnd x q) (sym same) (mine destination sls (subst (λ (x : Procedure). holds q.holds x destination sls ≡ true) same e)))
       (λ (d : procedure ≢ own). ended procedure d (h.holds procedure destination sls (fewer procedure destination sls d e))) (cases-procedure procedure own);
@@ -76,7 +77,9 @@ held-else own p q standings others first second fewer mine h = record {
     standing link = ap (λ (all : List Standing). changeover_of (record p { changeovers = all }) link) standings
 
     ended : (procedure : Procedure) → procedure ≢ own → WillEnd procedure p → WillEnd procedure q
-    ended (Changeover link) d e = ap (λ (s : Standing). s.incomplete) (standing link) ∙ e
+    ended (Changeover link) d e =
+        ⊎_elim (λ (i : (changeover_of p link).incomplete ≡ true). inl (ap (λ (s : Standing). s.incomplete) (standing link) ∙ i))
+        (λ (o : in_outage p link ≡ true). inr (still-out p q link (links-same p q links link) (h.outages link) o)) e
     ended (Code its code) d e = runs-as (name.T4 its code) p.timers q.timers (others (name.T4 its code) (λ x. d (sym (own-timer own (Code its code) x)))) e
     ended (Time link) d e = runs-as (name.T3 link) p.timers q.timers (others (name.T3 link) (λ x. d (sym (own-timer own (Time link) x)))) e
     ended (Reroute destination) d e = runs-as (name.T6 destination) p.timers q.timers (others (name.T6 destination) (λ x. d (sym (own-timer own (Reroute destination) x)))) e

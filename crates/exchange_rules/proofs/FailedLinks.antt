@@ -1,6 +1,6 @@
 -- Each link that goes down is named as failed, and none is named without a cause.
-use Rattle.exchange_rules.proofs.Basics.{◌≡◌, ◌≢◌, ◌<◌, ◌≤◌, ◌⊎◌, inl, inr, ℕ, Bool, true, false, List, [], ◌∷◌, ◌++◌, length, Option, Some, None, refl, ap, sym, ◌∙◌, subst, arith, ⊎_elim, cases_eq, cases_lt, get_or_past, get_or-set_same, get_or-set_other, if◌then◌else◌, length-set}
-use Rattle.exchange_rules.proofs.Definitions.{Configuration, Message, flow_of, LostUnconfirmed, Notice, note, noted_all, FailureReason, ChangeoverTimer, Input, Go, Transition, action_at, Alignment, state_number, Link, down_link, is_down, stepped, opened, after_failure, Facts, completed, Parts, Node, with_parts, link_at, links_with, in_service, is_link, down, has_other, set_of, suspended, Found, fail_link, make_unavailable, change_over, begin, changing, changeover_order, begin_by_peer, fail, fail_by_peer, fail_by_order, complete_if, concluded, lose, lose_each, judged, complete_by_order, on_changeover_order, on_changeover_acknowledgement, on_changeover_timer, changeover_acknowledgement, changeover_of, with_changeover, with_changeover_acknowledged, with_expiry, without_tests, answer, Handled, Ignored, hold_flows, held_by_rerouting, WholeQueues, whole, apply, Happening, CameUp, FrameCame, Ticked, Abstract}
+use Rattle.exchange_rules.proofs.Basics.{◌≡◌, ◌≢◌, ◌<◌, ◌≤◌, ◌⊎◌, inl, inr, ℕ, Bool, true, false, List, [], ◌∷◌, ◌++◌, length, Option, Some, None, refl, ap, sym, ◌∙◌, subst, arith, ⊎_elim, cases_eq, cases_lt, get_or_past, get_or-set_same, get_or-set_other, if◌then◌else◌, length-set, count_by}
+use Rattle.exchange_rules.proofs.Definitions.{period_of, Period, Configuration, Message, flow_of, LostUnconfirmed, Notice, note, noted_all, FailureReason, ChangeoverTimer, Input, Go, Transition, action_at, Alignment, state_number, Link, down_link, is_down, stepped, opened, after_failure, Facts, completed, Parts, Node, with_parts, link_at, links_with, in_service, is_link, down, has_other, set_of, suspended, Found, fail_link, make_unavailable, change_over, begin, changing, changeover_order, begin_by_peer, fail, fail_by_peer, fail_by_order, complete_if, concluded, lose, lose_each, judged, complete_by_order, on_changeover_order, on_changeover_acknowledgement, on_changeover_timer, changeover_acknowledgement, changeover_of, with_changeover, with_changeover_acknowledged, with_expiry, without_tests, answer, Handled, Ignored, hold_flows, held_by_rerouting, WholeQueues, whole, apply, Happening, CameUp, FrameCame, Ticked, Abstract}
 use Rattle.std.specs.Prelude.{Contains}
 use Rattle.std.proofs.lemmas.List.Elements.{Contains-append_left, Contains-append_right, Contains-append_cases, Contains-push, Contains-push_cases}
 use Rattle.link.specs.declared.alignment.Alignment.TheVariants.{Down, NotAligned, Aligned, Proving, AlignedReady, InService}
@@ -8,6 +8,8 @@ use Rattle.signalling_types.specs.declared.notice.Notice.TheVariants as notices
 use Rattle.signalling_types.specs.declared.notice.FailureReason.TheVariants as reasons
 use Rattle.signalling_types.specs.declared.notice.ChangeoverTimer.TheVariants as which
 use Rattle.exchange_rules.specs.LawsOfCauses.{links_fail_so, MayFail}
+use Rattle.exchange_rules.proofs.NamedOnce.{named-in, count-joined, at-most-one}
+use Rattle.exchange_rules.specs.LawsOfCauses.{says_failed}
 use Rattle.exchange_rules.proofs.Asked.{any}
 use Rattle.exchange_rules.proofs.Lists.{alike-at}
 use Rattle.exchange_rules.proofs.Naming.{named-append}
@@ -28,6 +30,7 @@ pub record Names (May : Deed → Type 0) (n m : Node WholeQueues) : Type 0 where
   pub downs : (link : ℕ) (why : FailureReason) → Contains made (notices.Failed link why) → (down m.parts link ≡ true) ⊎ May (LinkOpens link)
   pub opens : (link : ℕ) → down n.parts link ≡ true → down m.parts link ≡ false → May (LinkOpens link)
   pub named : (link : ℕ) → down n.parts link ≡ false → down m.parts link ≡ true → (why : FailureReason) × Contains made (notices.Failed link why)
+  pub once : (link : ℕ) → (count_by (says_failed link) made ≤ 1) ⊎ May (LinkOpens link)
 
 -- what a notice of failure says
 abbrev deed_of : Notice → Deed
@@ -64,8 +67,8 @@ led-up (Proving ready) kind before e = refl
 led-up AlignedReady kind before e = refl
 led-up InService kind before e = refl
 
-stepped-up : (a : Alignment) (input : Input) (step : Transition) → action_at a input ≡ Go step → is_down step.state ≡ false
-stepped-up a input step e = led-up step.state (kind_of input) (state_number a) (each-leads a input step e)
+stepped-up : (period : Period) (a : Alignment) (input : Input) (step : Transition) → action_at period a input ≡ Go step → is_down step.state ≡ false
+stepped-up period a input step e = led-up step.state (kind_of input) (state_number a) (each-leads period a input step e)
 
 -- ---- links that go down
 
@@ -117,6 +120,7 @@ module _ (May : Deed → Type 0) where
     downs = λ link why h. absurd (none-in (notices.Failed link why) h);
     opens = λ link was up. no-way (down m.parts link) up (stays link ∙ was);
     named = λ link was gone. no-way (down n.parts link) was (sym (stays link) ∙ gone);
+    once = λ link. inl (omega arith);
   }
 
   same : (n m : Node WholeQueues) → m.parts.notices ≡ n.parts.notices → m.parts.links ≡ n.parts.links → Names May n m
@@ -139,6 +143,7 @@ module _ (May : Deed → Type 0) where
         ⊎_elim (λ (same : l ≡ link). subst (λ (k : ℕ). May (LinkOpens k)) (sym same) may)
         (λ (apart : l ≢ link). no-way (down m.parts l) now (others link x n m f l apart ∙ was)) (cases_eq l link);
     named = λ l was gone. no-way (down n.parts l) was (up-stays link x n m f is l gone);
+    once = λ l. inl (omega arith);
   }
 
   -- a notice of another kind
@@ -151,6 +156,7 @@ module _ (May : Deed → Type 0) where
     downs = λ link why h. no-way (is_failure notice) other (ap is_failure (only notice (notices.Failed link why) h));
     opens = λ link was up. no-way (down m.parts link) up (ap (λ (links : List Link). down (record n.parts { links = links }) link) f ∙ was);
     named = λ link was gone. no-way (down n.parts link) was (sym (ap (λ (links : List Link). down (record n.parts { links = links }) link) f) ∙ gone);
+    once = λ link. inl (at-most-one (says_failed link) notice);
   }
 
   both-name : (n m o : Node WholeQueues) → Names May n m → Names May m o → Names May n o
@@ -170,8 +176,23 @@ module _ (May : Deed → Type 0) where
         (λ (k : Contains f.made (notices.Failed link why)). f.downs link why k) (Contains-append_cases e.made f.made (notices.Failed link why) h);
     opens = λ link was up. opens-by link was up (down m.parts link) refl;
     named = λ link was gone. by link was gone (down m.parts link) refl;
+    once = λ link. ⊎_elim (λ (a : count_by (says_failed link) e.made ≤ 1). ⊎_elim (λ (b : count_by (says_failed link) f.made ≤ 1). once-by link a b (cases_lt 0 (count_by (says_failed link) e.made)) (cases_lt 0 (count_by (says_failed link) f.made))) (λ (o : May (LinkOpens link)). inr o) (f.once link))
+        (λ (o : May (LinkOpens link)). inr o) (e.once link);
   }
     where
+      -- none of the two names it, or but one does: what it took down was up again only if it opens
+      once-by : (link : ℕ) → count_by (says_failed link) e.made ≤ 1 → count_by (says_failed link) f.made ≤ 1
+          → (0 < count_by (says_failed link) e.made) ⊎ (count_by (says_failed link) e.made ≤ 0) → (0 < count_by (says_failed link) f.made) ⊎ (count_by (says_failed link) f.made ≤ 0)
+          → (count_by (says_failed link) (e.made ++ f.made) ≤ 1) ⊎ May (LinkOpens link)
+      once-by link a b (inr none) some = inl (omega (arith, b, none, count-joined (says_failed link) e.made f.made))
+      once-by link a b (inl first) (inr none) = inl (omega (arith, a, none, count-joined (says_failed link) e.made f.made))
+      once-by link a b (inl first) (inl second) =
+          let early : (why : FailureReason) × Contains e.made (notices.Failed link why) = named-in link e.made first in
+          let late : (why : FailureReason) × Contains f.made (notices.Failed link why) = named-in link f.made second in
+          ⊎_elim (λ (gone : down m.parts link ≡ true).
+          ⊎_elim (λ (up : down m.parts link ≡ false). no-way (down m.parts link) up gone) (λ (o : May (LinkOpens link)). inr o) (f.ups link late.0 late.1))
+          (λ (o : May (LinkOpens link)). inr o) (e.downs link early.0 early.1)
+
       up-before : (link : ℕ) → down m.parts link ≡ false → (b : Bool) → down n.parts link ≡ b → (down n.parts link ≡ false) ⊎ May (LinkOpens link)
       up-before link up true is = inr (e.opens link is up)
       up-before link up false is = inl is
@@ -206,6 +227,7 @@ module _ (May : Deed → Type 0) where
         ⊎_elim (λ (same : l ≡ link). no-way (down n.parts link) was (subst (λ (k : ℕ). down n.parts k ≡ true) same before))
         (λ (apart : l ≢ link). no-way (down m.parts l) now (others link x n m f l apart ∙ before)) (cases_eq l link);
     named = λ l up gone. by l up gone (cases_eq l link);
+    once = λ l. inl (at-most-one (says_failed l) (notices.Failed link why));
   }
     where
       failed-of : (l : ℕ) (w : FailureReason) → Contains (notices.Failed link why ∷ []) (notices.Failed l w) → link ≡ l
@@ -335,6 +357,7 @@ module _ (May : Deed → Type 0) where
     names-deeds = record {
       sends = sends;
       tested = λ link point test n e f. same n _ refl refl;
+      probed = λ link n e. same n _ refl refl;
       held = λ m n e. same n _ refl refl;
       taken_out = λ n. same n _ refl refl;
       late = λ notice n e. one notice n _ refl refl (lateness-other notice e);
@@ -343,14 +366,16 @@ module _ (May : Deed → Type 0) where
       told = λ t n e. same n _ refl refl;
       titled = λ rows n. same n _ refl refl;
       unequipped = λ counts n e. same n _ refl refl;
-      linked = λ link x n e. alike link x n _ refl refl (ap is_down e.alignment);
+      linked = λ link x n e o. alike link x n _ refl refl (ap is_down e.alignment);
       parted = λ link n e. alike link _ n _ refl refl refl;
-      opened = λ link n own there e f may. opening link (opened (link_at n.parts link)) n _ refl refl refl may;
-      stepped = λ link input step n own e k. alike link (stepped step (link_at n.parts link)) n _ refl refl (stepped-up (link_at n.parts link).alignment input step e ∙ sym (goes-up (link_at n.parts link).alignment input step e));
+      opened = λ link n own there e f may. opening link (opened (period_of c link n.parts) (link_at n.parts link)) n _ refl refl refl may;
+      stepped = λ link input step n own e k. alike link (stepped step (link_at n.parts link)) n _ refl refl (stepped-up (link_at n.parts link).period (link_at n.parts link).alignment input step e ∙ sym (goes-up (link_at n.parts link).period (link_at n.parts link).alignment input step e));
       busied = λ link n own e f. alike link _ n _ refl refl refl;
-      resumed = λ link n own e f. alike link _ n _ refl refl refl;
+      resumed = λ link n own e f o. alike link _ n _ refl refl refl;
       accepted = λ link d confirmed n own e f. same n _ refl refl;
       sent = λ link next n own e. alike link _ n _ refl refl refl;
+      put = λ link n set e b. alike link _ n _ refl refl refl;
+      back = λ link n e may. alike link _ n _ refl refl refl;
       fails = fails;
       orders = λ link number n may ends. orders link number n may;
       acknowledges = λ link number n may. acknowledges link number n;
@@ -373,6 +398,7 @@ no-failure what a its link why is h = by why (subst (λ (w : Happening). MayFail
     by reasons.Length e = (let no : CameUp its ≡ FrameCame link e.0 = e.1 in cc)
     by reasons.Changeover e = (let no : None ≡ Some e.0 = e.1 in cc)
     by reasons.Operator e = cc
+    by reasons.Test e = (let no : CameUp its ≡ Ticked = e.0 in cc)
 
 pub links-fail : links_fail_so
 links-fail what a =
@@ -388,4 +414,8 @@ links-fail what a =
             (n.downs link why h),
       );
       named = n.named;
+      once = λ link. ⊎_elim (λ (few : count_by (says_failed link) n.made ≤ 1). few) (λ (is : what ≡ CameUp link).
+          ⊎_elim (λ (some : 0 < count_by (says_failed link) n.made).
+          (let named : (why : FailureReason) × Contains n.made (notices.Failed link why) = named-in link n.made some in absurd (no-failure what a link link named.0 is (n.causes link named.0 named.1))))
+          (λ (none : count_by (says_failed link) n.made ≤ 0). omega (arith, none)) (cases_lt 0 (count_by (says_failed link) n.made))) (n.once link);
     }

@@ -111,7 +111,7 @@ module _ (c : Configuration) where
   either-holds false p r h e f = f
 
   -- what its changeover holds in the end
-  abbrev failed-holds : ℕ → Node WholeQueues → HoldSet
+  abbrev pub failed-holds : ℕ → Node WholeQueues → HoldSet
   failed-holds link n = with_flows n.parts.holds (Changeover link) (is_failed c (facts c n.parts) link (whole.unconfirmed n.queues link))
 
   unavailable-holds : (b : Bool) (link : ℕ) (why : FailureReason) (n : Node WholeQueues) → b ≡ true → (make_unavailable whole c b link why n).parts.holds ≡ failed-holds link n
@@ -143,7 +143,7 @@ module _ (c : Configuration) where
       grind (arith, nat_tests, here, known, few)
 
   -- a failure, by what it leaves of holds
-  is_failure : (link : ℕ) (n m : Node WholeQueues) → HasPlacesFor c n.parts → in_service n.parts link ≡ true → m.parts.holds ≡ failed-holds link n → IsFailure c link n m
+  pub is_failure : (link : ℕ) (n m : Node WholeQueues) → HasPlacesFor c n.parts → in_service n.parts link ≡ true → m.parts.holds ≡ failed-holds link n → IsFailure c link n m
   is_failure link n m fits serves e =
       let test : (ℕ → ℕ → Bool) = is_failed c (facts c n.parts) link (whole.unconfirmed n.queues link) in
       record {

@@ -45,6 +45,7 @@ fit-steps c =
       routed = λ link m n e. queues-fit c n _ (s.routed link m n e) (with-one c link _ n.queues (sound-appended (queue_at n.queues link) m));
       declared = λ link other code n e f. queues-fit c n _ (s.declared link other code n e f) (with-one c other _ n.queues (sound-appended (queue_at n.queues other) _));
       tested = λ link point test n e f. queues-fit c n _ (s.tested link point test n e f) (with-one c link _ n.queues (sound-appended (queue_at n.queues link) _));
+      probed = λ link n e. queues-fit c n _ (s.probed link n e) (with-one c link _ n.queues (sound-appended (queue_at n.queues link) _));
       held = λ m n e. queues-fit c n _ (s.held m n e) (with-held c _ n.queues);
       taken_out = λ n. queues-fit c n _ (s.taken_out n) (with-held c _ n.queues);
       noted = λ notice n e. parts-fit c n _ (s.noted notice n e) refl;

@@ -1,6 +1,6 @@
 -- If a rule puts a message on the queue of a link, that link is in service.
-use Rattle.exchange_rules.proofs.Basics.{Bool, List, None, Option, Some, [], ap, false, inl, inr, length, refl, subst, suc, sym, true, zero, ℕ, ◌∙◌, ◌∷◌, ◌≡◌, ◌≢◌, ◌⊎◌, ⊎_elim, cases_eq, get_or-set_other, if◌then◌else◌}
-use Rattle.exchange_rules.proofs.Definitions.{Transition, Queue, appended, emptied, first_queue, Link, is_in_service, Owed, owed, Facts, Configuration, Message, flow_of, Cause, LostUnconfirmed, code_for, declaration, hold_flows, loses_flows, take_back_each, complete_if, concluded, judged, lifted_parts, lose, lose_each, send_each, waits, GivesInService, declared_in_service, queued_anew_in_service, routed_in_service, settled_in_service, in_service, send, send_anew, send_routed, no_room, queue_on, WholeQueues, queue_at, whole, go, go_by, go_each, go_on, release, facts, link_of, Found, Node, Parts, with_parts, advance, enters, moved_on, return_if, may_tell, route_message, tell_each, tell_if, tell_owed, told_parts}
+use Rattle.exchange_rules.proofs.Basics.{and_parts, ◌&&◌, Bool, List, None, Option, Some, [], ap, false, inl, inr, length, refl, subst, suc, sym, true, zero, ℕ, ◌∙◌, ◌∷◌, ◌≡◌, ◌≢◌, ◌⊎◌, ⊎_elim, cases_eq, get_or-set_other, if◌then◌else◌}
+use Rattle.exchange_rules.proofs.Definitions.{take_step, test_if, queue_if, send_test, awaiting_test, link_test, tests_links, Transition, Queue, appended, emptied, first_queue, Link, is_in_service, Owed, owed, Facts, Configuration, Message, flow_of, Cause, LostUnconfirmed, code_for, declaration, hold_flows, loses_flows, take_back_each, complete_if, concluded, judged, lifted_parts, lose, lose_each, send_each, waits, GivesInService, declared_in_service, queued_anew_in_service, routed_in_service, settled_in_service, in_service, send, send_anew, send_routed, no_room, queue_on, WholeQueues, queue_at, whole, go, go_by, go_each, go_on, release, facts, link_of, Found, Node, Parts, with_parts, advance, enters, moved_on, return_if, may_tell, route_message, tell_each, tell_if, tell_owed, told_parts}
 use Rattle.exchange_rules.proofs.Combining.{changed}
 use Rattle.exchange_rules.proofs.LeavingMessages.{chosen_serves}
 use Rattle.exchange_rules.proofs.SteppingLinks.{moved-at, stepped-other}
@@ -155,13 +155,30 @@ module _ (l : ℕ) where
     }
     return-gives false link before n went = none-gives n n refl refl
 
+    -- a test goes out
+    queue_if-gives : (room : Option Cause) (link : ℕ) (n : Node WholeQueues) → in_service n.parts link ≡ true → Gives l n (queue_if whole c room link (link_test c link) n)
+    queue_if-gives (Some cause) link n e = none-gives n n refl refl
+    queue_if-gives None link n e = queued-gives link (link_test c link) n e
+
+    begun-gives : (begins : Bool) (link : ℕ) (n : Node WholeQueues) → (begins ≡ true → in_service n.parts link ≡ true) → Gives l n (if begins then send_test whole c link n else n)
+    begun-gives true link n e =
+        let next : Node WholeQueues = with_parts n (awaiting_test c link n.parts) in
+        both-give n next _ (none-gives n next refl refl) (queue_if-gives (no_room whole c (link_test c link) n.queues) link next (e refl))
+    begun-gives false link n e = none-gives n n refl refl
+
+    tested-gives : (entered : Bool) (link : ℕ) (n : Node WholeQueues) → Gives l n (test_if whole c entered link n)
+    tested-gives true link n = begun-gives (tests_links c && in_service n.parts link) link n (λ e. (and_parts (tests_links c) (in_service n.parts link) e).1)
+    tested-gives false link n = none-gives n n refl refl
+
     -- the link that takes a step may enter service by it; the others stay as they are
     advance-serves-others : (link : ℕ) (step : Transition) (n : Node WholeQueues) → GivesInService l n (advance whole c link step n)
     advance-serves-others link step n =
         let next : Node WholeQueues = with_parts n (moved_on c link step n.parts) in
+        let took : Node WholeQueues = take_step whole c link step n in
         in-the-end next (advance whole c link step n)
-        (return-gives (enters link step n.parts) link n.parts next
+        (both-give next took _ (return-gives (enters link step n.parts) link n.parts next
         (λ (w : Went link n.parts l). ap (λ (x : Link). is_in_service x.alignment) (moved-at c link l step n.parts ∙ stepped-other c link l step n.parts w.apart) ∙ w.served))
+        (tested-gives (enters link step n.parts) link took))
 
 pub routed-serve : routed_in_service
 routed-serve c m n link = in-the-end link n (send_routed whole c m n) (routed-gives link c m n)

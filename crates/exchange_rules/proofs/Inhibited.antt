@@ -1,6 +1,6 @@
 -- T8 of a set and a destination runs until it runs out, or its set comes back.
 use Rattle.exchange_rules.proofs.Basics.{◌≡◌, ◌≢◌, ◌⊎◌, inl, inr, ℕ, List, Bool, true, false, ◌&&◌, not, Result, Ok, Err, refl, ap, sym, subst, ◌∙◌, ⊎_elim, cases_eq, if◌then◌else◌}
-use Rattle.exchange_rules.proofs.Definitions.{Configuration, Action, Alignment, Input, Expiry, Status, UserData, Transition, action_at, LinkStatus, LinkTimer, Running, FrameFault, FrameValue, EmptyFrame, MessageFrame, StatusFrame, read_frame, FrameCame, is_in_service, Parts, Node, with_parts, answer, refuse, Ignored, link_at, in_service, set_of, has_other, step_on, begun_anew_if, moved_on, enters, advance, timed_busy, timed_busy_ended, is_running, Carrying, empty_data, message_data, numbers, act_by_data, act_by_status, serve_status, read, WholeQueues, whole, down}
+use Rattle.exchange_rules.proofs.Definitions.{Period, Configuration, Action, Alignment, Input, Expiry, Status, UserData, Transition, action_at, acts_on, LinkStatus, LinkTimer, Running, FrameFault, FrameValue, EmptyFrame, MessageFrame, StatusFrame, read_frame, FrameCame, is_in_service, Parts, Node, with_parts, answer, refuse, Ignored, link_at, in_service, set_of, has_other, step_on, begun_anew_if, moved_on, enters, advance, timed_busy, timed_busy_ended, is_running, Carrying, empty_data, message_data, numbers, act_by_data, act_by_status, serve_status, read, WholeQueues, whole, down, tells_outage, tells_recovery, begin_outage, hear_outage, end_outage, Handled, become_busy, end_busy, let_back, take_step}
 use Rattle.signalling_types.specs.declared.cause.Cause.TheVariants as causes
 use Rattle.signalling_types.specs.declared.notice.FailureReason.TheVariants as reasons
 use Rattle.m2pa_codec.specs.declared.status.LinkStatus.TheVariants as says
@@ -10,13 +10,13 @@ use Rattle.link.specs.declared.alignment.Alignment.TheVariants.{Down, NotAligned
 use Rattle.timers.specs.declared.name.TimerName.TheVariants.{T8}
 use Rattle.exchange_rules.specs.Aligning.{Carries, Says, state_of}
 use Rattle.exchange_rules.proofs.Asked.{any}
-use Rattle.exchange_rules.proofs.ProvedFirst.{each-leads, frame-hears, kind_of, no-data, no-timer, timer-climbs}
+use Rattle.exchange_rules.proofs.ProvedFirst.{aligned-from, each-leads, frame-hears, kind_of, no-data, no-timer, timer-climbs}
 use Rattle.exchange_rules.proofs.ProvedEvents.{says-of}
 use Rattle.m2pa_codec.specs.Frames.{status_number}
 use Rattle.exchange_rules.proofs.Serving.{data-serves, fails-up}
 use Rattle.exchange_rules.proofs.SettingTimers.{Sets, sets-rules}
 use Rattle.exchange_rules.proofs.SteppingEvents.{handle_by-steps, leave_aside-steps}
-use Rattle.exchange_rules.proofs.SteppingLinks.{advance-serves, advance-steps, entered-steps, stepping-there}
+use Rattle.exchange_rules.proofs.SteppingLinks.{tested_if-steps, advance-serves, advance-steps, entered-steps, stepping-there}
 use Rattle.exchange_rules.proofs.Steps.{IsOfRules, with_busy, without_busy}
 use Rattle.exchange_rules.proofs.TimerSettings.{AreSet, timed-set, timed_busy-set, timed_busy_ended-set}
 
@@ -43,19 +43,19 @@ first-enters true b e = refl
 first-enters false b e = absurd cc
 
 -- of a state that isn't in service: a frame leads there from AlignedReady, L4 from Proving
-by-frame : (x : Alignment) (input : Input) (step : Transition) → (kind_of input ≡ 10 → ⊥) → action_at x input ≡ act.Go step → (is_in_service step.state && not (is_in_service x)) ≡ true
+by-frame : (period : Period) (x : Alignment) (input : Input) (step : Transition) → (kind_of input ≡ 10 → ⊥) → action_at period x input ≡ act.Go step → (is_in_service step.state && not (is_in_service x)) ≡ true
     → ((kind_of input ≡ 4) ⊎ (kind_of input ≡ 0)) × (x ≡ AlignedReady)
-by-frame x input step frame e f =
+by-frame period x input step frame e f =
     let parts = enters-serving (is_in_service step.state) (is_in_service x) f in
     ⊎_elim (λ (k : x ≡ InService). no-way (is_in_service x) (ap is_in_service k) parts.1) (λ (k : ((kind_of input ≡ 4) ⊎ (kind_of input ≡ 0)) × (x ≡ AlignedReady)). k)
-    ((frame-hears (kind_of input) x step.state frame (each-leads x input step e)).serves (serving-is step.state parts.0))
+    ((frame-hears (kind_of input) period x step.state frame (each-leads period x input step e) (aligned-from period x input step e)).serves (serving-is step.state parts.0))
 
-pub by-timer : (x : Alignment) (its : LinkTimer) (step : Transition) → action_at x (Expiry its) ≡ act.Go step → (is_in_service step.state && not (is_in_service x)) ≡ true
+pub by-timer : (period : Period) (x : Alignment) (its : LinkTimer) (step : Transition) → action_at period x (Expiry its) ≡ act.Go step → (is_in_service step.state && not (is_in_service x)) ≡ true
     → (its ≡ timer.L4) × (x ≡ Proving true)
-by-timer x its step e f =
+by-timer period x its step e f =
     let parts = enters-serving (is_in_service step.state) (is_in_service x) f in
     ⊎_elim (λ (k : x ≡ InService). no-way (is_in_service x) (ap is_in_service k) parts.1) (λ (k : (its ≡ timer.L4) × (x ≡ Proving true)). k)
-    ((timer-climbs (its ≡ timer.L4) its x step.state (λ g. g) (each-leads x (Expiry its) step e)).serves (serving-is step.state parts.0))
+    ((timer-climbs (its ≡ timer.L4) its x step.state (λ g. g) (each-leads period x (Expiry its) step e)).serves (serving-is step.state parts.0))
 
 module _ (c : Configuration) (s d : ℕ) where
   abbrev pub Runs : Node WholeQueues → Type 0
@@ -96,7 +96,7 @@ module _ (c : Configuration) (s d : ℕ) where
       subst (λ (b : Bool). is_running (T8 s d) (begun_anew_if b c link (step_on c link step n.parts)).timers ≡ true) (sym (e ∙ f))
       (runs-on n (with_parts n (step_on c link step n.parts)) (record { timers = timed-set c Apart link step n.parts.timers }) r)
 
-  pub advance-runs : (link : ℕ) (input : Input) (step : Transition) (n : Node WholeQueues) → action_at (link_at n.parts link).alignment input ≡ act.Go step → Runs n
+  pub advance-runs : (link : ℕ) (input : Input) (step : Transition) (n : Node WholeQueues) → acts_on (link_at n.parts link) input ≡ act.Go step → Runs n
       → Runs (advance whole c link step n) ⊎ Enters link step n
   advance-runs link input step n e r = by (cases_eq (set_of c link) s) (enters link step n.parts && not (has_other c link n.parts)) refl
     where
@@ -107,8 +107,9 @@ module _ (c : Configuration) (s d : ℕ) where
           → Runs (advance whole c link step n) ⊎ Enters link step n
       by (inr apart) first f = inl (runs-on n (advance whole c link step n) (advance-steps rules link input step n apart e) r)
       by (inl same) false f =
-          inl (runs-on moved (advance whole c link step n) (entered-steps rules (enters link step n.parts) link step n (stepping-there n.parts link input step e) refl)
-          (moved-runs false link step n f refl r))
+          inl (runs-on (take_step whole c link step n) (advance whole c link step n) (tested_if-steps rules link step n)
+          (runs-on moved (take_step whole c link step n) (entered-steps rules (enters link step n.parts) link step n (stepping-there n.parts link input step e) refl)
+          (moved-runs false link step n f refl r)))
       by (inl same) true f = inr (record {
         of_set = same;
         enters = (enters-serving (enters link step n.parts) (has_other c link n.parts) f).0;
@@ -128,19 +129,25 @@ module _ (c : Configuration) (s d : ℕ) where
       pub ready : state_of n.parts l ≡ AlignedReady
       pub first : has_other c l n.parts ≡ false
 
-    returns : (input : Input) (step : Transition) (n : Node WholeQueues) → (kind_of input ≡ 10 → ⊥) → action_at (link_at n.parts l).alignment input ≡ act.Go step
+    returns : (input : Input) (step : Transition) (n : Node WholeQueues) → (kind_of input ≡ 10 → ⊥) → acts_on (link_at n.parts l) input ≡ act.Go step
         → ((kind_of input ≡ 4) ⊎ (kind_of input ≡ 0) → Said) → Enters l step n → Returns n
     returns input step n frame e said h =
-        let from = by-frame (state_of n.parts l) input step frame e h.enters in
+        let from = by-frame (link_at n.parts l).period (state_of n.parts l) input step frame e h.enters in
         record { of_set = h.of_set; said = said from.0; ready = from.1; first = h.first }
 
-    serve-runs : (status : LinkStatus) (n : Node WholeQueues) → Runs n → Runs (serve_status whole c l status n)
-    serve-runs says.Busy n r =
+    begun-runs : (n : Node WholeQueues) → Runs n → Runs (with_parts n (become_busy c l n.parts))
+    begun-runs n r =
         either-runs (link_at n.parts l).peer_busy n.parts (with_busy c l n.parts) r (timers-run n.parts.timers (timed_busy c l n.parts.timers) (timed_busy-set c Apart l n.parts.timers) r)
-    serve-runs says.BusyEnded n r =
+
+    ended-runs : (n : Node WholeQueues) → Runs n → Runs (with_parts n (end_busy c l (whole.outstanding n.queues l) n.parts))
+    ended-runs n r =
         let left : ℕ = whole.outstanding n.queues l in
         either-runs (link_at n.parts l).peer_busy (without_busy c l left n.parts) n.parts
         (timers-run n.parts.timers (timed_busy_ended c l left n.parts.timers) (timed_busy_ended-set c Apart l left n.parts.timers) r) r
+
+    serve-runs : (status : LinkStatus) (n : Node WholeQueues) → Runs n → Runs (serve_status whole c l status n)
+    serve-runs says.Busy n r = begun-runs n r
+    serve-runs says.BusyEnded n r = either-runs (link_at n.parts l).peer_outage n.parts (end_busy c l (whole.outstanding n.queues l) n.parts) r (ended-runs n r)
     serve-runs says.Alignment n r = r
     serve-runs says.ProvingNormal n r = r
     serve-runs says.ProvingEmergency n r = r
@@ -154,9 +161,9 @@ module _ (c : Configuration) (s d : ℕ) where
     served-runs false status n r = r
 
     status-runs : (a : Action) (bsn fsn : ℕ) (status : LinkStatus) (n : Node WholeQueues) → read_frame text ≡ Ok (StatusFrame bsn fsn status)
-        → action_at (link_at n.parts l).alignment (Status status) ≡ a → Runs n → Runs (act_by_status whole c a l status n).left ⊎ Returns n
+        → acts_on (link_at n.parts l) (Status status) ≡ a → Runs n → Runs (act_by_status whole c a l status n).left ⊎ Returns n
     status-runs act.Ignored bsn fsn status n is e r = inl r
-    status-runs act.Fail bsn fsn status n is e r = inl (runs-on n _ (rules.fails l reasons.Status n tt (fails-up (link_at n.parts l).alignment (Status status) e)) r)
+    status-runs act.Fail bsn fsn status n is e r = inl (runs-on n _ (rules.fails l reasons.Status n tt (fails-up (link_at n.parts l).period (link_at n.parts l).alignment (Status status) e)) r)
     status-runs (act.Go step) bsn fsn status n is e r =
         ⊎_elim (λ (h : Runs (advance whole c l step n)). inl (served-runs step.serve status (advance whole c l step n) h))
         (λ (h : Enters l step n).
@@ -164,25 +171,41 @@ module _ (c : Configuration) (s d : ℕ) where
         (λ k. inl (⊎_elim (λ (f : status_number status ≡ 4). says-of l text bsn fsn status says.Ready is f) (λ (f : status_number status ≡ 0). absurd (no-data status f)) k)) h))
         (advance-runs l (Status status) step n e r)
 
-    data-runs : (a : Action) (x : Carrying) (n : Node WholeQueues) → Carries l (FrameCame l text) → action_at (link_at n.parts l).alignment UserData ≡ a → Runs n
+    begin_outage-runs : (n : Node WholeQueues) → Runs n → Runs (begin_outage whole c l n)
+    begin_outage-runs n r =
+        let one : Node WholeQueues = with_parts n (end_busy c l (whole.outstanding n.queues l) n.parts) in
+        begun-runs one (ended-runs n r)
+
+    hear_outage-runs : (out : Bool) (n : Node WholeQueues) → Runs n → Runs (if out then n else begin_outage whole c l n)
+    hear_outage-runs true n r = r
+    hear_outage-runs false n r = begin_outage-runs n r
+
+    told-runs : (out back : Bool) (bsn fsn : ℕ) (status : LinkStatus) (n : Node WholeQueues) → read_frame text ≡ Ok (StatusFrame bsn fsn status) → Runs n
+        → Runs (if out then answer Handled (hear_outage whole c l n) else if back then answer Handled (end_outage whole c l n)
+        else act_by_status whole c (acts_on (link_at n.parts l) (Status status)) l status n).left ⊎ Returns n
+    told-runs true back bsn fsn status n is r = inl (hear_outage-runs (link_at n.parts l).peer_outage n r)
+    told-runs false true bsn fsn status n is r = inl (ended-runs (with_parts n (let_back l n.parts)) r)
+    told-runs false false bsn fsn status n is r = status-runs (acts_on (link_at n.parts l) (Status status)) bsn fsn status n is refl r
+
+    data-runs : (a : Action) (x : Carrying) (n : Node WholeQueues) → Carries l (FrameCame l text) → acts_on (link_at n.parts l) UserData ≡ a → Runs n
         → Runs (act_by_data whole c a l x n).left ⊎ Returns n
     data-runs act.Ignored x n is e r = inl r
-    data-runs act.Fail x n is e r = inl (runs-on n _ (rules.fails l reasons.Sequence n tt (fails-up (link_at n.parts l).alignment UserData e)) r)
+    data-runs act.Fail x n is e r = inl (runs-on n _ (rules.fails l reasons.Sequence n tt (fails-up (link_at n.parts l).period (link_at n.parts l).alignment UserData e)) r)
     data-runs (act.Go step) x n is e r =
         let next : Node WholeQueues = advance whole c l step n in
         ⊎_elim
         (λ (h : Runs next).
-        inl (runs-on next _ (handle_by-steps rules (numbers whole c l x next) l x next tt (advance-serves c l UserData step n e ∙ data-serves (link_at n.parts l).alignment step e) refl) h))
+        inl (runs-on next _ (handle_by-steps rules (numbers whole c l x next) l x next tt (advance-serves c l UserData step n e ∙ data-serves (link_at n.parts l).period (link_at n.parts l).alignment step e) refl) h))
         (λ (h : Enters l step n). inr (returns UserData step n (λ no. cc) e (λ k. inr is) h))
         (advance-runs l UserData step n e r)
 
     read-runs : (x : Result FrameValue FrameFault) (n : Node WholeQueues) → read_frame text ≡ x → down n.parts l ≡ false → Runs n → Runs (read whole c l x n).left ⊎ Returns n
     read-runs (Ok (EmptyFrame bsn fsn)) n e up r =
-        data-runs (action_at (link_at n.parts l).alignment UserData) (empty_data bsn fsn) n (record { text = text; frame = EmptyFrame bsn fsn; came = refl; reads = e; carries = refl }) refl r
+        data-runs (acts_on (link_at n.parts l) UserData) (empty_data bsn fsn) n (record { text = text; frame = EmptyFrame bsn fsn; came = refl; reads = e; carries = refl }) refl r
     read-runs (Ok (MessageFrame bsn fsn sio sif)) n e up r =
-        data-runs (action_at (link_at n.parts l).alignment UserData) (message_data bsn fsn sio sif) n
+        data-runs (acts_on (link_at n.parts l) UserData) (message_data bsn fsn sio sif) n
         (record { text = text; frame = MessageFrame bsn fsn sio sif; came = refl; reads = e; carries = refl }) refl r
-    read-runs (Ok (StatusFrame bsn fsn status)) n e up r = status-runs (action_at (link_at n.parts l).alignment (Status status)) bsn fsn status n e refl r
+    read-runs (Ok (StatusFrame bsn fsn status)) n e up r = told-runs (tells_outage c l status n.parts) (tells_recovery l status n.parts) bsn fsn status n e r
     read-runs (Err fault) n e up r = inl (runs-on n _ (leave_aside-steps rules l fault n up) r)
 
     pub receive-runs : (is_there is_down : Bool) (x : Result FrameValue FrameFault) (n : Node WholeQueues) → read_frame text ≡ x → down n.parts l ≡ is_down → Runs n

@@ -1,6 +1,8 @@
 -- T8 runs on for as many ticks as it is set to, whatever is asked, unless its set comes back.
 use Rattle.exchange_rules.proofs.Basics.{◌≡◌, ◌⊎◌, inl, inr, ◌<◌, ◌≤◌, ℕ, ◌+◌, ◌-◌, ◌==◌, true, List, [], ◌∷◌, Option, Some, None, refl, ap, sym, ◌∙◌, arith, nat_tests, max, is_some}
-use Rattle.exchange_rules.proofs.Definitions.{left-ticked, one_less, Asking, AsksWants, Happens, Takes, Happening, CameUp, WentDown, FrameCame, Ticked, Submitted, Activated, Deactivated, TitleAdded, TitleRemoved, Abstract, whole}
+use Rattle.link.specs.declared.period.Period.TheVariants.{Fixed, Normal, Emergency}
+use Rattle.settings_rows.specs.declared.timer_ticks.TimerTicks.{TimerTicks}
+use Rattle.exchange_rules.proofs.Definitions.{Period, paced, left-ticked, one_less, Asking, AsksWants, Happens, Takes, Happening, CameUp, WentDown, FrameCame, Ticked, Submitted, Activated, Deactivated, TitleAdded, TitleRemoved, Abstract, whole}
 use Rattle.timers.specs.Timers.{no_tick_left}
 use Rattle.timers.specs.declared.name.TimerName.TheVariants.{T8}
 use Rattle.exchange_rules.specs.Exchange.{after, taken}
@@ -43,6 +45,12 @@ module _ (s d : ℕ) where
     more : rest < left
     most : left ≤ setting
 
+  -- for the same time, however long links are proved
+  same-t8 : (period : Period) (ticks : TimerTicks) → (paced period ticks).t8 ≡ ticks.t8
+  same-t8 Fixed ticks = refl
+  same-t8 Normal ticks = refl
+  same-t8 Emergency ticks = refl
+
   -- it runs out only at the last tick
   not-yet : (what : Happening) (a : Abstract) (y more : ℕ) → left_in a ≡ Some y → ticks_by what + more < y → RunsOut (T8 s d) what a.node.parts.timers → ⊥
   not-yet what a y more e l out =
@@ -65,14 +73,14 @@ module _ (s d : ℕ) where
           run (inr (inl out)) = absurd (not-yet what a h.left more h.is h.more out)
           run (inr (inr back)) = absurd (away back)
 
-      by : RunsBy a.settings.timers.t8 (left_by what (left_in a)) (left_in (after whole what a)) → Lasts (after whole what a) more (max 1 a.settings.timers.t8)
+      by : RunsBy a.settings.timers (T8 s d) (left_by what (left_in a)) (left_in (after whole what a)) → Lasts (after whole what a) more (max 1 a.settings.timers.t8)
       by (inl e) = record {
         left = from.left;
         is = e ∙ ap (left_by what) h.is ∙ from.is;
         more = omega (arith, h.more, from.ticks);
         most = omega (arith, h.most, from.ticks);
       }
-      by (inr (inl e)) = record { left = max 1 a.settings.timers.t8; is = e; more = omega (arith, h.more, h.most); most = omega arith }
+      by (inr (inl e)) = record { left = max 1 a.settings.timers.t8; is = e.1 ∙ ap (λ (ticks : ℕ). Some (max 1 ticks)) (same-t8 e.0 a.settings.timers); more = omega (arith, h.more, h.most); most = omega arith }
       by (inr (inr e)) = stops e
 
   all-last : (asked : List Asking) (a : Abstract) → Lasts a (ticks_among asked) (max 1 a.settings.timers.t8) → AllStayAway asked s a → is_some (left_in (after_each asked a)) ≡ true

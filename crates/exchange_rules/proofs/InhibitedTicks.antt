@@ -1,6 +1,6 @@
 -- Over ticks and all events T8 of a set and a destination runs until it runs out, or its set comes back.
 use Rattle.exchange_rules.proofs.Basics.{◌≡◌, ◌≢◌, ◌⊎◌, inl, inr, ℕ, zero, suc, Bool, true, false, List, Option, Some, None, refl, ap, sym, subst, ◌∙◌, ⊎_elim, cases_eq, is_some, get_or-set_other, false_from_ne_true as not-so, if◌then◌else◌}
-use Rattle.exchange_rules.proofs.Definitions.{Configuration, Action, Alignment, Expiry, action_at, LinkTimer, TimerName, Running, Link, down_link, is_in_service, Node, with_parts, is_link, link_at, down, in_service, set_of, facts, moved_on, enters, advance, start_unless_running, is_running, is_due, ticked, due_name, after_due, due_count, after-clear, after-none, due-left, left-clear, left-clear_other, left-set_other, left-ticked, one_less, set_timer, clear_timer, L7, after_failure, act_by_timer, run_out, read_frame, receive, with_timers, run_timer, run_due, run_next, run_times, tick, Outgoing, SendsMessage, SendsStatus, Acknowledges, SendsNothing, after_sending, goes_out, Happening, CameUp, WentDown, FrameCame, Ticked, Submitted, Activated, Deactivated, TitleAdded, TitleRemoved, apply, association_up, release, tell_owed, WholeQueues, whole}
+use Rattle.exchange_rules.proofs.Definitions.{Period, Configuration, Action, Alignment, Expiry, action_at, acts_on, LinkTimer, TimerName, Running, Link, down_link, is_in_service, Node, with_parts, is_link, link_at, down, in_service, set_of, facts, moved_on, enters, advance, start_unless_running, is_running, is_due, ticked, due_name, after_due, due_count, after-clear, after-none, due-left, left-clear, left-clear_other, left-set_other, left-ticked, one_less, set_timer, clear_timer, L7, after_failure, act_by_timer, run_out, read_frame, receive, with_timers, run_timer, run_due, run_next, run_times, tick, Outgoing, SendsMessage, SendsStatus, Acknowledges, SendsNothing, after_sending, goes_out, Happening, CameUp, WentDown, FrameCame, Ticked, Submitted, Activated, Deactivated, TitleAdded, TitleRemoved, apply, association_up, release, tell_owed, WholeQueues, whole}
 use Rattle.signalling_types.specs.declared.notice.FailureReason.TheVariants as reasons
 use Rattle.link.specs.declared.action.Action.TheVariants as act
 use Rattle.link.specs.declared.action.LinkTimer.TheVariants as timer
@@ -17,7 +17,7 @@ use Rattle.exchange_rules.proofs.DueTimers.{next-dues, ran-dues, was-due}
 use Rattle.exchange_rules.proofs.ProvedAll.{due-climbs, no-link}
 use Rattle.exchange_rules.proofs.SteppingEvents.{IsOf, apply-steps, run_timer-steps, settled-steps}
 use Rattle.exchange_rules.proofs.SteppingFailures.{fail-links}
-use Rattle.exchange_rules.proofs.SteppingLinks.{association_up-steps, moved-at, returned-links, stepped-other}
+use Rattle.exchange_rules.proofs.SteppingLinks.{association_up-steps, moved-at, advance-links, stepped-other}
 use Rattle.exchange_rules.proofs.Serving.{fails-up}
 use Rattle.exchange_rules.proofs.Steps.{is_of_link}
 use Rattle.exchange_rules.proofs.Tested.{serves-before}
@@ -26,15 +26,15 @@ use Rattle.exchange_rules.proofs.Inhibited.{no-way, serving-is, by-timer, Runs, 
 
 module _ (c : Configuration) where
   -- L1 to L4 take no link out of service
-  out-serves : (link other : ℕ) (its : LinkTimer) (n : Node WholeQueues) → action_at InService (Expiry its) ≡ act.Ignored → in_service n.parts other ≡ true
+  out-serves : (link other : ℕ) (its : LinkTimer) (n : Node WholeQueues) → ((period : Period) → action_at period InService (Expiry its) ≡ act.Ignored) → in_service n.parts other ≡ true
       → in_service (run_out whole c link its n).parts other ≡ true
-  out-serves link other its n idle h = by (action_at (link_at n.parts link).alignment (Expiry its)) refl (cases_eq other link)
+  out-serves link other its n idle h = by (acts_on (link_at n.parts link) (Expiry its)) refl (cases_eq other link)
     where
-      here : (a : Action) → action_at (link_at n.parts link).alignment (Expiry its) ≡ a → other ≡ link → a ≡ act.Ignored
+      here : (a : Action) → acts_on (link_at n.parts link) (Expiry its) ≡ a → other ≡ link → a ≡ act.Ignored
       here a e same =
-          sym e ∙ ap (λ (x : Alignment). action_at x (Expiry its)) (serving-is (state_of n.parts link) (subst (λ (k : ℕ). in_service n.parts k ≡ true) same h)) ∙ idle
+          sym e ∙ ap (λ (x : Alignment). action_at (link_at n.parts link).period x (Expiry its)) (serving-is (state_of n.parts link) (subst (λ (k : ℕ). in_service n.parts k ≡ true) same h)) ∙ idle (link_at n.parts link).period
 
-      by : (a : Action) → action_at (link_at n.parts link).alignment (Expiry its) ≡ a → (other ≡ link) ⊎ (other ≢ link) → in_service (act_by_timer whole c a link n).parts other ≡ true
+      by : (a : Action) → acts_on (link_at n.parts link) (Expiry its) ≡ a → (other ≡ link) ⊎ (other ≢ link) → in_service (act_by_timer whole c a link n).parts other ≡ true
       by act.Ignored e cases = h
       by act.Fail e (inl same) = (let no : act.Fail ≡ act.Ignored = here act.Fail e same in absurd cc)
       by act.Fail e (inr apart) =
@@ -44,17 +44,17 @@ module _ (c : Configuration) where
       by (act.Go step) e (inl same) = (let no : act.Go step ≡ act.Ignored = here (act.Go step) e same in absurd cc)
       by (act.Go step) e (inr apart) =
           ap (λ (links : List Link). is_in_service (link_in links other).alignment)
-          (returned-links (enters link step n.parts) c link (facts c n.parts) (with_parts n (moved_on c link step n.parts)))
+          (advance-links c link step n)
           ∙ ap (λ (l : Link). is_in_service l.alignment) (moved-at c link other step n.parts ∙ stepped-other c link other step n.parts apart)
           ∙ h
 
   -- nor does what runs out before an L4, in the order of names
   next-serves : (its : TimerName) (link other : ℕ) (n : Node WholeQueues) → is_before its (name.L4 link) ≡ true → in_service n.parts other ≡ true
       → in_service (run_timer whole c its n).parts other ≡ true
-  next-serves (name.L1 its) link other n e h = out-serves its other timer.L1 n refl h
-  next-serves (name.L2 its) link other n e h = out-serves its other timer.L2 n refl h
-  next-serves (name.L3 its) link other n e h = out-serves its other timer.L3 n refl h
-  next-serves (name.L4 its) link other n e h = out-serves its other timer.L4 n refl h
+  next-serves (name.L1 its) link other n e h = out-serves its other timer.L1 n (λ period. refl) h
+  next-serves (name.L2 its) link other n e h = out-serves its other timer.L2 n (λ period. refl) h
+  next-serves (name.L3 its) link other n e h = out-serves its other timer.L3 n (λ period. refl) h
+  next-serves (name.L4 its) link other n e h = out-serves its other timer.L4 n (λ period. refl) h
   next-serves (name.L6 its) link other n e h = absurd cc
   next-serves (name.L7 its) link other n e h = absurd cc
   next-serves (name.T1 its) link other n e h = absurd cc
@@ -64,6 +64,9 @@ module _ (c : Configuration) where
   next-serves (name.T6 destination) link other n e h = absurd cc
   next-serves (name.T8 set destination) link other n e h = absurd cc
   next-serves (name.T10 set destination) link other n e h = absurd cc
+  next-serves (name.Slt1 its) link other n e h = absurd cc
+  next-serves (name.Slt2 its) link other n e h = absurd cc
+  next-serves name.Sst link other n e h = absurd cc
 
 module _ (c : Configuration) (s d : ℕ) (first : Node WholeQueues) where
   -- ---- a tick that began like this
@@ -91,14 +94,14 @@ module _ (c : Configuration) (s d : ℕ) (first : Node WholeQueues) where
     abbrev handed : Node WholeQueues
     handed = with_timers n (after_due n.parts.timers)
 
-    own-runs : (a : Action) (link : ℕ) (its : LinkTimer) → (its ≡ timer.L4 → is_due n.parts.timers (name.L4 link) ≡ true) → action_at (link_at n.parts link).alignment (Expiry its) ≡ a
+    own-runs : (a : Action) (link : ℕ) (its : LinkTimer) → (its ≡ timer.L4 → is_due n.parts.timers (name.L4 link) ≡ true) → acts_on (link_at n.parts link) (Expiry its) ≡ a
         → Runs c s d handed → Runs c s d (act_by_timer whole c a link handed) ⊎ Proved
     own-runs act.Ignored link its due e r = inl r
-    own-runs act.Fail link its due e r = inl (runs-on c s d handed _ ((rules c s d).fails link reasons.Timer handed tt (fails-up (link_at n.parts link).alignment (Expiry its) e)) r)
+    own-runs act.Fail link its due e r = inl (runs-on c s d handed _ ((rules c s d).fails link reasons.Timer handed tt (fails-up (link_at n.parts link).period (link_at n.parts link).alignment (Expiry its) e)) r)
     own-runs (act.Go step) link its due e r =
         ⊎_elim (λ (k : Runs c s d (advance whole c link step handed)). inl k)
         (λ (k : Enters c s d link step handed).
-        let from = by-timer (state_of n.parts link) its step e k.enters in
+        let from = by-timer (link_at n.parts link).period (state_of n.parts link) its step e k.enters in
         inr (record {
           link = link;
           of_set = k.of_set;
@@ -109,7 +112,7 @@ module _ (c : Configuration) (s d : ℕ) (first : Node WholeQueues) where
         (advance-runs c s d link (Expiry its) step handed e r)
 
     out-runs : (link : ℕ) (its : LinkTimer) → (its ≡ timer.L4 → is_due n.parts.timers (name.L4 link) ≡ true) → Runs c s d handed → Runs c s d (run_out whole c link its handed) ⊎ Proved
-    out-runs link its due r = own-runs (action_at (link_at n.parts link).alignment (Expiry its)) link its due refl r
+    out-runs link its due r = own-runs (acts_on (link_at n.parts link) (Expiry its)) link its due refl r
 
     rest-runs : (its : TimerName) → is_of_link its ≡ false → Runs c s d handed → Runs c s d (run_timer whole c its handed) ⊎ Proved
     rest-runs its none r = inl (runs-on c s d handed _ (run_timer-steps (rules c s d) its handed (λ link t e. absurd (no-link its link t none e))) r)
@@ -129,6 +132,9 @@ module _ (c : Configuration) (s d : ℕ) (first : Node WholeQueues) where
     due-runs (Some (name.T6 destination)) e r = rest-runs (name.T6 destination) refl r
     due-runs (Some (name.T8 set destination)) e r = rest-runs (name.T8 set destination) refl r
     due-runs (Some (name.T10 set destination)) e r = rest-runs (name.T10 set destination) refl r
+    due-runs (Some (name.Slt1 link)) e r = rest-runs (name.Slt1 link) refl r
+    due-runs (Some (name.Slt2 link)) e r = rest-runs (name.Slt2 link) refl r
+    due-runs (Some name.Sst) e r = rest-runs name.Sst refl r
 
     -- T8 isn't due, so it isn't the timer that is handed out
     handed-runs : (due : Option TimerName) → due_name n.parts.timers ≡ due → Runs c s d n → Runs c s d handed

@@ -1,13 +1,14 @@
 -- Frames, whole events and what goes out: what is kept of the node that a rule leaves is what the rule leaves of what
 -- was kept, and it stays sound. Over any two kinds of queues P and Q of which h keeps one as the other.
 use Rattle.exchange_rules.proofs.Basics.{◌≡◌, ℕ, Bool, true, false, List, [], ◌∷◌, Option, Some, None, Result, Ok, Err, refl, ap, ◌∙◌, if◌then◌else◌}
-use Rattle.exchange_rules.proofs.Definitions.{Message, flow_of, Configuration, Ignored, FrameFault, FrameValue, EmptyFrame, MessageFrame, StatusFrame, read_frame, Action, UserData, action_at, SeqFault, Parts, Node, Done, QueueKind, keep, answer, refuse, is_link, link_at, down, waits, link_of, tell_owed, whither_goes, go_on, go_by, go, go_each, release, advance, Carrying, carries, owing, timed_parts, numbers, accept, carry, handle_by, handle, act_by_data, receive_data, receive_frame, leave_aside, read, receive, Outgoing, SendsStatus, SendsMessage, Acknowledges, SendsNothing, carried, goes_out, after_sending, frame_taken, after_take, Happening, CameUp, WentDown, FrameCame, Ticked, Submitted, Activated, Deactivated, TitleAdded, TitleRemoved, handle_event, settled, apply}
+use Rattle.exchange_rules.proofs.Definitions.{Message, flow_of, Configuration, Ignored, FrameFault, FrameValue, EmptyFrame, MessageFrame, StatusFrame, read_frame, Action, UserData, acts_on, SeqFault, Parts, Node, Done, QueueKind, keep, answer, refuse, is_link, link_at, down, waits, link_of, tell_owed, whither_goes, go_on, go_by, go, go_each, release, advance, Carrying, carries, owing, timed_parts, numbers, accept, carry, handle_by, handle, act_by_data, receive_data, receive_frame, leave_aside, read, receive, Outgoing, SendsStatus, SendsMessage, Acknowledges, SendsNothing, carried, goes_out, after_sending, frame_taken, after_take, Happening, CameUp, WentDown, FrameCame, Ticked, Submitted, Activated, Deactivated, TitleAdded, TitleRemoved, handle_event, settled, apply}
 use Rattle.signalling_types.specs.declared.cause.Cause.TheVariants as causes
 use Rattle.signalling_types.specs.declared.notice.FrameFault.TheVariants as faults
 use Rattle.link.specs.declared.action.Action.TheVariants as act
 use Rattle.exchange_rules.proofs.Combining.{IsKept, IsKeeping, KeepsNode, Keeps, changed, answered, parted, either, behind_node, behind}
 use Rattle.exchange_rules.proofs.KeepingMessages.{tell_owed-kept}
-use Rattle.exchange_rules.proofs.KeepingChangeover.{fail-kept, advance-kept}
+use Rattle.exchange_rules.proofs.KeepingLinkTests.{advance-kept}
+use Rattle.exchange_rules.proofs.KeepingChangeover.{fail-kept}
 use Rattle.exchange_rules.proofs.KeepingLocal.{deliver-kept, submit_to-kept}
 use Rattle.exchange_rules.proofs.KeepingRelaying.{add_title-kept, remove_title-kept}
 use Rattle.exchange_rules.proofs.KeepingLinks.{association_up-kept, association_down-kept, activate-kept, deactivate-kept, on_link_status-kept, tick-kept}
@@ -62,7 +63,7 @@ module _ {P Q : Type 0} (p : QueueKind P) (q : QueueKind Q) (h : P → Q) (IsFit
       behind (λ (z : Node Q). handle q c l d z) (handle p c l d next) _ next e.same (handle-kept l d next e.fit)
 
   receive_data-kept : (l : ℕ) (d : Carrying) (n : Node P) → IsFit n.queues → Keeps h IsFit (receive_data q c l d (keep h n)) (receive_data p c l d n)
-  receive_data-kept l d n f = act_by_data-kept (action_at (link_at n.parts l).alignment UserData) l d n f
+  receive_data-kept l d n f = act_by_data-kept (acts_on (link_at n.parts l) UserData) l d n f
 
   receive_frame-kept : (l : ℕ) (frame : FrameValue) (n : Node P) → IsFit n.queues → Keeps h IsFit (receive_frame q c l frame (keep h n)) (receive_frame p c l frame n)
   receive_frame-kept l (EmptyFrame b f) n fit = receive_data-kept l _ n fit

@@ -138,12 +138,9 @@ module _ {P Q : Type 0} (p : QueueKind P) (q : QueueKind Q) (h : P → Q) (IsFit
       let e : KeepsNode h IsFit (take_back_each q c before after l other (keep h n)) one = take_back_each-kept before after l other n f in
       behind_node (λ (z : Node Q). take_back q c before after l other z) (take_back p c before after l other one) _ one e.same (take_back-kept before after l other one e.fit)
 
-  return_if-kept : (b : Bool) (l : ℕ) (before : Facts) (n : Node P) → IsFit n.queues → KeepsNode h IsFit (return_if q c b l before (keep h n)) (return_if p c b l before n)
+  pub return_if-kept : (b : Bool) (l : ℕ) (before : Facts) (n : Node P) → IsFit n.queues → KeepsNode h IsFit (return_if q c b l before (keep h n)) (return_if p c b l before n)
   return_if-kept true l before n f = take_back_each-kept before (facts c n.parts) l (length c.links) n f
   return_if-kept false l before n f = record { same = refl; fit = f }
-
-  pub advance-kept : (l : ℕ) (step : Transition) (n : Node P) → IsFit n.queues → KeepsNode h IsFit (advance q c l step (keep h n)) (advance p c l step n)
-  advance-kept l step n f = return_if-kept (enters l step n.parts) l (facts c n.parts) (with_parts n (moved_on c l step n.parts)) f
 
   pub on_changeback_acknowledgement-kept : (set : Option ℕ) (code : ℕ) (n : Node P) → IsFit n.queues → Keeps h IsFit (on_changeback_acknowledgement q c set code (keep h n)) (on_changeback_acknowledgement p c set code n)
   on_changeback_acknowledgement-kept (Some set) code n f =

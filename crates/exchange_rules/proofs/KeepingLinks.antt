@@ -1,7 +1,7 @@
 -- Associations and orders, statuses and timers of links: what is kept of the node that a rule leaves is what the rule
 -- leaves of what was kept, and it stays sound. Over any two kinds of queues P and Q of which h keeps one as the other.
-use Rattle.exchange_rules.proofs.Basics.{ℕ, zero, suc, true, false, Option, Some, None, refl, ap, if◌then◌else◌}
-use Rattle.exchange_rules.proofs.Definitions.{Configuration, Handled, Ignored, FailureReason, LinkStatus, Action, Status, Expiry, LinkTimer, Transition, action_at, TimerName, ticked, due_name, due_count, after_due, may_restart, Node, Done, QueueKind, keep, with_parts, answer, refuse, is_link, link_at, down, may_open, begun, open_link, association_up, fail_if_up, end_association, association_down, with_active, set_active, activate, deactivate, without_association, changeover_of, fail, advance, end_busy, serve_status, step_by_status, act_by_status, on_link_status, act_by_timer, run_out, with_timers, run_timer, run_due, run_next, run_times, tick}
+use Rattle.exchange_rules.proofs.Basics.{ℕ, zero, suc, true, false, Option, Some, None, refl, ap, if◌then◌else◌, List, ◌∙◌}
+use Rattle.exchange_rules.proofs.Definitions.{Configuration, Handled, Ignored, FailureReason, LinkStatus, Action, Status, Expiry, LinkTimer, Transition, acts_on, TimerName, ticked, due_name, due_count, after_due, may_restart, Node, Done, QueueKind, keep, with_parts, answer, refuse, is_link, link_at, down, may_open, begun, open_link, association_up, fail_if_up, end_association, association_down, with_active, set_active, activate, deactivate, without_association, changeover_of, fail, advance, end_busy, serve_status, step_by_status, act_by_status, on_link_status, act_by_timer, run_out, with_timers, run_timer, run_due, run_next, run_times, tick, tells_outage, tells_recovery, begin_outage, hear_outage, end_outage, hear_busy_ended, put_out, become_busy, let_back, Message}
 use Rattle.signalling_types.specs.declared.cause.Cause.TheVariants as causes
 use Rattle.signalling_types.specs.declared.notice.FailureReason.TheVariants as reasons
 use Rattle.m2pa_codec.specs.declared.status.LinkStatus.TheVariants as says
@@ -11,7 +11,8 @@ use Rattle.timers.specs.declared.name.TimerName.TheVariants as name
 use Rattle.signalling_types.specs.declared.notice.ChangeoverTimer.TheVariants as changeover
 use Rattle.exchange_rules.proofs.Combining.{IsKeeping, KeepsNode, Keeps, changed, answered, parted, either, parts-kept, either_node, behind_node}
 use Rattle.exchange_rules.proofs.KeepingMessages.{ask_again-kept}
-use Rattle.exchange_rules.proofs.KeepingChangeover.{fail-kept, on_changeover_timer-kept, advance-kept}
+use Rattle.exchange_rules.proofs.KeepingLinkTests.{advance-kept, begin_test-kept, test_unanswered-kept}
+use Rattle.exchange_rules.proofs.KeepingChangeover.{fail-kept, on_changeover_timer-kept}
 
 module _ {P Q : Type 0} (p : QueueKind P) (q : QueueKind Q) (h : P → Q) (IsFit : P → Type 0) (c : Configuration) (k : IsKeeping p q h IsFit c.window) where
   -- ---- links
@@ -52,7 +53,7 @@ module _ {P Q : Type 0} (p : QueueKind P) (q : QueueKind Q) (h : P → Q) (IsFit
   serve_status-kept : (l : ℕ) (status : LinkStatus) (n : Node P) → IsFit n.queues → KeepsNode h IsFit (serve_status q c l status (keep h n)) (serve_status p c l status n)
   serve_status-kept l says.Busy n f = record { same = refl; fit = f }
   serve_status-kept l says.BusyEnded n f =
-      record { same = ap (λ (o : ℕ). with_parts (keep h n) (end_busy c l o n.parts)) (k.outstanding n.queues l); fit = f }
+      record { same = ap (λ (o : ℕ). with_parts (keep h n) (hear_busy_ended c l o n.parts)) (k.outstanding n.queues l); fit = f }
   serve_status-kept l says.Alignment n f = record { same = refl; fit = f }
   serve_status-kept l says.ProvingNormal n f = record { same = refl; fit = f }
   serve_status-kept l says.ProvingEmergency n f = record { same = refl; fit = f }
@@ -74,8 +75,25 @@ module _ {P Q : Type 0} (p : QueueKind P) (q : QueueKind Q) (h : P → Q) (IsFit
   act_by_status-kept act.Fail l status n f = answered _ _ _ (fail-kept p q h IsFit c k l _ n f)
   act_by_status-kept (act.Go step) l status n f = answered _ _ _ (step_by_status-kept l status step n f)
 
+  begin_outage-kept : (l : ℕ) (n : Node P) → IsFit n.queues → KeepsNode h IsFit (begin_outage q c l (keep h n)) (begin_outage p c l n)
+  begin_outage-kept l n f = record {
+    same =
+        ap (λ (o : ℕ). with_parts (keep h n) (put_out c l (q.unconfirmed (h n.queues) l) (become_busy c l (end_busy c l o n.parts)))) (k.outstanding n.queues l)
+        ∙ ap (λ (ms : List Message). with_parts (keep h n) (put_out c l ms (become_busy c l (end_busy c l (p.outstanding n.queues l) n.parts)))) (k.unconfirmed n.queues l);
+    fit = f;
+  }
+
+  end_outage-kept : (l : ℕ) (n : Node P) → IsFit n.queues → KeepsNode h IsFit (end_outage q c l (keep h n)) (end_outage p c l n)
+  end_outage-kept l n f = record { same = ap (λ (o : ℕ). with_parts (keep h n) (end_busy c l o (let_back l n.parts))) (k.outstanding n.queues l); fit = f }
+
   pub on_link_status-kept : (l : ℕ) (status : LinkStatus) (n : Node P) → IsFit n.queues → Keeps h IsFit (on_link_status q c l status (keep h n)) (on_link_status p c l status n)
-  on_link_status-kept l status n f = act_by_status-kept (action_at (link_at n.parts l).alignment (Status status)) l status n f
+  on_link_status-kept l status n f =
+      let back : Done P = answer Handled (end_outage p c l n) in
+      let acted : Done P = act_by_status p c (acts_on (link_at n.parts l) (Status status)) l status n in
+      either (tells_outage c l status n.parts) _ _ (answer Handled (hear_outage p c l n)) (if tells_recovery l status n.parts then back else acted)
+      (answered _ _ _ (either_node (link_at n.parts l).peer_outage _ _ n (begin_outage p c l n) (record { same = refl; fit = f }) (begin_outage-kept l n f)))
+      (either (tells_recovery l status n.parts) _ _ back acted (answered _ _ _ (end_outage-kept l n f))
+      (act_by_status-kept (acts_on (link_at n.parts l) (Status status)) l status n f))
 
   act_by_timer-kept : (a : Action) (l : ℕ) (n : Node P) → IsFit n.queues → KeepsNode h IsFit (act_by_timer q c a l (keep h n)) (act_by_timer p c a l n)
   act_by_timer-kept act.Ignored l n f = record { same = refl; fit = f }
@@ -83,7 +101,7 @@ module _ {P Q : Type 0} (p : QueueKind P) (q : QueueKind Q) (h : P → Q) (IsFit
   act_by_timer-kept (act.Go step) l n f = advance-kept p q h IsFit c k l step n f
 
   run_out-kept : (l : ℕ) (t : LinkTimer) (n : Node P) → IsFit n.queues → KeepsNode h IsFit (run_out q c l t (keep h n)) (run_out p c l t n)
-  run_out-kept l t n f = act_by_timer-kept (action_at (link_at n.parts l).alignment (Expiry t)) l n f
+  run_out-kept l t n f = act_by_timer-kept (acts_on (link_at n.parts l) (Expiry t)) l n f
 
   run_timer-kept : (t : TimerName) (n : Node P) → IsFit n.queues → KeepsNode h IsFit (run_timer q c t (keep h n)) (run_timer p c t n)
   run_timer-kept (name.L1 l) n f = run_out-kept l timer.L1 n f
@@ -99,6 +117,9 @@ module _ {P Q : Type 0} (p : QueueKind P) (q : QueueKind Q) (h : P → Q) (IsFit
   run_timer-kept (name.T6 d) n f = record { same = refl; fit = f }
   run_timer-kept (name.T8 s d) n f = record { same = refl; fit = f }
   run_timer-kept (name.T10 s d) n f = ask_again-kept p q h IsFit c k s d n f
+  run_timer-kept (name.Slt1 l) n f = test_unanswered-kept p q h IsFit c k l n f
+  run_timer-kept (name.Slt2 l) n f = begin_test-kept p q h IsFit c k l n f
+  run_timer-kept name.Sst n f = record { same = refl; fit = f }
 
   run_due-kept : (due : Option TimerName) (n : Node P) → IsFit n.queues → KeepsNode h IsFit (run_due q c due (keep h n)) (run_due p c due n)
   run_due-kept None n f = record { same = refl; fit = f }

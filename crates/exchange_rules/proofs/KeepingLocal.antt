@@ -10,12 +10,13 @@ use Rattle.route_management.specs.declared.heard.RouteTest.TheVariants as tests
 use Rattle.exchange_rules.proofs.Combining.{IsKeeping, Keeps, answered, parted, either}
 use Rattle.exchange_rules.proofs.KeepingMessages.{answer_no_user_part-kept, send_on-kept, send_routed-kept, on_route_test-kept, on_route_status-kept, transfer-kept}
 use Rattle.exchange_rules.proofs.KeepingRelaying.{on_unitdata-kept}
+use Rattle.exchange_rules.proofs.KeepingLinkTests.{on_test_answer-kept}
 use Rattle.exchange_rules.proofs.KeepingChangeover.{on_changeover_order-kept, on_changeover_acknowledgement-kept, on_changeback_acknowledgement-kept}
 
 module _ {P Q : Type 0} (p : QueueKind P) (q : QueueKind Q) (h : P → Q) (IsFit : P → Type 0) (c : Configuration) (k : IsKeeping p q h IsFit c.window) where
   do_kind-kept : (t : TestKind) (l z : ℕ) (v : LinkTestValue) (n : Node P) → IsFit n.queues → Keeps h IsFit (do_kind q c t l z v (keep h n)) (do_kind p c t l z v n)
   do_kind-kept Test l z v n f = answered _ _ _ (send_on-kept p q h IsFit c k l (test_answer c z v) n f)
-  do_kind-kept Acknowledgement l z v n f = parted _ n.parts n.queues f
+  do_kind-kept Acknowledgement l z v n f = on_test_answer-kept p q h IsFit c k l z v n f
 
   do_test-kept : (r : Result LinkTestValue MgmtFault) (l z : ℕ) (n : Node P) → IsFit n.queues → Keeps h IsFit (do_test q c r l z (keep h n)) (do_test p c r l z n)
   do_test-kept (Err fault) l z n f = parted _ n.parts n.queues f

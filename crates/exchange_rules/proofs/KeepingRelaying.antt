@@ -1,7 +1,7 @@
 -- SCCP messages for this point, and translation rows: what is kept of the node that a rule leaves is what the rule
 -- leaves of what was kept, and it stays sound. Over any two kinds of queues P and Q of which h keeps one as the other.
 use Rattle.exchange_rules.proofs.Basics.{ℕ, Bool, List, Option, Some, None, refl, ap, ◌∙◌}
-use Rattle.exchange_rules.proofs.Definitions.{Message, Configuration, TitleEntry, Cause, Outcome, Queued, Held, Local, Handled, Ignored, Refused, TitleKey, place_of, has_row, without_row, RelayedValue, relay, returned, Node, Done, QueueKind, keep, with_parts, answer, refuse, transfer, own_of, in_place_of, send_udts, return_outcome, return_refusal, relay_by, on_unitdata, with_titles, title_refusal, add_title_unless, add_title, remove_title}
+use Rattle.exchange_rules.proofs.Definitions.{Message, Configuration, TitleEntry, Cause, Outcome, Queued, Held, Local, Handled, Ignored, Refused, TitleKey, place_of, has_row, without_row, RelayedValue, relay, returned, Node, Done, QueueKind, keep, with_parts, answer, refuse, transfer, own_of, in_place_of, send_udts, return_outcome, return_refusal, relay_by, on_unitdata, with_rows, title_refusal, add_title_unless, add_title, remove_title}
 use Rattle.signalling_types.specs.declared.cause.Cause.TheVariants as causes
 use Rattle.sccp_relay.specs.Relay as relays
 use Rattle.exchange_rules.proofs.Combining.{IsKeeping, KeepsNode, Keeps, parted, either}
@@ -33,6 +33,7 @@ module _ {P Q : Type 0} (p : QueueKind P) (q : QueueKind Q) (h : P → Q) (IsFit
   relay_by-kept : (v : RelayedValue) (m : Message) (n : Node P) → IsFit n.queues → Keeps h IsFit (relay_by q c v m (keep h n)) (relay_by p c v m n)
   relay_by-kept relays.Delivered m n f = parted _ n.parts n.queues f
   relay_by-kept (relays.Onward sif) m n f = transfer-kept p q h IsFit c k None (in_place_of m sif) n f
+  relay_by-kept (relays.Heard news) m n f = parted _ _ n.queues f
   relay_by-kept (relays.Refused cause) m n f = parted _ n.parts n.queues f
 
   pub on_unitdata-kept : (m : Message) (n : Node P) → IsFit n.queues → Keeps h IsFit (on_unitdata q c m (keep h n)) (on_unitdata p c m n)
@@ -48,9 +49,9 @@ module _ {P Q : Type 0} {h : P → Q} {IsFit : P → Type 0} where
   add_unless-kept None row n f = parted _ _ n.queues f
 
   pub add_title-kept : (row : TitleEntry) (lacking : Bool) (n : Node P) → IsFit n.queues → Keeps h IsFit (add_title row lacking (keep h n)) (add_title row lacking n)
-  add_title-kept row lacking n f = add_unless-kept (title_refusal n.parts.titles row lacking) row n f
+  add_title-kept row lacking n f = add_unless-kept (title_refusal n.parts.titles.rows row lacking) row n f
 
   pub remove_title-kept : (key : TitleKey) (digits : List ℕ) (n : Node P) → IsFit n.queues → Keeps h IsFit (remove_title key digits (keep h n)) (remove_title key digits n)
   remove_title-kept key digits n f =
-      let left : Node P = with_parts n (with_titles (without_row (place_of key digits) n.parts.titles) n.parts) in
-      either (has_row n.parts.titles (place_of key digits)) _ _ (answer Handled left) (refuse causes.NoSuchName n) (parted _ left.parts n.queues f) (parted _ n.parts n.queues f)
+      let left : Node P = with_parts n (with_rows (without_row (place_of key digits) n.parts.titles.rows) n.parts) in
+      either (has_row n.parts.titles.rows (place_of key digits)) _ _ (answer Handled left) (refuse causes.NoSuchName n) (parted _ left.parts n.queues f) (parted _ n.parts n.queues f)

@@ -6,7 +6,7 @@ use Rattle.signalling_types.specs.declared.cause.Cause.TheVariants as causes
 use Rattle.mtp3_codec.specs.declared.label.Label.{Label}
 use Rattle.mtp3_codec.specs.declared.discrimination.Discrimination.TheVariants as whither
 use Rattle.routes.specs.Routes.{chosen_link}
-use Rattle.sccp_relay.specs.Relay.{OwnValue}
+use Rattle.sccp_relay.specs.Points.{OwnValue}
 use Rattle.sccp_relay.specs.Relay as relays
 use Rattle.exchange_rules.proofs.Telling.{send-routes, tell_each-facts}
 
@@ -18,6 +18,7 @@ module _ (c : Configuration) where
     subsystems = c.subsystems;
     extended = c.extended_unitdata;
     answers_tests = c.subsystem_tests;
+    hears_statuses = is_some c.timers.sst;
     leads = λ point sls. is_some (option_and_then (λ place. chosen_link f place sls) (destination_place c point));
   }
 
@@ -63,6 +64,7 @@ module _ (c : Configuration) where
   relay-facts : (v : RelayedValue) (m : Message) (n : Node WholeQueues) → Same n (relay_by whole c v m n).left
   relay-facts relays.Delivered m n = refl
   relay-facts (relays.Onward sif) m n = transfer-facts (in_place_of m sif) n
+  relay-facts (relays.Heard news) m n = refl
   relay-facts (relays.Refused cause) m n = refl
 
   unitdata-facts : (m : Message) (n : Node WholeQueues) → Same n (on_unitdata whole c m n).left

@@ -19,6 +19,7 @@ flags-steps c = record {
   routed = λ link m n e. same-flags _ _ refl refl;
   declared = λ link other code n e f. same-flags _ _ refl refl;
   tested = λ link point test n e f. same-flags _ _ refl refl;
+  probed = λ link n e. same-flags _ _ refl refl;
   held = λ m n e. same-flags _ _ refl refl;
   taken_out = λ n. same-flags _ _ refl refl;
   noted = λ notice n e. same-flags _ _ refl refl;

@@ -1,13 +1,13 @@
 -- No message for this point is in Held or in a queue: this holds at first, and stays so.
 use Rattle.exchange_rules.proofs.Basics.{◌≡◌, ℕ, Bool, true, false, ◌&&◌, not, List, [], ◌∷◌, ◌++◌, zero, suc, Option, Some, None, Result, Ok, Err, refl, ap, sym, subst, ◌∙◌, if◌then◌else◌, filter, drop, slice_set, and_from as pair}
-use Rattle.exchange_rules.proofs.Definitions.{Message, is_management, Configuration, IsWell, Queue, Sending, first_queue, emptied, after_answer, accept_answer, to_send, appended, SeqFault, behind, moved, accepted_count, Node, queue_on, declaration, test_answer, carries, WholeQueues, queue_at, whole}
+use Rattle.exchange_rules.proofs.Definitions.{link_test, Message, is_management, Configuration, IsWell, Queue, Sending, first_queue, emptied, after_answer, accept_answer, to_send, appended, SeqFault, behind, moved, accepted_count, Node, queue_on, declaration, test_answer, carries, WholeQueues, queue_at, whole}
 use Rattle.std.specs.Prelude.{length}
 use Rattle.std.proofs.lemmas.List.Folds.{list_all-append}
 use Rattle.link.specs.Queue as queue
 use Rattle.link.specs.Queue.{after_sending}
 use Rattle.exchange_rules.specs.LastingMessages.{is_onward, all_onward, AreOnward, first_is_onward, messages_stay_onward}
 use Rattle.exchange_rules.proofs.Lists.{each-set, each-replicate}
-use Rattle.exchange_rules.proofs.Onward.{declaration-onward, answer-onward, routed-onward, waiting-onward}
+use Rattle.exchange_rules.proofs.Onward.{declaration-onward, answer-onward, test-onward, routed-onward, waiting-onward}
 use Rattle.exchange_rules.proofs.Steps.{IsOfSteps}
 use Rattle.exchange_rules.proofs.Asked.{any, IsOfAll, all-of, asked-all}
 
@@ -90,6 +90,7 @@ module _ (c : Configuration) where
     routed = λ link m n e. queued-keeps link m n (routed-onward c well n.parts m link e);
     declared = λ link other code n e f. queued-keeps other (declaration c link code) n (declaration-onward c well link code);
     tested = λ link point test n e f. queued-keeps link (test_answer c point test) n (answer-onward c well point test f);
+    probed = λ link n e. queued-keeps link (link_test c link) n (test-onward c well link);
     held = λ m n e. record {
       stay = λ h. record { held = one-more c n.queues.held m h.held (waiting-onward c well n.parts.holds m e); links = h.links };
     };

@@ -75,6 +75,7 @@ raised-steps c = record {
   routed = λ link m n e. same-raised n _ refl refl refl;
   declared = λ link other code n e f. same-raised n _ refl refl refl;
   tested = λ link point test n e f. same-raised n _ refl refl refl;
+  probed = λ link n e. same-raised n _ refl refl refl;
   held = λ m n e. same-raised n _ refl refl refl;
   taken_out = λ n. same-raised n _ refl refl refl;
   noted = λ notice n e. noted-raised notice n _ e.lost e.late refl refl refl;

@@ -1,6 +1,6 @@
 -- A node keeps an index for everything that its settings name.
 use Rattle.exchange_rules.proofs.Basics.{◌≡◌, ℕ, Bool, List, length, refl, ap, ◌∙◌, false, slice_set, length-set, length-replicate, length-map}
-use Rattle.exchange_rules.proofs.Definitions.{Message, FailureReason, Configuration, TitleEntry, opening, Queue, first_queue, appended, emptied, down_link, after_failure, with_code, HoldSet, NodeCounts, Running, ticked, after_due, counts-after, Route, first_routes, ToldTable, shape_of, first_shape, Link, Standing, no_changeover, Node, Noted, with_parts, link_at, links_with, note, flagged, flagged_late, without_timers, with_changeover, fail_link, declaration, test_answer, carries, WholeQueues, queue_at, whole, with_titles, HasTimersFor, HasAllPlaces, places_at_first, places_stay}
+use Rattle.exchange_rules.proofs.Definitions.{period_of, Message, FailureReason, Configuration, opening, Queue, first_queue, appended, emptied, down_link, after_failure, with_code, HoldSet, NodeCounts, Running, ticked, after_due, counts-after, Route, first_routes, ToldTable, shape_of, first_shape, Link, Standing, no_changeover, Node, Noted, with_parts, link_at, links_with, note, flagged, flagged_late, without_timers, with_changeover, fail_link, declaration, test_answer, carries, WholeQueues, queue_at, whole, with_titles, HasTimersFor, HasAllPlaces, places_at_first, places_stay, TitlesValue, link_test}
 use Rattle.signalling_types.specs.declared.notice.Notice.TheVariants as notices
 use Rattle.link.specs.Queue as queue
 use Rattle.exchange_rules.proofs.Places.{with_code-fits, no_codes-fits, no_holds-fits}
@@ -52,8 +52,8 @@ module _ (c : Configuration) where
   }
 
   -- nor are translation rows
-  titles-keep : (rows : List TitleEntry) (n : Node WholeQueues) → Keeps c n (with_parts n (with_titles rows n.parts))
-  titles-keep rows n = record {
+  titles-keep : (titles : TitlesValue) (n : Node WholeQueues) → Keeps c n (with_parts n (with_titles titles n.parts))
+  titles-keep titles n = record {
     stay = λ h. record {
       parts = record {
         few_links = h.parts.few_links;
@@ -212,6 +212,7 @@ places-steps c = record {
   routed = λ link m n e. queue-keeps c n.queues.held link (appended (queue_at n.queues link) m) n;
   declared = λ link other code n e f. queue-keeps c n.queues.held other (appended (queue_at n.queues other) (declaration c link code)) n;
   tested = λ link point test n e f. queue-keeps c n.queues.held link (appended (queue_at n.queues link) (test_answer c point test)) n;
+  probed = λ link n e. queue-keeps c n.queues.held link (appended (queue_at n.queues link) (link_test c link)) n;
   held = λ m n e. queues-keep c (whole.holding n.queues m) n refl;
   taken_out = λ n. queues-keep c (whole.without_held n.queues) n refl;
   noted = λ notice n e. notices-keep c (note notice n.parts).notices n.parts.times_lost n.parts.times_late n;
@@ -232,7 +233,7 @@ places-steps c = record {
   linked = λ link x n e. link-keeps c link x n.parts.timers n refl;
   parted = λ link n e. link-keeps c link (record (link_at n.parts link) { association = false }) n.parts.timers n refl;
   opened = λ link n own e f g.
-      both-keep c _ _ _ (queue-keeps c n.queues.held link first_queue n) (link-keeps c link _ _ _ (timed-for link c opening n.parts.timers).counts);
+      both-keep c _ _ _ (queue-keeps c n.queues.held link first_queue n) (link-keeps c link _ _ _ (timed-for link c (opening (period_of c link n.parts)) n.parts.timers).counts);
   stepped = λ link input step n own e. link-keeps c link _ _ n (timed-for link c step n.parts.timers).counts;
   busied = λ link n own e f. link-keeps c link _ _ n (timed_busy-for link c n.parts.timers).counts;
   resumed = λ link n own e f. link-keeps c link _ _ n (timed_busy_ended-for link c (whole.outstanding n.queues link) n.parts.timers).counts;

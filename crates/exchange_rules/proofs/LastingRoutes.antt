@@ -28,6 +28,7 @@ routes-steps c = record {
   routed = λ link m n e. same _ _ refl refl;
   declared = λ link other code n e f. same _ _ refl refl;
   tested = λ link point test n e f. same _ _ refl refl;
+  probed = λ link n e. same _ _ refl refl;
   held = λ m n e. same _ _ refl refl;
   taken_out = λ n. same _ _ refl refl;
   noted = λ notice n e. same _ _ refl refl;

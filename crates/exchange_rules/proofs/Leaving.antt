@@ -1,6 +1,6 @@
 -- A refused event leaves what it is to leave, and a message is queued on a link in service.
 use Rattle.exchange_rules.proofs.Basics.{◌≡◌, ℕ, Bool, true, false, List, [], ◌∷◌, Option, Some, None, Result, Ok, Err, refl, ap, ◌∙◌, if◌then◌else◌}
-use Rattle.exchange_rules.proofs.Definitions.{Message, flow_of, Configuration, Cause, Queued, Ignored, Refused, FrameFault, FrameValue, read_frame, Owed, owed, facts, Action, UserData, action_at, count_confirmed, Node, Done, with_node, with_parts, answer, refuse, is_link, link_at, down, in_service, link_of, no_room, send, route_message, told_parts, may_tell, tell_if, tell_each, tell_owed, whither_goes, submit, advance, Carrying, data_of, numbers, accept, read, CameUp, WentDown, FrameCame, Ticked, Submitted, Activated, Deactivated, TitleAdded, TitleRemoved, WholeQueues, whole, waits, all_wait, go_on, go_by, go, go_each, release, settled, apply, accept_data, accept_frame, accept_text, carried_message, answered, refusals_leave, queued_in_service, Abstract, IsSound}
+use Rattle.exchange_rules.proofs.Definitions.{Message, flow_of, Configuration, Cause, Queued, Ignored, Refused, FrameFault, FrameValue, read_frame, Owed, owed, facts, Action, UserData, acts_on, count_confirmed, Node, Done, with_node, with_parts, answer, refuse, is_link, link_at, down, in_service, link_of, no_room, send, route_message, told_parts, may_tell, tell_if, tell_each, tell_owed, whither_goes, submit, advance, Carrying, data_of, numbers, accept, read, CameUp, WentDown, FrameCame, Ticked, Submitted, Activated, Deactivated, TitleAdded, TitleRemoved, WholeQueues, whole, waits, all_wait, go_on, go_by, go, go_each, release, settled, apply, accept_data, accept_frame, accept_text, carried_message, answered, refusals_leave, queued_in_service, Abstract, IsSound}
 use Rattle.signalling_types.specs.declared.cause.Cause.TheVariants as causes
 use Rattle.link.specs.declared.action.Action.TheVariants as act
 use Rattle.exchange_rules.specs.Telling as telling
@@ -77,7 +77,7 @@ accept_data-waits c (act.Go step) link d n w =
 accept_frame-waits : (c : Configuration) (carried : Option Carrying) (link : ℕ) (n : Node WholeQueues) → all_wait c n.parts.holds n.queues.held ≡ true
     → all_wait c (accept_frame carried link c n).parts.holds (accept_frame carried link c n).queues.held ≡ true
 accept_frame-waits c None link n w = w
-accept_frame-waits c (Some d) link n w = accept_data-waits c (action_at (link_at n.parts link).alignment UserData) link d n w
+accept_frame-waits c (Some d) link n w = accept_data-waits c (acts_on (link_at n.parts link) UserData) link d n w
 
 accept_text-waits : (link : ℕ) (r : Result FrameValue FrameFault) (a : Abstract) → all_wait a.settings a.node.parts.holds a.node.queues.held ≡ true
     → all_wait a.settings (accept_text link r a).parts.holds (accept_text link r a).queues.held ≡ true

@@ -1,7 +1,7 @@
 -- A frame whose message is refused leaves the node that had accepted it, with its notice; a message in a frame is
 -- queued on a link in service.
 use Rattle.exchange_rules.proofs.Basics.{◌≡◌, ℕ, Bool, true, false, Option, Some, None, Result, Ok, Err, refl, ap, ◌∙◌, if◌then◌else◌}
-use Rattle.exchange_rules.proofs.Definitions.{Message, Configuration, Cause, Outcome, Queued, Held, Local, Handled, Ignored, Refused, FrameFault, FrameValue, EmptyFrame, MessageFrame, StatusFrame, LinkStatus, Action, Status, UserData, action_at, count_confirmed, SeqFault, Parts, Node, Done, with_parts, answer, link_at, in_service, note_outcome, note_refusal, whither_goes, deliver_to, advance, act_by_status, Carrying, data_of, numbers, accept, carry, handle_by, act_by_data, receive_frame, leave_aside, read, WholeQueues, whole, accept_data, accept_frame, accept_text, carried_message, answered, Abstract}
+use Rattle.exchange_rules.proofs.Definitions.{Message, Configuration, Cause, Outcome, Queued, Held, Local, Handled, Ignored, Refused, FrameFault, FrameValue, EmptyFrame, MessageFrame, StatusFrame, LinkStatus, Action, Status, UserData, acts_on, count_confirmed, SeqFault, Parts, Node, Done, with_parts, answer, link_at, in_service, note_outcome, note_refusal, whither_goes, deliver_to, advance, act_by_status, Carrying, data_of, numbers, accept, carry, handle_by, act_by_data, receive_frame, leave_aside, read, WholeQueues, whole, accept_data, accept_frame, accept_text, carried_message, answered, Abstract, tells_outage, tells_recovery, hear_outage, end_outage}
 use Rattle.signalling_types.specs.declared.notice.FrameFault.TheVariants as faults
 use Rattle.link.specs.declared.action.Action.TheVariants as act
 use Rattle.exchange_rules.specs.Laws.{noted}
@@ -56,11 +56,18 @@ module _ (c : Configuration) where
   act_by_status-leaves act.Fail link status n by = handled _ by
   act_by_status-leaves (act.Go step) link status n by = handled _ by
 
+  told-leaves : (out back : Bool) (link : ℕ) (status : LinkStatus) (n : Node WholeQueues) (by : Cause → Node WholeQueues)
+      → Leaves (if out then answer Handled (hear_outage whole c link n) else if back then answer Handled (end_outage whole c link n)
+      else act_by_status whole c (acts_on (link_at n.parts link) (Status status)) link status n) by
+  told-leaves true back link status n by = handled _ by
+  told-leaves false true link status n by = handled _ by
+  told-leaves false false link status n by = act_by_status-leaves (acts_on (link_at n.parts link) (Status status)) link status n by
+
   receive_frame-leaves : (link : ℕ) (frame : FrameValue) (n : Node WholeQueues)
       → Leaves (receive_frame whole c link frame n) (turned_and_noted link (carried_message (Ok frame)) (accept_frame (data_of frame) link c n))
-  receive_frame-leaves link (EmptyFrame bsn fsn) n = act_by_data-leaves (action_at (link_at n.parts link).alignment UserData) link _ n
-  receive_frame-leaves link (MessageFrame bsn fsn sio sif) n = act_by_data-leaves (action_at (link_at n.parts link).alignment UserData) link _ n
-  receive_frame-leaves link (StatusFrame bsn fsn status) n = act_by_status-leaves (action_at (link_at n.parts link).alignment (Status status)) link status n _
+  receive_frame-leaves link (EmptyFrame bsn fsn) n = act_by_data-leaves (acts_on (link_at n.parts link) UserData) link _ n
+  receive_frame-leaves link (MessageFrame bsn fsn sio sif) n = act_by_data-leaves (acts_on (link_at n.parts link) UserData) link _ n
+  receive_frame-leaves link (StatusFrame bsn fsn status) n = told-leaves (tells_outage c link status n.parts) (tells_recovery link status n.parts) link status n _
 
   leave_aside-leaves : (link : ℕ) (fault : FrameFault) (n : Node WholeQueues) (by : Cause → Node WholeQueues) → Leaves (leave_aside whole c link fault n) by
   leave_aside-leaves link faults.Length n by = handled _ by

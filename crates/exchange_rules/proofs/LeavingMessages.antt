@@ -1,7 +1,7 @@
 -- A message or a command that is refused leaves what its cause is to leave, and a message is queued on a link in
 -- service.
 use Rattle.exchange_rules.proofs.Basics.{◌≡◌, ℕ, Bool, true, false, List, Option, Some, None, Result, Ok, Err, refl, ap, sym, ◌∙◌, ◌&&◌, arith, if◌then◌else◌, nat_tests, option_and_then}
-use Rattle.exchange_rules.proofs.Definitions.{Message, dpc_of, opc_of, flow_of, is_management, service_indicator, Configuration, TitleEntry, Cause, Outcome, Local, Handled, Ignored, destination_place, set_place, RouteStatus, Allowed, Restricted, Prohibited, Heard, RouteTest, chosen_link, facts, MgmtFault, TestKind, Test, Acknowledgement, Management, TrafficRestartAllowed, TransferProhibited, TransferRestricted, TransferAllowed, RouteSetTestProhibited, RouteSetTestRestricted, ChangebackDeclaration, ChangebackAcknowledgement, ExtendedChangeoverOrder, ExtendedChangeoverAcknowledgement, EmergencyChangeoverOrder, EmergencyChangeoverAcknowledgement, LinkTestValue, read_link_test, read_management, label_at, Discrimination, Parts, Node, Done, with_parts, answer, refuse, is_link, link_at, in_service, network_of, link_of, no_room_for, is_destination, offer, transfer, send_on, send_routed, route_about, apply_route_status, on_route_status, answer_no_route, send_route_status, answer_route_test, on_route_test, changeback_acknowledgement, freed, on_changeback_acknowledgement, is_outstanding, sccp, is_user, is_adjacent, cause_of, test_answer, link_with_code, local, do_order, do_acknowledgement, do_management, do_kind, do_test, manage, distribute, deliver_to, submit_to, TitleKey, place_of, has_row, without_row, RelayedValue, relay, own_of, in_place_of, return_unitdata, return_outcome, relay_by, on_unitdata, with_titles, title_refusal, add_title_unless, add_title, remove_title, answered_by, may_open, open_link, association_up, fail_if_up, end_association, association_down, set_active, activate, deactivate, WholeQueues, whole, waits, on_changeover_acknowledgement, complete_if, with_changeover_acknowledged, fail_by_order, complete_by_order, acknowledge_changeover, changeover_of, may_restart, answer_no_user_part, no_part_answered, UserPartUnavailable, Refused, from_afar, on_unavailable, says_unavailable}
+use Rattle.exchange_rules.proofs.Definitions.{Message, dpc_of, opc_of, flow_of, is_management, service_indicator, Configuration, TitleEntry, Cause, Outcome, Local, Handled, Ignored, destination_place, set_place, RouteStatus, Allowed, Restricted, Prohibited, Heard, RouteTest, chosen_link, facts, MgmtFault, TestKind, Test, Acknowledgement, Management, TrafficRestartAllowed, TransferProhibited, TransferRestricted, TransferAllowed, RouteSetTestProhibited, RouteSetTestRestricted, ChangebackDeclaration, ChangebackAcknowledgement, ExtendedChangeoverOrder, ExtendedChangeoverAcknowledgement, EmergencyChangeoverOrder, EmergencyChangeoverAcknowledgement, LinkTestValue, read_link_test, read_management, label_at, Discrimination, Parts, Node, Done, with_parts, answer, refuse, is_link, link_at, in_service, network_of, link_of, no_room_for, is_destination, offer, transfer, send_on, send_routed, route_about, apply_route_status, on_route_status, answer_no_route, send_route_status, answer_route_test, on_route_test, changeback_acknowledgement, freed, on_changeback_acknowledgement, is_outstanding, sccp, is_user, is_adjacent, cause_of, test_answer, link_with_code, local, do_order, do_acknowledgement, do_management, do_kind, do_test, manage, distribute, deliver_to, submit_to, TitleKey, place_of, has_row, without_row, RelayedValue, relay, own_of, in_place_of, return_unitdata, return_outcome, relay_by, on_unitdata, with_rows, title_refusal, add_title_unless, add_title, remove_title, answered_by, may_open, open_link, association_up, fail_if_up, end_association, association_down, set_active, activate, deactivate, WholeQueues, whole, waits, on_changeover_acknowledgement, complete_if, with_changeover_acknowledged, fail_by_order, complete_by_order, acknowledge_changeover, changeover_of, may_restart, answer_no_user_part, no_part_answered, UserPartUnavailable, Refused, from_afar, says_unavailable, passes_test, test_passed}
 use Rattle.std.specs.Prelude.{nat_eq, nat_lt}
 use Rattle.signalling_types.specs.declared.point.Flow.{Flow}
 use Rattle.signalling_types.specs.declared.cause.Cause.TheVariants as causes
@@ -47,7 +47,9 @@ module _ (c : Configuration) (n : Node WholeQueues) (by : Cause → Node WholeQu
 
   do_kind-leaves : (t : TestKind) (link z : ℕ) (v : LinkTestValue) → Leaves (do_kind whole c t link z v n) by
   do_kind-leaves Test link z v = handled (send_on whole c link (test_answer c z v) n) by
-  do_kind-leaves Acknowledgement link z v = ignored n by
+  do_kind-leaves Acknowledgement link z v =
+      either (passes_test c link z v n.parts) (answer Handled (with_parts n (test_passed c link n.parts))) (answer Ignored n) by
+      (handled (with_parts n (test_passed c link n.parts)) by) (ignored n by)
 
   do_test-leaves : (r : Result LinkTestValue MgmtFault) (link z : ℕ) → Leaves (do_test whole c r link z n) by
   do_test-leaves (Err fault) link z = refused (cause_of fault) (fault_so fault)
@@ -160,6 +162,7 @@ module _ (c : Configuration) (n : Node WholeQueues) where
   pub relay_by-leaves : (v : RelayedValue) (m : Message) → Leaves (relay_by whole c v m n) (as_it_was n)
   relay_by-leaves relays.Delivered m = stayed n (as_it_was n)
   relay_by-leaves (relays.Onward sif) m = transfer-leaves c n (as_it_was n) (untouched n) None (in_place_of m sif) refl
+  relay_by-leaves (relays.Heard news) m = handled _ (as_it_was n)
   relay_by-leaves (relays.Refused cause) m = left_by cause n (as_it_was n) refl
 
   -- a refused one is returned
@@ -235,9 +238,9 @@ add_unless-leaves (Some cause) row n = left_by cause n (as_it_was n) refl
 add_unless-leaves None row n = handled _ (as_it_was n)
 
 pub add_title-leaves : (row : TitleEntry) (lacking : Bool) (n : Node WholeQueues) → Leaves (add_title row lacking n) (as_it_was n)
-add_title-leaves row lacking n = add_unless-leaves (title_refusal n.parts.titles row lacking) row n
+add_title-leaves row lacking n = add_unless-leaves (title_refusal n.parts.titles.rows row lacking) row n
 
 pub remove_title-leaves : (key : TitleKey) (digits : List ℕ) (n : Node WholeQueues) → Leaves (remove_title key digits n) (as_it_was n)
 remove_title-leaves key digits n =
-    either (has_row n.parts.titles (place_of key digits)) (answer Handled (with_parts n (with_titles (without_row (place_of key digits) n.parts.titles) n.parts)))
+    either (has_row n.parts.titles.rows (place_of key digits)) (answer Handled (with_parts n (with_rows (without_row (place_of key digits) n.parts.titles.rows) n.parts)))
     (refuse causes.NoSuchName n) (as_it_was n) (handled _ (as_it_was n)) (left_by _ n (as_it_was n) refl)

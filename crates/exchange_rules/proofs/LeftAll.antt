@@ -24,6 +24,7 @@ module _ (dues : Bool) (c : Configuration) (l : ℕ) where
     routed = λ link m n e. queued-left dues l c link m n (chosen_serves c n.parts (flow_of m) link e);
     declared = λ link other code n e f. queued-left dues l c other _ n f;
     tested = λ link point test n e f. queued-left dues l c link _ n e;
+    probed = λ link n e. queued-left dues l c link _ n e;
     held = λ m n e. alike dues l n _ refl refl refl (λ name h. h);
     taken_out = λ n. alike dues l n _ refl refl refl (λ name h. h);
     noted = λ notice n e. alike dues l n _ refl refl refl (λ name h. h);

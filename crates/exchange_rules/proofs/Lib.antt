@@ -6,6 +6,7 @@ pub mod KeepingMessages
 pub mod KeepingChangeover
 pub mod KeepingRelaying
 pub mod KeepingLocal
+pub mod KeepingLinkTests
 pub mod KeepingLinks
 pub mod Keeping
 pub mod Settling
@@ -40,8 +41,10 @@ pub mod SteppingMessages
 pub mod SteppingFailures
 pub mod SteppingReturns
 pub mod Rules
+pub mod Outages
 pub mod SteppingLinks
 pub mod SteppingRelaying
+pub mod SteppingTests
 pub mod SteppingLocal
 pub mod SteppingEvents
 pub mod Asked
@@ -58,6 +61,7 @@ pub mod SteadyAll
 pub mod LastingFlags
 pub mod LastingNotices
 pub mod LastingPlaces
+pub mod LastingPeriods
 pub mod LastingLinks
 pub mod Answers
 pub mod Shares
@@ -74,6 +78,9 @@ pub mod Eased
 pub mod WithinTimes
 pub mod LinkTimes
 pub mod LinkTurns
+pub mod NoTests
+pub mod LinkTests
+pub mod UnansweredTests
 pub mod TickingAlone
 pub mod Receiving
 pub mod Received
@@ -101,7 +108,9 @@ pub mod TestedAll
 pub mod TestedTicks
 pub mod TellingOnce
 pub mod Giving
+pub mod Saying
 pub mod Fates
+pub mod Subsystems
 pub mod NamedLinks
 pub mod FacingNodes
 pub mod SharingNodes
@@ -118,5 +127,7 @@ pub mod InhibitedTicks
 pub mod InhibitedRuns
 pub mod Causes
 pub mod EndedHolds
+pub mod NamedOnce
 pub mod FailedLinks
 pub mod KeptFacts
+pub mod OutageLaws

@@ -1,20 +1,20 @@
--- L4, L6 and L7, which may take a link into service or out of it, never have more ticks left than they are set to, and
--- no tick sets one.
+-- Of the timers that may take a link into service or out of it, no failure, changeover or return sets one, and no step of
+-- an alignment any but one of a test.
 use Rattle.exchange_rules.proofs.Basics.{◌≡◌, ℕ, zero, suc, Bool, true, false, ◌&&◌, not, List, [], ◌∷◌, length, Option, Some, None, refl, ap, sym, ◌∙◌, if◌then◌else◌}
-use Rattle.exchange_rules.proofs.Definitions.{Message, flow_of, Configuration, FailureReason, Facts, Transition, TimerName, Running, set_timer, left-set_other, left-clear_set_other, is_of_set, clear_set, Parts, Node, with_parts, answer, Handled, Ignored, in_service, down, set_of, facts, suspended, fail_link, has_other, without_tests, make_unavailable, changing, begin, change_over, begin_by_peer, fail_by_peer, fail_by_order, complete_by_order, complete_if, completed, changeover_of, with_changeover, changeover_order, send_routed, changeover_acknowledgement, on_changeover_order, with_changeover_acknowledged, no_room, link_of, loses_flows, code_for, hold_flows, take_back_each, held_by_rerouting, step_on, enters, begun_anew_if, moved_on, return_if, advance, WholeQueues, whole}
+use Rattle.exchange_rules.proofs.Definitions.{without_timers, take_step, test_if, queue_if, send_test, begin_test, repeat_test, test_unanswered, with_test_failed, awaiting_test, answer_ticks, link_test, tests_links, Cause, link_at, Message, flow_of, Configuration, FailureReason, Facts, Transition, TimerName, Running, set_timer, left-set_other, left-clear_set_other, is_of_set, clear_set, Parts, Node, with_parts, answer, Handled, Ignored, in_service, down, set_of, facts, suspended, fail_link, has_other, without_tests, make_unavailable, changing, begin, change_over, begin_by_peer, fail_by_peer, fail_by_order, complete_by_order, complete_if, completed, changeover_of, with_changeover, changeover_order, send_routed, changeover_acknowledgement, on_changeover_order, with_changeover_acknowledged, no_room, link_of, loses_flows, code_for, hold_flows, take_back_each, held_by_rerouting, step_on, enters, begun_anew_if, moved_on, return_if, advance, WholeQueues, whole}
 use Rattle.timers.proofs.Maps.{left-clear_set}
 use Rattle.timers.specs.declared.name.TimerName.TheVariants as name
 use Rattle.timers.specs.declared.name.RouteTimer.{RouteTimer}
 use Rattle.timers.specs.declared.name.RouteTimer.TheVariants as of_set
 use Rattle.signalling_types.specs.declared.notice.FailureReason.TheVariants as reasons
-use Rattle.exchange_rules.proofs.Steps.{takes_links}
+use Rattle.exchange_rules.proofs.Steps.{takes_links, moves_links}
 use Rattle.exchange_rules.proofs.WillEnding.{no-way}
-use Rattle.exchange_rules.proofs.Eased.{Eased, less-clear, less-without, send-eased, completed-eased, link-waited}
+use Rattle.exchange_rules.proofs.Eased.{Eased, less-clear, less-without, send-eased, completed-eased, moved-waited}
 
 -- ---- from one node to another none of them is set
 
 pub record Kept (n m : Node WholeQueues) : Type 0 where
-  pub timers : (timer : TimerName) → takes_links timer ≡ true → (x : ℕ) → m.parts.timers.left timer ≡ Some x → n.parts.timers.left timer ≡ Some x
+  pub timers : (timer : TimerName) → moves_links timer ≡ true → (x : ℕ) → m.parts.timers.left timer ≡ Some x → n.parts.timers.left timer ≡ Some x
 
 pub kept-both : (n m o : Node WholeQueues) → Kept n m → Kept m o → Kept n o
 kept-both n m o e f = record { timers = λ timer t x h. e.timers timer t x (f.timers timer t x h) }
@@ -23,13 +23,13 @@ pub kept-same : (n m : Node WholeQueues) → m.parts.timers ≡ n.parts.timers �
 kept-same n m e = record { timers = λ timer t x h. sym (ap (λ (r : Running). r.left timer) e) ∙ h }
 
 pub kept-eased : (n m : Node WholeQueues) → Eased n m → Kept n m
-kept-eased n m e = record { timers = λ timer t x h. e.timers timer (link-waited timer t) x h }
+kept-eased n m e = record { timers = λ timer t x h. e.timers timer (moved-waited timer t) x h }
 
 -- another timer is set, and those of a set are stopped
-pub other-set : (its : TimerName) (ticks : ℕ) (r : Running) → takes_links its ≡ false → (timer : TimerName) → takes_links timer ≡ true → (x : ℕ)
+pub other-set : (its : TimerName) (ticks : ℕ) (r : Running) → moves_links its ≡ false → (timer : TimerName) → moves_links timer ≡ true → (x : ℕ)
     → (set_timer its ticks r).left timer ≡ Some x → r.left timer ≡ Some x
 other-set its ticks r none timer t x h =
-    sym (left-set_other its timer ticks r (λ same. no-way (takes_links its) none (ap takes_links same ∙ t))) ∙ h
+    sym (left-set_other its timer ticks r (λ same. no-way (moves_links its) none (ap moves_links same ∙ t))) ∙ h
 
 set-cleared : (of : RouteTimer) (set : ℕ) (r : Running) (timer : TimerName) (x : ℕ) → (clear_set of set r).left timer ≡ Some x → r.left timer ≡ Some x
 set-cleared of set r timer x h = by (is_of_set of set timer) refl
@@ -37,6 +37,47 @@ set-cleared of set r timer x h = by (is_of_set of set timer) refl
     by : (b : Bool) → is_of_set of set timer ≡ b → r.left timer ≡ Some x
     by true e = (let no : None ≡ Some x = sym (left-clear_set of set timer r e) ∙ h in absurd cc)
     by false e = sym (left-clear_set_other of set timer r e) ∙ h
+
+-- a node where the timers of a link stopped
+abbrev pub stopped : (link : ℕ) → Node WholeQueues → Node WholeQueues
+stopped link n = with_parts n (record n.parts { timers = without_timers link n.parts.timers })
+
+-- ---- and of those by which a link enters service or leaves it none but the timers of its tests
+
+turns-move : (timer : TimerName) → takes_links timer ≡ true → moves_links timer ≡ true
+turns-move (name.L4 link) e = refl
+turns-move (name.L6 link) e = refl
+turns-move (name.L7 link) e = refl
+turns-move (name.L1 link) e = absurd cc
+turns-move (name.L2 link) e = absurd cc
+turns-move (name.L3 link) e = absurd cc
+turns-move (name.T1 link) e = absurd cc
+turns-move (name.T2 link) e = absurd cc
+turns-move (name.T3 link) e = absurd cc
+turns-move (name.T4 set code) e = absurd cc
+turns-move (name.T6 destination) e = absurd cc
+turns-move (name.T8 set destination) e = absurd cc
+turns-move (name.T10 set destination) e = absurd cc
+turns-move (name.Slt1 link) e = absurd cc
+turns-move (name.Slt2 link) e = absurd cc
+turns-move name.Sst e = absurd cc
+
+pub record Turned (n m : Node WholeQueues) : Type 0 where
+  pub timers : (timer : TimerName) → takes_links timer ≡ true → (x : ℕ) → m.parts.timers.left timer ≡ Some x → n.parts.timers.left timer ≡ Some x
+
+pub turned-of : (n m : Node WholeQueues) → Kept n m → Turned n m
+turned-of n m e = record { timers = λ timer t x h. e.timers timer (turns-move timer t) x h }
+
+pub turned-both : (n m o : Node WholeQueues) → Turned n m → Turned m o → Turned n o
+turned-both n m o e f = record { timers = λ timer t x h. e.timers timer t x (f.timers timer t x h) }
+
+pub turned-same : (n m : Node WholeQueues) → m.parts.timers ≡ n.parts.timers → Turned n m
+turned-same n m e = turned-of n m (kept-same n m e)
+
+pub turned-set : (its : TimerName) (ticks : ℕ) (r : Running) → takes_links its ≡ false → (timer : TimerName) → takes_links timer ≡ true → (x : ℕ)
+    → (set_timer its ticks r).left timer ≡ Some x → r.left timer ≡ Some x
+turned-set its ticks r none timer t x h =
+    sym (left-set_other its timer ticks r (λ same. no-way (takes_links its) none (ap takes_links same ∙ t))) ∙ h
 
 module _ (c : Configuration) where
   -- ---- a link fails
@@ -46,10 +87,10 @@ module _ (c : Configuration) where
   untested-kept false set p timer x h = set-cleared of_set.T10 set p.timers timer x h
 
   gone-kept : (served : Bool) (link : ℕ) (why : FailureReason) (n : Node WholeQueues) → Kept n (make_unavailable whole c served link why n)
-  gone-kept false link why n = record { timers = λ timer t x h. less-without link n.parts.timers timer (link-waited timer t) x h }
+  gone-kept false link why n = record { timers = λ timer t x h. less-without link n.parts.timers timer (moved-waited timer t) x h }
   gone-kept true link why n =
       let failed : Parts = fail_link link why (suspended c link (whole.unconfirmed n.queues link) n.parts) in
-      record { timers = λ timer t x h. less-without link n.parts.timers timer (link-waited timer t) x (untested-kept (has_other c link failed) (set_of c link) failed timer x h) }
+      record { timers = λ timer t x h. less-without link n.parts.timers timer (moved-waited timer t) x (untested-kept (has_other c link failed) (set_of c link) failed timer x h) }
 
   sent-kept : (m : Message) (n : Node WholeQueues) → Kept n (send_routed whole c m n)
   sent-kept m n = kept-eased n _ (send-eased c (no_room whole c m n.queues) (link_of c n.parts (flow_of m)) m n)
@@ -66,6 +107,19 @@ module _ (c : Configuration) where
   fails-kept true link why n =
       let gone : Node WholeQueues = make_unavailable whole c true link why n in
       kept-both n gone _ (gone-kept true link why n) (begun-kept true (has_other c link gone.parts) link gone)
+
+  -- but for the timers of the link, which stopped
+  gone-from : (served : Bool) (link : ℕ) (why : FailureReason) (n : Node WholeQueues) → Kept (stopped link n) (make_unavailable whole c served link why n)
+  gone-from false link why n = kept-same (stopped link n) _ refl
+  gone-from true link why n =
+      let failed : Parts = fail_link link why (suspended c link (whole.unconfirmed n.queues link) n.parts) in
+      record { timers = λ timer t x h. untested-kept (has_other c link failed) (set_of c link) failed timer x h }
+
+  pub fails-from : (served : Bool) (link : ℕ) (why : FailureReason) (n : Node WholeQueues) → Kept (stopped link n) (change_over whole c served link (make_unavailable whole c served link why n))
+  fails-from false link why n = gone-from false link why n
+  fails-from true link why n =
+      let gone : Node WholeQueues = make_unavailable whole c true link why n in
+      kept-both (stopped link n) gone _ (gone-from true link why n) (begun-kept true (has_other c link gone.parts) link gone)
 
   by_peer-kept : (served : Bool) (link : ℕ) (n : Node WholeQueues) → Kept n (begin_by_peer whole c served link (make_unavailable whole c served link reasons.Changeover n))
   by_peer-kept false link n = gone-kept false link reasons.Changeover n
@@ -91,7 +145,7 @@ module _ (c : Configuration) where
   acknowledges-kept false link number n = kept-same n n refl
   acknowledges-kept true link number n =
       let next : Node WholeQueues = with_parts n (with_changeover_acknowledged link n.parts) in
-      kept-both n next _ (record { timers = λ timer t x h. less-clear (name.T2 link) n.parts.timers timer (link-waited timer t) x h })
+      kept-both n next _ (record { timers = λ timer t x h. less-clear (name.T2 link) n.parts.timers timer (moved-waited timer t) x h })
       (kept-eased next _ (completed-eased c (changeover_of n.parts link).incomplete link number next))
 
   -- ---- a link returns
@@ -126,9 +180,41 @@ module _ (c : Configuration) where
   }
   anew-kept false link n = kept-same n n refl
 
-  pub advanced-kept : (link : ℕ) (step : Transition) (n : Node WholeQueues) → Kept n (with_parts n (step_on c link step n.parts)) → Kept n (advance whole c link step n)
-  advanced-kept link step n e =
+  -- a test goes out
+  queue_if-turned : (room : Option Cause) (link : ℕ) (n : Node WholeQueues) → Turned n (queue_if whole c room link (link_test c link) n)
+  queue_if-turned (Some cause) link n = turned-same n n refl
+  queue_if-turned None link n = turned-same n _ refl
+
+  begun_test-turned : (begins : Bool) (link : ℕ) (n : Node WholeQueues) → Turned n (if begins then send_test whole c link n else n)
+  begun_test-turned true link n =
+      let next : Node WholeQueues = with_parts n (awaiting_test c link n.parts) in
+      turned-both n next _ (record { timers = turned-set (name.Slt1 link) (answer_ticks c) n.parts.timers refl }) (queue_if-turned (no_room whole c (link_test c link) n.queues) link next)
+  begun_test-turned false link n = turned-same n n refl
+
+  pub begin_test-turned : (link : ℕ) (n : Node WholeQueues) → Turned n (begin_test whole c link n)
+  begin_test-turned link n = begun_test-turned (tests_links c && in_service n.parts link) link n
+
+  repeat_test-turned : (again : Bool) (link : ℕ) (n : Node WholeQueues) → Turned n (repeat_test whole c again link n)
+  repeat_test-turned true link n = turned-of n _ (fails-kept (in_service n.parts link) link reasons.Test n)
+  repeat_test-turned false link n =
+      let failed : Node WholeQueues = with_parts n (with_test_failed true link n.parts) in
+      turned-both n failed _ (turned-same n failed refl) (begin_test-turned link failed)
+
+  unanswered-turned : (serves : Bool) (link : ℕ) (n : Node WholeQueues) → Turned n (if serves then repeat_test whole c (link_at n.parts link).test_failed link n else n)
+  unanswered-turned true link n = repeat_test-turned (link_at n.parts link).test_failed link n
+  unanswered-turned false link n = turned-same n n refl
+
+  pub test_unanswered-turned : (link : ℕ) (n : Node WholeQueues) → Turned n (test_unanswered whole c link n)
+  test_unanswered-turned link n = unanswered-turned (in_service n.parts link) link n
+
+  tested-turned : (entered : Bool) (link : ℕ) (n : Node WholeQueues) → Turned n (test_if whole c entered link n)
+  tested-turned true link n = begin_test-turned link n
+  tested-turned false link n = turned-same n n refl
+
+  pub advanced-turned : (link : ℕ) (step : Transition) (n : Node WholeQueues) → Turned n (with_parts n (step_on c link step n.parts)) → Turned n (advance whole c link step n)
+  advanced-turned link step n e =
       let stepped : Node WholeQueues = with_parts n (step_on c link step n.parts) in
       let moved : Node WholeQueues = with_parts n (moved_on c link step n.parts) in
-      kept-both n moved _ (kept-both n stepped moved e (anew-kept (enters link step n.parts && not (has_other c link n.parts)) link stepped))
-      (returned-kept (enters link step n.parts) link (facts c n.parts) moved)
+      let took : Node WholeQueues = take_step whole c link step n in
+      turned-both n took _ (turned-both n moved took (turned-both n stepped moved e (turned-of stepped _ (anew-kept (enters link step n.parts && not (has_other c link n.parts)) link stepped)))
+      (turned-of moved _ (returned-kept (enters link step n.parts) link (facts c n.parts) moved))) (tested-turned (enters link step n.parts) link took)

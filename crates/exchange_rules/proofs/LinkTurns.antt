@@ -1,6 +1,6 @@
 -- As time passes, L4, L6 and L7 run down and none is set. In each state none has more ticks left than it is set to.
 use Rattle.exchange_rules.proofs.Basics.{◌≡◌, ◌⊎◌, inl, inr, ◌≤◌, ℕ, zero, suc, Bool, true, false, nat_eq, Option, Some, None, refl, sym, ◌∙◌, subst, arith, max, ⊎_elim, if◌then◌else◌}
-use Rattle.exchange_rules.proofs.Definitions.{Configuration, Alignment, Action, Expiry, LinkTimer, Transition, action_at, opening, TimerName, Running, timer_name, ticks_of, timed, timed_busy_ended, timed_confirming, timed_sending, without_timer, without_timer_if, with_timer, with_timer_if, is_running, due_name, after_due, Node, link_at, in_service, changeover_of, act_by_timer, run_timer, run_due, run_next, run_times, with_timers, is_link, carries, left-ticked, left-none, first_state, WholeQueues, whole}
+use Rattle.exchange_rules.proofs.Definitions.{Period, period_of, paced, period_after, Configuration, Alignment, Action, Expiry, LinkTimer, Transition, action_at, opening, TimerName, Running, timer_name, ticks_of, timed, timed_busy_ended, timed_confirming, timed_sending, without_timer, without_timer_if, with_timer, with_timer_if, is_running, due_name, after_due, Node, link_at, in_service, changeover_of, act_by_timer, run_timer, run_due, run_next, run_times, with_timers, is_link, carries, left-ticked, left-none, first_state, WholeQueues, whole}
 use Rattle.timers.specs.Timers.{start_unless_running}
 use Rattle.timers.specs.declared.name.TimerName.TheVariants as name
 use Rattle.signalling_types.specs.declared.notice.FailureReason.TheVariants as reasons
@@ -8,13 +8,15 @@ use Rattle.link.specs.declared.action.Action.TheVariants as act
 use Rattle.link.specs.declared.action.LinkTimer.TheVariants as timer
 use Rattle.link.specs.declared.alignment.Alignment.TheVariants.{Down, NotAligned, Aligned, Proving, AlignedReady, InService}
 use Rattle.exchange_rules.specs.TickingAlone.{longest_turn}
-use Rattle.exchange_rules.proofs.Steps.{IsOfSends, IsOfRules, takes_links, is_of_link}
+use Rattle.exchange_rules.proofs.Steps.{IsOfSends, IsOfRules, takes_links, moves_links, is_of_link}
 use Rattle.exchange_rules.proofs.Asked.{any, IsOfAll}
 use Rattle.exchange_rules.proofs.Eased.{less-clear, expired-eased, ran-eased, link-waited}
 use Rattle.exchange_rules.proofs.WithinTimes.{Within, within-set, handed_out-eased, lower}
-use Rattle.exchange_rules.proofs.LinkTimes.{Kept, kept-both, kept-same, kept-eased, other-set, fails-kept, orders-kept, acknowledges-kept, returns-kept, reroutes-kept, advanced-kept}
+use Rattle.exchange_rules.proofs.LinkTimes.{Kept, kept-eased, Turned, turned-of, turned-both, turned-same, turned-set, fails-kept, orders-kept, acknowledges-kept, returns-kept, reroutes-kept, advanced-turned, begin_test-turned, test_unanswered-turned}
 use Rattle.m2pa_codec.specs.declared.status.LinkStatus.TheVariants.{Ready}
 use Rattle.link.specs.Table.{entering}
+use Rattle.link.specs.declared.period.Period.TheVariants.{Fixed, Normal, Emergency}
+use Rattle.std.specs.Option.{unwrap_or}
 
 taking-link : (its : TimerName) → takes_links its ≡ true → is_of_link its ≡ true
 taking-link (name.L4 link) e = refl
@@ -30,6 +32,9 @@ taking-link (name.T4 set code) e = absurd cc
 taking-link (name.T6 destination) e = absurd cc
 taking-link (name.T8 set destination) e = absurd cc
 taking-link (name.T10 set destination) e = absurd cc
+taking-link (name.Slt1 link) e = absurd cc
+taking-link (name.Slt2 link) e = absurd cc
+taking-link name.Sst e = absurd cc
 
 -- ---- by the table of the alignment: as L6 or L7 runs out, nothing happens or a link fails; as L4 does, one goes on,
 -- and no such timer starts
@@ -42,53 +47,53 @@ record Goes (a : Action) : Type 0 where
   pub is : a ≡ act.Go step
   pub slow : (c : Configuration) (link : ℕ) (r : Running) (its : TimerName) → takes_links its ≡ true → (x : ℕ) → (timed c link step r).left its ≡ Some x → r.left its ≡ Some x
 
-l4-ends : (a : Alignment) → (action_at a (Expiry timer.L4) ≡ act.Ignored) ⊎ Goes (action_at a (Expiry timer.L4))
-l4-ends Down = inl refl
-l4-ends NotAligned = inl refl
-l4-ends Aligned = inl refl
-l4-ends AlignedReady = inl refl
-l4-ends InService = inl refl
-l4-ends (Proving true) = inr (record { step = entering (Proving true) InService (Some Ready) None; is = refl; slow = λ c link r its t x h. less-clear (name.L4 link) r its (link-waited its t) x h })
-l4-ends (Proving false) = inr (record {
-  step = entering (Proving false) AlignedReady (Some Ready) (Some timer.L1);
+l4-ends : (period : Period) (a : Alignment) → (action_at period a (Expiry timer.L4) ≡ act.Ignored) ⊎ Goes (action_at period a (Expiry timer.L4))
+l4-ends period Down = inl refl
+l4-ends period NotAligned = inl refl
+l4-ends period Aligned = inl refl
+l4-ends period AlignedReady = inl refl
+l4-ends period InService = inl refl
+l4-ends period (Proving true) = inr (record { step = entering (Proving true) InService (period_after period (Expiry timer.L4)) (Some Ready) None; is = refl; slow = λ c link r its t x h. less-clear (name.L4 link) r its (link-waited its t) x h })
+l4-ends period (Proving false) = inr (record {
+  step = entering (Proving false) AlignedReady (period_after period (Expiry timer.L4)) (Some Ready) (Some timer.L1);
   is = refl;
-  slow = λ c link r its t x h. less-clear (name.L4 link) r its (link-waited its t) x (other-set (name.L1 link) (ticks_of c.timers timer.L1) (without_timer link timer.L4 r) refl its t x h);
+  slow = λ c link r its t x h. less-clear (name.L4 link) r its (link-waited its t) x (turned-set (name.L1 link) (ticks_of (paced (period_after period (Expiry timer.L4)) c.timers) timer.L1) (without_timer link timer.L4 r) refl its t x h);
 })
 
-l6-ends : (a : Alignment) → MayFail (action_at a (Expiry timer.L6))
-l6-ends Down = inl refl
-l6-ends NotAligned = inl refl
-l6-ends Aligned = inl refl
-l6-ends (Proving true) = inl refl
-l6-ends (Proving false) = inl refl
-l6-ends AlignedReady = inl refl
-l6-ends InService = inr refl
+l6-ends : (period : Period) (a : Alignment) → MayFail (action_at period a (Expiry timer.L6))
+l6-ends period Down = inl refl
+l6-ends period NotAligned = inl refl
+l6-ends period Aligned = inl refl
+l6-ends period (Proving true) = inl refl
+l6-ends period (Proving false) = inl refl
+l6-ends period AlignedReady = inl refl
+l6-ends period InService = inr refl
 
-l7-ends : (a : Alignment) → MayFail (action_at a (Expiry timer.L7))
-l7-ends Down = inl refl
-l7-ends NotAligned = inl refl
-l7-ends Aligned = inl refl
-l7-ends (Proving true) = inl refl
-l7-ends (Proving false) = inl refl
-l7-ends AlignedReady = inl refl
-l7-ends InService = inr refl
+l7-ends : (period : Period) (a : Alignment) → MayFail (action_at period a (Expiry timer.L7))
+l7-ends period Down = inl refl
+l7-ends period NotAligned = inl refl
+l7-ends period Aligned = inl refl
+l7-ends period (Proving true) = inl refl
+l7-ends period (Proving false) = inl refl
+l7-ends period AlignedReady = inl refl
+l7-ends period InService = inr refl
 
 module _ (c : Configuration) where
-  failed-kept : (a : Action) (link : ℕ) (n : Node WholeQueues) → MayFail a → Kept n (act_by_timer whole c a link n)
+  failed-kept : (a : Action) (link : ℕ) (n : Node WholeQueues) → MayFail a → Turned n (act_by_timer whole c a link n)
   failed-kept a link n how =
-      ⊎_elim (λ (e : a ≡ act.Ignored). subst (λ (x : Action). Kept n (act_by_timer whole c x link n)) (sym e) (kept-same n n refl))
-      (λ (e : a ≡ act.Fail). subst (λ (x : Action). Kept n (act_by_timer whole c x link n)) (sym e) (fails-kept c (in_service n.parts link) link reasons.Timer n)) how
+      ⊎_elim (λ (e : a ≡ act.Ignored). subst (λ (x : Action). Turned n (act_by_timer whole c x link n)) (sym e) (turned-same n n refl))
+      (λ (e : a ≡ act.Fail). subst (λ (x : Action). Turned n (act_by_timer whole c x link n)) (sym e) (turned-of n _ (fails-kept c (in_service n.parts link) link reasons.Timer n))) how
 
-  proved-kept : (a : Action) (link : ℕ) (n : Node WholeQueues) → (a ≡ act.Ignored) ⊎ Goes a → Kept n (act_by_timer whole c a link n)
+  proved-kept : (a : Action) (link : ℕ) (n : Node WholeQueues) → (a ≡ act.Ignored) ⊎ Goes a → Turned n (act_by_timer whole c a link n)
   proved-kept a link n how =
-      ⊎_elim (λ (e : a ≡ act.Ignored). subst (λ (x : Action). Kept n (act_by_timer whole c x link n)) (sym e) (kept-same n n refl))
-      (λ (g : Goes a). subst (λ (x : Action). Kept n (act_by_timer whole c x link n)) (sym g.is)
-      (advanced-kept c link g.step n (record { timers = λ its t x h. g.slow c link n.parts.timers its t x h }))) how
+      ⊎_elim (λ (e : a ≡ act.Ignored). subst (λ (x : Action). Turned n (act_by_timer whole c x link n)) (sym e) (turned-same n n refl))
+      (λ (g : Goes a). subst (λ (x : Action). Turned n (act_by_timer whole c x link n)) (sym g.is)
+      (advanced-turned c link g.step n (record { timers = λ its t x h. g.slow c link n.parts.timers its t x h }))) how
 
-  turns-kept : (its : TimerName) (n : Node WholeQueues) → takes_links its ≡ true → Kept n (run_timer whole c its n)
-  turns-kept (name.L4 link) n e = proved-kept _ link n (l4-ends (link_at n.parts link).alignment)
-  turns-kept (name.L6 link) n e = failed-kept _ link n (l6-ends (link_at n.parts link).alignment)
-  turns-kept (name.L7 link) n e = failed-kept _ link n (l7-ends (link_at n.parts link).alignment)
+  turns-kept : (its : TimerName) (n : Node WholeQueues) → moves_links its ≡ true → Turned n (run_timer whole c its n)
+  turns-kept (name.L4 link) n e = proved-kept _ link n (l4-ends (link_at n.parts link).period (link_at n.parts link).alignment)
+  turns-kept (name.L6 link) n e = failed-kept _ link n (l6-ends (link_at n.parts link).period (link_at n.parts link).alignment)
+  turns-kept (name.L7 link) n e = failed-kept _ link n (l7-ends (link_at n.parts link).period (link_at n.parts link).alignment)
   turns-kept (name.L1 link) n e = absurd cc
   turns-kept (name.L2 link) n e = absurd cc
   turns-kept (name.L3 link) n e = absurd cc
@@ -99,20 +104,23 @@ module _ (c : Configuration) where
   turns-kept (name.T6 destination) n e = absurd cc
   turns-kept (name.T8 set destination) n e = absurd cc
   turns-kept (name.T10 set destination) n e = absurd cc
+  turns-kept (name.Slt1 link) n e = test_unanswered-turned c link n
+  turns-kept (name.Slt2 link) n e = begin_test-turned c link n
+  turns-kept name.Sst n e = absurd cc
 
-  ran-kept : (takes : Bool) (its : TimerName) (n : Node WholeQueues) → takes_links its ≡ takes → Kept n (run_timer whole c its n)
+  ran-kept : (moves : Bool) (its : TimerName) (n : Node WholeQueues) → moves_links its ≡ moves → Turned n (run_timer whole c its n)
   ran-kept true its n e = turns-kept its n e
-  ran-kept false its n e = kept-eased n _ (ran-eased c its n e)
+  ran-kept false its n e = turned-of n _ (kept-eased n _ (ran-eased c its n e))
 
-  next-kept : (due : Option TimerName) (n : Node WholeQueues) → due_name n.parts.timers ≡ due → Kept n (run_due whole c due (with_timers n (after_due n.parts.timers)))
-  next-kept None n e = kept-eased n _ (handed_out-eased c None n e)
+  next-kept : (due : Option TimerName) (n : Node WholeQueues) → due_name n.parts.timers ≡ due → Turned n (run_due whole c due (with_timers n (after_due n.parts.timers)))
+  next-kept None n e = turned-of n _ (kept-eased n _ (handed_out-eased c None n e))
   next-kept (Some its) n e =
-      kept-both n (with_timers n (after_due n.parts.timers)) _ (kept-eased n _ (handed_out-eased c (Some its) n e)) (ran-kept (takes_links its) its (with_timers n (after_due n.parts.timers)) refl)
+      turned-both n (with_timers n (after_due n.parts.timers)) _ (turned-of n _ (kept-eased n _ (handed_out-eased c (Some its) n e))) (ran-kept (moves_links its) its (with_timers n (after_due n.parts.timers)) refl)
 
   -- all that a tick hands out
-  pub times-kept : (k : ℕ) (n : Node WholeQueues) → Kept n (run_times whole c k n)
-  times-kept zero n = kept-same n n refl
-  times-kept (suc k) n = kept-both n (run_next whole c n) _ (next-kept (due_name n.parts.timers) n refl) (times-kept k (run_next whole c n))
+  pub times-kept : (k : ℕ) (n : Node WholeQueues) → Turned n (run_times whole c k n)
+  times-kept zero n = turned-same n n refl
+  times-kept (suc k) n = turned-both n (run_next whole c n) _ (next-kept (due_name n.parts.timers) n refl) (times-kept k (run_next whole c n))
 
   -- ---- in each state they have no more ticks left than the longest of them is set to
 
@@ -125,11 +133,11 @@ module _ (c : Configuration) where
   pub record Bounds (n m : Node WholeQueues) : Type 0 where
     pub stay : Bounded n.parts.timers → Bounded m.parts.timers
 
-  bounds-kept : (n m : Node WholeQueues) → Kept n m → Bounds n m
+  bounds-kept : (n m : Node WholeQueues) → Turned n m → Bounds n m
   bounds-kept n m e = record { stay = λ w. record { each = λ its t x h. w.each its t x (e.timers its t x h) } }
 
   bounds-as : (n m : Node WholeQueues) → m.parts.timers ≡ n.parts.timers → Bounds n m
-  bounds-as n m e = bounds-kept n m (kept-same n m e)
+  bounds-as n m e = bounds-kept n m (turned-same n m e)
 
   ticks-within : (link : ℕ) (its : LinkTimer) → takes_links (timer_name link its) ≡ true → max 1 (ticks_of c.timers its) ≤ most
   ticks-within link timer.L4 e = omega arith
@@ -153,12 +161,27 @@ module _ (c : Configuration) where
   stopped_if-within link None r w = w
   stopped_if-within link (Some its) r w = stopped-within link its r w
 
-  set_if-within : (link : ℕ) (its : Option LinkTimer) (r : Running) → Bounded r → Bounded (with_timer_if c link its r)
-  set_if-within link None r w = w
-  set_if-within link (Some its) r w = set-within link its r w
+  -- the same by the ticks of each period
+  paced-within : (period : Period) (link : ℕ) (its : LinkTimer) → takes_links (timer_name link its) ≡ true → max 1 (ticks_of (paced period c.timers) its) ≤ most
+  paced-within Fixed link its e = ticks-within link its e
+  paced-within Normal link its e = ticks-within link its e
+  paced-within Emergency link timer.L4 e = by c.timers.l4e refl
+    where
+      by : (l4e : Option ℕ) → c.timers.l4e ≡ l4e → max 1 (unwrap_or l4e c.timers.l4) ≤ max 1 (max (max c.timers.l4 (unwrap_or l4e 0)) (max c.timers.l6 c.timers.l7))
+      by None f = omega arith
+      by (Some ticks) f = omega arith
+  paced-within Emergency link timer.L6 e = ticks-within link timer.L6 e
+  paced-within Emergency link timer.L7 e = ticks-within link timer.L7 e
+  paced-within Emergency link timer.L1 e = absurd cc
+  paced-within Emergency link timer.L2 e = absurd cc
+  paced-within Emergency link timer.L3 e = absurd cc
+
+  set_if-within : (period : Period) (link : ℕ) (its : Option LinkTimer) (r : Running) → Bounded r → Bounded (with_timer_if (paced period c.timers) link its r)
+  set_if-within period link None r w = w
+  set_if-within period link (Some its) r w = within-set takes_links most (timer_name link its) (ticks_of (paced period c.timers) its) r (paced-within period link its) w
 
   timed-within : (link : ℕ) (step : Transition) (r : Running) → Bounded r → Bounded (timed c link step r)
-  timed-within link step r w = set_if-within link step.start (without_timer_if link step.stop r) (stopped_if-within link step.stop r w)
+  timed-within link step r w = set_if-within step.period link step.start (without_timer_if link step.stop r) (stopped_if-within link step.stop r w)
 
   sending-within : (link : ℕ) (r : Running) → Bounded r → Bounded (timed_sending c link r)
   unfolding start_unless_running
@@ -188,6 +211,7 @@ module _ (c : Configuration) where
   bounds-rules = record {
     sends = bounds-sends;
     tested = λ link point test n e f. bounds-as n _ refl;
+    probed = λ link n e. bounds-as n _ refl;
     held = λ m n e. bounds-as n _ refl;
     taken_out = λ n. bounds-as n _ refl;
     late = λ notice n e. bounds-as n _ refl;
@@ -196,23 +220,25 @@ module _ (c : Configuration) where
     told = λ t n e. bounds-as n _ refl;
     titled = λ rows n. bounds-as n _ refl;
     unequipped = λ counts n e. bounds-as n _ refl;
-    linked = λ link x n e. bounds-as n _ refl;
+    linked = λ link x n e o. bounds-as n _ refl;
     parted = λ link n e. bounds-as n _ refl;
-    opened = λ link n own there e f may. record { stay = timed-within link opening n.parts.timers };
+    opened = λ link n own there e f may. record { stay = timed-within link (opening (period_of c link n.parts)) n.parts.timers };
     stepped = λ link input step n own e k. record { stay = timed-within link step n.parts.timers };
     busied = λ link n own e f. record { stay = λ w. set-within link timer.L6 (without_timer link timer.L7 n.parts.timers) (stopped-within link timer.L7 n.parts.timers w) };
-    resumed = λ link n own e f. record { stay = resumed-within link (whole.outstanding n.queues link) n.parts.timers };
+    resumed = λ link n own e f o. record { stay = resumed-within link (whole.outstanding n.queues link) n.parts.timers };
     accepted = λ link d confirmed n own e f. record {
       stay = confirming-within (link_at n.parts link).peer_busy link confirmed (whole.outstanding (whole.accepted n.queues link d.fsn d.bsn (carries d)) link) n.parts.timers;
     };
     sent = λ link next n own e. record { stay = sending-within link n.parts.timers };
-    fails = λ link why n may up. bounds-kept n _ (fails-kept c (in_service n.parts link) link why n);
-    orders = λ link number n falls ends. bounds-kept n _ (orders-kept c link number n);
-    acknowledges = λ link number n may. bounds-kept n _ (acknowledges-kept c (changeover_of n.parts link).awaited link number n);
-    expires = λ expiry link n may. bounds-kept n _ (kept-eased n _ (expired-eased c (is_link n.parts link) expiry link n));
-    returns = λ before after code link other n e f. bounds-kept n _ (returns-kept c before after code link other n);
+    put = λ link n set e b. bounds-as n _ refl;
+    back = λ link n e may. bounds-as n _ refl;
+    fails = λ link why n may up. bounds-kept n _ (turned-of n _ (fails-kept c (in_service n.parts link) link why n));
+    orders = λ link number n falls ends. bounds-kept n _ (turned-of n _ (orders-kept c link number n));
+    acknowledges = λ link number n may. bounds-kept n _ (turned-of n _ (acknowledges-kept c (changeover_of n.parts link).awaited link number n));
+    expires = λ expiry link n may. bounds-kept n _ (turned-of n _ (kept-eased n _ (expired-eased c (is_link n.parts link) expiry link n)));
+    returns = λ before after code link other n e f. bounds-kept n _ (turned-of n _ (returns-kept c before after code link other n));
     frees = λ set code n may. bounds-kept n _ (record { timers = λ its t x h. less-clear (name.T4 set code) n.parts.timers its (link-waited its t) x h });
-    reroutes = λ destination selections n. bounds-kept n _ (reroutes-kept c destination selections n);
+    reroutes = λ destination selections n. bounds-kept n _ (turned-of n _ (reroutes-kept c destination selections n));
     lifts = λ procedure n may. bounds-as n _ refl;
   }
 

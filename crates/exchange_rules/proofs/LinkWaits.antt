@@ -1,12 +1,14 @@
 -- Which timers of a link run as they are set and stopped, and what a step of its alignment does to the timer of its
 -- state.
 use Rattle.exchange_rules.proofs.Basics.{◌≡◌, ◌≢◌, ℕ, Bool, true, false, ◌&&◌, ◌||◌, not, ◌==◌, nat_lt, Option, Some, None, refl, ap, sym, subst, ◌∙◌, arith, if◌then◌else◌, is_some, nat_tests}
-use Rattle.exchange_rules.proofs.Definitions.{Configuration, Alignment, Input, Go, Transition, Effect, Fails, Remembers, Enters, EntersServing, Serves, table, timer_of, state_number, effect_in, action_of, action_at, LinkTimer, TimerName, NodeCounts, key_of, has_name, Running, is_running, left-set, left-set_other, left-clear, left-clear_other, counts-clear, timer_name, ticks_of, without_timer, without_timers, with_timer, without_timer_if, with_timer_if}
+use Rattle.exchange_rules.proofs.Definitions.{Cell, set_timer, Alignment, Input, Go, Transition, Effect, Fails, Remembers, Enters, EntersServing, BeginsAgain, Serves, Passes, table, period_after, Period, timer_of, state_number, effect_in, action_of, action_at, LinkTimer, TimerName, NodeCounts, key_of, has_name, Running, is_running, left-set, left-set_other, left-clear, left-clear_other, counts-clear, timer_name, ticks_of, without_timer, without_timers, without_timer_if, with_timer_if, clear_timer}
 use Rattle.link.specs.Table.{timer_number}
+use Rattle.settings_rows.specs.declared.timer_ticks.TimerTicks.{TimerTicks}
 use Rattle.link.specs.declared.action.LinkTimer.TheVariants as timer
+use Rattle.timers.specs.declared.name.TimerName.TheVariants as name
 use Rattle.link.specs.declared.alignment.Alignment.TheVariants.{Down, NotAligned, Aligned, Proving, AlignedReady, InService}
 use Rattle.exchange_rules.specs.Aligning.{waiting_in, is_that}
-use Rattle.exchange_rules.proofs.Serving.{step_in, cell-found}
+use Rattle.exchange_rules.proofs.Serving.{step_in, cell-found, IsInAll}
 
 -- ---- names of timers
 
@@ -20,6 +22,23 @@ row-of link timer.L7 = refl
 
 pub other-link : (link other : ℕ) (t u : LinkTimer) → other ≢ link → timer_name other u ≢ timer_name link t
 other-link link other t u apart e = apart (sym (row-of other u) ∙ ap (λ (x : TimerName). (key_of x).row) e ∙ row-of link t)
+
+-- none of them is that of a test
+pub no-first : (link other : ℕ) (t : LinkTimer) → timer_name link t ≢ name.Slt1 other
+no-first link other timer.L1 e = cc
+no-first link other timer.L2 e = cc
+no-first link other timer.L3 e = cc
+no-first link other timer.L4 e = cc
+no-first link other timer.L6 e = cc
+no-first link other timer.L7 e = cc
+
+pub no-second : (link other : ℕ) (t : LinkTimer) → timer_name link t ≢ name.Slt2 other
+no-second link other timer.L1 e = cc
+no-second link other timer.L2 e = cc
+no-second link other timer.L3 e = cc
+no-second link other timer.L4 e = cc
+no-second link other timer.L6 e = cc
+no-second link other timer.L7 e = cc
 
 abbrev of_kind : ℕ → LinkTimer
 of_kind kind =
@@ -94,9 +113,19 @@ module _ (link : ℕ) where
       left : LinkTimer → Bool → Bool
       left its b = not (is_that (Some its) t) && b
 
+      links_stopped : Running
+      links_stopped =
+          without_timer link timer.L7 (without_timer link timer.L6 (without_timer link timer.L4
+          (without_timer link timer.L3 (without_timer link timer.L2 (without_timer link timer.L1 r)))))
+
+      tests-stopped : runs (without_timers link r) t ≡ runs links_stopped t
+      tests-stopped =
+          ap is_some (left-clear_other (name.Slt2 link) (timer_name link t) (clear_timer (name.Slt1 link) links_stopped) (λ e. no-second link link t (sym e))
+          ∙ left-clear_other (name.Slt1 link) (timer_name link t) links_stopped (λ e. no-first link link t (sym e)))
+
       all-stopped : runs (without_timers link r) t ≡ left timer.L7 (left timer.L6 (left timer.L4 (left timer.L3 (left timer.L2 (left timer.L1 (runs r t))))))
       all-stopped =
-          stopped timer.L7 t _ ∙ ap (left timer.L7) (stopped timer.L6 t _ ∙ ap (left timer.L6) (stopped timer.L4 t _ ∙ ap (left timer.L4)
+          tests-stopped ∙ stopped timer.L7 t _ ∙ ap (left timer.L7) (stopped timer.L6 t _ ∙ ap (left timer.L6) (stopped timer.L4 t _ ∙ ap (left timer.L4)
           (stopped timer.L3 t _ ∙ ap (left timer.L3) (stopped timer.L2 t _ ∙ ap (left timer.L2) (stopped timer.L1 t r)))))
 
       by : (u : LinkTimer) (b : Bool)
@@ -109,17 +138,17 @@ module _ (link : ℕ) where
       by timer.L6 b = refl
       by timer.L7 b = refl
 
-  module _ (c : Configuration) where
-    pub started : (its t : LinkTimer) (r : Running) → nat_lt link r.counts.links ≡ true → runs (with_timer c link its r) t ≡ (is_that (Some its) t || runs r t)
+  module _ (ticks : TimerTicks) where
+    pub started : (its t : LinkTimer) (r : Running) → nat_lt link r.counts.links ≡ true → runs (set_timer (timer_name link its) (ticks_of ticks its) r) t ≡ (is_that (Some its) t || runs r t)
     started its t r there = by (timer_number its == timer_number t) refl
       where
-        by : (b : Bool) → (timer_number its == timer_number t) ≡ b → runs (with_timer c link its r) t ≡ (b || runs r t)
+        by : (b : Bool) → (timer_number its == timer_number t) ≡ b → runs (set_timer (timer_name link its) (ticks_of ticks its) r) t ≡ (b || runs r t)
         by true e =
-            ap is_some (ap (λ (x : LinkTimer). (with_timer c link its r).left (timer_name link x)) (sym (same-timer its t e))
-            ∙ left-set (timer_name link its) (ticks_of c.timers its) r (has-timer link its r.counts there))
-        by false e = ap is_some (left-set_other (timer_name link its) (timer_name link t) (ticks_of c.timers its) r (apart-timers link its t e))
+            ap is_some (ap (λ (x : LinkTimer). (set_timer (timer_name link its) (ticks_of ticks its) r).left (timer_name link x)) (sym (same-timer its t e))
+            ∙ left-set (timer_name link its) (ticks_of ticks its) r (has-timer link its r.counts there))
+        by false e = ap is_some (left-set_other (timer_name link its) (timer_name link t) (ticks_of ticks its) r (apart-timers link its t e))
 
-    starts : (its : Option LinkTimer) (t : LinkTimer) (r : Running) → nat_lt link r.counts.links ≡ true → runs (with_timer_if c link its r) t ≡ (is_that its t || runs r t)
+    starts : (its : Option LinkTimer) (t : LinkTimer) (r : Running) → nat_lt link r.counts.links ≡ true → runs (with_timer_if ticks link its r) t ≡ (is_that its t || runs r t)
     starts None t r there = refl
     starts (Some its) t r there = started its t r there
 
@@ -129,7 +158,7 @@ module _ (link : ℕ) where
 
     -- one stops, if one does, and then another starts
     pub turned : (stop start : Option LinkTimer) (t : LinkTimer) (r : Running) → nat_lt link r.counts.links ≡ true
-        → runs (with_timer_if c link start (without_timer_if link stop r)) t ≡ (is_that start t || (not (is_that stop t) && runs r t))
+        → runs (with_timer_if ticks link start (without_timer_if link stop r)) t ≡ (is_that start t || (not (is_that stop t) && runs r t))
     turned stop start t r there =
         starts start t (without_timer_if link stop r) (still-there stop r there) ∙ ap (λ (b : Bool). is_that start t || b) (stops stop t r)
 
@@ -169,6 +198,8 @@ abbrev turns_so : ℕ → Effect → Bool
 turns_so state Fails = true
 turns_so state Serves = true
 turns_so state EntersServing = true
+turns_so state BeginsAgain = true
+turns_so state Passes = true
 turns_so state Remembers = state == 3 || state == 4
 turns_so state (Enters after sent started) = is_same_wait started (waiting_in after)
 
@@ -201,24 +232,29 @@ proved-wait InService e = absurd cc
 stops-no-l6 : (a : Alignment) → is_that (timer_of a) timer.L6 ≡ false
 stops-no-l6 a = ap (λ (o : Option LinkTimer). is_that o timer.L6) (waits-of a) ∙ no-l6 a
 
-turn-of : (effect : Option Effect) (a : Alignment) (input : Input) (step : Transition) → effect_in table a input ≡ effect → action_of a effect ≡ Go step
-    → IsTurn a (step_in (action_of a effect))
-turn-of None a input step f e = absurd cc
-turn-of (Some Fails) a input step f e = absurd cc
-turn-of (Some Remembers) a input step f e = record {
-  waits = λ t. ap (λ (o : Option LinkTimer). is_that o t) (proved-wait a (cell-found turns_so a input Remembers refl f));
+turns-all : IsInAll (λ (c : Cell). turns_so (state_number c.state) c.effect)
+turns-all = record { fixed = refl; normal = refl; emergency = refl }
+
+turn-of : (period later : Period) (effect : Option Effect) (a : Alignment) (input : Input) (step : Transition) → effect_in (table period) a input ≡ effect → action_of later a effect ≡ Go step
+    → IsTurn a (step_in (action_of later a effect))
+turn-of period later None a input step f e = absurd cc
+turn-of period later (Some Fails) a input step f e = absurd cc
+turn-of period later (Some Remembers) a input step f e = record {
+  waits = λ t. ap (λ (o : Option LinkTimer). is_that o t) (proved-wait a (cell-found turns_so period a input Remembers turns-all f));
   stop = refl;
   start = refl;
 }
-turn-of (Some (Enters after sent start)) a input step f e =
-    let same : start ≡ waiting_in after = same-wait start (waiting_in after) (cell-found turns_so a input (Enters after sent start) refl f) in
+turn-of period later (Some (Enters after sent start)) a input step f e =
+    let same : start ≡ waiting_in after = same-wait start (waiting_in after) (cell-found turns_so period a input (Enters after sent start) turns-all f) in
     record {
       waits = λ t. entered a after start t same;
       stop = stops-no-l6 a;
       start = ap (λ (o : Option LinkTimer). is_that o timer.L6) same ∙ no-l6 after;
     }
-turn-of (Some EntersServing) a input step f e = record { waits = λ t. entered a InService None t refl; stop = stops-no-l6 a; start = refl }
-turn-of (Some Serves) a input step f e = record { waits = λ t. refl; stop = refl; start = refl }
+turn-of period later (Some EntersServing) a input step f e = record { waits = λ t. entered a InService None t refl; stop = stops-no-l6 a; start = refl }
+turn-of period later (Some BeginsAgain) a input step f e = record { waits = λ t. entered a Aligned (Some timer.L3) t refl; stop = stops-no-l6 a; start = refl }
+turn-of period later (Some Passes) a input step f e = absurd cc
+turn-of period later (Some Serves) a input step f e = record { waits = λ t. refl; stop = refl; start = refl }
 
-pub each-turn : (a : Alignment) (input : Input) (step : Transition) → action_at a input ≡ Go step → IsTurn a step
-each-turn a input step e = subst (IsTurn a) (ap step_in e) (turn-of (effect_in table a input) a input step refl e)
+pub each-turn : (period : Period) (a : Alignment) (input : Input) (step : Transition) → action_at period a input ≡ Go step → IsTurn a step
+each-turn period a input step e = subst (IsTurn a) (ap step_in e) (turn-of period (period_after period input) (effect_in (table period) a input) a input step refl e)

@@ -1,6 +1,6 @@
 -- If one set alone leads to a point, the route there stays allowed, and what is for it is on links of that set.
 use Rattle.exchange_rules.proofs.Basics.{◌≡◌, ◌≢◌, ◌<◌, ◌≤◌, ◌⊎◌, inl, inr, ℕ, zero, suc, ◌+◌, ◌-◌, Bool, true, false, ◌&&◌, ◌||◌, not, cond, List, [], ◌∷◌, ◌++◌, length, map, nat_eq, get_or, slice_set, refl, ap, sym, subst, ◌∙◌, arith, if◌then◌else◌, find, slice_index_or, Option, Some, None, option_map, option_and_then, Contains, list_any, position, ⊎_elim, cases_eq, cases_lt, eq-eqb, eqb-true, get_or_past, get_or-set_same, get_or-set_other, get_or-map, length-set, append-nil, get_or_append_left, get_or-append_right, Contains-append_right, position-Some}
-use Rattle.exchange_rules.proofs.Definitions.{Message, dpc_of, flow_of, is_management, Configuration, LinkEntry, SetEntry, DestinationEntry, destination_place, Queue, first_queue, emptied, appended, Route, RouteStatus, Allowed, first_route, first_routes, first_sets, Facts, chosen_link, ToldTable, is_number, is_own_point, Parts, Node, facts, link_of, queue_on, declaration, test_answer, entry_of, peer_of, ChangebackDeclaration, set_of, carries, WholeQueues, queue_at, whole, first_state}
+use Rattle.exchange_rules.proofs.Definitions.{link_test, Message, dpc_of, flow_of, is_management, Configuration, LinkEntry, SetEntry, DestinationEntry, destination_place, Queue, first_queue, emptied, appended, Route, RouteStatus, Allowed, first_route, first_routes, first_sets, Facts, chosen_link, ToldTable, is_number, is_own_point, Parts, Node, facts, link_of, queue_on, declaration, test_answer, entry_of, peer_of, ChangebackDeclaration, set_of, carries, WholeQueues, queue_at, whole, first_state}
 use Rattle.std.proofs.lemmas.List.Folds.{list_any-append}
 use Rattle.std.proofs.lemmas.List.Sorted.{Contains-permutation, IsPermutation-sym}
 use Rattle.std.proofs.lemmas.List.{get_or-map as get_or-map_inside}
@@ -20,7 +20,7 @@ use Rattle.exchange_rules.proofs.Belonging.{IsLinkOf, below-of, none, length-set
 use Rattle.exchange_rules.proofs.LastingMessages.{accepted-all, sent-all}
 use Rattle.exchange_rules.proofs.LastingRoutes.{as-told, routes-first}
 use Rattle.exchange_rules.proofs.Lists.{each-replicate}
-use Rattle.exchange_rules.proofs.OwnManagement.{made-management, answer-management}
+use Rattle.exchange_rules.proofs.OwnManagement.{made-management, answer-management, test-management}
 use Rattle.exchange_rules.proofs.Steps.{IsOfSteps, AreOwnAllowed, any_status, ways_of}
 use Rattle.exchange_rules.proofs.Asked.{any, IsOfAll, all-of, asked-all}
 
@@ -315,6 +315,7 @@ module _ (c : Configuration) (set point destination : ℕ) (leads : LeadsAlone c
     routed = λ link m n e. queued link m n (goes n m link e);
     declared = λ link other code n e f. queued other (declaration c link code) n (λ h away. made (declaration c link code) (made-management c (peer_of c link) (ChangebackDeclaration (entry_of c link).slc code)));
     tested = λ link at test n e f. queued link (test_answer c at test) n (λ h away. made (test_answer c at test) (answer-management c at test));
+    probed = λ link n e. queued link (link_test c link) n (λ h away. made (link_test c link) (test-management c link));
     held = λ m n e. same-lone n _ refl refl refl;
     taken_out = λ n. same-lone n _ refl refl refl;
     noted = λ notice n e. same-lone n _ refl refl refl;

@@ -64,6 +64,7 @@ module _ (of : Message → Bool) (c : Configuration) where
       → stands of (relay_by whole c v m n).left ≡ stands of n + users_that of (relayed_in v (relay_by whole c v m n).outcome m)
   relay-brings relays.Delivered m n f = none-more (stands of n)
   relay-brings (relays.Onward sif) m n f = transfer-brings None (in_place_of m sif) n f
+  relay-brings (relays.Heard news) m n f = none-more (stands of n)
   relay-brings (relays.Refused cause) m n f = none-more (stands of n)
 
   udts-brings : (udts : Option (List ℕ)) (m : Message) (n : Node WholeQueues) → Fits c n → stands of (send_udts whole c udts m n) ≡ stands of n + users_that of (returned_in udts c m n)

@@ -1,6 +1,6 @@
 -- Each loss of an event is among its notices, and counted.
 use Rattle.exchange_rules.proofs.Basics.{Bool, Err, List, None, Ok, Option, Result, Some, [], append-nil, arith, false, length, map, not, refl, true, ℕ, ◌&&◌, ◌*◌, ◌+◌, ◌++◌, ◌∙◌, ◌≡◌, ◌≤◌, if◌then◌else◌, subst, ap}
-use Rattle.exchange_rules.proofs.Definitions.{AreAccounted, takes_flag_nothing, Acknowledges, Outgoing, SendsMessage, SendsNothing, SendsStatus, after_sending, goes_out, events_account_for_losses, losses_of, others_of, rules_run, naming, LostUnconfirmed, changeover_of, Configuration, TitleEntry, Message, Cause, FrameFault, Outcome, Handled, Held, Ignored, Local, Queued, Refused, Gone, gone, gone_by, gone_by_message, gone_by_new, gone_by_release, nothing_gone, is_link, whither_goes, deliver_to, note_outcome, WholeQueues, whole, release, tell_owed, owed, facts, Node, Done, answer, refuse, with_parts, action_at, Action, UserData, count_confirmed, SeqFault, EmptyFrame, FrameValue, MessageFrame, StatusFrame, read_frame, accept_data, accept_frame, accept_text, new_at, new_by, new_in, new_of, Carrying, accept, act_by_data, advance, carry, empty_data, handle_by, message_data, numbers, owing, timed_parts, read, receive_data, Happening, Activated, CameUp, Deactivated, FrameCame, Submitted, Ticked, TitleAdded, TitleRemoved, WentDown, apply, handle_event, may_open, may_restart, open_link, add_title_unless, title_refusal, has_row, place_of, with_titles, without_row, down, link_at, Abstract, send, no_room, link_of, flow_of, queue_on}
+use Rattle.exchange_rules.proofs.Definitions.{AreAccounted, takes_flag_nothing, Acknowledges, Outgoing, SendsMessage, SendsNothing, SendsStatus, after_sending, goes_out, events_account_for_losses, losses_of, others_of, rules_run, naming, LostUnconfirmed, changeover_of, Configuration, TitleEntry, Message, Cause, FrameFault, Outcome, Handled, Held, Ignored, Local, Queued, Refused, Gone, gone, gone_by, gone_by_message, gone_by_new, gone_by_release, nothing_gone, is_link, whither_goes, deliver_to, note_outcome, WholeQueues, whole, release, tell_owed, owed, facts, Node, Done, answer, refuse, with_parts, acts_on, Action, UserData, count_confirmed, SeqFault, EmptyFrame, FrameValue, MessageFrame, StatusFrame, read_frame, accept_data, accept_frame, accept_text, new_at, new_by, new_in, new_of, Carrying, accept, act_by_data, advance, carry, empty_data, handle_by, message_data, numbers, owing, timed_parts, read, receive_data, Happening, Activated, CameUp, Deactivated, FrameCame, Submitted, Ticked, TitleAdded, TitleRemoved, WentDown, apply, handle_event, may_open, may_restart, open_link, add_title_unless, title_refusal, has_row, place_of, without_row, down, link_at, Abstract, send, no_room, link_of, flow_of, queue_on, with_rows}
 use Rattle.exchange_rules.specs.Conserving.{confirmed}
 use Rattle.exchange_rules.specs.LawsOfLosses.{IsGivenUp, IsPlaced, lateness_of, management_is_named}
 use Rattle.link.specs.declared.action.Action.TheVariants as act
@@ -60,7 +60,7 @@ module _ (c : Configuration) where
 
   data-names : (link : ℕ) (d : Carrying) (n : Node WholeQueues)
       → Names (gone_by_new (new_in (Some d) link c n) c (accept_frame (Some d) link c n)) 3 n (receive_data whole c link d n).left
-  data-names link d n = act-names (action_at (link_at n.parts link).alignment UserData) link d n
+  data-names link d n = act-names (acts_on (link_at n.parts link) UserData) link d n
 
 -- ---- events
 
@@ -109,10 +109,10 @@ module _ (a : Abstract) where
   rule-names (Submitted m) = some 2 _ (omega arith) (submit-quiet set m was)
   rule-names (Activated link) = some 0 _ (omega arith) (activate-quiet set link was)
   rule-names (Deactivated link) = some 2 _ (omega arith) (deactivate-quiet set link was)
-  rule-names (TitleAdded row refused) = some 0 _ (omega arith) (titled-quiet (title_refusal was.parts.titles row refused) row)
+  rule-names (TitleAdded row refused) = some 0 _ (omega arith) (titled-quiet (title_refusal was.parts.titles.rows row refused) row)
   rule-names (TitleRemoved key digits) =
       some 0 _ (omega arith)
-      (either_done-quiet 0 (has_row was.parts.titles (place_of key digits)) was (answer Handled (with_parts was (with_titles (without_row (place_of key digits) was.parts.titles) was.parts)))
+      (either_done-quiet 0 (has_row was.parts.titles.rows (place_of key digits)) was (answer Handled (with_parts was (with_rows (without_row (place_of key digits) was.parts.titles.rows) was.parts)))
       (refuse causes.NoSuchName was) (same-quiet was _ refl refl refl) (any-quiet 0 was))
 
   event-accounts : (what : Happening) → AreAccounted (losses_of what a) (lateness_of what a) (gone what a).doubts (others_of what a) was.parts (apply whole set what was).left.parts

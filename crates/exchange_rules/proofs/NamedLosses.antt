@@ -1,7 +1,7 @@
 -- Changeovers that are completed, by the peer's messages and by timers, and the release: what each loses is named and
 -- counted.
 use Rattle.exchange_rules.proofs.Basics.{Bool, Err, List, None, Ok, Option, Result, Some, [], ap, append-nil, arith, false, filter, filter_agree, is_some, length, length-append, map, nat_eq, not, refl, suc, sym, true, zero, ℕ, ◌&&◌, ◌*◌, ◌+◌, ◌++◌, ◌∙◌, ◌∷◌, ◌≡◌, ◌≤◌, if◌then◌else◌, count_by}
-use Rattle.exchange_rules.proofs.Definitions.{AreAccounted, counted, names_a_message, names_none, note, tells_of_lateness, tells_of_loss, naming, LostUnconfirmed, completed, changeover_of, complete_by_order, concluded, judged, lose, lose_each, changeover_acknowledgement, changeback_acknowledgement, on_changeover_order, on_changeover_timer, with_changeover, with_changeover_acknowledged, with_expiry, complete_if, fail_by_order, read_link_test, read_management, MgmtFault, Management, ChangebackAcknowledgement, ChangebackDeclaration, EmergencyChangeoverAcknowledgement, EmergencyChangeoverOrder, ExtendedChangeoverAcknowledgement, ExtendedChangeoverOrder, RouteSetTestProhibited, RouteSetTestRestricted, TrafficRestartAllowed, TransferAllowed, TransferProhibited, TransferRestricted, Allowed, Prohibited, Restricted, Configuration, Message, flow_of, is_management, opc_of, service_indicator, ChangeoverTimer, Handled, Ignored, destination_place, set_place, after_due, due_count, due_name, ticked, TimerName, Gone, both_gone, gone_by_answer, gone_by_completion, gone_by_expiry, gone_by_message, gone_by_order, gone_by_tick, gone_by_timer, gone_by_timers, gone_by_word, is_stranded, nothing_gone, only_accepted, waits, is_link, do_acknowledgement, do_management, do_order, do_test, is_adjacent, link_with_code, local, manage, testing, deliver_to, route_about, WholeQueues, whole, go, go_by, go_each, go_on, link_of, Found, Node, Parts, Done, answer, refuse, with_parts, run_due, run_next, run_times, tick, with_timers, Discrimination, from_afar, UserPartUnavailable}
+use Rattle.exchange_rules.proofs.Definitions.{AreAccounted, counted, names_a_message, names_none, note, tells_of_lateness, tells_of_loss, naming, LostUnconfirmed, completed, changeover_of, complete_by_order, concluded, judged, lose, lose_each, changeover_acknowledgement, changeback_acknowledgement, on_changeover_order, on_changeover_timer, with_changeover, with_changeover_acknowledged, with_expiry, complete_if, fail_by_order, read_link_test, read_management, MgmtFault, Management, ChangebackAcknowledgement, ChangebackDeclaration, EmergencyChangeoverAcknowledgement, EmergencyChangeoverOrder, ExtendedChangeoverAcknowledgement, ExtendedChangeoverOrder, RouteSetTestProhibited, RouteSetTestRestricted, TrafficRestartAllowed, TransferAllowed, TransferProhibited, TransferRestricted, Allowed, Prohibited, Restricted, Configuration, Message, flow_of, is_management, opc_of, service_indicator, ChangeoverTimer, Handled, Ignored, destination_place, set_place, after_due, due_count, due_name, ticked, TimerName, Gone, both_gone, gone_by_answer, gone_by_completion, gone_by_expiry, gone_by_message, gone_by_order, gone_by_tick, gone_by_timer, gone_by_timers, gone_by_word, is_stranded, nothing_gone, only_accepted, waits, is_link, do_acknowledgement, do_management, do_order, do_test, is_adjacent, link_with_code, local, manage, testing, deliver_to, route_about, WholeQueues, whole, go, go_by, go_each, go_on, link_of, Found, Node, Parts, Done, answer, with_parts, run_due, run_next, run_times, tick, with_timers, Discrimination, from_afar, UserPartUnavailable}
 use Rattle.std.proofs.lemmas.List.{map-append}
 use Rattle.exchange_rules.proofs.Departing.{go_by-strands}
 use Rattle.signalling_types.specs.declared.cause.Cause.TheVariants as causes
@@ -16,7 +16,7 @@ use Rattle.link.specs.declared.action.LinkTimer.TheVariants as timer
 use Rattle.exchange_rules.specs.LawsOfLosses.{late_by_timer, late_by_timers, late_by_tick}
 use Rattle.exchange_rules.proofs.Naming.{Quiet, accounted-as, any-quiet, both-accounted, both-quiet, fewer, more-quiet, most-one, one-quiet, same-quiet, then-quiet}
 use Rattle.exchange_rules.proofs.QuietMessages.{anew-quiet, answered_back-quiet, ask_again-quiet, do_test-quiet, local-quiet, on_route_status-quiet, on_route_test-quiet, routed-quiet, transfer-quiet}
-use Rattle.exchange_rules.proofs.QuietLinks.{fail_by_order-quiet, run_out-quiet}
+use Rattle.exchange_rules.proofs.QuietLinks.{test_unanswered-quiet, begin_test-quiet, fail_by_order-quiet, run_out-quiet}
 
 -- what goes by a rule is named and counted, and so many other notices are made beside those of what is queued anew;
 -- these are of lateness
@@ -239,6 +239,9 @@ module _ (c : Configuration) where
   timer-names (Some (name.T6 destination)) n = some-quiet 0 n _ (omega arith) (same-quiet n _ refl refl refl)
   timer-names (Some (name.T8 set destination)) n = some-quiet 0 n n (omega arith) (any-quiet 0 n)
   timer-names (Some (name.T10 set destination)) n = some-quiet 1 n _ (omega arith) (ask_again-quiet c set destination n)
+  timer-names (Some (name.Slt1 link)) n = some-quiet 2 n _ (omega arith) (test_unanswered-quiet c link n)
+  timer-names (Some (name.Slt2 link)) n = some-quiet 0 n _ (omega arith) (begin_test-quiet c link n)
+  timer-names (Some name.Sst) n = some-quiet 0 n n (omega arith) (any-quiet 0 n)
 
   timers-names : (many : ℕ) (n : Node WholeQueues) → NamesLate (gone_by_timers many c n) (late_by_timers many c n) (3 * many) n (run_times whole c many n)
   timers-names zero n = quiet-names (3 * zero) n n (any-quiet (3 * zero) n)

@@ -9,7 +9,7 @@ pub named-append : (xs ys : List Notice) (kept : Noted) → noted_all (xs ++ ys)
 named-append [] ys kept = refl
 named-append (x ∷ xs) ys kept = named-append xs ys (noted x kept)
 
-counts-append : (p : Notice → Bool) (xs ys : List Notice) → count_by p (xs ++ ys) ≡ count_by p xs + count_by p ys
+pub counts-append : (p : Notice → Bool) (xs ys : List Notice) → count_by p (xs ++ ys) ≡ count_by p xs + count_by p ys
 counts-append p xs ys = sum_by-append (λ x. cond (p x) 1 0) xs ys
 
 same-count : (k j times : ℕ) → k ≡ j → counted k times ≡ counted j times

@@ -1,6 +1,6 @@
 -- A message that has a link, one that waits, and what is made here to an adjacent point are for other points.
 use Rattle.exchange_rules.proofs.Basics.{◌≡◌, ◌≢◌, ◌<◌, ◌≤◌, ℕ, ◌+◌, ◌*◌, ◌/◌, ◌%◌, ◌^◌, Bool, true, false, ◌&&◌, not, List, [], ◌∷◌, ◌++◌, length, nat_eq, Option, Some, None, refl, ap, sym, subst, ◌∙◌, arith, slice_index_or, is_some, ⊎_elim, cases_lt, get_or_past, option_and_then, nat_tests, position-Some}
-use Rattle.exchange_rules.proofs.Definitions.{Message, dpc_of, flow_of, is_management, Configuration, DestinationEntry, LinkEntry, SetEntry, IsWell, IsDestination, IsLink, IsSet, IsFarPoint, destination_place, set_place, Management, ChangebackDeclaration, link_code_of, field_octets, Acknowledgement, LinkTestValue, label_octets, chosen_link, HoldSet, Parts, facts, link_of, waits, is_flow_held, is_held_at, own_sio, management_to, testing, is_adjacent, test_answer, entry_of, set_of, adjacent_of, declaration}
+use Rattle.exchange_rules.proofs.Definitions.{Message, dpc_of, flow_of, is_management, Configuration, DestinationEntry, LinkEntry, SetEntry, IsWell, IsDestination, IsLink, IsSet, IsFarPoint, destination_place, set_place, Management, ChangebackDeclaration, link_code_of, field_octets, Acknowledgement, Test, LinkTestValue, label_octets, chosen_link, HoldSet, Parts, facts, link_of, waits, is_flow_held, is_held_at, own_sio, management_to, testing, is_adjacent, test_answer, link_test, own_pattern, peer_of, entry_of, set_of, adjacent_of, declaration}
 use Rattle.mtp3_codec.specs.Headings.{management_heading, kind_heading}
 use Rattle.exchange_rules.specs.LastingMessages.{is_onward}
 
@@ -24,7 +24,7 @@ module _ (c : Configuration) (well : IsWell c) where
       let known : IsDestination c.own (length c.sets) (slice_index_or c.destinations place none) = well.destinations place none found.0 in
       λ own. known.point.far (sym same ∙ own)
 
-  set-far : (set : ℕ) → set < length c.sets → IsFarPoint c.own (adjacent_of c set)
+  pub set-far : (set : ℕ) → set < length c.sets → IsFarPoint c.own (adjacent_of c set)
   set-far set there =
       let none : SetEntry = record { name = []; adjacent = 0 } in
       let known : IsSet c.own (slice_index_or c.sets set none) = well.sets set none there in
@@ -79,6 +79,10 @@ module _ (c : Configuration) (well : IsWell c) where
   answer-onward point test e =
       made-onward point test.slc (kind_heading Acknowledgement ∷ length test.pattern * 16 ∷ test.pattern) (own_sio c testing)
       (adjacent-far (set_place c point) point refl e)
+
+  pub test-onward : (link : ℕ) → is_onward c (link_test c link) ≡ true
+  test-onward link =
+      made-onward (peer_of c link) (entry_of c link).slc (kind_heading Test ∷ 4 * 16 ∷ own_pattern) (own_sio c testing) (set-far (set_of c link) (link-set link))
 
   placed-onward : (place : Option ℕ) (m : Message) → destination_place c (dpc_of m) ≡ place → is_some place ≡ true → is_onward c m ≡ true
   placed-onward (Some place) m e h = away m (destination-far (dpc_of m) place e)

@@ -1,6 +1,6 @@
 -- A link is proved before it enters service, whatever happens.
 use Rattle.exchange_rules.proofs.Basics.{◌≡◌, ◌≢◌, ◌<◌, ◌⊎◌, inl, inr, ℕ, Bool, true, false, List, Result, Ok, Err, refl, ap, sym, subst, ◌∙◌, arith, nat_tests, ⊎_elim, cases_eq, is_some, length, nat_lt, get_or-set_same, if◌then◌else◌}
-use Rattle.exchange_rules.proofs.Definitions.{Configuration, Alignment, Status, UserData, action_at, LinkStatus, FrameFault, FrameValue, EmptyFrame, MessageFrame, StatusFrame, read_frame, Link, down_link, opened, Node, answer, refuse, Ignored, Handled, is_link, link_at, down, changeover_of, may_restart, may_open, open_link, is_due, ticked, due_count, empty_data, message_data, data_of, act_by_data, act_by_status, leave_aside, read, with_timers, tick, Happening, CameUp, WentDown, FrameCame, Ticked, Submitted, Activated, Deactivated, TitleAdded, TitleRemoved, apply, release, tell_owed, WholeQueues, whole}
+use Rattle.exchange_rules.proofs.Definitions.{period_of, Configuration, Alignment, Status, UserData, acts_on, LinkStatus, FrameFault, FrameValue, EmptyFrame, MessageFrame, StatusFrame, read_frame, Link, down_link, opened, Node, answer, refuse, Ignored, Handled, is_link, link_at, down, changeover_of, may_restart, may_open, open_link, is_due, ticked, due_count, empty_data, message_data, data_of, act_by_data, act_by_status, leave_aside, read, with_timers, tick, Happening, CameUp, WentDown, FrameCame, Ticked, Submitted, Activated, Deactivated, TitleAdded, TitleRemoved, apply, release, tell_owed, WholeQueues, whole, tells_outage, tells_recovery, on_link_status}
 use Rattle.signalling_types.specs.declared.cause.Cause.TheVariants as causes
 use Rattle.m2pa_codec.specs.Frames.{status_number}
 use Rattle.m2pa_codec.specs.declared.status.LinkStatus.TheVariants as says
@@ -11,7 +11,7 @@ use Rattle.exchange_rules.proofs.LeftAll.{but}
 use Rattle.exchange_rules.proofs.SteppingEvents.{IsOf, apply-steps, leave_aside-steps, settled-steps}
 use Rattle.exchange_rules.proofs.ProvedFirst.{Climbs, both-climb, no-data, status-numbered}
 use Rattle.exchange_rules.proofs.ProvedKeeps.{Keeps, both-keep, keeps-climbs}
-use Rattle.exchange_rules.proofs.ProvedAll.{Climbing, Hearing, keeps, times-climb, keeps-hears, status-hears, data-hears}
+use Rattle.exchange_rules.proofs.ProvedAll.{Climbing, Hearing, keeps, times-climb, keeps-hears, told-hears, data-hears}
 
 -- a frame that was read as a link status says that
 pub says-of : (l : ℕ) (text : List ℕ) (bsn fsn : ℕ) (status its : LinkStatus) → read_frame text ≡ Ok (StatusFrame bsn fsn status) → status_number status ≡ status_number its
@@ -75,17 +75,17 @@ module _ (c : Configuration) (l : ℕ) (n : Node WholeQueues) where
     read-first : (r : Result FrameValue FrameFault) → read_frame text ≡ r → down n.parts l ≡ false → First (settled (read whole c l r n).left)
     unfolding settled
     read-first (Ok (EmptyFrame bsn fsn)) e up =
-        let m : Node WholeQueues = (act_by_data whole c (action_at (link_at n.parts l).alignment UserData) l (empty_data bsn fsn) n).left in
+        let m : Node WholeQueues = (act_by_data whole c (acts_on (link_at n.parts l) UserData) l (empty_data bsn fsn) n).left in
         data-first (EmptyFrame bsn fsn) e refl (settled m)
-        (keeps-hears c l 0 n m (settled m) (data-hears c l (action_at (link_at n.parts l).alignment UserData) (empty_data bsn fsn) n refl) (settled-steps (keeps c l) m))
+        (keeps-hears c l 0 n m (settled m) (data-hears c l (acts_on (link_at n.parts l) UserData) (empty_data bsn fsn) n refl) (settled-steps (keeps c l) m))
     read-first (Ok (MessageFrame bsn fsn sio sif)) e up =
-        let m : Node WholeQueues = (act_by_data whole c (action_at (link_at n.parts l).alignment UserData) l (message_data bsn fsn sio sif) n).left in
+        let m : Node WholeQueues = (act_by_data whole c (acts_on (link_at n.parts l) UserData) l (message_data bsn fsn sio sif) n).left in
         data-first (MessageFrame bsn fsn sio sif) e refl (settled m)
-        (keeps-hears c l 0 n m (settled m) (data-hears c l (action_at (link_at n.parts l).alignment UserData) (message_data bsn fsn sio sif) n refl) (settled-steps (keeps c l) m))
+        (keeps-hears c l 0 n m (settled m) (data-hears c l (acts_on (link_at n.parts l) UserData) (message_data bsn fsn sio sif) n refl) (settled-steps (keeps c l) m))
     read-first (Ok (StatusFrame bsn fsn status)) e up =
-        let m : Node WholeQueues = (act_by_status whole c (action_at (link_at n.parts l).alignment (Status status)) l status n).left in
+        let m : Node WholeQueues = (on_link_status whole c l status n).left in
         status-first bsn fsn status e (settled m)
-        (keeps-hears c l (status_number status) n m (settled m) (status-hears c l (action_at (link_at n.parts l).alignment (Status status)) status n refl) (settled-steps (keeps c l) m))
+        (keeps-hears c l (status_number status) n m (settled m) (told-hears c l (tells_outage c l status n.parts) (tells_recovery l status n.parts) status n) (settled-steps (keeps c l) m))
     read-first (Err fault) e up =
         let m : Node WholeQueues = (leave_aside whole c l fault n).left in
         kept-first (FrameCame l text) (settled m) (both-keep l n m (settled m) (leave_aside-steps (keeps c l) l fault n up) (settled-steps (keeps c l) m))
@@ -140,7 +140,7 @@ module _ (c : Configuration) (l : ℕ) (n : Node WholeQueues) where
   opened-first true true false e = kept-first (CameUp l) (settled n) (settled-steps (keeps c l) n)
   opened-first true true true e =
       let up : Node WholeQueues = open_link whole c l n in
-      let is : state_of up.parts l ≡ NotAligned = ap (λ (x : Link). x.alignment) (get_or-set_same n.parts.links l (opened (link_at n.parts l)) down_link (there-is l (length n.parts.links) e)) in
+      let is : state_of up.parts l ≡ NotAligned = ap (λ (x : Link). x.alignment) (get_or-set_same n.parts.links l (opened (period_of c l n.parts) (link_at n.parts l)) down_link (there-is l (length n.parts.links) e)) in
       begun-first (state_of (settled up).parts l)
       (subst (λ (x : Alignment). Climbs ⊥ x (state_of (settled up).parts l)) is (keeps-climbs ⊥ l up (settled up) (settled-steps (keeps c l) up)))
 

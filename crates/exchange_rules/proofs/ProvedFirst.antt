@@ -1,12 +1,14 @@
 -- A link is proved before it enters service.
-use Rattle.exchange_rules.proofs.Basics.{◌≡◌, ◌⊎◌, inl, inr, ℕ, Bool, true, false, ◌&&◌, ◌||◌, ◌==◌, List, [], ◌∷◌, Option, Some, None, refl, ap, sym, subst, ◌∙◌, arith, nat_tests, ⊎_elim, list_all, if◌then◌else◌}
-use Rattle.exchange_rules.proofs.Definitions.{Alignment, LinkStatus, LinkTimer, Input, Expiry, Status, UserData, Go, Transition, Effect, Fails, Remembers, Enters, EntersServing, Serves, Cell, table, state_number, is_same_input, effect_in, action_of, action_at}
+use Rattle.exchange_rules.proofs.Basics.{◌≢◌, not, ◌≡◌, ◌⊎◌, inl, inr, ℕ, Bool, true, false, ◌&&◌, ◌||◌, ◌==◌, List, [], ◌∷◌, Option, Some, None, refl, ap, sym, subst, ◌∙◌, arith, nat_tests, ⊎_elim, list_all, if◌then◌else◌}
+use Rattle.exchange_rules.proofs.Definitions.{Action, Alignment, LinkStatus, LinkTimer, Input, Expiry, Status, UserData, Go, Transition, Effect, Fails, Remembers, Enters, EntersServing, BeginsAgain, Serves, Passes, Cell, table, period_after, Period, state_number, is_same_input, effect_in, action_of, action_at}
 use Rattle.link.specs.declared.alignment.Alignment.TheVariants.{Down, NotAligned, Aligned, Proving, AlignedReady, InService}
 use Rattle.link.specs.Table.{timer_number}
 use Rattle.link.specs.declared.action.LinkTimer.TheVariants.{L1, L2, L3, L4, L6, L7}
 use Rattle.m2pa_codec.specs.Frames.{status_number, status_of}
 use Rattle.m2pa_codec.proofs.StatusNumbers.{status_of-number}
-use Rattle.exchange_rules.proofs.Serving.{step_in}
+use Rattle.link.specs.declared.period.Period.TheVariants.{Fixed, Normal, Emergency}
+use Rattle.exchange_rules.specs.Aligning.{MayAlignAgain}
+use Rattle.exchange_rules.proofs.Serving.{step_in, found-cell, IsInAll, in-all}
 
 -- ---- the table
 
@@ -19,9 +21,9 @@ kind_of (Expiry its) = if timer_number its == 4 then 10 else 11
 -- whether it leads from one state to another
 abbrev pub leads : (kind : ℕ) → (before after : ℕ) → Bool
 leads kind before after =
-    if after == 2 then kind == 1 && before == 1
-    else if after == 3 then (kind == 2 || kind == 3) && (before == 1 || before == 2)
-    else if after == 4 then kind == 4 && (before == 3 || before == 4)
+    if after == 2 then kind == 1 && (before == 1 || (before == 3 || before == 4))
+    else if after == 3 then ((kind == 2 || kind == 3) && (before == 1 || before == 2)) || (kind == 3 && before == 3)
+    else if after == 4 then (kind == 4 && (before == 3 || before == 4)) || (kind == 3 && before == 4)
     else if after == 5 then kind == 10 && before == 3
     else if after == 6
     then (kind == 10 && before == 4) || ((kind == 4 && before == 5) || ((kind == 0 && (before == 5 || before == 6)) || ((kind == 7 || kind == 8) && before == 6)))
@@ -32,7 +34,9 @@ leads_by kind before Fails = true
 leads_by kind before Remembers = leads kind before 4
 leads_by kind before (Enters after sent started) = leads kind before (state_number after)
 leads_by kind before EntersServing = leads kind before 6
+leads_by kind before BeginsAgain = leads kind before 2
 leads_by kind before Serves = leads kind before before
+leads_by kind before Passes = true
 
 abbrev cell_leads : Cell → Bool
 cell_leads c = leads_by (kind_of c.input) (state_number c.state) c.effect
@@ -78,18 +82,23 @@ found-leads (c ∷ cells) a input effect e h =
       | false ↦ λ other g. found-leads cells a input effect (rest (cell_leads c) (list_all cell_leads cells) e) g
     ] refl h
 
-effect-leads : (effect : Option Effect) (a : Alignment) (input : Input) (step : Transition) → effect_in table a input ≡ effect → action_of a effect ≡ Go step
-    → leads (kind_of input) (state_number a) (state_number (step_in (action_of a effect)).state) ≡ true
-effect-leads None a input step f e = absurd cc
-effect-leads (Some Fails) a input step f e = absurd cc
-effect-leads (Some Remembers) a input step f e = found-leads table a input Remembers refl f
-effect-leads (Some (Enters after sent start)) a input step f e = found-leads table a input (Enters after sent start) refl f
-effect-leads (Some EntersServing) a input step f e = found-leads table a input EntersServing refl f
-effect-leads (Some Serves) a input step f e = found-leads table a input Serves refl f
+leads-all : IsInAll cell_leads
+leads-all = record { fixed = refl; normal = refl; emergency = refl }
 
-pub each-leads : (a : Alignment) (input : Input) (step : Transition) → action_at a input ≡ Go step → leads (kind_of input) (state_number a) (state_number step.state) ≡ true
-each-leads a input step e =
-    subst (λ (t : Transition). leads (kind_of input) (state_number a) (state_number t.state) ≡ true) (ap step_in e) (effect-leads (effect_in table a input) a input step refl e)
+effect-leads : (period later : Period) (effect : Option Effect) (a : Alignment) (input : Input) (step : Transition) → effect_in (table period) a input ≡ effect → action_of later a effect ≡ Go step
+    → leads (kind_of input) (state_number a) (state_number (step_in (action_of later a effect)).state) ≡ true
+effect-leads period later None a input step f e = absurd cc
+effect-leads period later (Some Fails) a input step f e = absurd cc
+effect-leads period later (Some Remembers) a input step f e = found-leads (table period) a input Remembers (in-all cell_leads period leads-all) f
+effect-leads period later (Some (Enters after sent start)) a input step f e = found-leads (table period) a input (Enters after sent start) (in-all cell_leads period leads-all) f
+effect-leads period later (Some EntersServing) a input step f e = found-leads (table period) a input EntersServing (in-all cell_leads period leads-all) f
+effect-leads period later (Some BeginsAgain) a input step f e = found-leads (table period) a input BeginsAgain (in-all cell_leads period leads-all) f
+effect-leads period later (Some Passes) a input step f e = absurd cc
+effect-leads period later (Some Serves) a input step f e = found-leads (table period) a input Serves (in-all cell_leads period leads-all) f
+
+pub each-leads : (period : Period) (a : Alignment) (input : Input) (step : Transition) → action_at period a input ≡ Go step → leads (kind_of input) (state_number a) (state_number step.state) ≡ true
+each-leads period a input step e =
+    subst (λ (t : Transition). leads (kind_of input) (state_number a) (state_number t.state) ≡ true) (ap step_in e) (effect-leads period (period_after period input) (effect_in (table period) a input) a input step refl e)
 
 -- ---- states and statuses by their numbers
 
@@ -132,6 +141,37 @@ either : (a b : Bool) → (a || b) ≡ true → (a ≡ true) ⊎ (b ≡ true)
 either true b e = inl refl
 either false b e = inr e
 
+-- ---- a link with a fixed period is aligned from NotAligned alone
+
+abbrev aligns_first : ℕ → Effect → Bool
+aligns_first before (Enters after sent started) = if state_number after == 2 then before == 1 else true
+aligns_first before BeginsAgain = false
+aligns_first before Serves = not (before == 2)
+aligns_first before Fails = true
+aligns_first before Remembers = true
+aligns_first before EntersServing = true
+aligns_first before Passes = true
+
+effect-aligns : (later : Period) (effect : Option Effect) (a : Alignment) (input : Input) (step : Transition) → effect_in (table Fixed) a input ≡ effect → action_of later a effect ≡ Go step
+    → (step_in (action_of later a effect)).state ≡ Aligned → a ≡ NotAligned
+effect-aligns later None a input step f e is = absurd cc
+effect-aligns later (Some Fails) a input step f e is = absurd cc
+effect-aligns later (Some Remembers) a input step f e is = absurd (let no : Proving true ≡ Aligned = is in cc)
+effect-aligns later (Some (Enters after sent start)) a input step f e is =
+    numbered a 1 (sym (ap (λ (x : Alignment). if state_number x == 2 then state_number a == 1 else true) is)
+    ∙ found-cell aligns_first (table Fixed) a input (Enters after sent start) refl f)
+effect-aligns later (Some EntersServing) a input step f e is = absurd (let no : InService ≡ Aligned = is in cc)
+effect-aligns later (Some BeginsAgain) a input step f e is = absurd (let no : false ≡ true = found-cell aligns_first (table Fixed) a input BeginsAgain refl f in cc)
+effect-aligns later (Some Serves) a input step f e is =
+    absurd (let no : false ≡ true = sym (ap (λ (x : Alignment). not (state_number x == 2)) is) ∙ found-cell aligns_first (table Fixed) a input Serves refl f in cc)
+effect-aligns later (Some Passes) a input step f e is = absurd cc
+
+pub aligned-from : (period : Period) (a : Alignment) (input : Input) (step : Transition) → action_at period a input ≡ Go step → step.state ≡ Aligned → (a ≡ NotAligned) ⊎ (period ≢ Fixed)
+aligned-from Normal a input step e is = inr (λ (no : Normal ≡ Fixed). cc)
+aligned-from Emergency a input step e is = inr (λ (no : Emergency ≡ Fixed). cc)
+aligned-from Fixed a input step e is =
+    inl (effect-aligns (period_after Fixed input) (effect_in (table Fixed) a input) a input step refl e (ap (λ (x : Action). (step_in x).state) e ∙ is))
+
 -- ---- from one state to another
 
 -- in the midst of a tick; by D L4 of the link runs out
@@ -142,10 +182,10 @@ pub record Climbs (D : Type 0) (x y : Alignment) : Type 0 where
   pub ready : y ≡ AlignedReady → (x ≡ AlignedReady) ⊎ (D × (x ≡ Proving false))
   pub serves : y ≡ InService → (x ≡ InService) ⊎ (D × (x ≡ Proving true))
 
--- by a frame of some kind
-pub record Hears (k : ℕ) (x y : Alignment) : Type 0 where
+-- by a frame of some kind, of a link with a period
+pub record Hears (k : ℕ) (period : Period) (x y : Alignment) : Type 0 where
   pub begins : y ≡ NotAligned → x ≡ NotAligned
-  pub aligns : y ≡ Aligned → (x ≡ Aligned) ⊎ ((k ≡ 1) × (x ≡ NotAligned))
+  pub aligns : y ≡ Aligned → (x ≡ Aligned) ⊎ ((k ≡ 1) × ((x ≡ NotAligned) ⊎ MayAlignAgain period x))
   pub proves : y ≡ Proving false → (x ≡ Proving false) ⊎ (((k ≡ 2) ⊎ (k ≡ 3)) × ((x ≡ NotAligned) ⊎ (x ≡ Aligned)))
   pub remembers : y ≡ Proving true → (x ≡ Proving true) ⊎ ((k ≡ 4) × (x ≡ Proving false))
   pub ready : y ≡ AlignedReady → x ≡ AlignedReady
@@ -170,8 +210,8 @@ down-climbs D x y e = record {
 }
 
 -- what is heard first, and what keeps it
-pub heard-climbs : (k : ℕ) (x y z : Alignment) → Hears k x y → Climbs ⊥ y z → Hears k x z
-heard-climbs k x y z e f = record {
+pub heard-climbs : (k : ℕ) (period : Period) (x y z : Alignment) → Hears k period x y → Climbs ⊥ y z → Hears k period x z
+heard-climbs k period x y z e f = record {
   begins = λ h. e.begins (f.begins h);
   aligns = λ h. e.aligns (f.aligned h);
   proves = λ h. e.proves (f.proving false h);
@@ -180,8 +220,8 @@ heard-climbs k x y z e f = record {
   serves = λ h. e.serves (⊎_elim (λ (g : y ≡ InService). g) (λ (g : ⊥ × (y ≡ Proving true)). absurd g.0) (f.serves h));
 }
 
-pub same-hears : (k : ℕ) (x : Alignment) → Hears k x x
-same-hears k x = record { begins = λ h. h; aligns = λ h. inl h; proves = λ h. inl h; remembers = λ h. inl h; ready = λ h. h; serves = λ h. inl h }
+pub same-hears : (k : ℕ) (period : Period) (x : Alignment) → Hears k period x x
+same-hears k period x = record { begins = λ h. h; aligns = λ h. inl h; proves = λ h. inl h; remembers = λ h. inl h; ready = λ h. h; serves = λ h. inl h }
 
 timed-climbs : (D : Type 0) → D → (x y : Alignment) → leads 10 (state_number x) (state_number y) ≡ true → Climbs D x y
 timed-climbs D d x Down e = absurd cc
@@ -219,41 +259,63 @@ timer-climbs D L3 x y d e = absurd (none-leads x y e)
 timer-climbs D L6 x y d e = absurd (none-leads x y e)
 timer-climbs D L7 x y d e = absurd (none-leads x y e)
 
-pub frame-hears : (k : ℕ) (x y : Alignment) → (k ≡ 10 → ⊥) → leads k (state_number x) (state_number y) ≡ true → Hears k x y
-frame-hears k x Down frame e = absurd cc
-frame-hears k x NotAligned frame e = absurd cc
-frame-hears k x Aligned frame e = record {
+-- what an alignment leads from
+from-aligning : (x : Alignment) → ((state_number x == 1) ≡ true) ⊎ ((state_number x == 3 || state_number x == 4) ≡ true) → (x ≡ NotAligned) ⊎ ((ready : Bool) × (x ≡ Proving ready))
+from-aligning x (inl e) = inl (numbered x 1 e)
+from-aligning x (inr e) =
+    inr (⊎_elim (λ (f : (state_number x == 3) ≡ true). (false, numbered x 3 f)) (λ (f : (state_number x == 4) ≡ true). (true, numbered x 4 f)) (either (state_number x == 3) (state_number x == 4) e))
+
+-- with a fixed period, from NotAligned alone
+chosen-aligning : (period : Period) (x : Alignment) → (x ≡ NotAligned) ⊎ ((ready : Bool) × (x ≡ Proving ready)) → (x ≡ NotAligned) ⊎ (period ≢ Fixed) → (x ≡ NotAligned) ⊎ MayAlignAgain period x
+chosen-aligning period x (inl e) chosen = inl e
+chosen-aligning period x (inr proved) (inl e) = inl e
+chosen-aligning period x (inr proved) (inr apart) = inr (apart, proved)
+
+pub frame-hears : (k : ℕ) (period : Period) (x y : Alignment) → (k ≡ 10 → ⊥) → leads k (state_number x) (state_number y) ≡ true → (y ≡ Aligned → (x ≡ NotAligned) ⊎ (period ≢ Fixed))
+    → Hears k period x y
+frame-hears k period x Down frame e chosen = absurd cc
+frame-hears k period x NotAligned frame e chosen = absurd cc
+frame-hears k period x Aligned frame e chosen = record {
   begins = λ h. absurd cc;
-  aligns = λ h. inr (same-number k 1 (front (k == 1) _ e), numbered x 1 (rest (k == 1) _ e));
+  aligns = λ h. inr (same-number k 1 (front (k == 1) _ e), chosen-aligning period x (from-aligning x (either (state_number x == 1) (state_number x == 3 || state_number x == 4) (rest (k == 1) _ e))) (chosen h));
   proves = λ h. absurd cc;
   remembers = λ h. absurd cc;
   ready = λ h. absurd cc;
   serves = λ h. absurd cc;
 }
-frame-hears k x (Proving false) frame e = record {
+frame-hears k period x (Proving false) frame e chosen = record {
   begins = λ h. absurd cc;
   aligns = λ h. absurd cc;
-  proves = λ h. inr (
-    ⊎_elim (λ (f : (k == 2) ≡ true). inl (same-number k 2 f)) (λ (f : (k == 3) ≡ true). inr (same-number k 3 f)) (either (k == 2) (k == 3) (front (k == 2 || k == 3) _ e)),
-    ⊎_elim (λ (f : (state_number x == 1) ≡ true). inl (numbered x 1 f)) (λ (f : (state_number x == 2) ≡ true). inr (numbered x 2 f))
-        (either (state_number x == 1) (state_number x == 2) (rest (k == 2 || k == 3) _ e)),
-  );
+  proves = λ h. by (either _ _ e);
   remembers = λ h. absurd cc;
   ready = λ h. absurd cc;
   serves = λ h. absurd cc;
 }
-frame-hears k x (Proving true) frame e = record {
+  where
+    by : (((k == 2 || k == 3) && (state_number x == 1 || state_number x == 2)) ≡ true) ⊎ ((k == 3 && state_number x == 3) ≡ true)
+        → (x ≡ Proving false) ⊎ (((k ≡ 2) ⊎ (k ≡ 3)) × ((x ≡ NotAligned) ⊎ (x ≡ Aligned)))
+    by (inl d) = inr (
+      ⊎_elim (λ (f : (k == 2) ≡ true). inl (same-number k 2 f)) (λ (f : (k == 3) ≡ true). inr (same-number k 3 f)) (either (k == 2) (k == 3) (front (k == 2 || k == 3) _ d)),
+      ⊎_elim (λ (f : (state_number x == 1) ≡ true). inl (numbered x 1 f)) (λ (f : (state_number x == 2) ≡ true). inr (numbered x 2 f))
+          (either (state_number x == 1) (state_number x == 2) (rest (k == 2 || k == 3) _ d)),
+    )
+    by (inr d) = inl (numbered x 3 (rest (k == 3) _ d))
+frame-hears k period x (Proving true) frame e chosen = record {
   begins = λ h. absurd cc;
   aligns = λ h. absurd cc;
   proves = λ h. absurd cc;
-  remembers = λ h.
-      ⊎_elim (λ (f : (state_number x == 3) ≡ true). inr (same-number k 4 (front (k == 4) _ e), numbered x 3 f)) (λ (f : (state_number x == 4) ≡ true). inl (numbered x 4 f))
-      (either (state_number x == 3) (state_number x == 4) (rest (k == 4) _ e));
+  remembers = λ h. by (either _ _ e);
   ready = λ h. absurd cc;
   serves = λ h. absurd cc;
 }
-frame-hears k x AlignedReady frame e = absurd (frame (same-number k 10 (front (k == 10) _ e)))
-frame-hears k x InService frame e = record {
+  where
+    by : ((k == 4 && (state_number x == 3 || state_number x == 4)) ≡ true) ⊎ ((k == 3 && state_number x == 4) ≡ true) → (x ≡ Proving true) ⊎ ((k ≡ 4) × (x ≡ Proving false))
+    by (inl d) =
+        ⊎_elim (λ (f : (state_number x == 3) ≡ true). inr (same-number k 4 (front (k == 4) _ d), numbered x 3 f)) (λ (f : (state_number x == 4) ≡ true). inl (numbered x 4 f))
+        (either (state_number x == 3) (state_number x == 4) (rest (k == 4) _ d))
+    by (inr d) = inl (numbered x 4 (rest (k == 3) _ d))
+frame-hears k period x AlignedReady frame e chosen = absurd (frame (same-number k 10 (front (k == 10) _ e)))
+frame-hears k period x InService frame e chosen = record {
   begins = λ h. absurd cc;
   aligns = λ h. absurd cc;
   proves = λ h. absurd cc;

@@ -1,12 +1,13 @@
 -- Links that fail and return lose nothing by this: how many notices each rule makes.
 use Rattle.exchange_rules.proofs.Basics.{Bool, None, Option, Some, arith, false, length, not, refl, suc, true, zero, ℕ, ◌&&◌, if◌then◌else◌}
-use Rattle.exchange_rules.proofs.Definitions.{action_at, Action, Expiry, Status, LinkTimer, Transition, LinkStatus, Facts, Configuration, FailureReason, FrameFault, Handled, Ignored, changeover_order, code_for, fail_link, links_with, timed_busy, timed_busy_ended, hold_flows, loses_flows, suspended, take_back_each, without_tests, fail_by_order, begin, begin_by_peer, change_over, changing, fail, fail_by_peer, has_other, make_unavailable, leave_aside, down, in_service, is_link, link_at, activate, association_down, deactivate, end_association, fail_if_up, set_active, set_of, WholeQueues, whole, facts, Done, Node, Parts, answer, refuse, with_parts, act_by_status, act_by_timer, advance, begun_anew_if, enters, moved_on, step_on, on_link_status, return_if, run_out, serve_status}
+use Rattle.exchange_rules.proofs.Definitions.{acts_on, Action, Expiry, Status, LinkTimer, Transition, LinkStatus, Facts, Configuration, FailureReason, FrameFault, Handled, Ignored, changeover_order, code_for, fail_link, links_with, timed_busy, timed_busy_ended, hold_flows, loses_flows, suspended, take_back_each, without_tests, fail_by_order, begin, begin_by_peer, change_over, changing, fail, fail_by_peer, has_other, make_unavailable, leave_aside, down, in_service, is_link, link_at, activate, association_down, deactivate, end_association, fail_if_up, set_active, set_of, WholeQueues, whole, facts, Done, Node, Parts, answer, refuse, with_parts, act_by_status, act_by_timer, advance, begun_anew_if, enters, moved_on, step_on, on_link_status, return_if, run_out, serve_status, tells_outage, tells_recovery, begin_outage, hear_outage, end_outage, become_busy, end_busy, let_back, take_step, test_if, queue_if, send_test, begin_test, repeat_test, test_unanswered, with_test_failed, awaiting_test, link_test, tests_links, no_room, Cause}
 use Rattle.link.specs.declared.action.Action.TheVariants as act
 use Rattle.signalling_types.specs.declared.cause.Cause.TheVariants as causes
 use Rattle.signalling_types.specs.declared.notice.FrameFault.TheVariants as faults
 use Rattle.signalling_types.specs.declared.notice.Notice.TheVariants as notices
 use Rattle.signalling_types.specs.declared.notice.FailureReason.TheVariants as reasons
 use Rattle.m2pa_codec.specs.declared.status.LinkStatus.TheVariants as says
+use Rattle.exchange_rules.proofs.Steps.{with_busy, without_busy}
 use Rattle.exchange_rules.proofs.Naming.{Quiet, any-quiet, both-quiet, either-quiet, either_done-quiet, more-quiet, one-quiet, same-quiet, then-quiet}
 use Rattle.exchange_rules.proofs.QuietMessages.{routed-quiet}
 
@@ -97,31 +98,68 @@ module _ (c : Configuration) where
   moved-quiet true link step n = same-quiet n _ refl refl refl
   moved-quiet false link step n = same-quiet n _ refl refl refl
 
+  -- ---- tests of links
+
+  queue_if-quiet : (room : Option Cause) (link : ℕ) (n : Node WholeQueues) → Quiet 0 n (queue_if whole c room link (link_test c link) n)
+  queue_if-quiet (Some cause) link n = any-quiet 0 n
+  queue_if-quiet None link n = same-quiet n _ refl refl refl
+
+  send_test-quiet : (link : ℕ) (n : Node WholeQueues) → Quiet 0 n (send_test whole c link n)
+  send_test-quiet link n =
+      let next : Node WholeQueues = with_parts n (awaiting_test c link n.parts) in
+      both-quiet 0 0 n next _ (same-quiet n next refl refl refl) (queue_if-quiet (no_room whole c (link_test c link) n.queues) link next)
+
+  pub begin_test-quiet : (link : ℕ) (n : Node WholeQueues) → Quiet 0 n (begin_test whole c link n)
+  begin_test-quiet link n =
+      either-quiet 0 (tests_links c && in_service n.parts link) n (send_test whole c link n) n (send_test-quiet link n) (any-quiet 0 n)
+
+  repeat_test-quiet : (again : Bool) (link : ℕ) (n : Node WholeQueues) → Quiet 2 n (repeat_test whole c again link n)
+  repeat_test-quiet true link n = fail-quiet link reasons.Test n
+  repeat_test-quiet false link n =
+      let failed : Node WholeQueues = with_parts n (with_test_failed true link n.parts) in
+      more-quiet 0 2 n _ (omega arith) (both-quiet 0 0 n failed _ (same-quiet n failed refl refl refl) (begin_test-quiet link failed))
+
+  pub test_unanswered-quiet : (link : ℕ) (n : Node WholeQueues) → Quiet 2 n (test_unanswered whole c link n)
+  test_unanswered-quiet link n =
+      let again : Bool = (link_at n.parts link).test_failed in
+      either-quiet 2 (in_service n.parts link) n (repeat_test whole c again link n) n (repeat_test-quiet again link n) (any-quiet 2 n)
+
+  test_if-quiet : (entered : Bool) (link : ℕ) (n : Node WholeQueues) → Quiet 0 n (test_if whole c entered link n)
+  test_if-quiet true link n = begin_test-quiet link n
+  test_if-quiet false link n = any-quiet 0 n
+
   pub advance-quiet : (link : ℕ) (step : Transition) (n : Node WholeQueues) → Quiet 0 n (advance whole c link step n)
   advance-quiet link step n =
       let moved : Node WholeQueues = with_parts n (moved_on c link step n.parts) in
-      both-quiet 0 0 n moved _ (moved-quiet (enters link step n.parts && not (has_other c link n.parts)) link step n)
-      (return-quiet (enters link step n.parts) link (facts c n.parts) moved)
+      let took : Node WholeQueues = take_step whole c link step n in
+      both-quiet 0 0 n took _
+      (both-quiet 0 0 n moved took (moved-quiet (enters link step n.parts && not (has_other c link n.parts)) link step n)
+      (return-quiet (enters link step n.parts) link (facts c n.parts) moved))
+      (test_if-quiet (enters link step n.parts) link took)
 
   -- ---- statuses, timers of links, and frames that can't be read
 
+  begun-busy : (link : ℕ) (n : Node WholeQueues) → Quiet 0 n (with_parts n (become_busy c link n.parts))
+  begun-busy link n = by (link_at n.parts link).peer_busy
+    where
+      by : (busy : Bool) → Quiet 0 n (with_parts n (if busy then n.parts else with_busy c link n.parts))
+      by true = same-quiet n _ refl refl refl
+      by false = same-quiet n _ refl refl refl
+
+  ended-busy : (link : ℕ) (n : Node WholeQueues) → Quiet 0 n (with_parts n (end_busy c link (whole.outstanding n.queues link) n.parts))
+  ended-busy link n = by (link_at n.parts link).peer_busy
+    where
+      by : (busy : Bool) → Quiet 0 n (with_parts n (if busy then without_busy c link (whole.outstanding n.queues link) n.parts else n.parts))
+      by true = same-quiet n _ refl refl refl
+      by false = same-quiet n _ refl refl refl
+
   serve_status-quiet : (link : ℕ) (status : LinkStatus) (n : Node WholeQueues) → Quiet 0 n (serve_status whole c link status n)
-  serve_status-quiet link says.Busy n = by (link_at n.parts link).peer_busy
+  serve_status-quiet link says.Busy n = begun-busy link n
+  serve_status-quiet link says.BusyEnded n = by (link_at n.parts link).peer_outage
     where
-      by : (busy : Bool) → Quiet 0 n (with_parts n (if busy then n.parts else record n.parts {
-        links = links_with n.parts link (record (link_at n.parts link) { peer_busy = true });
-        timers = timed_busy c link n.parts.timers;
-      }))
+      by : (out : Bool) → Quiet 0 n (with_parts n (if out then n.parts else end_busy c link (whole.outstanding n.queues link) n.parts))
       by true = same-quiet n _ refl refl refl
-      by false = same-quiet n _ refl refl refl
-  serve_status-quiet link says.BusyEnded n = by (link_at n.parts link).peer_busy
-    where
-      by : (busy : Bool) → Quiet 0 n (with_parts n (if busy then record n.parts {
-        links = links_with n.parts link (record (link_at n.parts link) { peer_busy = false });
-        timers = timed_busy_ended c link (whole.outstanding n.queues link) n.parts.timers;
-      } else n.parts))
-      by true = same-quiet n _ refl refl refl
-      by false = same-quiet n _ refl refl refl
+      by false = ended-busy link n
   serve_status-quiet link says.Alignment n = any-quiet 0 n
   serve_status-quiet link says.ProvingNormal n = any-quiet 0 n
   serve_status-quiet link says.ProvingEmergency n = any-quiet 0 n
@@ -139,8 +177,25 @@ module _ (c : Configuration) where
       (both-quiet 0 0 n moved _ (advance-quiet link step n)
       (either-quiet 0 step.serve moved (serve_status whole c link status moved) moved (serve_status-quiet link status moved) (any-quiet 0 moved)))
 
+  begin_outage-quiet : (link : ℕ) (n : Node WholeQueues) → Quiet 0 n (begin_outage whole c link n)
+  begin_outage-quiet link n =
+      let one : Node WholeQueues = with_parts n (end_busy c link (whole.outstanding n.queues link) n.parts) in
+      let two : Node WholeQueues = with_parts n (become_busy c link one.parts) in
+      both-quiet 0 0 n one _ (ended-busy link n) (both-quiet 0 0 one two _ (begun-busy link one) (same-quiet two _ refl refl refl))
+
+  end_outage-quiet : (link : ℕ) (n : Node WholeQueues) → Quiet 0 n (end_outage whole c link n)
+  end_outage-quiet link n =
+      let back : Node WholeQueues = with_parts n (let_back link n.parts) in
+      both-quiet 0 0 n back _ (same-quiet n back refl refl refl) (ended-busy link back)
+
   pub on_link_status-quiet : (link : ℕ) (status : LinkStatus) (n : Node WholeQueues) → Quiet 2 n (on_link_status whole c link status n).left
-  on_link_status-quiet link status n = act_by_status-quiet (action_at (link_at n.parts link).alignment (Status status)) link status n
+  on_link_status-quiet link status n =
+      let back : Done WholeQueues = answer Handled (end_outage whole c link n) in
+      let acted : Done WholeQueues = act_by_status whole c (acts_on (link_at n.parts link) (Status status)) link status n in
+      either_done-quiet 2 (tells_outage c link status n.parts) n (answer Handled (hear_outage whole c link n)) (if tells_recovery link status n.parts then back else acted)
+      (either-quiet 2 (link_at n.parts link).peer_outage n n (begin_outage whole c link n) (any-quiet 2 n) (more-quiet 0 2 n _ (omega arith) (begin_outage-quiet link n)))
+      (either_done-quiet 2 (tells_recovery link status n.parts) n back acted (more-quiet 0 2 n _ (omega arith) (end_outage-quiet link n))
+      (act_by_status-quiet (acts_on (link_at n.parts link) (Status status)) link status n))
 
   act_by_timer-quiet : (a : Action) (link : ℕ) (n : Node WholeQueues) → Quiet 2 n (act_by_timer whole c a link n)
   act_by_timer-quiet act.Ignored link n = any-quiet 2 n
@@ -148,7 +203,7 @@ module _ (c : Configuration) where
   act_by_timer-quiet (act.Go step) link n = more-quiet 0 2 n _ (omega arith) (advance-quiet link step n)
 
   pub run_out-quiet : (link : ℕ) (its : LinkTimer) (n : Node WholeQueues) → Quiet 2 n (run_out whole c link its n)
-  run_out-quiet link its n = act_by_timer-quiet (action_at (link_at n.parts link).alignment (Expiry its)) link n
+  run_out-quiet link its n = act_by_timer-quiet (acts_on (link_at n.parts link) (Expiry its)) link n
 
   pub leave_aside-quiet : (link : ℕ) (fault : FrameFault) (n : Node WholeQueues) → Quiet 2 n (leave_aside whole c link fault n).left
   leave_aside-quiet link faults.Length n = fail-quiet link reasons.Length n

@@ -1,6 +1,6 @@
 -- A frame on a link raises what was received there by one exactly when it newly carries a message; no other event does.
 use Rattle.exchange_rules.proofs.Basics.{◌≡◌, ◌≢◌, ◌<◌, ◌+◌, ℕ, Bool, true, false, ◌&&◌, not, List, length, nat_eq, Option, Some, None, Result, Ok, Err, refl, ap, sym, subst, ◌∙◌, arith, if◌then◌else◌, is_some, nat_tests, get_or-set_same}
-use Rattle.exchange_rules.proofs.Definitions.{Message, Ignored, FrameFault, Configuration, FrameValue, EmptyFrame, MessageFrame, StatusFrame, read_frame, LinkStatus, Action, Status, UserData, action_at, Queue, first_queue, after_answer, SeqFault, Node, answer, refuse, is_link, link_at, down, in_service, advance, act_by_status, Carrying, carries, empty_data, message_data, timed_parts, numbers, accept, carry, handle_by, act_by_data, receive_data, leave_aside, read, receive, Happening, CameUp, WentDown, FrameCame, Ticked, Submitted, Activated, Deactivated, TitleAdded, TitleRemoved, apply, WholeQueues, queue_at, whole, Abstract, HasAllPlaces, new_by, new_at, new_in, new_of, new_message, received, received_is_counted, takes_receive_nothing, is_idle, nothing_new_is_delivered}
+use Rattle.exchange_rules.proofs.Definitions.{Message, Ignored, FrameFault, Configuration, FrameValue, EmptyFrame, MessageFrame, StatusFrame, read_frame, LinkStatus, Action, Status, UserData, acts_on, Queue, first_queue, after_answer, SeqFault, Node, answer, refuse, is_link, link_at, down, in_service, advance, act_by_status, Carrying, carries, empty_data, message_data, timed_parts, numbers, accept, carry, handle_by, act_by_data, receive_data, leave_aside, read, receive, Happening, CameUp, WentDown, FrameCame, Ticked, Submitted, Activated, Deactivated, TitleAdded, TitleRemoved, apply, WholeQueues, queue_at, whole, Abstract, HasAllPlaces, new_by, new_at, new_in, new_of, new_message, received, received_is_counted, takes_receive_nothing, is_idle, nothing_new_is_delivered, Handled, tells_outage, tells_recovery, hear_outage, end_outage}
 use Rattle.signalling_types.specs.declared.cause.Cause.TheVariants as causes
 use Rattle.signalling_types.specs.declared.notice.FrameFault.TheVariants as faults
 use Rattle.signalling_types.specs.declared.notice.FailureReason.TheVariants as reasons
@@ -47,7 +47,7 @@ module _ (c : Configuration) (link : ℕ) where
       ∙ confirming-count d count n there e
   handle-count (Err fault) d n there serves e = (fail-steps (same-steps link c) link reasons.Sequence n).same ∙ none-more (received n link)
 
-  act-count : (a : Action) (d : Carrying) (n : Node WholeQueues) → HasAllPlaces c n → link < length c.links → action_at (link_at n.parts link).alignment UserData ≡ a
+  act-count : (a : Action) (d : Carrying) (n : Node WholeQueues) → HasAllPlaces c n → link < length c.links → acts_on (link_at n.parts link) UserData ≡ a
       → received (act_by_data whole c a link d n).left link ≡ received n link + one_if (is_some (new_at a link d c n))
   act-count act.Ignored d n h there e = none-more (received n link)
   act-count act.Fail d n h there e = (fail-steps (same-steps link c) link reasons.Sequence n).same ∙ none-more (received n link)
@@ -56,18 +56,18 @@ module _ (c : Configuration) (link : ℕ) where
       let places : HasAllPlaces c next = (advance-steps (rules-of (places-steps c)) link UserData step n tt e).stay h in
       let more : ℕ = one_if (is_some (new_by (numbers whole c link d next) d)) in
       handle-count (numbers whole c link d next) d next (omega (arith, there, places.queues))
-      (advance-serves c link UserData step n e ∙ data-serves (link_at n.parts link).alignment step e) refl
+      (advance-serves c link UserData step n e ∙ data-serves (link_at n.parts link).period (link_at n.parts link).alignment step e) refl
       ∙ ap (λ (k : ℕ). k + more) (advance-steps (rules-of (same-steps link c)) link UserData step n tt e).same
 
   data-count : (d : Carrying) (n : Node WholeQueues) → HasAllPlaces c n → link < length c.links
       → received (receive_data whole c link d n).left link ≡ received n link + one_if (is_some (new_in (Some d) link c n))
-  data-count d n h there = act-count (action_at (link_at n.parts link).alignment UserData) d n h there refl
+  data-count d n h there = act-count (acts_on (link_at n.parts link) UserData) d n h there refl
 
   frame-count : (r : Result FrameValue FrameFault) (n : Node WholeQueues) → HasAllPlaces c n → link < length c.links → down n.parts link ≡ false
       → received (read whole c link r n).left link ≡ received n link + one_if (is_some (new_of r link c n))
   frame-count (Ok (EmptyFrame bsn fsn)) n h there up = data-count (empty_data bsn fsn) n h there
   frame-count (Ok (MessageFrame bsn fsn sio sif)) n h there up = data-count (message_data bsn fsn sio sif) n h there
-  frame-count (Ok (StatusFrame bsn fsn status)) n h there up = (on_link_status-steps (rules-of (same-steps link c)) link status n tt (λ e. tt)).same ∙ none-more (received n link)
+  frame-count (Ok (StatusFrame bsn fsn status)) n h there up = (on_link_status-steps (rules-of (same-steps link c)) link status n tt (record { fails = λ e f. tt; recovers = λ e. tt })).same ∙ none-more (received n link)
   frame-count (Err fault) n h there up = (leave_aside-steps (rules-of (same-steps link c)) link fault n up).same ∙ none-more (received n link)
 
   -- where the link is there, and isn't down
@@ -142,6 +142,13 @@ module _ (c : Configuration) (link : ℕ) where
   idle-status act.Fail status n = refl
   idle-status (act.Go step) status n = refl
 
+  idle-told : (out back : Bool) (status : LinkStatus) (n : Node WholeQueues)
+      → is_idle (if out then answer Handled (hear_outage whole c link n) else if back then answer Handled (end_outage whole c link n)
+      else act_by_status whole c (acts_on (link_at n.parts link) (Status status)) link status n).outcome ≡ true
+  idle-told true back status n = refl
+  idle-told false true status n = refl
+  idle-told false false status n = idle-status (acts_on (link_at n.parts link) (Status status)) status n
+
   idle-aside : (fault : FrameFault) (n : Node WholeQueues) → is_idle (leave_aside whole c link fault n).outcome ≡ true
   idle-aside faults.Length n = refl
   idle-aside faults.Short n = refl
@@ -149,9 +156,9 @@ module _ (c : Configuration) (link : ℕ) where
   idle-aside faults.Unknown n = refl
 
   idle-frame : (r : Result FrameValue FrameFault) (n : Node WholeQueues) → new_of r link c n ≡ None → is_idle (read whole c link r n).outcome ≡ true
-  idle-frame (Ok (EmptyFrame bsn fsn)) n e = idle-act (action_at (link_at n.parts link).alignment UserData) (empty_data bsn fsn) n e
-  idle-frame (Ok (MessageFrame bsn fsn sio sif)) n e = idle-act (action_at (link_at n.parts link).alignment UserData) (message_data bsn fsn sio sif) n e
-  idle-frame (Ok (StatusFrame bsn fsn status)) n e = idle-status (action_at (link_at n.parts link).alignment (Status status)) status n
+  idle-frame (Ok (EmptyFrame bsn fsn)) n e = idle-act (acts_on (link_at n.parts link) UserData) (empty_data bsn fsn) n e
+  idle-frame (Ok (MessageFrame bsn fsn sio sif)) n e = idle-act (acts_on (link_at n.parts link) UserData) (message_data bsn fsn sio sif) n e
+  idle-frame (Ok (StatusFrame bsn fsn status)) n e = idle-told (tells_outage c link status n.parts) (tells_recovery link status n.parts) status n
   idle-frame (Err fault) n e = idle-aside fault n
 
   idle-receive : (there is_down : Bool) (r : Result FrameValue FrameFault) (n : Node WholeQueues) → (if there && not is_down then new_of r link c n else None) ≡ None

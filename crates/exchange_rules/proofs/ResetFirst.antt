@@ -1,7 +1,8 @@
 -- A link takes a step of its alignment, and what is known over its set is reset: whichever comes first, the node is the
 -- same.
 use Rattle.exchange_rules.proofs.Basics.{◌≡◌, ◌≢◌, ℕ, Bool, true, false, Option, Some, None, refl, ap, sym, subst, ◌∙◌, ⊎_elim}
-use Rattle.exchange_rules.proofs.Definitions.{Configuration, Transition, LinkTimer, TimerName, NodeCounts, Running, has_name, is_of_set, set_timer, clear_timer, clear_set, left-set, left-set_other, left-clear, left-clear_other, left-clear_set_other, counts-set, counts-clear, counts-clear_set, timer_name, ticks_of, without_timer_if, with_timer_if, timed, Parts, step_on, with_set_reset}
+use Rattle.settings_rows.specs.declared.timer_ticks.TimerTicks.{TimerTicks}
+use Rattle.exchange_rules.proofs.Definitions.{paced, Configuration, Transition, LinkTimer, TimerName, NodeCounts, Running, has_name, is_of_set, set_timer, clear_timer, clear_set, left-set, left-set_other, left-clear, left-clear_other, left-clear_set_other, counts-set, counts-clear, counts-clear_set, timer_name, ticks_of, without_timer_if, with_timer_if, timed, Parts, step_on, with_set_reset}
 use Rattle.timers.proofs.Maps.{left-clear_set}
 use Rattle.timers.specs.OneMap.{one_map}
 use Rattle.timers.specs.declared.name.RouteTimer.{RouteTimer}
@@ -79,12 +80,12 @@ module _ (of : RouteTimer) (set : ℕ) where
     stops None r = refl
     stops (Some its) r = cleared-clear (timer_name link its) r (of-no_set of set link its)
 
-    starts : (its : Option LinkTimer) (r : Running) → clear_set of set (with_timer_if c link its r) ≡ with_timer_if c link its (clear_set of set r)
-    starts None r = refl
-    starts (Some its) r = cleared-set (timer_name link its) (ticks_of c.timers its) r (of-no_set of set link its)
+    starts : (ticks : TimerTicks) (its : Option LinkTimer) (r : Running) → clear_set of set (with_timer_if ticks link its r) ≡ with_timer_if ticks link its (clear_set of set r)
+    starts ticks None r = refl
+    starts ticks (Some its) r = cleared-set (timer_name link its) (ticks_of ticks its) r (of-no_set of set link its)
 
     timed-cleared : (step : Transition) (r : Running) → clear_set of set (timed c link step r) ≡ timed c link step (clear_set of set r)
-    timed-cleared step r = starts step.start (without_timer_if link step.stop r) ∙ ap (with_timer_if c link step.start) (stops step.stop r)
+    timed-cleared step r = starts (paced step.period c.timers) step.start (without_timer_if link step.stop r) ∙ ap (with_timer_if (paced step.period c.timers) link step.start) (stops step.stop r)
 
 pub reset-first : (c : Configuration) (set link : ℕ) (step : Transition) (p : Parts) → with_set_reset c set (step_on c link step p) ≡ step_on c link step (with_set_reset c set p)
 reset-first c set link step p =

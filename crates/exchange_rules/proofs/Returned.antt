@@ -1,6 +1,6 @@
 -- A return, by the procedure of each other link.
 use Rattle.exchange_rules.proofs.Basics.{◌≡◌, ◌≢◌, ◌<◌, ◌≤◌, ◌++◌, ℕ, suc, Bool, true, false, ◌&&◌, not, [], ◌∷◌, length, Option, Some, None, refl, ap, sym, ◌∙◌, subst, arith, inl, inr, ⊎_elim, cases_lt, cases_eq, get_or-set_same}
-use Rattle.exchange_rules.proofs.Definitions.{Message, Configuration, Queue, first_queue, appended, Facts, chosen_link, Procedure, Code, holds, IsAnyFlow, may_parts, is_outstanding, Parts, Node, with_parts, set_of, facts, WholeQueues, queue_at, whole, declaration, loses_flows, procedure_by, code_for, hold_flows, change_back, has_other, enters, moved_on, return_if, advance, HasPlacesFor, HasReturned, HasLost, IsChosen, IsReturn, flows_return_by_their_procedures, entries_are_returns}
+use Rattle.exchange_rules.proofs.Definitions.{take_step, Message, Configuration, Queue, first_queue, appended, Facts, chosen_link, Procedure, Code, holds, IsAnyFlow, may_parts, is_outstanding, Parts, Node, with_parts, set_of, facts, WholeQueues, queue_at, whole, declaration, loses_flows, procedure_by, code_for, hold_flows, change_back, has_other, enters, moved_on, return_if, advance, HasPlacesFor, HasReturned, HasLost, IsChosen, IsReturn, flows_return_by_their_procedures, entries_are_returns}
 use Rattle.exchange_rules.proofs.Belonging.{chosen_listed, chosen_there}
 use Rattle.exchange_rules.proofs.TakenPairs.{IsTakenFrom, pairs_stay, pair_was}
 use Rattle.exchange_rules.proofs.TakenBack.{taken-so, loses-so, went, other_loses, some_lost, taken_flow_held}
@@ -185,7 +185,7 @@ entered_so c link step node h entered =
     let first : Bool = enters link step node.parts && not (has_other c link node.parts) in
     let next : Node WholeQueues = with_parts node (moved_on c link step node.parts) in
     let places : HasPlacesFor c next.parts = stepped-places c link step node.parts first h.parts in
-    let back : advance whole c link step node ≡ change_back whole c link (facts c node.parts) next =
+    let back : take_step whole c link step node ≡ change_back whole c link (facts c node.parts) next =
     ap (λ (b : Bool). return_if whole c b link (facts c node.parts) next) entered in (
       by c link node.parts next places h.queues,
       subst (λ (m : Node WholeQueues). IsReturn c link (facts c node.parts) next m (by c link node.parts next places h.queues)) (sym back) (is_return c link node.parts next places h.queues),

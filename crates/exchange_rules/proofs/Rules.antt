@@ -1,12 +1,12 @@
 -- What holds of each step holds of each rule that changes holds, changeovers or the timers that end holds.
-use Rattle.exchange_rules.proofs.Basics.{ℕ, List, [], ◌∷◌, refl}
-use Rattle.exchange_rules.proofs.Definitions.{Configuration, Node, with_parts, held_by_rerouting, WholeQueues}
+use Rattle.exchange_rules.proofs.Basics.{ℕ, Bool, true, false, List, [], ◌∷◌, refl}
+use Rattle.exchange_rules.proofs.Definitions.{Configuration, Node, with_parts, held_by_rerouting, link_at, Changeover, WholeQueues, whole}
 use Rattle.changeback.specs.Rerouting.{held_for}
 use Rattle.timers.specs.declared.name.TimerName.TheVariants as name
 use Rattle.exchange_rules.proofs.Places.{held_for-fits, lifted-fits}
-use Rattle.exchange_rules.proofs.Steps.{IsOfSteps, IsOfRules, sends-of, not-both, lateness-other}
+use Rattle.exchange_rules.proofs.Steps.{IsOfSteps, IsOfRules, sends-of, not-both, lateness-other, outed}
 use Rattle.exchange_rules.proofs.SteppingTimers.{set-timed}
-use Rattle.exchange_rules.proofs.SteppingFailures.{fail-steps, on_changeover_order-steps, on_changeover_acknowledgement-steps, on_changeover_timer-steps}
+use Rattle.exchange_rules.proofs.SteppingFailures.{suspended-steps, fail-steps, on_changeover_order-steps, on_changeover_acknowledgement-steps, on_changeover_timer-steps}
 use Rattle.exchange_rules.proofs.SteppingReturns.{freed-steps, hold_flows-steps}
 
 module _ {c : Configuration} {Own Counts : ℕ → Type 0} {R : Node WholeQueues → Node WholeQueues → Type 0} (s : IsOfSteps c Own Counts R) where
@@ -16,10 +16,14 @@ module _ {c : Configuration} {Own Counts : ℕ → Type 0} {R : Node WholeQueues
       s.both _ _ _ (s.holding (held_for destination (sls ∷ others) n.parts.holds) n (record { fits = held_for-fits c n.parts.holds destination (sls ∷ others) }))
       (s.timed _ _ (set-timed (name.T6 destination) c.timers.t6 n.parts.timers (λ link e. cc)))
 
+  outed-steps : (link : ℕ) (out : Bool) (n : Node WholeQueues) → R n (with_parts n (outed link out n.parts))
+  outed-steps link out n = s.linked link (record (link_at n.parts link) { peer_outage = out }) n (record { alignment = refl; period = refl; association = refl; busy = refl })
+
   pub rules-of : IsOfRules c Own Counts R
   rules-of = record {
     sends = sends-of s;
     tested = s.tested;
+    probed = s.probed;
     held = s.held;
     taken_out = s.taken_out;
     late = λ notice n e. s.both _ _ _ (s.late n) (s.noted notice _ (record { other = lateness-other notice e; lost = λ f. absurd (not-both notice f e); late = λ f. refl }));
@@ -28,14 +32,18 @@ module _ {c : Configuration} {Own Counts : ℕ → Type 0} {R : Node WholeQueues
     told = s.told;
     titled = s.titled;
     unequipped = s.unequipped;
-    linked = s.linked;
+    linked = λ link x n e o. s.linked link x n e;
     parted = s.parted;
     opened = λ link n own there e f may. s.opened link n own there e f;
     stepped = λ link input step n own e k. s.stepped link input step n own e;
     busied = s.busied;
-    resumed = s.resumed;
+    resumed = λ link n own e f o. s.resumed link n own e f;
     accepted = s.accepted;
     sent = s.sent;
+    put = λ link n set e b.
+        s.both _ _ _ (outed-steps link true n) (suspended-steps s link (whole.unconfirmed n.queues link) (with_parts n (outed link true n.parts)));
+    back = λ link n e may.
+        s.both _ _ _ (outed-steps link false n) (s.holding _ (with_parts n (outed link false n.parts)) (record { fits = lifted-fits c n.parts.holds (Changeover link) }));
     fails = λ link why n may up. fail-steps s link why n;
     orders = λ link number n falls ends. on_changeover_order-steps s link number n;
     acknowledges = λ link number n may. on_changeover_acknowledgement-steps s link number n;

@@ -1,10 +1,12 @@
 -- By the table of the alignment: a step that asks something of the rules of a link in service leads into service, or
 -- stays there; no step leads a link in service out of it; and no step sets or stops L7.
 use Rattle.exchange_rules.proofs.Basics.{◌≡◌, ℕ, Bool, true, false, ◌&&◌, not, List, [], ◌∷◌, Option, Some, None, refl, ap, sym, subst, ◌∙◌, arith, if◌then◌else◌, list_all, nat_tests}
-use Rattle.exchange_rules.proofs.Definitions.{Alignment, Action, Fail, Go, Input, UserData, LinkTimer, Transition, Effect, Fails, Remembers, Enters, EntersServing, Serves, Cell, table, timer_of, state_number, is_same_input, effect_in, action_of, action_at, staying, is_down, is_in_service}
+use Rattle.exchange_rules.proofs.Definitions.{Alignment, Action, Fail, Go, Input, UserData, LinkTimer, Transition, Effect, Fails, Remembers, Enters, EntersServing, BeginsAgain, Serves, Passes, Cell, table, period_after, timer_of, state_number, is_same_input, effect_in, action_of, action_at, staying, is_down, is_in_service}
 use Rattle.std.proofs.Common.{◌==◌}
 use Rattle.link.specs.declared.alignment.Alignment.TheVariants.{Down, NotAligned, Aligned, Proving, AlignedReady, InService}
 use Rattle.link.specs.declared.action.Action.TheVariants.{Ignored}
+use Rattle.link.specs.declared.period.Period.{Period}
+use Rattle.link.specs.declared.period.Period.TheVariants.{Fixed, Normal, Emergency}
 use Rattle.link.specs.declared.action.LinkTimer.TheVariants.{L1, L2, L3, L4, L6, L7}
 
 -- ---- states by their numbers
@@ -65,7 +67,7 @@ found-in P (c ∷ cells) a input e =
     ] refl
 
 -- what holds of each cell, by the number of its state, holds of the one that is found
-found-cell : (P : ℕ → Effect → Bool) (cells : List Cell) (a : Alignment) (input : Input) (effect : Effect) → list_all (λ (c : Cell). P (state_number c.state) c.effect) cells ≡ true
+pub found-cell : (P : ℕ → Effect → Bool) (cells : List Cell) (a : Alignment) (input : Input) (effect : Effect) → list_all (λ (c : Cell). P (state_number c.state) c.effect) cells ≡ true
     → effect_in cells a input ≡ Some effect → P (state_number a) effect ≡ true
 found-cell P [] a input effect e h = absurd cc
 found-cell P (c ∷ cells) a input effect e h =
@@ -82,9 +84,20 @@ found-cell P (c ∷ cells) a input effect e h =
     same_number : {m n : ℕ} → (m == n) ≡ true → m ≡ n
     same_number {m} {n} e = grind (arith, nat_tests, e)
 
-pub cell-found : (P : ℕ → Effect → Bool) (a : Alignment) (input : Input) (effect : Effect) → list_all (λ (c : Cell). P (state_number c.state) c.effect) table ≡ true
-    → effect_in table a input ≡ Some effect → P (state_number a) effect ≡ true
-cell-found P a input effect e h = found-cell P table a input effect e h
+-- what holds of each cell in the tables of all periods
+pub record IsInAll (P : Cell → Bool) : Type 0 where
+  pub fixed : list_all P (table Fixed) ≡ true
+  pub normal : list_all P (table Normal) ≡ true
+  pub emergency : list_all P (table Emergency) ≡ true
+
+pub in-all : (P : Cell → Bool) (period : Period) → IsInAll P → list_all P (table period) ≡ true
+in-all P Fixed each = each.fixed
+in-all P Normal each = each.normal
+in-all P Emergency each = each.emergency
+
+pub cell-found : (P : ℕ → Effect → Bool) (period : Period) (a : Alignment) (input : Input) (effect : Effect) → IsInAll (λ (c : Cell). P (state_number c.state) c.effect)
+    → effect_in (table period) a input ≡ Some effect → P (state_number a) effect ≡ true
+cell-found P period a input effect e h = found-cell P (table period) a input effect (in-all (λ (c : Cell). P (state_number c.state) c.effect) period e) h
 
 -- ---- what each cell is
 
@@ -101,6 +114,8 @@ stays_there true Serves = true
 stays_there true Remembers = false
 stays_there true (Enters state sent started) = false
 stays_there true EntersServing = false
+stays_there true BeginsAgain = false
+stays_there true Passes = true
 
 abbrev pub is_l7 : Option LinkTimer → Bool
 is_l7 (Some L7) = true
@@ -118,16 +133,18 @@ starts_no_l7 serving Fails = true
 starts_no_l7 serving Serves = true
 starts_no_l7 serving Remembers = true
 starts_no_l7 serving EntersServing = true
+starts_no_l7 serving BeginsAgain = true
+starts_no_l7 serving Passes = true
 
-cell-of : (P : Bool → Effect → Bool) (a : Alignment) (input : Input) (effect : Effect) → list_all (λ (c : Cell). P (state_number c.state == 6) c.effect) table ≡ true
-    → effect_in table a input ≡ Some effect → P (is_in_service a) effect ≡ true
-cell-of P a input effect e h = (found-in P table a input e).holds effect h
+cell-of : (P : Bool → Effect → Bool) (period : Period) (a : Alignment) (input : Input) (effect : Effect) → IsInAll (λ (c : Cell). P (state_number c.state == 6) c.effect)
+    → effect_in (table period) a input ≡ Some effect → P (is_in_service a) effect ≡ true
+cell-of P period a input effect e h = (found-in P (table period) a input (in-all (λ (c : Cell). P (state_number c.state == 6) c.effect) period e)).holds effect h
 
 -- ---- steps
 
 abbrev pub step_in : Action → Transition
-step_in Ignored = staying Down
-step_in Fail = staying Down
+step_in Ignored = staying Down Fixed
+step_in Fail = staying Down Fixed
 step_in (Go step) = step
 
 -- what is known of a step
@@ -150,64 +167,71 @@ not-so false e = refl
 not-so true e = absurd cc
 
 -- that of an effect
-effect-step : (effect : Option Effect) (a : Alignment) (input : Input) (step : Transition) → effect_in table a input ≡ effect → action_of a effect ≡ Go step
-    → IsStep a (step_in (action_of a effect))
-effect-step None a input step f e = absurd cc
-effect-step (Some Fails) a input step f e = absurd cc
-effect-step (Some Remembers) a input step f e = record {
+effect-step : (period after : Period) (effect : Option Effect) (a : Alignment) (input : Input) (step : Transition) → effect_in (table period) a input ≡ effect → action_of after a effect ≡ Go step
+    → IsStep a (step_in (action_of after a effect))
+effect-step period after None a input step f e = absurd cc
+effect-step period after (Some Fails) a input step f e = absurd cc
+effect-step period after (Some Remembers) a input step f e = record {
   serves = λ h. absurd cc;
-  stays = λ h. (let no : false ≡ true = sym (ap (λ (b : Bool). stays_there b Remembers) h) ∙ cell-of stays_there a input Remembers refl f in absurd cc);
+  stays = λ h. (let no : false ≡ true = sym (ap (λ (b : Bool). stays_there b Remembers) h) ∙ cell-of stays_there period a input Remembers (record { fixed = refl; normal = refl; emergency = refl }) f in absurd cc);
   stop = refl;
   start = refl;
 }
-effect-step (Some (Enters state sent started)) a input step f e = record {
+effect-step period after (Some (Enters state sent started)) a input step f e = record {
   serves = λ h. absurd cc;
   stays = λ h.
-      (let no : false ≡ true = sym (ap (λ (b : Bool). stays_there b (Enters state sent started)) h) ∙ cell-of stays_there a input (Enters state sent started) refl f in absurd cc);
+      (let no : false ≡ true = sym (ap (λ (b : Bool). stays_there b (Enters state sent started)) h) ∙ cell-of stays_there period a input (Enters state sent started) (record { fixed = refl; normal = refl; emergency = refl }) f in absurd cc);
   stop = no_l7_of a;
-  start = not-so (is_l7 started) (cell-of starts_no_l7 a input (Enters state sent started) refl f);
+  start = not-so (is_l7 started) (cell-of starts_no_l7 period a input (Enters state sent started) (record { fixed = refl; normal = refl; emergency = refl }) f);
 }
-effect-step (Some EntersServing) a input step f e = record { serves = λ h. refl; stays = λ h. refl; stop = no_l7_of a; start = refl }
-effect-step (Some Serves) a input step f e = record {
-  serves = λ h. cell-of serves_there a input Serves refl f;
+effect-step period after (Some BeginsAgain) a input step f e = record {
+  serves = λ h. absurd cc;
+  stays = λ h. (let no : false ≡ true = sym (ap (λ (b : Bool). stays_there b BeginsAgain) h) ∙ cell-of stays_there period a input BeginsAgain (record { fixed = refl; normal = refl; emergency = refl }) f in absurd cc);
+  stop = no_l7_of a;
+  start = refl;
+}
+effect-step period after (Some Passes) a input step f e = absurd cc
+effect-step period after (Some EntersServing) a input step f e = record { serves = λ h. refl; stays = λ h. refl; stop = no_l7_of a; start = refl }
+effect-step period after (Some Serves) a input step f e = record {
+  serves = λ h. cell-of serves_there period a input Serves (record { fixed = refl; normal = refl; emergency = refl }) f;
   stays = λ h. h;
   stop = refl;
   start = refl;
 }
 
-pub each-step : (a : Alignment) (input : Input) (step : Transition) → action_at a input ≡ Go step → IsStep a step
-each-step a input step e = subst (IsStep a) (ap step_in e) (effect-step (effect_in table a input) a input step refl e)
+pub each-step : (period : Period) (a : Alignment) (input : Input) (step : Transition) → action_at period a input ≡ Go step → IsStep a step
+each-step period a input step e = subst (IsStep a) (ap step_in e) (effect-step period (period_after period input) (effect_in (table period) a input) a input step refl e)
 
-pub serves-in : (a : Alignment) (input : Input) (step : Transition) → action_at a input ≡ Go step → step.serve ≡ true → is_in_service step.state ≡ true
-serves-in a input step e h = (each-step a input step e).serves h
+pub serves-in : (period : Period) (a : Alignment) (input : Input) (step : Transition) → action_at period a input ≡ Go step → step.serve ≡ true → is_in_service step.state ≡ true
+serves-in period a input step e h = (each-step period a input step e).serves h
 
 -- User Data leads into service, or stays there
-pub data-serves : (a : Alignment) (step : Transition) → action_at a UserData ≡ Go step → is_in_service step.state ≡ true
-data-serves Down step e = absurd cc
-data-serves NotAligned step e = absurd cc
-data-serves Aligned step e = absurd cc
-data-serves (Proving true) step e = absurd cc
-data-serves (Proving false) step e = absurd cc
-data-serves AlignedReady step e = sym (ap (λ (x : Action). is_in_service (step_in x).state) e)
-data-serves InService step e = sym (ap (λ (x : Action). is_in_service (step_in x).state) e)
+pub data-serves : (period : Period) (a : Alignment) (step : Transition) → action_at period a UserData ≡ Go step → is_in_service step.state ≡ true
+data-serves period Down step e = absurd cc
+data-serves period NotAligned step e = absurd cc
+data-serves period Aligned step e = absurd cc
+data-serves period (Proving true) step e = absurd cc
+data-serves period (Proving false) step e = absurd cc
+data-serves period AlignedReady step e = sym (ap (λ (x : Action). is_in_service (step_in x).state) e)
+data-serves period InService step e = sym (ap (λ (x : Action). is_in_service (step_in x).state) e)
 
 -- ---- a link that is down does nothing
 
-pub fails-up : (a : Alignment) (input : Input) → action_at a input ≡ Fail → is_down a ≡ false
-fails-up Down input e = absurd cc
-fails-up NotAligned input e = refl
-fails-up Aligned input e = refl
-fails-up (Proving ready) input e = refl
-fails-up AlignedReady input e = refl
-fails-up InService input e = refl
+pub fails-up : (period : Period) (a : Alignment) (input : Input) → action_at period a input ≡ Fail → is_down a ≡ false
+fails-up period Down input e = absurd cc
+fails-up period NotAligned input e = refl
+fails-up period Aligned input e = refl
+fails-up period (Proving ready) input e = refl
+fails-up period AlignedReady input e = refl
+fails-up period InService input e = refl
 
-pub goes-up : (a : Alignment) (input : Input) (step : Transition) → action_at a input ≡ Go step → is_down a ≡ false
-goes-up Down input step e = absurd cc
-goes-up NotAligned input step e = refl
-goes-up Aligned input step e = refl
-goes-up (Proving ready) input step e = refl
-goes-up AlignedReady input step e = refl
-goes-up InService input step e = refl
+pub goes-up : (period : Period) (a : Alignment) (input : Input) (step : Transition) → action_at period a input ≡ Go step → is_down a ≡ false
+goes-up period Down input step e = absurd cc
+goes-up period NotAligned input step e = refl
+goes-up period Aligned input step e = refl
+goes-up period (Proving ready) input step e = refl
+goes-up period AlignedReady input step e = refl
+goes-up period InService input step e = refl
 
 pub serves-up : (a : Alignment) → is_in_service a ≡ true → is_down a ≡ false
 serves-up Down e = absurd cc

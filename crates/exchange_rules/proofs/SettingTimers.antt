@@ -1,6 +1,6 @@
 -- Whatever happens, timers are set to the values in the settings.
 use Rattle.exchange_rules.proofs.Basics.{◌≡◌, ◌≤◌, inl, inr, ℕ, zero, suc, ◌-◌, Bool, true, false, List, [], ◌∷◌, Option, Some, None, refl, sym, subst, ◌∙◌, arith, max, if◌then◌else◌}
-use Rattle.exchange_rules.proofs.Definitions.{apply, Configuration, FailureReason, ChangeoverTimer, Facts, opening, carries, completed, TimerName, one_less, ticked, due_name, after_due, after-clear, after-none, left-ticked, left-none, Found, Parts, Node, with_parts, link_at, in_service, down, is_link, set_of, has_other, suspended, fail_link, without_tests, make_unavailable, changing, begin, change_over, begin_by_peer, fail_by_peer, fail_by_order, complete_by_order, complete_if, concluded, lose_each, judged, changeover_of, with_changeover, changeover_order, changeover_acknowledgement, on_changeover_order, with_changeover_acknowledged, with_expiry, hold_flows, held_by_rerouting, answer, Handled, Ignored, with_timers, run_next, run_times, due_count, tick, Asking, Happens, Takes, AsksWants, Happening, CameUp, WentDown, FrameCame, Ticked, Submitted, Activated, Deactivated, TitleAdded, TitleRemoved, first_state, after_asking, after_each, Abstract, WholeQueues, whole}
+use Rattle.exchange_rules.proofs.Definitions.{Period, paced, period_of, apply, Configuration, FailureReason, ChangeoverTimer, Facts, opening, carries, completed, TimerName, one_less, ticked, due_name, after_due, after-clear, after-none, left-ticked, left-none, Found, Parts, Node, with_parts, link_at, in_service, down, is_link, set_of, has_other, suspended, fail_link, without_tests, make_unavailable, changing, begin, change_over, begin_by_peer, fail_by_peer, fail_by_order, complete_by_order, complete_if, concluded, lose_each, judged, changeover_of, with_changeover, changeover_order, changeover_acknowledgement, on_changeover_order, with_changeover_acknowledged, with_expiry, hold_flows, held_by_rerouting, answer, Handled, Ignored, with_timers, run_next, run_times, due_count, tick, Asking, Happens, Takes, AsksWants, Happening, CameUp, WentDown, FrameCame, Ticked, Submitted, Activated, Deactivated, TitleAdded, TitleRemoved, first_state, after_asking, after_each, Abstract, WholeQueues, whole}
 use Rattle.timers.specs.declared.name.TimerName.TheVariants as name
 use Rattle.timers.specs.declared.name.RouteTimer.TheVariants as of_set
 use Rattle.signalling_types.specs.declared.notice.FailureReason.TheVariants as reasons
@@ -124,6 +124,7 @@ module _ (c : Configuration) (E : ℕ → Type 0) where
     sets-rules = record {
       sends = sets-sends;
       tested = λ link point test n e f. same n _ refl;
+      probed = λ link n e. same n _ refl;
       held = λ m n e. same n _ refl;
       taken_out = λ n. same n _ refl;
       late = λ notice n e. same n _ refl;
@@ -132,16 +133,18 @@ module _ (c : Configuration) (E : ℕ → Type 0) where
       told = λ t n e. same n _ refl;
       titled = λ rows n. same n _ refl;
       unequipped = λ counts n e. same n _ refl;
-      linked = λ link x n e. same n _ refl;
+      linked = λ link x n e o. same n _ refl;
       parted = λ link n e. same n _ refl;
-      opened = λ link n own there e f may. record { timers = timed-set c E link opening n.parts.timers };
+      opened = λ link n own there e f may. record { timers = timed-set c E link (opening (period_of c link n.parts)) n.parts.timers };
       stepped = λ link input step n own e k. record { timers = timed-set c E link step n.parts.timers };
       busied = λ link n own e f. record { timers = timed_busy-set c E link n.parts.timers };
-      resumed = λ link n own e f. record { timers = timed_busy_ended-set c E link (whole.outstanding n.queues link) n.parts.timers };
+      resumed = λ link n own e f o. record { timers = timed_busy_ended-set c E link (whole.outstanding n.queues link) n.parts.timers };
       accepted = λ link d confirmed n own e f. record {
         timers = timed_confirming-set c E link (link_at n.parts link).peer_busy confirmed (whole.outstanding (whole.accepted n.queues link d.fsn d.bsn (carries d)) link) n.parts.timers;
       };
       sent = λ link next n own e. record { timers = timed_sending-set c E link n.parts.timers };
+      put = λ link n set e b. same n _ refl;
+      back = λ link n e may. same n _ refl;
       fails = λ link why n may up. fails-sets (in_service n.parts link) link why n;
       orders = λ link number n falls ends. orders-sets link number n;
       acknowledges = λ link number n may. acknowledges-sets (changeover_of n.parts link).awaited link number n;
@@ -186,7 +189,7 @@ module _ (c : Configuration) where
 
 pub events-set : events_set_timers_to_their_settings
 events-set Ticked a timer =
-    subst (λ (left : Option ℕ). RunsBy (setting_of a.settings.timers timer) left ((apply whole a.settings Ticked a.node).left.parts.timers.left timer)) (left-ticked timer a.node.parts.timers)
+    subst (λ (left : Option ℕ). RunsBy a.settings.timers timer left ((apply whole a.settings Ticked a.node).left.parts.timers.left timer)) (left-ticked timer a.node.parts.timers)
     ((ticked-sets a.settings a.node).timers.each timer)
 events-set (CameUp link) a timer = (quiet-sets a.settings (CameUp link) a.node (λ e. cc)).timers.each timer
 events-set (WentDown link) a timer = (quiet-sets a.settings (WentDown link) a.node (λ e. cc)).timers.each timer
@@ -202,20 +205,27 @@ takes-set a link timer = (take-steps (free-rules a.settings) link a.node tt).tim
 
 -- ---- so none has more ticks left
 
+abbrev IsAtMost : (c : Configuration) → TimerName → ℕ → Type 0
+IsAtMost c timer left = (period : Period) × (left ≤ max 1 (setting_of (paced period c.timers) timer))
+
 abbrev IsWithin : (c : Configuration) → TimerName → Option ℕ → Type 0
-IsWithin c timer o = (left : ℕ) → o ≡ Some left → left ≤ max 1 (setting_of c.timers timer)
+IsWithin c timer o = (left : ℕ) → o ≡ Some left → IsAtMost c timer left
 
 same-left : (k l : ℕ) → Some k ≡ Some l → k ≡ l
 same-left k l e = cc
 
-runs-within : (c : Configuration) (timer : TimerName) (x y : Option ℕ) → RunsBy (setting_of c.timers timer) x y → IsWithin c timer x → IsWithin c timer y
+runs-within : (c : Configuration) (timer : TimerName) (x y : Option ℕ) → RunsBy c.timers timer x y → IsWithin c timer x → IsWithin c timer y
 runs-within c timer x y (inl e) h left f = h left (sym e ∙ f)
-runs-within c timer x y (inr (inl e)) h left f = (let same : max 1 (setting_of c.timers timer) ≡ left = same-left _ _ (sym e ∙ f) in omega (arith, same))
+runs-within c timer x y (inr (inl e)) h left f =
+    let same : max 1 (setting_of (paced e.0 c.timers) timer) ≡ left = same-left _ _ (sym e.1 ∙ f) in
+    (e.0, omega (arith, same))
 runs-within c timer x y (inr (inr e)) h left f = (let no : None ≡ Some left = sym e ∙ f in absurd cc)
 
 lowered-within : (c : Configuration) (timer : TimerName) (x : Option ℕ) → IsWithin c timer x → IsWithin c timer (one_less x)
 lowered-within c timer None h left e = absurd cc
-lowered-within c timer (Some k) h left e = omega (arith, h k refl, same-left (k - 1) left e)
+lowered-within c timer (Some k) h left e =
+    let most : IsAtMost c timer k = h k refl in
+    (most.0, omega (arith, most.1, same-left (k - 1) left e))
 
 begun-within : (c : Configuration) (timer : TimerName) (what : Happening) (x : Option ℕ) → IsWithin c timer x → IsWithin c timer (left_by what x)
 begun-within c timer Ticked x h = lowered-within c timer x h

@@ -1,7 +1,7 @@
 -- Whatever an exchange is asked, each link stays steady: a timer L7 that runs out fails its link, so that it is exact
 -- again.
 use Rattle.exchange_rules.proofs.Basics.{◌≡◌, ◌<◌, ℕ, ◌-◌, Bool, true, false, ◌&&◌, not, List, length, Option, Some, None, Ok, refl, ap, sym, subst, ◌∙◌, if◌then◌else◌, is_some, get_or-set_same}
-use Rattle.exchange_rules.proofs.Definitions.{Configuration, flow_of, Alignment, Action, Expiry, action_at, opening, Queue, Sending, first_queue, NodeCounts, TimerName, L7, is_same, Running, is_running, one_less, ticked, due_name, after_due, left-clear, left-clear_other, left-ticked, counts-after, after-clear, after-none, Link, down_link, is_in_service, opened, after_failure, Standing, Node, link_at, in_service, changeover_of, fail, Carrying, carries, numbers, may_open, open_link, SendsMessage, may_send, next_message, after_sending, act_by_timer, run_out, with_timers, run_due, run_next, WholeQueues, queue_at, whole, is_l7_running}
+use Rattle.exchange_rules.proofs.Definitions.{Period, period_of, Configuration, flow_of, Alignment, Action, Expiry, action_at, opening, Queue, Sending, first_queue, NodeCounts, TimerName, L7, is_same, Running, is_running, one_less, ticked, due_name, after_due, left-clear, left-clear_other, left-ticked, counts-after, after-clear, after-none, Link, down_link, is_in_service, opened, after_failure, Standing, Node, link_at, in_service, changeover_of, fail, Carrying, carries, numbers, may_open, open_link, SendsMessage, may_send, next_message, after_sending, act_by_timer, run_out, with_timers, run_due, run_next, WholeQueues, queue_at, whole, is_l7_running}
 use Rattle.signalling_types.specs.declared.notice.FailureReason.TheVariants as reasons
 use Rattle.link.specs.declared.alignment.Alignment.TheVariants.{Down, NotAligned, Aligned, Proving, AlignedReady, InService}
 use Rattle.link.specs.declared.action.Action.TheVariants as act
@@ -52,9 +52,9 @@ module _ (exact : Bool) (c : Configuration) (l : ℕ) where
   opened-keeps : (k : ℕ) (n : Node WholeQueues) → may_open (link_at n.parts k) ≡ true → (changeover_of n.parts k).incomplete ≡ false
       → Keeps exact c l n (open_link whole c k n)
   opened-keeps k n e f =
-      on-link exact c l k (opened (link_at n.parts k)) (changeover_of n.parts k) first_queue n (open_link whole c k n)
+      on-link exact c l k (opened (period_of c k n.parts) (link_at n.parts k)) (changeover_of n.parts k) first_queue n (open_link whole c k n)
       (opened-on k c n)
-      (λ h. stands-as exact c _ _ _ _ _ _ _ _ refl refl refl (l7-timed k c opening n.parts.timers refl refl)
+      (λ h. stands-as exact c _ _ _ _ _ _ _ _ refl refl refl (l7-timed k c (opening (period_of c k n.parts)) n.parts.timers refl refl)
       (stands-opened exact c.window _ _ _ _ h.stands (not-associated (link_at n.parts k).association (link_at n.parts k).active e) f))
 
   accepted-keeps : (k : ℕ) (d : Carrying) (count : ℕ) (n : Node WholeQueues) → in_service n.parts k ≡ true → numbers whole c k d n ≡ Ok count
@@ -87,6 +87,7 @@ module _ (exact : Bool) (c : Configuration) (l : ℕ) where
     routed = λ link m n e. queued-keeps exact c l link m n (chosen_serves c n.parts (flow_of m) link e);
     declared = λ link other code n e f. queued-keeps exact c l other _ n f;
     tested = λ link point test n e f. queued-keeps exact c l link _ n e;
+    probed = λ link n e. queued-keeps exact c l link _ n e;
     held = λ m n e. alike n _ refl refl refl refl refl;
     taken_out = λ n. alike n _ refl refl refl refl refl;
     noted = λ notice n e. alike n _ refl refl refl refl refl;
@@ -124,14 +125,14 @@ ticked-keeps c l n = alike true c l n _ refl refl refl refl (ap is_some (left-ti
 
 -- ---- L7 of a link runs out
 
-l7-action : (a : Alignment) → action_at a (Expiry timer.L7) ≡ (if is_in_service a then act.Fail else act.Ignored)
-l7-action Down = refl
-l7-action NotAligned = refl
-l7-action Aligned = refl
-l7-action (Proving true) = refl
-l7-action (Proving false) = refl
-l7-action AlignedReady = refl
-l7-action InService = refl
+l7-action : (period : Period) (a : Alignment) → action_at period a (Expiry timer.L7) ≡ (if is_in_service a then act.Fail else act.Ignored)
+l7-action period Down = refl
+l7-action period NotAligned = refl
+l7-action period Aligned = refl
+l7-action period (Proving true) = refl
+l7-action period (Proving false) = refl
+l7-action period AlignedReady = refl
+l7-action period InService = refl
 
 module _ (c : Configuration) (l : ℕ) where
   -- a link out of service is exact
@@ -159,7 +160,7 @@ module _ (c : Configuration) (l : ℕ) where
 
   l7-runs_out : (n : Node WholeQueues) → At false c l n → At true c l (run_out whole c l timer.L7 n)
   l7-runs_out n h =
-      subst (λ (a : Action). At true c l (act_by_timer whole c a l n)) (sym (l7-action (link_at n.parts l).alignment)) (l7-failed (in_service n.parts l) n refl h)
+      subst (λ (a : Action). At true c l (act_by_timer whole c a l n)) (sym (l7-action (link_at n.parts l).period (link_at n.parts l).alignment)) (l7-failed (in_service n.parts l) n refl h)
 
   -- it was handed out, and doesn't run
   l7-gone : (n : Node WholeQueues) → due_name n.parts.timers ≡ Some (L7 l) → At true c l n → At false c l (with_timers n (after_due n.parts.timers))

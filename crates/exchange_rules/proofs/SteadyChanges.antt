@@ -1,7 +1,7 @@
 -- A link takes a step of its alignment, hears that its peer is busy and that it isn't, accepts User Data and sends: it
 -- stays steady.
 use Rattle.exchange_rules.proofs.Basics.{◌≡◌, ◌≤◌, ℕ, ◌-◌, ◌+◌, Bool, true, false, ◌&&◌, not, [], length, nat_lt, nat_eq, Option, Some, Result, Ok, refl, ap, sym, ◌∙◌, arith, if◌then◌else◌, nat_tests, false_from_ne_true as both-ways}
-use Rattle.exchange_rules.proofs.Definitions.{Alignment, Input, Go, Transition, action_at, Queue, IsQueue, Sending, accept_answer, accepted, after_answer, to_send, sent_one, SeqFault, sound-accepted, sound-sent_one, Link, is_down, is_in_service, stepped, Standing, may_send}
+use Rattle.exchange_rules.proofs.Definitions.{Alignment, Input, Go, Transition, action_at, acts_on, Queue, IsQueue, Sending, accept_answer, accepted, after_answer, to_send, sent_one, SeqFault, sound-accepted, sound-sent_one, Link, is_down, is_in_service, stepped, Standing, may_send}
 use Rattle.link.specs.declared.action.Action.TheVariants.{Ignored}
 use Rattle.link.specs.Queue.{after_sending}
 use Rattle.exchange_rules.proofs.Serving.{down-is, each-step}
@@ -36,22 +36,22 @@ serving-test l busy b e = ap (λ (serves : Bool). serves && not busy && b) e
 -- ---- a step of the alignment
 
 module _ (exact : Bool) (w : ℕ) (l : Link) (s : Standing) (q : Queue) (b : Bool) (h : Stands exact w l s q b) where
-  module _ (input : Input) (step : Transition) (e : action_at l.alignment input ≡ Go step) where
+  module _ (input : Input) (step : Transition) (e : acts_on l input ≡ Go step) where
     stepping-up : is_down l.alignment ≡ true → ⊥
     stepping-up d =
-        let gone : Ignored ≡ Go step = sym (ap (λ (a : Alignment). action_at a input) (down-is l.alignment d)) ∙ e in
+        let gone : Ignored ≡ Go step = sym (ap (λ (a : Alignment). action_at l.period a input) (down-is l.alignment d)) ∙ e in
         cc
 
     stepping-complete : s.incomplete ≡ false
     stepping-complete = both-ways s.incomplete (λ i. stepping-up (h.changing i))
 
     stepping-idle : is_in_service step.state ≡ false → is_in_service l.alignment ≡ false
-    stepping-idle f = both-ways (is_in_service l.alignment) (λ g. no-way (is_in_service step.state) f ((each-step l.alignment input step e).stays g))
+    stepping-idle f = both-ways (is_in_service l.alignment) (λ g. no-way (is_in_service step.state) f ((each-step l.period l.alignment input step e).stays g))
 
     stepped-watched : (serves : Bool) → is_in_service l.alignment ≡ serves → exact ≡ true
         → b ≡ (is_in_service step.state && not l.peer_busy && nat_lt 0 (q.sent - q.confirmed))
     stepped-watched true f x =
-        h.watched x ∙ ap (λ (serves : Bool). serves && not l.peer_busy && nat_lt 0 (q.sent - q.confirmed)) (f ∙ sym ((each-step l.alignment input step e).stays f))
+        h.watched x ∙ ap (λ (serves : Bool). serves && not l.peer_busy && nat_lt 0 (q.sent - q.confirmed)) (f ∙ sym ((each-step l.period l.alignment input step e).stays f))
     stepped-watched false f x =
         h.idle f ∙ sym (ap (λ (some : Bool). may_send (stepped step l) && some) (nothing-left w q h.queue (h.moved f stepping-complete)) ∙ and-false (may_send (stepped step l)))
 

@@ -1,6 +1,6 @@
 -- A link by its state, its changeover, its queue and its L7: what each step does to these leaves it steady.
 use Rattle.exchange_rules.proofs.Basics.{◌≡◌, ℕ, ◌-◌, Bool, true, false, ◌&&◌, not, [], nat_lt, refl, ap, sym, ◌∙◌}
-use Rattle.exchange_rules.proofs.Definitions.{Message, Alignment, Queue, IsQueue, first_queue, appended, emptied, sound-first, sound-appended, sound-emptied, Link, is_down, is_in_service, opened, after_failure, Standing, may_send, IsSteady}
+use Rattle.exchange_rules.proofs.Definitions.{Period, Message, Alignment, Queue, IsQueue, first_queue, appended, emptied, sound-first, sound-appended, sound-emptied, Link, is_down, is_in_service, opened, after_failure, Standing, may_send, IsSteady}
 use Rattle.exchange_rules.proofs.Serving.{down-is}
 
 -- a link is steady, but where its L7 has just run out (then it isn't exact whether that runs): out of service it
@@ -134,7 +134,7 @@ module _ (exact : Bool) (w : ℕ) (l : Link) (s : Standing) (q : Queue) (b : Boo
   pub stands-parted : is_down l.alignment ≡ true → Stands exact w (record l { association = false }) s q b
   stands-parted d = record { queue = h.queue; associated = λ e. d; changing = h.changing; moved = h.moved; idle = h.idle; watched = h.watched }
 
-  pub stands-opened : l.association ≡ false → s.incomplete ≡ false → Stands exact w (opened l) s first_queue b
+  pub stands-opened : {period : Period} → l.association ≡ false → s.incomplete ≡ false → Stands exact w (opened period l) s first_queue b
   stands-opened a i =
       let idle : b ≡ false = h.idle (down-idle l.alignment (h.associated a)) in
       record {

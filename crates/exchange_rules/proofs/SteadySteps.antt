@@ -1,6 +1,6 @@
 -- Each step leaves each link steady.
 use Rattle.exchange_rules.proofs.Basics.{◌≡◌, ◌≢◌, ◌<◌, ℕ, Bool, true, false, length, Option, refl, sym, subst, arith, slice_set, ⊎_elim, cases_eq}
-use Rattle.exchange_rules.proofs.Definitions.{Configuration, Message, FailureReason, Input, Go, Transition, action_at, Queue, emptied, NodeCounts, L7, Running, is_running, Link, stepped, after_failure, Standing, Node, with_parts, link_at, with_link, down, in_service, queue_on, changeover_of, with_changeover, fail_link, without_association, step_on, WholeQueues, queue_at, whole, is_l7_running}
+use Rattle.exchange_rules.proofs.Definitions.{Configuration, Message, FailureReason, Input, Go, Transition, acts_on, Queue, emptied, NodeCounts, L7, Running, is_running, Link, stepped, after_failure, Standing, Node, with_parts, link_at, with_link, down, in_service, queue_on, changeover_of, with_changeover, fail_link, without_association, step_on, WholeQueues, queue_at, whole, is_l7_running}
 use Rattle.link.specs.Queue as queue
 use Rattle.exchange_rules.proofs.Serving.{IsStep, each-step}
 use Rattle.exchange_rules.proofs.LinkTimers.{AreTimedFor, same-for, timed-for, timed_busy-for, timed_busy_ended-for}
@@ -115,10 +115,10 @@ module _ (exact : Bool) (c : Configuration) where
   pub parted-keeps : (l k : ℕ) (n : Node WholeQueues) → down n.parts k ≡ true → Keeps exact c l n (with_parts n (without_association k n.parts))
   parted-keeps l k n e = link-keeps l k _ n.parts.timers n (same-for k n.parts.timers) (λ h. stands-parted exact c.window _ _ _ _ h.stands e)
 
-  pub stepped-keeps : (l k : ℕ) (input : Input) (step : Transition) (n : Node WholeQueues) → action_at (link_at n.parts k).alignment input ≡ Go step
+  pub stepped-keeps : (l k : ℕ) (input : Input) (step : Transition) (n : Node WholeQueues) → acts_on (link_at n.parts k) input ≡ Go step
       → Keeps exact c l n (with_parts n (step_on c k step n.parts))
   stepped-keeps l k input step n e =
-      let known : IsStep (link_at n.parts k).alignment step = each-step (link_at n.parts k).alignment input step e in
+      let known : IsStep (link_at n.parts k).alignment step = each-step (link_at n.parts k).period (link_at n.parts k).alignment input step e in
       link-keeps l k (stepped step (link_at n.parts k)) _ n (timed-for k c step n.parts.timers)
       (λ h. stands-as _ _ _ _ _ _ _ _ refl refl refl (l7-timed k c step n.parts.timers known.stop known.start) (stands-stepped exact c.window _ _ _ _ h.stands input step e))
 

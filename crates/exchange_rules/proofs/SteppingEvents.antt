@@ -1,6 +1,6 @@
 -- Frames, ticks, releases, whole events, and what goes out: each is made of steps.
 use Rattle.exchange_rules.proofs.Basics.{◌≡◌, ℕ, zero, suc, Bool, true, false, List, [], ◌∷◌, Option, Some, None, Result, Ok, Err, refl, ap, ◌∙◌, if◌then◌else◌, slice_get, drop, ◌&&◌, not}
-use Rattle.exchange_rules.proofs.Definitions.{Message, flow_of, Configuration, Ignored, FrameFault, FrameValue, EmptyFrame, MessageFrame, StatusFrame, read_frame, LinkStatus, Action, UserData, LinkTimer, timer_name, action_at, Sending, SeqFault, TimerName, ticked, due_name, after_due, due_count, Link, down_link, is_in_service, Time, Code, Reroute, Parts, Node, with_parts, answer, refuse, is_link, link_at, down, in_service, link_of, waits, late_time, late_code, tell_owed, advance, Carrying, empty_data, message_data, owing, timed_parts, numbers, accept, carry, handle_by, act_by_data, receive_data, leave_aside, read, with_timers, run_timer, run_due, run_next, run_times, tick, go_on, go_by, go, go_each, release, Outgoing, if_owed, message_first, status_first, without_owed, next_message, after_sending, after_take, Happening, CameUp, WentDown, FrameCame, Ticked, Submitted, Activated, Deactivated, TitleAdded, TitleRemoved, handle_event, apply, WholeQueues, whole, new_by, new_at, new_in, new_of, Procedure, Changeover, Status}
+use Rattle.exchange_rules.proofs.Definitions.{Message, flow_of, Configuration, Ignored, FrameFault, FrameValue, EmptyFrame, MessageFrame, StatusFrame, read_frame, LinkStatus, Action, UserData, LinkTimer, timer_name, acts_on, Sending, SeqFault, TimerName, ticked, due_name, after_due, due_count, Link, down_link, is_in_service, Time, Code, Reroute, Parts, Node, with_parts, answer, refuse, is_link, link_at, down, in_service, link_of, waits, late_time, late_code, tell_owed, advance, Carrying, empty_data, message_data, owing, timed_parts, numbers, accept, carry, handle_by, act_by_data, receive_data, leave_aside, read, with_timers, run_timer, run_due, run_next, run_times, tick, go_on, go_by, go, go_each, release, Outgoing, if_owed, message_first, status_first, without_owed, next_message, after_sending, after_take, Happening, CameUp, WentDown, FrameCame, Ticked, Submitted, Activated, Deactivated, TitleAdded, TitleRemoved, handle_event, apply, WholeQueues, whole, new_by, new_at, new_in, new_of, Procedure, Changeover, Status}
 use Rattle.signalling_types.specs.declared.cause.Cause.TheVariants as causes
 use Rattle.signalling_types.specs.declared.notice.Notice.TheVariants as notices
 use Rattle.signalling_types.specs.declared.notice.LateTimer.TheVariants as late_timer
@@ -12,10 +12,11 @@ use Rattle.link.specs.declared.action.LinkTimer.TheVariants as timer
 use Rattle.timers.specs.declared.name.TimerName.TheVariants as name
 use Rattle.exchange_rules.proofs.Lists.{alike-at}
 use Rattle.exchange_rules.proofs.Serving.{data-serves, fails-up, serves-up}
+use Rattle.exchange_rules.proofs.SteppingTests.{begin_test-steps, test_unanswered-steps}
 use Rattle.exchange_rules.proofs.Steps.{confirming, Deed, IsOfDeeds, LinkFails, HoldsEnd, anything, IsOfRules, LinkOpens}
 use Rattle.exchange_rules.proofs.SteppingMessages.{ask_again-steps, tell_owed-steps}
 use Rattle.exchange_rules.proofs.SteppingRelaying.{add_title-steps, remove_title-steps}
-use Rattle.exchange_rules.proofs.SteppingLinks.{advance-serves, advance-steps, on_link_status-steps, run_out-steps, association_up-steps, association_down-steps, activate-steps, deactivate-steps}
+use Rattle.exchange_rules.proofs.SteppingLinks.{AllowsStatus, advance-serves, advance-steps, on_link_status-steps, run_out-steps, association_up-steps, association_down-steps, activate-steps, deactivate-steps}
 use Rattle.exchange_rules.proofs.SteppingLocal.{Allows, deliver-steps, submit-steps}
 use Rattle.exchange_rules.specs.LawsOfCauses.{Word, ended_by_timer, is_misplaced, is_misplaced_at, is_misplaced_in, is_wrong, word_heard, word_of}
 
@@ -40,13 +41,13 @@ IsOf (TitleRemoved key digits) l = ⊥
 pub record AllowsFrame (c : Configuration) (May : Deed → Type 0) (link : ℕ) (r : Result FrameValue FrameFault) (n : Node WholeQueues) : Type 0 where
   pub wrong : is_misplaced r link c n ≡ true → May (LinkFails link reasons.Sequence)
   pub length : r ≡ Err faults.Length → May (LinkFails link reasons.Length)
-  pub status : (bsn fsn : ℕ) (status : LinkStatus) → r ≡ Ok (StatusFrame bsn fsn status) → action_at (link_at n.parts link).alignment (Status status) ≡ act.Fail
-      → May (LinkFails link reasons.Status)
+  pub status : (bsn fsn : ℕ) (status : LinkStatus) → r ≡ Ok (StatusFrame bsn fsn status) → AllowsStatus c May link status n
 
 -- what a timer may do
 pub record AllowsTimer (May : Deed → Type 0) (timer : TimerName) : Type 0 where
   pub ends : (procedure : Procedure) → ended_by_timer timer ≡ Some procedure → May (HoldsEnd procedure)
   pub fails : (link : ℕ) (its : LinkTimer) → timer ≡ timer_name link its → May (LinkFails link reasons.Timer)
+  pub tests : (link : ℕ) → timer ≡ name.Slt1 link → May (LinkFails link reasons.Test)
 
 -- what an event may do, but for a tick
 pub record AllowsEvent (c : Configuration) (May : Deed → Type 0) (what : Happening) (n : Node WholeQueues) : Type 0 where
@@ -66,7 +67,7 @@ module _ {c : Configuration} {Own Counts : ℕ → Type 0} {May : Deed → Type 
 
   pub owing-steps : (link : ℕ) (m : Option Message) (n : Node WholeQueues) → R n (with_parts n (owing link m n.parts))
   owing-steps link None n = s.sends.none n
-  owing-steps link (Some m) n = s.linked link (record (link_at n.parts link) { acknowledgement_owed = true }) n (record { alignment = refl; association = refl; busy = refl })
+  owing-steps link (Some m) n = s.linked link (record (link_at n.parts link) { acknowledgement_owed = true }) n (record { alignment = refl; period = refl; association = refl; busy = refl }) refl
 
   pub handle_by-deeds : (answer : Result ℕ SeqFault) (link : ℕ) (d : Carrying) (n : Node WholeQueues) → Counts link → in_service n.parts link ≡ true → numbers whole c link d n ≡ answer
       → (is_wrong answer ≡ true → May (LinkFails link reasons.Sequence)) → ((word : Word) → word_of c (new_by answer d) ≡ Some word → Allows c May word) → R n (handle_by whole c answer link d n).left
@@ -76,20 +77,20 @@ module _ {c : Configuration} {Own Counts : ℕ → Type 0} {May : Deed → Type 
       (carry-deeds link d.message next (owing-serves link d.message (timed_parts c link confirmed (whole.outstanding next.queues link) n.parts) ∙ e) may)
   handle_by-deeds (Err fault) link d n own e f wrong may = s.fails link reasons.Sequence n (wrong refl) (serves-up (link_at n.parts link).alignment e)
 
-  act_by_data-deeds : (a : Action) (link : ℕ) (d : Carrying) (n : Node WholeQueues) → Own link → Counts link → action_at (link_at n.parts link).alignment UserData ≡ a
+  act_by_data-deeds : (a : Action) (link : ℕ) (d : Carrying) (n : Node WholeQueues) → Own link → Counts link → acts_on (link_at n.parts link) UserData ≡ a
       → (is_misplaced_at a link d c n ≡ true → May (LinkFails link reasons.Sequence)) → ((word : Word) → word_of c (new_at a link d c n) ≡ Some word → Allows c May word)
       → R n (act_by_data whole c a link d n).left
   act_by_data-deeds act.Ignored link d n own counts e wrong may = s.sends.none n
-  act_by_data-deeds act.Fail link d n own counts e wrong may = s.fails link reasons.Sequence n (wrong refl) (fails-up (link_at n.parts link).alignment UserData e)
+  act_by_data-deeds act.Fail link d n own counts e wrong may = s.fails link reasons.Sequence n (wrong refl) (fails-up (link_at n.parts link).period (link_at n.parts link).alignment UserData e)
   act_by_data-deeds (act.Go step) link d n own counts e wrong may =
       let next : Node WholeQueues = advance whole c link step n in
       s.sends.both _ _ _ (advance-steps s link UserData step n own e)
       (handle_by-deeds (numbers whole c link d next) link d next counts
-      (advance-serves c link UserData step n e ∙ data-serves (link_at n.parts link).alignment step e) refl wrong may)
+      (advance-serves c link UserData step n e ∙ data-serves (link_at n.parts link).period (link_at n.parts link).alignment step e) refl wrong may)
 
   receive_data-deeds : (link : ℕ) (d : Carrying) (n : Node WholeQueues) → Own link → Counts link → (is_misplaced_in (Some d) link c n ≡ true → May (LinkFails link reasons.Sequence))
       → ((word : Word) → word_of c (new_in (Some d) link c n) ≡ Some word → Allows c May word) → R n (receive_data whole c link d n).left
-  receive_data-deeds link d n own counts wrong may = act_by_data-deeds (action_at (link_at n.parts link).alignment UserData) link d n own counts refl wrong may
+  receive_data-deeds link d n own counts wrong may = act_by_data-deeds (acts_on (link_at n.parts link) UserData) link d n own counts refl wrong may
 
   pub leave_aside-deeds : (link : ℕ) (fault : FrameFault) (n : Node WholeQueues) → down n.parts link ≡ false → (fault ≡ faults.Length → May (LinkFails link reasons.Length)) → R n (leave_aside whole c link fault n).left
   leave_aside-deeds link faults.Length n up may = s.fails link reasons.Length n (may refl) up
@@ -135,6 +136,9 @@ module _ {c : Configuration} {Own Counts : ℕ → Type 0} {May : Deed → Type 
   run_timer-deeds (name.T6 destination) n own may = s.lifts (Reroute destination) n (may.ends (Reroute destination) refl)
   run_timer-deeds (name.T8 set destination) n own may = s.sends.none n
   run_timer-deeds (name.T10 set destination) n own may = ask_again-steps s set destination n
+  run_timer-deeds (name.Slt1 link) n own may = test_unanswered-steps s link n (may.tests link refl)
+  run_timer-deeds (name.Slt2 link) n own may = begin_test-steps s link n
+  run_timer-deeds name.Sst n own may = s.sends.none n
 
   pub run_due-deeds : (timer : Option TimerName) (n : Node WholeQueues) → ((link : ℕ) (its : LinkTimer) → timer ≡ Some (timer_name link its) → Own link)
       → ((its : TimerName) → timer ≡ Some its → AllowsTimer May its) → R n (run_due whole c timer n)
@@ -163,11 +167,11 @@ module _ {c : Configuration} {Own Counts : ℕ → Type 0} {May : Deed → Type 
   status-steps : (link : ℕ) (status : Option LinkStatus) (next : Outgoing) (n : Node WholeQueues) → Own link
       → R n (after_sending whole c link n next) → R n (after_sending whole c link n (status_first status next))
   status-steps link (Some status) next n own e =
-      s.linked link (record (link_at n.parts link) { waiting = drop 1 (link_at n.parts link).waiting }) n (record { alignment = refl; association = refl; busy = refl })
+      s.linked link (record (link_at n.parts link) { waiting = drop 1 (link_at n.parts link).waiting }) n (record { alignment = refl; period = refl; association = refl; busy = refl }) refl
   status-steps link None next n own e = e
 
   owed-steps : (link : ℕ) (owed : Bool) (n : Node WholeQueues) → R n (after_sending whole c link n (if_owed owed))
-  owed-steps link true n = s.linked link (without_owed (link_at n.parts link)) n (record { alignment = refl; association = refl; busy = refl })
+  owed-steps link true n = s.linked link (without_owed (link_at n.parts link)) n (record { alignment = refl; period = refl; association = refl; busy = refl }) refl
   owed-steps link false n = s.sends.none n
 
   message-steps : (link : ℕ) (next : Option Sending) (owed : Bool) (n : Node WholeQueues) → Own link → next_message whole c link n ≡ next
@@ -219,14 +223,14 @@ module _ {c : Configuration} {Own Counts : ℕ → Type 0} {R : Node WholeQueues
   any_word word = record { ends = λ procedure e. tt; fails = λ link e. tt }
 
   any_timer : (timer : TimerName) → AllowsTimer anything timer
-  any_timer timer = record { ends = λ procedure e. tt; fails = λ link its e. tt }
+  any_timer timer = record { ends = λ procedure e. tt; fails = λ link its e. tt; tests = λ link e. tt }
 
   any_event : (what : Happening) (n : Node WholeQueues) → AllowsEvent c anything what n
   any_event what n = record {
     opens = λ link e. tt;
     lost = λ link e. tt;
     ordered = λ link e. tt;
-    frame = λ link text e. record { wrong = λ f. tt; length = λ f. tt; status = λ bsn fsn status f g. tt };
+    frame = λ link text e. record { wrong = λ f. tt; length = λ f. tt; status = λ bsn fsn status f. record { fails = λ e g. tt; recovers = λ e. tt } };
     words = λ word e. any_word word;
   }
 

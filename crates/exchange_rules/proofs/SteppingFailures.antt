@@ -56,7 +56,7 @@ module _ {c : Configuration} {Own Counts : ℕ → Type 0} {R : Node WholeQueues
   untested-steps : (set : ℕ) (n : Node WholeQueues) → R n (with_parts n (without_tests set n.parts))
   untested-steps set n = s.timed _ n (clear_set-timed of_set.T10 set n.parts.timers)
 
-  suspended-steps : (link : ℕ) (ms : List Message) (n : Node WholeQueues) → R n (with_parts n (suspended c link ms n.parts))
+  pub suspended-steps : (link : ℕ) (ms : List Message) (n : Node WholeQueues) → R n (with_parts n (suspended c link ms n.parts))
   suspended-steps link ms n = s.holding _ n (suspended-held c link ms n.parts)
 
   -- a link in service fails, and its changeover begins

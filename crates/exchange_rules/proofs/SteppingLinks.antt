@@ -1,6 +1,6 @@
 -- Links that open, align, fail and go, and a tick: each rule is made of steps.
 use Rattle.exchange_rules.proofs.Basics.{◌≡◌, ◌≢◌, ◌<◌, ◌≤◌, ℕ, Bool, true, false, ◌&&◌, not, List, length, refl, ap, ◌∙◌, arith, if◌then◌else◌, ⊎_elim, cases_lt, get_or_past, get_or-set_same, get_or-set_other, length-set, inl, sym, subst}
-use Rattle.exchange_rules.proofs.Definitions.{Configuration, Handled, Ignored, FailureReason, LinkStatus, Action, Input, Status, Expiry, LinkTimer, Transition, action_at, Link, down_link, is_down, is_in_service, stepped, after_failure, clear_set, reset_shape, Standing, may_restart, Facts, may_open, open_link, association_up, fail_if_up, end_association, association_down, set_active, activate, deactivate, Parts, Node, Done, with_parts, answer, refuse, is_link, link_at, links_with, down, in_service, facts, set_of, with_set_reset, has_other, changeover_of, fail, step_on, enters, begun_anew_if, moved_on, return_if, advance, serve_status, act_by_status, on_link_status, act_by_timer, run_out, WholeQueues, whole}
+use Rattle.exchange_rules.proofs.Definitions.{Configuration, Handled, Ignored, FailureReason, LinkStatus, Action, Input, Status, Expiry, LinkTimer, Transition, acts_on, Link, down_link, is_down, is_in_service, stepped, after_failure, clear_set, reset_shape, Standing, may_restart, Facts, may_open, open_link, association_up, fail_if_up, end_association, association_down, set_active, activate, deactivate, Parts, Node, Done, with_parts, answer, refuse, is_link, link_at, links_with, down, in_service, facts, set_of, with_set_reset, has_other, changeover_of, fail, step_on, enters, begun_anew_if, moved_on, return_if, advance, serve_status, act_by_status, on_link_status, act_by_timer, run_out, WholeQueues, whole, become_busy, end_busy, in_outage, tells_outage, tells_recovery, let_back, begin_outage, hear_outage, end_outage, Changeover, take_step, test_if}
 use Rattle.signalling_types.specs.declared.cause.Cause.TheVariants as causes
 use Rattle.signalling_types.specs.declared.notice.FailureReason.TheVariants as reasons
 use Rattle.m2pa_codec.specs.declared.status.LinkStatus.TheVariants as says
@@ -9,22 +9,24 @@ use Rattle.timers.specs.declared.name.RouteTimer.TheVariants as of_set
 use Rattle.node_links.specs.NodeLinks.{link_in}
 use Rattle.exchange_rules.proofs.TakenPairs.{take_back_each-alike}
 use Rattle.exchange_rules.proofs.Serving.{serves-in, fails-up}
-use Rattle.exchange_rules.proofs.Steps.{MayReturn, with_busy, without_busy, either_done-steps, Deed, IsOfDeeds, LinkFails, LinkOpens}
+use Rattle.exchange_rules.proofs.Steps.{MayReturn, with_busy, without_busy, either_done-steps, Deed, IsOfDeeds, LinkFails, LinkOpens, HoldsEnd}
+use Rattle.exchange_rules.proofs.Outages.{ended-serves, begun-serves, becomes-busy, back-serves, back-in, outage-set, outage-serves, recovery-out, out-serves}
 use Rattle.exchange_rules.proofs.OwnRoutes.{rerouted-reset, reset-unsure, reset-sure}
 use Rattle.exchange_rules.proofs.SteppingTimers.{both-quiet, clear_set-quiet}
 use Rattle.exchange_rules.proofs.KeepingTests.{reset-tests}
 use Rattle.exchange_rules.proofs.ResetFirst.{reset-first}
 use Rattle.exchange_rules.proofs.SteppingFailures.{fail-links}
 use Rattle.exchange_rules.proofs.SteppingReturns.{change_back-steps}
+use Rattle.exchange_rules.proofs.SteppingTests.{begin_test-links, begin_test-steps}
 
 -- ---- a link that takes a step of its alignment is there
 
-pub stepping-there : (p : Parts) (link : ℕ) (input : Input) (step : Transition) → action_at (link_at p link).alignment input ≡ act.Go step → link < length p.links
+pub stepping-there : (p : Parts) (link : ℕ) (input : Input) (step : Transition) → acts_on (link_at p link) input ≡ act.Go step → link < length p.links
 stepping-there p link input step e =
     ⊎_elim
     (λ (there : link < length p.links). there)
     (λ (past : length p.links ≤ link).
-    let gone : action_at (link_at p link).alignment input ≡ act.Ignored = ap (λ (l : Link). action_at l.alignment input) (get_or_past p.links link down_link past) in
+    let gone : acts_on (link_at p link) input ≡ act.Ignored = ap (λ (l : Link). acts_on l input) (get_or_past p.links link down_link past) in
     absurd cc)
     (cases_lt link (length p.links))
 
@@ -53,14 +55,23 @@ pub returned-links : (entered : Bool) (c : Configuration) (link : ℕ) (before :
 returned-links true c link before n = (take_back_each-alike whole c before (facts c n.parts) link (length c.links) n).links
 returned-links false c link before n = refl
 
-pub advance-at : (c : Configuration) (link : ℕ) (input : Input) (step : Transition) (n : Node WholeQueues) → action_at (link_at n.parts link).alignment input ≡ act.Go step
+-- links are unchanged as a test goes out
+tested-links : (entered : Bool) (c : Configuration) (link : ℕ) (n : Node WholeQueues) → (test_if whole c entered link n).parts.links ≡ n.parts.links
+tested-links true c link n = begin_test-links c link n
+tested-links false c link n = refl
+
+pub advance-links : (c : Configuration) (link : ℕ) (step : Transition) (n : Node WholeQueues) → (advance whole c link step n).parts.links ≡ (moved_on c link step n.parts).links
+advance-links c link step n =
+    tested-links (enters link step n.parts) c link (take_step whole c link step n)
+    ∙ returned-links (enters link step n.parts) c link (facts c n.parts) (with_parts n (moved_on c link step n.parts))
+
+pub advance-at : (c : Configuration) (link : ℕ) (input : Input) (step : Transition) (n : Node WholeQueues) → acts_on (link_at n.parts link) input ≡ act.Go step
     → (link_at (advance whole c link step n).parts link).alignment ≡ step.state
 advance-at c link input step n e =
-    ap (λ (links : List Link). (link_in links link).alignment)
-    (returned-links (enters link step n.parts) c link (facts c n.parts) (with_parts n (moved_on c link step n.parts)))
+    ap (λ (links : List Link). (link_in links link).alignment) (advance-links c link step n)
     ∙ ap (λ (l : Link). l.alignment) (moved-at c link link step n.parts ∙ stepped-at c link step n.parts (stepping-there n.parts link input step e))
 
-pub advance-serves : (c : Configuration) (link : ℕ) (input : Input) (step : Transition) (n : Node WholeQueues) → action_at (link_at n.parts link).alignment input ≡ act.Go step
+pub advance-serves : (c : Configuration) (link : ℕ) (input : Input) (step : Transition) (n : Node WholeQueues) → acts_on (link_at n.parts link) input ≡ act.Go step
     → in_service (advance whole c link step n).parts link ≡ is_in_service step.state
 advance-serves c link input step n e = ap is_in_service (advance-at c link input step n e)
 
@@ -89,6 +100,11 @@ complete st e = by st.incomplete st.awaited e
     by true awaited h = absurd cc
     by false awaited h = refl
 
+-- what a status of the peer may do
+pub record AllowsStatus (c : Configuration) (May : Deed → Type 0) (link : ℕ) (status : LinkStatus) (n : Node WholeQueues) : Type 0 where
+  pub fails : tells_outage c link status n.parts ≡ false → acts_on (link_at n.parts link) (Status status) ≡ act.Fail → May (LinkFails link reasons.Status)
+  pub recovers : tells_recovery link status n.parts ≡ true → May (HoldsEnd (Changeover link))
+
 module _ {c : Configuration} {Own Counts : ℕ → Type 0} {May : Deed → Type 0} {R : Node WholeQueues → Node WholeQueues → Type 0} (s : IsOfDeeds c Own Counts May R) where
   -- ---- a step of an alignment
 
@@ -116,7 +132,7 @@ module _ {c : Configuration} {Own Counts : ℕ → Type 0} {May : Deed → Type 
   entered-steps false link step n there e = s.sends.none (with_parts n (moved_on c link step n.parts))
 
   -- it takes the step, and comes after a reset if it is the first of its set
-  moved-steps : (first : Bool) (link : ℕ) (input : Input) (step : Transition) (n : Node WholeQueues) → Own link → action_at (link_at n.parts link).alignment input ≡ act.Go step
+  moved-steps : (first : Bool) (link : ℕ) (input : Input) (step : Transition) (n : Node WholeQueues) → Own link → acts_on (link_at n.parts link) input ≡ act.Go step
       → (enters link step n.parts && not (has_other c link n.parts)) ≡ first → R n (with_parts n (begun_anew_if first c link (step_on c link step n.parts)))
   moved-steps false link input step n own e f =
       s.stepped link input step n own e (record { clean = λ is destination. (let no : true ≡ false = sym is ∙ f in absurd cc) })
@@ -127,11 +143,24 @@ module _ {c : Configuration} {Own Counts : ℕ → Type 0} {May : Deed → Type 
       (s.sends.both _ _ _ (set_reset-steps set n (record { link = link; own = own; is = refl }))
       (s.stepped link input step reset own e (record { clean = λ is destination. reset-sure n.parts.routes set destination })))
 
-  pub advance-steps : (link : ℕ) (input : Input) (step : Transition) (n : Node WholeQueues) → Own link → action_at (link_at n.parts link).alignment input ≡ act.Go step
-      → R n (advance whole c link step n)
-  advance-steps link input step n own e =
+  take_step-steps : (link : ℕ) (input : Input) (step : Transition) (n : Node WholeQueues) → Own link → acts_on (link_at n.parts link) input ≡ act.Go step
+      → R n (take_step whole c link step n)
+  take_step-steps link input step n own e =
       s.sends.both _ _ _ (moved-steps (enters link step n.parts && not (has_other c link n.parts)) link input step n own e refl)
       (entered-steps (enters link step n.parts) link step n (stepping-there n.parts link input step e) refl)
+
+  tested-steps : (entered : Bool) (link : ℕ) (n : Node WholeQueues) → R n (test_if whole c entered link n)
+  tested-steps true link n = begin_test-steps s link n
+  tested-steps false link n = s.sends.none n
+
+  -- a link that took a step, and its flows back, is tested
+  pub tested_if-steps : (link : ℕ) (step : Transition) (n : Node WholeQueues) → R (take_step whole c link step n) (advance whole c link step n)
+  tested_if-steps link step n = tested-steps (enters link step n.parts) link (take_step whole c link step n)
+
+  pub advance-steps : (link : ℕ) (input : Input) (step : Transition) (n : Node WholeQueues) → Own link → acts_on (link_at n.parts link) input ≡ act.Go step
+      → R n (advance whole c link step n)
+  advance-steps link input step n own e =
+      s.sends.both _ _ _ (take_step-steps link input step n own e) (tested_if-steps link step n)
 
   -- ---- statuses and timers of a link
 
@@ -141,13 +170,18 @@ module _ {c : Configuration} {Own Counts : ℕ → Type 0} {May : Deed → Type 
   busy-steps false link n own e f = s.busied link n own e f
 
   resuming-steps : (busy : Bool) (link : ℕ) (n : Node WholeQueues) → Own link → in_service n.parts link ≡ true → (link_at n.parts link).peer_busy ≡ busy
-      → R n (with_parts n (if busy then without_busy c link (whole.outstanding n.queues link) n.parts else n.parts))
-  resuming-steps true link n own e f = s.resumed link n own e f
-  resuming-steps false link n own e f = s.sends.none n
+      → (link_at n.parts link).peer_outage ≡ false → R n (with_parts n (if busy then without_busy c link (whole.outstanding n.queues link) n.parts else n.parts))
+  resuming-steps true link n own e f o = s.resumed link n own e f o
+  resuming-steps false link n own e f o = s.sends.none n
+
+  ended-steps : (out : Bool) (link : ℕ) (n : Node WholeQueues) → Own link → in_service n.parts link ≡ true → (link_at n.parts link).peer_outage ≡ out
+      → R n (with_parts n (if out then n.parts else end_busy c link (whole.outstanding n.queues link) n.parts))
+  ended-steps true link n own e o = s.sends.none n
+  ended-steps false link n own e o = resuming-steps (link_at n.parts link).peer_busy link n own e refl o
 
   serve_status-steps : (link : ℕ) (status : LinkStatus) (n : Node WholeQueues) → Own link → in_service n.parts link ≡ true → R n (serve_status whole c link status n)
   serve_status-steps link says.Busy n own e = busy-steps (link_at n.parts link).peer_busy link n own e refl
-  serve_status-steps link says.BusyEnded n own e = resuming-steps (link_at n.parts link).peer_busy link n own e refl
+  serve_status-steps link says.BusyEnded n own e = ended-steps (link_at n.parts link).peer_outage link n own e refl
   serve_status-steps link says.Alignment n own e = s.sends.none n
   serve_status-steps link says.ProvingNormal n own e = s.sends.none n
   serve_status-steps link says.ProvingEmergency n own e = s.sends.none n
@@ -161,27 +195,57 @@ module _ {c : Configuration} {Own Counts : ℕ → Type 0} {May : Deed → Type 
   served-steps true link status n own e = serve_status-steps link status n own (e refl)
   served-steps false link status n own e = s.sends.none n
 
-  act_by_status-steps : (a : Action) (link : ℕ) (status : LinkStatus) (n : Node WholeQueues) → Own link → action_at (link_at n.parts link).alignment (Status status) ≡ a
+  act_by_status-steps : (a : Action) (link : ℕ) (status : LinkStatus) (n : Node WholeQueues) → Own link → acts_on (link_at n.parts link) (Status status) ≡ a
       → (a ≡ act.Fail → May (LinkFails link reasons.Status)) → R n (act_by_status whole c a link status n).left
   act_by_status-steps act.Ignored link status n own e may = s.sends.none n
-  act_by_status-steps act.Fail link status n own e may = s.fails link reasons.Status n (may refl) (fails-up (link_at n.parts link).alignment (Status status) e)
+  act_by_status-steps act.Fail link status n own e may = s.fails link reasons.Status n (may refl) (fails-up (link_at n.parts link).period (link_at n.parts link).alignment (Status status) e)
   act_by_status-steps (act.Go step) link status n own e may =
       s.sends.both _ _ _ (advance-steps link (Status status) step n own e)
       (served-steps step.serve link status (advance whole c link step n) own
-      (λ h. advance-serves c link (Status status) step n e ∙ serves-in (link_at n.parts link).alignment (Status status) step e h))
+      (λ h. advance-serves c link (Status status) step n e ∙ serves-in (link_at n.parts link).period (link_at n.parts link).alignment (Status status) step e h))
 
-  pub on_link_status-steps : (link : ℕ) (status : LinkStatus) (n : Node WholeQueues) → Own link → (action_at (link_at n.parts link).alignment (Status status) ≡ act.Fail → May (LinkFails link reasons.Status))
-      → R n (on_link_status whole c link status n).left
-  on_link_status-steps link status n own may = act_by_status-steps (action_at (link_at n.parts link).alignment (Status status)) link status n own refl may
+  -- ---- the peer's processor
 
-  act_by_timer-steps : (a : Action) (link : ℕ) (timer : LinkTimer) (n : Node WholeQueues) → Own link → action_at (link_at n.parts link).alignment (Expiry timer) ≡ a
+  begin_outage-steps : (link : ℕ) (n : Node WholeQueues) → Own link → c.processor_outage ≡ true → in_service n.parts link ≡ true → (link_at n.parts link).peer_outage ≡ false
+      → R n (begin_outage whole c link n)
+  begin_outage-steps link n own set e o =
+      let one : Node WholeQueues = with_parts n (end_busy c link (whole.outstanding n.queues link) n.parts) in
+      let two : Node WholeQueues = with_parts n (become_busy c link one.parts) in
+      let e1 : in_service one.parts link ≡ true = ended-serves c link (whole.outstanding n.queues link) n.parts link ∙ e in
+      let e2 : in_service two.parts link ≡ true = begun-serves c link one.parts link ∙ e1 in
+      s.sends.both n one _ (resuming-steps (link_at n.parts link).peer_busy link n own e refl o)
+      (s.sends.both one two _ (busy-steps (link_at one.parts link).peer_busy link one own e1 refl) (s.put link two set e2 (becomes-busy c link one.parts e1)))
+
+  hear_outage-steps : (out : Bool) (link : ℕ) (n : Node WholeQueues) → Own link → c.processor_outage ≡ true → in_service n.parts link ≡ true → (link_at n.parts link).peer_outage ≡ out
+      → R n (if out then n else begin_outage whole c link n)
+  hear_outage-steps true link n own set e o = s.sends.none n
+  hear_outage-steps false link n own set e o = begin_outage-steps link n own set e o
+
+  end_outage-steps : (link : ℕ) (n : Node WholeQueues) → Own link → in_outage n.parts link ≡ true → May (HoldsEnd (Changeover link)) → R n (end_outage whole c link n)
+  end_outage-steps link n own out may =
+      let e : in_service n.parts link ≡ true = out-serves n.parts link out in
+      let back : Node WholeQueues = with_parts n (let_back link n.parts) in
+      s.sends.both n back _ (s.back link n out may)
+      (resuming-steps (link_at back.parts link).peer_busy link back own (back-serves link n.parts link ∙ e) refl (back-in link n.parts e))
+
+  pub on_link_status-steps : (link : ℕ) (status : LinkStatus) (n : Node WholeQueues) → Own link → AllowsStatus c May link status n → R n (on_link_status whole c link status n).left
+  on_link_status-steps link status n own allows = told (tells_outage c link status n.parts) (tells_recovery link status n.parts) refl refl
+    where
+      told : (out back : Bool) → tells_outage c link status n.parts ≡ out → tells_recovery link status n.parts ≡ back
+          → R n (if out then answer Handled (hear_outage whole c link n) else if back then answer Handled (end_outage whole c link n)
+          else act_by_status whole c (acts_on (link_at n.parts link) (Status status)) link status n).left
+      told true back e f = hear_outage-steps (link_at n.parts link).peer_outage link n own (outage-set c link status n.parts e) (outage-serves c link status n.parts e) refl
+      told false true e f = end_outage-steps link n own (recovery-out link status n.parts f) (allows.recovers f)
+      told false false e f = act_by_status-steps (acts_on (link_at n.parts link) (Status status)) link status n own refl (allows.fails e)
+
+  act_by_timer-steps : (a : Action) (link : ℕ) (timer : LinkTimer) (n : Node WholeQueues) → Own link → acts_on (link_at n.parts link) (Expiry timer) ≡ a
       → May (LinkFails link reasons.Timer) → R n (act_by_timer whole c a link n)
   act_by_timer-steps act.Ignored link timer n own e may = s.sends.none n
-  act_by_timer-steps act.Fail link timer n own e may = s.fails link reasons.Timer n may (fails-up (link_at n.parts link).alignment (Expiry timer) e)
+  act_by_timer-steps act.Fail link timer n own e may = s.fails link reasons.Timer n may (fails-up (link_at n.parts link).period (link_at n.parts link).alignment (Expiry timer) e)
   act_by_timer-steps (act.Go step) link timer n own e may = advance-steps link (Expiry timer) step n own e
 
   pub run_out-steps : (link : ℕ) (timer : LinkTimer) (n : Node WholeQueues) → Own link → May (LinkFails link reasons.Timer) → R n (run_out whole c link timer n)
-  run_out-steps link timer n own may = act_by_timer-steps (action_at (link_at n.parts link).alignment (Expiry timer)) link timer n own refl may
+  run_out-steps link timer n own may = act_by_timer-steps (acts_on (link_at n.parts link) (Expiry timer)) link timer n own refl may
 
   -- ---- associations, and the operator's word
 
@@ -219,7 +283,7 @@ module _ {c : Configuration} {Own Counts : ℕ → Type 0} {May : Deed → Type 
       (s.parted link gone (failed_if_up-down c (down n.parts link) link reasons.Association n refl))) (s.sends.none n)) (s.sends.none n)
 
   pub set_active-steps : (active : Bool) (link : ℕ) (n : Node WholeQueues) → R n (set_active whole c active link n)
-  set_active-steps active link n = s.linked link (record (link_at n.parts link) { active = active }) n (record { alignment = refl; association = refl; busy = refl })
+  set_active-steps active link n = s.linked link (record (link_at n.parts link) { active = active }) n (record { alignment = refl; period = refl; association = refl; busy = refl }) refl
 
   pub activate-steps : (link : ℕ) (n : Node WholeQueues) → R n (activate whole c link n).left
   activate-steps link n =

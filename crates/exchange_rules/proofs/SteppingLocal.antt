@@ -1,6 +1,6 @@
 -- Messages for this point, and those that frames carry and user parts hand over: each rule is made of steps.
 use Rattle.exchange_rules.proofs.Basics.{◌≡◌, ℕ, Bool, true, false, Option, Some, None, Result, Ok, Err, refl, if◌then◌else◌, ◌&&◌, not}
-use Rattle.exchange_rules.proofs.Definitions.{Message, dpc_of, opc_of, service_indicator, is_management, Configuration, Cause, Outcome, Queued, Held, Local, Handled, Ignored, Refused, set_place, destination_place, MgmtFault, TestKind, Test, Acknowledgement, Management, TrafficRestartAllowed, ExtendedChangeoverOrder, ExtendedChangeoverAcknowledgement, EmergencyChangeoverOrder, EmergencyChangeoverAcknowledgement, ChangebackDeclaration, ChangebackAcknowledgement, TransferProhibited, TransferRestricted, TransferAllowed, RouteSetTestProhibited, RouteSetTestRestricted, UserPartUnavailable, LinkTestValue, read_link_test, read_management, Allowed, Restricted, Prohibited, is_outstanding, Discrimination, Node, Done, with_parts, answer, refuse, in_service, note_outcome, route_about, no_room, send, changeback_acknowledgement, freed, on_changeback_acknowledgement, sccp, is_user, is_adjacent, answer_no_user_part, from_afar, test_answer, link_with_code, local, do_order, do_acknowledgement, do_management, do_kind, do_test, manage, distribute, transfer, on_unitdata, whither_goes, deliver_to, deliver, submit_to, submit, WholeQueues, whole, Procedure, Changeover, Code}
+use Rattle.exchange_rules.proofs.Definitions.{Message, dpc_of, opc_of, service_indicator, is_management, Configuration, Cause, Outcome, Queued, Held, Local, Handled, Ignored, Refused, set_place, destination_place, MgmtFault, TestKind, Test, Acknowledgement, Management, TrafficRestartAllowed, ExtendedChangeoverOrder, ExtendedChangeoverAcknowledgement, EmergencyChangeoverOrder, EmergencyChangeoverAcknowledgement, ChangebackDeclaration, ChangebackAcknowledgement, TransferProhibited, TransferRestricted, TransferAllowed, RouteSetTestProhibited, RouteSetTestRestricted, UserPartUnavailable, LinkTestValue, read_link_test, read_management, Allowed, Restricted, Prohibited, is_outstanding, Discrimination, Node, Done, with_parts, answer, refuse, in_service, note_outcome, route_about, no_room, send, changeback_acknowledgement, freed, on_changeback_acknowledgement, sccp, is_user, is_adjacent, answer_no_user_part, from_afar, test_answer, link_with_code, local, do_order, do_acknowledgement, do_management, do_kind, do_test, distribute, transfer, on_unitdata, whither_goes, deliver_to, deliver, submit_to, submit, WholeQueues, whole, Procedure, Changeover, Code}
 use Rattle.std.specs.Prelude.{nat_eq}
 use Rattle.signalling_types.specs.declared.cause.Cause.TheVariants as causes
 use Rattle.signalling_types.specs.declared.notice.Notice.TheVariants as notices
@@ -13,6 +13,7 @@ use Rattle.exchange_rules.specs.LawsOfCauses.{Word, word_read, word_to, word_of,
 use Rattle.exchange_rules.proofs.Steps.{either_done-steps, Deed, LinkFails, HoldsEnd, IsOfDeeds}
 use Rattle.exchange_rules.proofs.SteppingMessages.{answer_no_user_part-steps, send_routed-steps, on_route_test-steps, on_route_status-steps, transfer-steps}
 use Rattle.exchange_rules.proofs.SteppingRelaying.{on_unitdata-steps}
+use Rattle.exchange_rules.proofs.SteppingTests.{on_test_answer-steps}
 
 -- what a word may do
 pub record Allows (c : Configuration) (May : Deed → Type 0) (word : Word) : Type 0 where
@@ -37,7 +38,7 @@ module _ {c : Configuration} {Own Counts : ℕ → Type 0} {May : Deed → Type 
   do_kind-steps : (kind : TestKind) (link point : ℕ) (test : LinkTestValue) (n : Node WholeQueues) → in_service n.parts link ≡ true → is_adjacent c point ≡ true
       → R n (do_kind whole c kind link point test n).left
   do_kind-steps Test link point test n e f = send_answer-steps (no_room whole c (test_answer c point test) n.queues) link point test n e f
-  do_kind-steps Acknowledgement link point test n e f = s.sends.none n
+  do_kind-steps Acknowledgement link point test n e f = on_test_answer-steps s link point test n
 
   do_test-steps : (r : Result LinkTestValue MgmtFault) (link point : ℕ) (n : Node WholeQueues) → in_service n.parts link ≡ true → is_adjacent c point ≡ true
       → R n (do_test whole c r link point n).left

@@ -18,13 +18,13 @@ use Rattle.exchange_rules.proofs.SteppingTimers.{same-quiet, set-quiet, clear-qu
 -- ---- timers
 
 timed_telling-quiet : {E : ℕ → Type 0} (c : Configuration) (set destination : ℕ) (status : RouteStatus) (r : Running) → AreQuiet c E r (timed_telling c set destination status r)
-timed_telling-quiet c set destination Prohibited r = set-quiet c (name.T8 set destination) c.timers.t8 r (λ link e. cc) refl refl refl
+timed_telling-quiet c set destination Prohibited r = set-quiet c (name.T8 set destination) c.timers.t8 r (λ link e. cc) refl refl refl (λ off. refl)
 timed_telling-quiet c set destination Restricted r = same-quiet c r
 timed_telling-quiet c set destination Allowed r = same-quiet c r
 
 timed_status-quiet : {E : ℕ → Type 0} (c : Configuration) (set destination : ℕ) (status : RouteStatus) (r : Running) → AreQuiet c E r (timed_status c set destination status r)
-timed_status-quiet c set destination Prohibited r = set-quiet c (name.T10 set destination) c.timers.t10 r (λ link e. cc) refl refl refl
-timed_status-quiet c set destination Restricted r = set-quiet c (name.T10 set destination) c.timers.t10 r (λ link e. cc) refl refl refl
+timed_status-quiet c set destination Prohibited r = set-quiet c (name.T10 set destination) c.timers.t10 r (λ link e. cc) refl refl refl (λ off. refl)
+timed_status-quiet c set destination Restricted r = set-quiet c (name.T10 set destination) c.timers.t10 r (λ link e. cc) refl refl refl (λ off. refl)
 timed_status-quiet c set destination Allowed r = clear-quiet c (name.T10 set destination) r (λ link e. cc) refl refl (λ s d e. cc)
 
 -- of a point itself nothing is heard that changes anything
@@ -73,7 +73,7 @@ module _ {c : Configuration} {Own Counts : ℕ → Type 0} {May : Deed → Type 
   tell_owed-steps n = tell_each-steps (owed (facts c n.parts) n.parts.told) n
 
   pub inhibited-steps : (set destination : ℕ) (n : Node WholeQueues) → R n (with_parts n (inhibited c set destination n.parts))
-  inhibited-steps set destination n = s.timed _ n (set-quiet c (name.T8 set destination) c.timers.t8 n.parts.timers (λ link e. cc) refl refl refl) (set-tests n.parts (name.T8 set destination) c.timers.t8)
+  inhibited-steps set destination n = s.timed _ n (set-quiet c (name.T8 set destination) c.timers.t8 n.parts.timers (λ link e. cc) refl refl refl (λ off. refl)) (set-tests n.parts (name.T8 set destination) c.timers.t8)
 
   prohibit-steps : (set destination : ℕ) (n : Node WholeQueues) → R n (prohibit whole c set destination n)
   prohibit-steps set destination n =
@@ -196,7 +196,7 @@ module _ {c : Configuration} {Own Counts : ℕ → Type 0} {May : Deed → Type 
 
   ask-steps : (m : Message) (set destination : ℕ) (n : Node WholeQueues) → R n (ask whole c m set destination n)
   ask-steps m set destination n =
-      s.sends.both _ _ _ (s.timed _ n (set-quiet c (name.T10 set destination) c.timers.t10 n.parts.timers (λ link e. cc) refl refl refl) (set-tests n.parts (name.T10 set destination) c.timers.t10))
+      s.sends.both _ _ _ (s.timed _ n (set-quiet c (name.T10 set destination) c.timers.t10 n.parts.timers (λ link e. cc) refl refl refl (λ off. refl)) (set-tests n.parts (name.T10 set destination) c.timers.t10))
       (send_routed-steps s.sends m (with_parts n (with_next_test whole c set destination n.parts)))
 
   ask_by-steps : (status : Option RouteStatus) (set destination : ℕ) (n : Node WholeQueues) → R n (ask_by whole c status set destination n)

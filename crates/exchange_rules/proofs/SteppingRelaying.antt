@@ -1,6 +1,6 @@
 -- SCCP messages for this point, and the orders on translation rows: each rule is made of steps.
 use Rattle.exchange_rules.proofs.Basics.{ℕ, Bool, List, Option, Some, None}
-use Rattle.exchange_rules.proofs.Definitions.{Message, Configuration, TitleEntry, Cause, NoSuchName, Outcome, Queued, Held, Local, Handled, Ignored, Refused, TitleKey, place_of, has_row, without_row, RelayedValue, relay, returned, Node, Done, with_parts, answer, refuse, own_of, in_place_of, send_udts, return_outcome, relay_by, on_unitdata, with_titles, title_refusal, add_title_unless, add_title, remove_title, WholeQueues, whole}
+use Rattle.exchange_rules.proofs.Definitions.{Message, Configuration, TitleEntry, Cause, NoSuchName, Outcome, Queued, Held, Local, Handled, Ignored, Refused, TitleKey, place_of, has_row, without_row, RelayedValue, relay, returned, Node, Done, with_parts, answer, refuse, own_of, in_place_of, send_udts, return_outcome, relay_by, on_unitdata, with_rows, title_refusal, add_title_unless, add_title, remove_title, WholeQueues, whole}
 use Rattle.sccp_relay.specs.Relay as relays
 use Rattle.exchange_rules.proofs.Steps.{either_done-steps, Deed, IsOfDeeds}
 use Rattle.exchange_rules.proofs.SteppingMessages.{transfer-steps}
@@ -21,6 +21,7 @@ module _ {c : Configuration} {Own Counts : ℕ → Type 0} {May : Deed → Type 
   relay-steps : (becomes : RelayedValue) (m : Message) (n : Node WholeQueues) → R n (relay_by whole c becomes m n).left
   relay-steps relays.Delivered m n = s.sends.none n
   relay-steps (relays.Onward sif) m n = transfer-steps s None (in_place_of m sif) n
+  relay-steps (relays.Heard news) m n = s.titled _ n
   relay-steps (relays.Refused cause) m n = s.sends.none n
 
   pub on_unitdata-steps : (m : Message) (n : Node WholeQueues) → R n (on_unitdata whole c m n).left
@@ -35,10 +36,10 @@ module _ {c : Configuration} {Own Counts : ℕ → Type 0} {May : Deed → Type 
   add_by-steps None row n = s.titled _ n
 
   pub add_title-steps : (row : TitleEntry) (is_memory_refused : Bool) (n : Node WholeQueues) → R n (add_title row is_memory_refused n).left
-  add_title-steps row is_memory_refused n = add_by-steps (title_refusal n.parts.titles row is_memory_refused) row n
+  add_title-steps row is_memory_refused n = add_by-steps (title_refusal n.parts.titles.rows row is_memory_refused) row n
 
   pub remove_title-steps : (key : TitleKey) (digits : List ℕ) (n : Node WholeQueues) → R n (remove_title key digits n).left
   remove_title-steps key digits n =
-      either_done-steps s.sends (has_row n.parts.titles (place_of key digits))
-      n (answer Handled (with_parts n (with_titles (without_row (place_of key digits) n.parts.titles) n.parts))) (refuse NoSuchName n)
-      (s.titled (without_row (place_of key digits) n.parts.titles) n) (s.sends.none n)
+      either_done-steps s.sends (has_row n.parts.titles.rows (place_of key digits))
+      n (answer Handled (with_parts n (with_rows (without_row (place_of key digits) n.parts.titles.rows) n.parts))) (refuse NoSuchName n)
+      (s.titled (record n.parts.titles { rows = without_row (place_of key digits) n.parts.titles.rows }) n) (s.sends.none n)

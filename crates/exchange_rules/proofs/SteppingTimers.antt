@@ -1,14 +1,15 @@
 -- Timers other than L7 that are set and stopped: no timer that watches a link changes, and none becomes due.
-use Rattle.exchange_rules.proofs.Basics.{◌≡◌, ◌≢◌, ℕ, Bool, true, false, cond, refl, sym, ap, ◌∙◌, arith, max, is_some, nat_tests, false_from_ne_true as not-so}
-use Rattle.exchange_rules.proofs.Definitions.{Configuration, TimerName, L7, has_name, is_same, is_of_set, Running, set_timer, clear_timer, clear_set, is_due, no_tick_left, left-set_other, left-clear_other, left-clear_set_other, counts-set, counts-clear, counts-clear_set}
+use Rattle.exchange_rules.proofs.Basics.{⊎_elim, ◌≡◌, ◌≢◌, ℕ, Bool, true, false, cond, refl, sym, ap, ◌∙◌, arith, max, is_some, nat_tests, false_from_ne_true as not-so}
+use Rattle.exchange_rules.proofs.Definitions.{tests_links, is_running, left-clear, Configuration, TimerName, L7, has_name, is_same, is_of_set, Running, set_timer, clear_timer, clear_set, is_due, no_tick_left, left-set_other, left-clear_other, left-clear_set_other, counts-set, counts-clear, counts-clear_set}
 use Rattle.std.specs.Prelude.{Option, Some, None}
 use Rattle.timers.specs.declared.name.RouteTimer.{RouteTimer}
 use Rattle.timers.specs.declared.name.RouteTimer.TheVariants as route
 use Rattle.timers.specs.declared.name.TimerName.TheVariants as name
 use Rattle.timers.specs.declared.name.TimerName.TheVariants.{T8}
 use Rattle.exchange_rules.specs.TimerSettings.{setting_of}
-use Rattle.exchange_rules.proofs.TimerSettings.{same-set, both-set, set-set, clear-set, clear_set-set}
-use Rattle.exchange_rules.proofs.Steps.{AreTimed, AreQuiet, ends_holds, is_of_link}
+use Rattle.timers.proofs.Maps.{left-clear_set}
+use Rattle.exchange_rules.proofs.TimerSettings.{cases-name, same-set, both-set, set-set, clear-set, clear_set-set}
+use Rattle.exchange_rules.proofs.Steps.{AreTimed, AreQuiet, ends_holds, is_of_link, is_of_test}
 
 -- where a timer that is due is due still, or has what is never due
 due-of : (b : Bool) (o p q : Option ℕ) → no_tick_left p ≡ false → no_tick_left (cond b (cond true p o) None) ≡ true → no_tick_left q ≡ true
@@ -87,10 +88,30 @@ clear_set-timed timer set r = record {
     of_route route.T8 link = refl
     of_route route.T10 link = refl
 
+-- ---- one that runs once another is stopped ran before
+
+runs-not : (o : Option ℕ) → o ≡ None → is_some o ≡ true → ⊥
+runs-not None e runs = cc
+runs-not (Some x) e runs = cc
+
+pub ran-before : (name other : TimerName) (r : Running) → is_running other (clear_timer name r) ≡ true → is_running other r ≡ true
+ran-before name other r runs =
+    ⊎_elim
+    (λ (same : name ≡ other). absurd (runs-not ((clear_timer name r).left other) (ap (λ (x : TimerName). (clear_timer name r).left x) (sym same) ∙ left-clear name r) runs))
+    (λ (apart : name ≢ other). sym (ap is_some (left-clear_other name other r apart)) ∙ runs)
+    (cases-name name other)
+
+of-set-before : (timer : RouteTimer) (set : ℕ) (other : TimerName) (r : Running) → is_running other (clear_set timer set r) ≡ true → is_running other r ≡ true
+of-set-before timer set other r runs = by (is_of_set timer set other) refl
+  where
+    by : (b : Bool) → is_of_set timer set other ≡ b → is_running other r ≡ true
+    by true e = absurd (runs-not ((clear_set timer set r).left other) (left-clear_set timer set other r e) runs)
+    by false e = sym (ap is_some (left-clear_set_other timer set other r e)) ∙ runs
+
 -- ---- and none that ends a hold, or is a link's
 
 pub same-quiet : {E : ℕ → Type 0} (c : Configuration) (r : Running) → AreQuiet c E r r
-same-quiet {E} c r = record { timed = same-timed r; endings = λ name e. refl; links = λ name e. refl; set = same-set c E r r refl }
+same-quiet {E} c r = record { timed = same-timed r; endings = λ name e. refl; links = λ name e. refl; set = same-set c E r r refl; tests = λ off name of runs. runs }
 
 pub both-quiet : {E : ℕ → Type 0} (c : Configuration) (r s t : Running) → AreQuiet c E r s → AreQuiet c E s t → AreQuiet c E r t
 both-quiet {E} c r s t e f = record {
@@ -98,22 +119,24 @@ both-quiet {E} c r s t e f = record {
   endings = λ name h. f.endings name h ∙ e.endings name h;
   links = λ name h. f.links name h ∙ e.links name h;
   set = both-set c E r s t e.set f.set;
+  tests = λ off name of runs. e.tests off name of (f.tests off name of runs);
 }
 
 -- a name of another kind is another name
-apart-by : (kind : TimerName → Bool) (name other : TimerName) → kind name ≡ false → kind other ≡ true → name ≢ other
+pub apart-by : (kind : TimerName → Bool) (name other : TimerName) → kind name ≡ false → kind other ≡ true → name ≢ other
 apart-by kind name other not-of of same = (let goal : true ≡ false = sym of ∙ sym (ap kind same) ∙ not-of in cc)
 
 pub apart-from : (name ending : TimerName) → ends_holds name ≡ false → ends_holds ending ≡ true → name ≢ ending
 apart-from name ending quiet ends = apart-by ends_holds name ending quiet ends
 
 pub set-quiet : {E : ℕ → Type 0} (c : Configuration) (name : TimerName) (ticks : ℕ) (r : Running) → ((link : ℕ) → name ≢ L7 link) → ends_holds name ≡ false → is_of_link name ≡ false
-    → ticks ≡ setting_of c.timers name → AreQuiet c E r (set_timer name ticks r)
-set-quiet {E} c name ticks r other quiet none own = record {
+    → ticks ≡ setting_of c.timers name → (tests_links c ≡ false → is_of_test name ≡ false) → AreQuiet c E r (set_timer name ticks r)
+set-quiet {E} c name ticks r other quiet none own no_test = record {
   timed = set-timed name ticks r other;
   endings = λ ending e. left-set_other name ending ticks r (apart-from name ending quiet e);
   links = λ its e. left-set_other name its ticks r (apart-by is_of_link name its none e);
   set = set-set c E name ticks r own;
+  tests = λ off its of runs. sym (ap is_some (left-set_other name its ticks r (apart-by is_of_test name its (no_test off) of))) ∙ runs;
 }
 
 pub clear-quiet : {E : ℕ → Type 0} (c : Configuration) (name : TimerName) (r : Running) → ((link : ℕ) → name ≢ L7 link) → ends_holds name ≡ false → is_of_link name ≡ false
@@ -123,6 +146,7 @@ clear-quiet {E} c name r other quiet none apart = record {
   endings = λ ending e. left-clear_other name ending r (apart-from name ending quiet e);
   links = λ its e. left-clear_other name its r (apart-by is_of_link name its none e);
   set = clear-set c E name r (λ set destination e. absurd (apart set destination e));
+  tests = λ off its of runs. ran-before name its r runs;
 }
 
 -- the timers of a set are of neither kind
@@ -151,6 +175,12 @@ of_neither route.T8 set (name.T4 its code) e = absurd cc
 of_neither route.T10 set (name.T4 its code) e = absurd cc
 of_neither route.T8 set (name.T6 destination) e = absurd cc
 of_neither route.T10 set (name.T6 destination) e = absurd cc
+of_neither route.T8 set (name.Slt1 link) e = absurd cc
+of_neither route.T10 set (name.Slt1 link) e = absurd cc
+of_neither route.T8 set (name.Slt2 link) e = absurd cc
+of_neither route.T10 set (name.Slt2 link) e = absurd cc
+of_neither route.T8 set name.Sst e = absurd cc
+of_neither route.T10 set name.Sst e = absurd cc
 
 pub clear_set-endings : (timer : RouteTimer) (set : ℕ) (r : Running) (its : TimerName) → ends_holds its ≡ true → (clear_set timer set r).left its ≡ r.left its
 clear_set-endings timer set r its e =
@@ -161,5 +191,6 @@ clear_set-quiet {E} c timer set r own = record {
   timed = clear_set-timed timer set r;
   endings = clear_set-endings timer set r;
   set = clear_set-set c E timer set r own;
+  tests = λ off its of runs. of-set-before timer set its r runs;
   links = λ its e. left-clear_set_other timer set its r (not-so (is_of_set timer set its) (λ of. (let no : true ≡ false = sym e ∙ (of_neither timer set its of).1 in cc)));
 }

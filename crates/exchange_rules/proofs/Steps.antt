@@ -2,7 +2,7 @@
 -- relation between two nodes that holds of each step, and of one after another, holds of every rule, every event and
 -- every take (`Stepping..`, `Rules`).
 use Rattle.exchange_rules.proofs.Basics.{◌≡◌, ◌⊎◌, ◌&&◌, not, ℕ, Bool, true, false, refl, List, [], length, Option, Some, find, if◌then◌else◌, slice_index_or, option_map}
-use Rattle.exchange_rules.proofs.Definitions.{set_timer, enters, has_other, set_of, Message, flow_of, Notice, FailureReason, Configuration, TitleEntry, Input, Go, Transition, action_at, Sending, LinkTestValue, TimerName, L7, Running, is_running, is_due, Route, RouteStatus, Allowed, leads_by, ToldTable, is_own_point, shape_of, Link, Standing, with_code, HoldSet, Parts, Node, Done, with_parts, lost_any, late_any, is_link, link_at, links_with, with_link, down, in_service, note, flagged, flagged_late, link_of, queue_on, waits, hold, is_adjacent, test_answer, changeover_of, with_changeover, fail_link, declaration, with_titles, step_on, timed_busy, timed_busy_ended, may_open, without_association, open_link, Carrying, carries, numbers, timed_parts, SendsMessage, next_message, after_sending, WholeQueues, whole, HasHoldsFor, tells_of_loss, tells_of_lateness, ChangeoverTimer, Facts, Procedure, Changeover, Code, lifted, fail, on_changeover_order, on_changeover_acknowledgement, on_changeover_timer, hold_flows, freed, held_by_rerouting}
+use Rattle.exchange_rules.proofs.Definitions.{set_timer, enters, has_other, set_of, Message, flow_of, Notice, FailureReason, Configuration, Input, Go, Transition, acts_on, Sending, LinkTestValue, TimerName, L7, Running, is_running, is_due, Route, RouteStatus, Allowed, leads_by, ToldTable, is_own_point, shape_of, Link, Standing, with_code, HoldSet, Parts, Node, Done, with_parts, lost_any, late_any, is_link, link_at, links_with, with_link, down, in_service, note, flagged, flagged_late, link_of, queue_on, waits, hold, is_adjacent, test_answer, changeover_of, with_changeover, fail_link, declaration, with_titles, step_on, timed_busy, timed_busy_ended, may_open, without_association, open_link, Carrying, carries, numbers, timed_parts, SendsMessage, next_message, after_sending, WholeQueues, whole, HasHoldsFor, tells_of_loss, tells_of_lateness, ChangeoverTimer, Facts, Procedure, Changeover, Code, lifted, fail, on_changeover_order, on_changeover_acknowledgement, on_changeover_timer, hold_flows, freed, held_by_rerouting, TitlesValue, in_outage, put_out, let_back, tests_links, link_test}
 use Rattle.std.specs.Prelude.{map, Ok}
 use Rattle.timers.specs.declared.name.TimerName.TheVariants as name
 use Rattle.exchange_rules.proofs.TimerSettings.{AreSet}
@@ -65,6 +65,7 @@ pub record AreToldMore (old new : ToldTable) : Type 0 where
 -- a link has its association, and carries messages as before
 pub record IsSameLink (l x : Link) : Type 0 where
   pub alignment : x.alignment ≡ l.alignment
+  pub period : x.period ≡ l.period
   pub association : x.association ≡ l.association
   pub busy : x.peer_busy ≡ l.peer_busy
 
@@ -88,18 +89,23 @@ confirming c link d confirmed n = record {
   parts = timed_parts c link confirmed (whole.outstanding (whole.accepted n.queues link d.fsn d.bsn (carries d)) link) n.parts;
 }
 
+-- its processor is out, or back, as far as parts say that
+abbrev pub outed : ℕ → Bool → Parts → Parts
+outed link out p = with_link p link (record (link_at p link) { peer_outage = out })
+
 -- R holds of each step. Own are the links that may enter service by it, and send; Counts are those whose counts may be
 -- reset, or rise as User Data is accepted
 pub record IsOfSteps (c : Configuration) (Own Counts : ℕ → Type 0) (R : Node WholeQueues → Node WholeQueues → Type 0) : Type 0 where
   pub none : (n : Node WholeQueues) → R n n
   pub both : (n m o : Node WholeQueues) → R n m → R m o → R n o
-  -- ---- messages: one goes to the end of the queue of its flow's link; a declaration, and the answer to a test, to
-  -- that of a link in service
+  -- ---- messages: one goes to the end of the queue of its flow's link; a declaration, the answer to a test, and the
+  -- test of a link to that of a link in service
   pub routed : (link : ℕ) (m : Message) (n : Node WholeQueues) → link_of c n.parts (flow_of m) ≡ Some link → R n (queue_on whole c link m n)
   pub declared : (link other code : ℕ) (n : Node WholeQueues) → in_service n.parts link ≡ true → in_service n.parts other ≡ true
       → R n (queue_on whole c other (declaration c link code) n)
   pub tested : (link point : ℕ) (test : LinkTestValue) (n : Node WholeQueues) → in_service n.parts link ≡ true → is_adjacent c point ≡ true
       → R n (queue_on whole c link (test_answer c point test) n)
+  pub probed : (link : ℕ) (n : Node WholeQueues) → in_service n.parts link ≡ true → R n (queue_on whole c link (link_test c link) n)
   -- one waits; all that wait are taken out, to go on
   pub held : (m : Message) (n : Node WholeQueues) → waits c n.parts.holds m ≡ true → R n (hold whole m n)
   pub taken_out : (n : Node WholeQueues) → R n (record n { queues = whole.without_held n.queues })
@@ -112,7 +118,7 @@ pub record IsOfSteps (c : Configuration) (Own Counts : ℕ → Type 0) (R : Node
   pub coded : (set code : ℕ) (awaited : Bool) (n : Node WholeQueues) → R n (with_parts n (record n.parts { codes = with_code n.parts.codes set code awaited }))
   pub rerouted : (routes : List (List Route)) (n : Node WholeQueues) → AreRerouted n.parts.told n.parts.routes routes → R n (with_parts n (record n.parts { routes = routes }))
   pub told : (t : ToldTable) (n : Node WholeQueues) → AreToldMore n.parts.told t → R n (with_parts n (record n.parts { told = t }))
-  pub titled : (rows : List TitleEntry) (n : Node WholeQueues) → R n (with_parts n (with_titles rows n.parts))
+  pub titled : (titles : TitlesValue) (n : Node WholeQueues) → R n (with_parts n (with_titles titles n.parts))
   pub unequipped : (counts : List ℕ) (n : Node WholeQueues) → length counts ≡ length n.parts.unequipped → R n (with_parts n (record n.parts { unequipped = counts }))
   -- ---- a link fails: in service, so that its changeover isn't complete, or on its way there
   pub failed : (link : ℕ) (why : FailureReason) (s : Standing) (n : Node WholeQueues) → in_service n.parts link ≡ true → s.incomplete ≡ true
@@ -129,7 +135,7 @@ pub record IsOfSteps (c : Configuration) (Own Counts : ℕ → Type 0) (R : Node
   pub parted : (link : ℕ) (n : Node WholeQueues) → down n.parts link ≡ true → R n (with_parts n (without_association link n.parts))
   pub opened : (link : ℕ) (n : Node WholeQueues) → Counts link → is_link n.parts link ≡ true → may_open (link_at n.parts link) ≡ true
       → (changeover_of n.parts link).incomplete ≡ false → R n (open_link whole c link n)
-  pub stepped : (link : ℕ) (input : Input) (step : Transition) (n : Node WholeQueues) → Own link → action_at (link_at n.parts link).alignment input ≡ Go step
+  pub stepped : (link : ℕ) (input : Input) (step : Transition) (n : Node WholeQueues) → Own link → acts_on (link_at n.parts link) input ≡ Go step
       → R n (with_parts n (step_on c link step n.parts))
   pub busied : (link : ℕ) (n : Node WholeQueues) → Own link → in_service n.parts link ≡ true → (link_at n.parts link).peer_busy ≡ false
       → R n (with_parts n (with_busy c link n.parts))
@@ -158,6 +164,18 @@ takes_links (name.L6 link) = true
 takes_links (name.L7 link) = true
 takes_links _ = false
 
+-- and so may those of its tests
+abbrev pub moves_links : TimerName → Bool
+moves_links (name.Slt1 link) = true
+moves_links (name.Slt2 link) = true
+moves_links other = takes_links other
+
+-- the timers of tests
+abbrev pub is_of_test : TimerName → Bool
+is_of_test (name.Slt1 link) = true
+is_of_test (name.Slt2 link) = true
+is_of_test _ = false
+
 -- the timers of links
 abbrev pub is_of_link : TimerName → Bool
 is_of_link (name.L1 link) = true
@@ -169,12 +187,13 @@ is_of_link (name.L7 link) = true
 is_of_link _ = false
 
 -- timers change, but none of a link and none that ends holds, and each that is set is set to its setting; T8 stops only
--- of the sets of E
+-- of the sets of E, and none of a test starts where the node doesn't test its links
 pub record AreQuiet (c : Configuration) (E : ℕ → Type 0) (r s : Running) : Type 0 where
   pub timed : AreTimed r s
   pub endings : (name : TimerName) → ends_holds name ≡ true → s.left name ≡ r.left name
   pub links : (name : TimerName) → is_of_link name ≡ true → s.left name ≡ r.left name
   pub set : AreSet c E r s
+  pub tests : tests_links c ≡ false → (name : TimerName) → is_of_test name ≡ true → is_running name s ≡ true → is_running name r ≡ true
 
 -- no notice tells of both
 pub not-both : (notice : Notice) → tells_of_loss notice ≡ true → tells_of_lateness notice ≡ true → ⊥
@@ -260,28 +279,34 @@ pub record IsOfDeeds (c : Configuration) (Own Counts : ℕ → Type 0) (May : De
   pub sends : IsOfSends c R
   pub tested : (link point : ℕ) (test : LinkTestValue) (n : Node WholeQueues) → in_service n.parts link ≡ true → is_adjacent c point ≡ true
       → R n (queue_on whole c link (test_answer c point test) n)
+  pub probed : (link : ℕ) (n : Node WholeQueues) → in_service n.parts link ≡ true → R n (queue_on whole c link (link_test c link) n)
   pub held : (m : Message) (n : Node WholeQueues) → waits c n.parts.holds m ≡ true → R n (hold whole m n)
   pub taken_out : (n : Node WholeQueues) → R n (record n { queues = whole.without_held n.queues })
   pub late : (notice : Notice) (n : Node WholeQueues) → tells_of_lateness notice ≡ true → R n (with_parts n (flagged_late (note notice n.parts)))
   pub timed : (r : Running) (n : Node WholeQueues) → AreQuiet c (MayReturn c Own) n.parts.timers r → KeepsTests n.parts r → R n (with_parts n (record n.parts { timers = r }))
   pub rerouted : (routes : List (List Route)) (n : Node WholeQueues) → AreRerouted n.parts.told n.parts.routes routes → AreTestedAs n.parts routes → R n (with_parts n (record n.parts { routes = routes }))
   pub told : (t : ToldTable) (n : Node WholeQueues) → AreToldMore n.parts.told t → R n (with_parts n (record n.parts { told = t }))
-  pub titled : (rows : List TitleEntry) (n : Node WholeQueues) → R n (with_parts n (with_titles rows n.parts))
+  pub titled : (titles : TitlesValue) (n : Node WholeQueues) → R n (with_parts n (with_titles titles n.parts))
   pub unequipped : (counts : List ℕ) (n : Node WholeQueues) → length counts ≡ length n.parts.unequipped → R n (with_parts n (record n.parts { unequipped = counts }))
-  pub linked : (link : ℕ) (x : Link) (n : Node WholeQueues) → IsSameLink (link_at n.parts link) x → R n (with_parts n (with_link n.parts link x))
+  pub linked : (link : ℕ) (x : Link) (n : Node WholeQueues) → IsSameLink (link_at n.parts link) x → x.peer_outage ≡ (link_at n.parts link).peer_outage
+      → R n (with_parts n (with_link n.parts link x))
   pub parted : (link : ℕ) (n : Node WholeQueues) → down n.parts link ≡ true → R n (with_parts n (without_association link n.parts))
   pub opened : (link : ℕ) (n : Node WholeQueues) → Counts link → is_link n.parts link ≡ true → may_open (link_at n.parts link) ≡ true
       → (changeover_of n.parts link).incomplete ≡ false → May (LinkOpens link) → R n (open_link whole c link n)
-  pub stepped : (link : ℕ) (input : Input) (step : Transition) (n : Node WholeQueues) → Own link → action_at (link_at n.parts link).alignment input ≡ Go step
+  pub stepped : (link : ℕ) (input : Input) (step : Transition) (n : Node WholeQueues) → Own link → acts_on (link_at n.parts link) input ≡ Go step
       → BeginsClean c link step n.parts → R n (with_parts n (step_on c link step n.parts))
   pub busied : (link : ℕ) (n : Node WholeQueues) → Own link → in_service n.parts link ≡ true → (link_at n.parts link).peer_busy ≡ false
       → R n (with_parts n (with_busy c link n.parts))
   pub resumed : (link : ℕ) (n : Node WholeQueues) → Own link → in_service n.parts link ≡ true → (link_at n.parts link).peer_busy ≡ true
-      → R n (with_parts n (without_busy c link (whole.outstanding n.queues link) n.parts))
+      → (link_at n.parts link).peer_outage ≡ false → R n (with_parts n (without_busy c link (whole.outstanding n.queues link) n.parts))
   pub accepted : (link : ℕ) (d : Carrying) (confirmed : ℕ) (n : Node WholeQueues) → Counts link → in_service n.parts link ≡ true → numbers whole c link d n ≡ Ok confirmed
       → R n (confirming c link d confirmed n)
   pub sent : (link : ℕ) (next : Sending) (n : Node WholeQueues) → Own link → next_message whole c link n ≡ Some next
       → R n (after_sending whole c link n (SendsMessage next))
+  -- ---- the processor of a link's peer is out, and its flows are held; it is back, and they aren't any more
+  pub put : (link : ℕ) (n : Node WholeQueues) → c.processor_outage ≡ true → in_service n.parts link ≡ true → (link_at n.parts link).peer_busy ≡ true
+      → R n (with_parts n (put_out c link (whole.unconfirmed n.queues link) n.parts))
+  pub back : (link : ℕ) (n : Node WholeQueues) → in_outage n.parts link ≡ true → May (HoldsEnd (Changeover link)) → R n (with_parts n (let_back link n.parts))
   -- ---- a link fails, and its changeover goes on and ends
   pub fails : (link : ℕ) (why : FailureReason) (n : Node WholeQueues) → May (LinkFails link why) → down n.parts link ≡ false → R n (fail whole c link why n)
   pub orders : (link : ℕ) (number : Option ℕ) (n : Node WholeQueues) → May (LinkFails link reasons.Changeover) → May (HoldsEnd (Changeover link)) → R n (on_changeover_order whole c link number n).left

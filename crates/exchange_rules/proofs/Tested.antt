@@ -153,7 +153,7 @@ module _ (c : Configuration) where
   on-link k x r n t f =
       quiet n _ refl t.counts
       (λ set. serves-before c n.parts (record n.parts { links = links_with n.parts k x }) set (λ l. served l))
-      (λ set destination serves e. ap is_some (t.rest (name.T10 set destination) (λ u. link-runs k u set destination)) ∙ e)
+      (λ set destination serves e. ap is_some (t.rest (name.T10 set destination) (λ u. link-runs k u set destination) (λ u. cc) (λ u. cc)) ∙ e)
     where
       served : (l : ℕ) → in_service (record n.parts { links = links_with n.parts k x }) l ≡ true → in_service n.parts l ≡ true
       served l e =
@@ -179,7 +179,7 @@ module _ (c : Configuration) where
     fits = λ k. record { sets = ap (λ (x : NodeCounts). x.sets) t.counts ∙ k.sets; destinations = ap (λ (x : NodeCounts). x.destinations) t.counts ∙ k.destinations; routes = k.routes };
     tested = λ k h. record {
       each = λ set destination serves unsure.
-          ap is_some (t.rest (name.T10 set destination) (λ u. link-runs link u set destination))
+          ap is_some (t.rest (name.T10 set destination) (λ u. link-runs link u set destination) (λ u. cc) (λ u. cc))
           ∙ h.each set destination (by set destination unsure serves (is_in_service step.state) refl (serves_set c n.parts (set_of c link)) refl (in_service n.parts link) refl) unsure;
     };
   }

@@ -1,13 +1,15 @@
 -- Timers are set to as many ticks as the settings give them.
 use Rattle.exchange_rules.proofs.Basics.{◌≡◌, ◌≢◌, ◌⊎◌, inl, inr, ℕ, Bool, true, false, ◌==◌, Option, Some, None, refl, ap, sym, ◌∙◌, subst, max, ⊎_elim, nat_eq, if◌then◌else◌, is_some, arith, nat_tests}
-use Rattle.exchange_rules.proofs.Definitions.{Configuration, LinkTimer, Transition, TimerName, L7, NodeCounts, Running, has_name, is_of_set, is_running, set_timer, start_unless_running, clear_timer, clear_set, left-set, left-set_other, left-clear, left-clear_other, left-clear_set_other, counts-set, timer_name, ticks_of, without_timer, without_timers, with_timer, without_timer_if, with_timer_if, timed, timed_sending, timed_confirming, timed_busy, timed_busy_ended}
+use Rattle.exchange_rules.proofs.Definitions.{Period, paced, Configuration, LinkTimer, Transition, TimerName, L7, NodeCounts, Running, has_name, is_of_set, is_running, set_timer, start_unless_running, clear_timer, clear_set, left-set, left-set_other, left-clear, left-clear_other, left-clear_set_other, counts-set, timer_name, ticks_of, without_timer, without_timers, with_timer, without_timer_if, with_timer_if, timed, timed_sending, timed_confirming, timed_busy, timed_busy_ended}
 use Rattle.timers.proofs.Maps.{left-clear_set}
 use Rattle.timers.specs.Timers.{is_same}
 use Rattle.timers.proofs.Same.{same_is, is_itself}
 use Rattle.timers.specs.declared.name.RouteTimer.{RouteTimer}
 use Rattle.timers.specs.declared.name.RouteTimer.TheVariants as of_set
-use Rattle.timers.specs.declared.name.TimerName.TheVariants.{T8}
+use Rattle.timers.specs.declared.name.TimerName.TheVariants.{T8, Slt1, Slt2}
 use Rattle.link.specs.declared.action.LinkTimer.TheVariants as timer
+use Rattle.settings_rows.specs.declared.timer_ticks.TimerTicks.{TimerTicks}
+use Rattle.link.specs.declared.period.Period.TheVariants.{Fixed}
 use Rattle.exchange_rules.specs.TimerSettings.{setting_of, RunsBy}
 
 pub cases-name : (one other : TimerName) → (one ≡ other) ⊎ (one ≢ other)
@@ -19,14 +21,14 @@ cases-name one other = by (is_same one other) refl
 
 -- ---- one timer
 
-pub runs-both : (setting : ℕ) (x y z : Option ℕ) → RunsBy setting x y → RunsBy setting y z → RunsBy setting x z
-runs-both setting x y z e (inl f) = by e
+pub runs-both : (ticks : TimerTicks) (its : TimerName) (x y z : Option ℕ) → RunsBy ticks its x y → RunsBy ticks its y z → RunsBy ticks its x z
+runs-both ticks its x y z e (inl f) = by e
   where
-    by : RunsBy setting x y → RunsBy setting x z
+    by : RunsBy ticks its x y → RunsBy ticks its x z
     by (inl g) = inl (f ∙ g)
-    by (inr (inl g)) = inr (inl (f ∙ g))
+    by (inr (inl g)) = inr (inl (g.0, f ∙ g.1))
     by (inr (inr g)) = inr (inr (f ∙ g))
-runs-both setting x y z e (inr f) = inr f
+runs-both ticks its x y z e (inr f) = inr f
 
 -- one that runs runs on if another is set, or it is set again
 pub set-still : (its : TimerName) (ticks : ℕ) (r : Running) (other : TimerName) → is_running other r ≡ true → is_running other (set_timer its ticks r) ≡ true
@@ -43,7 +45,7 @@ set-still its ticks r other e =
 -- ---- all of them: each is set to its setting, and T8 stops only of the sets of E
 
 pub record AreSet (c : Configuration) (E : ℕ → Type 0) (r s : Running) : Type 0 where
-  pub each : (its : TimerName) → RunsBy (setting_of c.timers its) (r.left its) (s.left its)
+  pub each : (its : TimerName) → RunsBy c.timers its (r.left its) (s.left its)
   pub inhibits : (set destination : ℕ) → is_running (T8 set destination) r ≡ true → (is_running (T8 set destination) s ≡ true) ⊎ E set
 
 -- of more sets it may stop
@@ -59,7 +61,7 @@ module _ (c : Configuration) (E : ℕ → Type 0) where
 
   pub both-set : (r s t : Running) → AreSet c E r s → AreSet c E s t → AreSet c E r t
   both-set r s t e f = record {
-    each = λ its. runs-both _ _ _ _ (e.each its) (f.each its);
+    each = λ its. runs-both _ _ _ _ _ (e.each its) (f.each its);
     inhibits = λ set destination h. ⊎_elim (λ k. f.inhibits set destination k) (λ k. inr k) (e.inhibits set destination h);
   }
 
@@ -67,19 +69,22 @@ module _ (c : Configuration) (E : ℕ → Type 0) where
   either-set true r s t e f = e
   either-set false r s t e f = f
 
-  -- one is set, if there is one of its name
-  pub set-set : (its : TimerName) (ticks : ℕ) (r : Running) → ticks ≡ setting_of c.timers its → AreSet c E r (set_timer its ticks r)
-  set-set its ticks r e = record {
+  -- one is set, if there is one of its name, by the ticks of a period
+  pub paced-set : (period : Period) (its : TimerName) (ticks : ℕ) (r : Running) → ticks ≡ setting_of (paced period c.timers) its → AreSet c E r (set_timer its ticks r)
+  paced-set period its ticks r e = record {
     each = λ other. ⊎_elim (same other) (λ (apart : its ≢ other). inl (left-set_other its other ticks r apart)) (cases-name its other);
     inhibits = λ set destination h. inl (set-still its ticks r (T8 set destination) h);
   }
     where
-      there : (has : Bool) → has_name r.counts its ≡ has → RunsBy (setting_of c.timers its) (r.left its) ((set_timer its ticks r).left its)
-      there true h = inr (inl (left-set its ticks r h ∙ ap (λ (n : ℕ). Some (max 1 n)) e))
+      there : (has : Bool) → has_name r.counts its ≡ has → RunsBy c.timers its (r.left its) ((set_timer its ticks r).left its)
+      there true h = inr (inl (period, left-set its ticks r h ∙ ap (λ (n : ℕ). Some (max 1 n)) e))
       there false h = inr (inr ((set_timer its ticks r).only its (ap (λ (n : NodeCounts). has_name n its) (counts-set its ticks r) ∙ h)))
 
-      same : (other : TimerName) → its ≡ other → RunsBy (setting_of c.timers other) (r.left other) ((set_timer its ticks r).left other)
-      same other f = subst (λ (x : TimerName). RunsBy (setting_of c.timers x) (r.left x) ((set_timer its ticks r).left x)) f (there (has_name r.counts its) refl)
+      same : (other : TimerName) → its ≡ other → RunsBy c.timers other (r.left other) ((set_timer its ticks r).left other)
+      same other f = subst (λ (x : TimerName). RunsBy c.timers x (r.left x) ((set_timer its ticks r).left x)) f (there (has_name r.counts its) refl)
+
+  pub set-set : (its : TimerName) (ticks : ℕ) (r : Running) → ticks ≡ setting_of c.timers its → AreSet c E r (set_timer its ticks r)
+  set-set its ticks r e = paced-set Fixed its ticks r e
 
   pub clear-set : (its : TimerName) (r : Running) → ((set destination : ℕ) → its ≡ T8 set destination → E set) → AreSet c E r (clear_timer its r)
   clear-set its r own = record {
@@ -96,7 +101,7 @@ module _ (c : Configuration) (E : ℕ → Type 0) where
   pub clear_set-set : (of : RouteTimer) (set : ℕ) (r : Running) → (of ≡ of_set.T8 → E set) → AreSet c E r (clear_set of set r)
   clear_set-set of set r own = record { each = λ other. by other (is_of_set of set other) refl; inhibits = stays of own }
     where
-      by : (other : TimerName) (b : Bool) → is_of_set of set other ≡ b → RunsBy (setting_of c.timers other) (r.left other) ((clear_set of set r).left other)
+      by : (other : TimerName) (b : Bool) → is_of_set of set other ≡ b → RunsBy c.timers other (r.left other) ((clear_set of set r).left other)
       by other true e = inr (inr (left-clear_set of set other r e))
       by other false e = inl (left-clear_set_other of set other r e)
 
@@ -113,16 +118,16 @@ module _ (c : Configuration) (E : ℕ → Type 0) where
 
   -- ---- those of a link
 
-  ticks-own : (link : ℕ) (its : LinkTimer) → ticks_of c.timers its ≡ setting_of c.timers (timer_name link its)
-  ticks-own link timer.L1 = refl
-  ticks-own link timer.L2 = refl
-  ticks-own link timer.L3 = refl
-  ticks-own link timer.L4 = refl
-  ticks-own link timer.L6 = refl
-  ticks-own link timer.L7 = refl
+  ticks-own : (ticks : TimerTicks) (link : ℕ) (its : LinkTimer) → ticks_of ticks its ≡ setting_of ticks (timer_name link its)
+  ticks-own ticks link timer.L1 = refl
+  ticks-own ticks link timer.L2 = refl
+  ticks-own ticks link timer.L3 = refl
+  ticks-own ticks link timer.L4 = refl
+  ticks-own ticks link timer.L6 = refl
+  ticks-own ticks link timer.L7 = refl
 
   with_timer-set : (link : ℕ) (its : LinkTimer) (r : Running) → AreSet c E r (with_timer c link its r)
-  with_timer-set link its r = set-set (timer_name link its) (ticks_of c.timers its) r (ticks-own link its)
+  with_timer-set link its r = set-set (timer_name link its) (ticks_of c.timers its) r (ticks-own c.timers link its)
 
   without_timer-set : (link : ℕ) (its : LinkTimer) (r : Running) → AreSet c E r (without_timer link its r)
   without_timer-set link its r = clear-set (timer_name link its) r (λ set destination e. of-link its set destination e)
@@ -137,19 +142,21 @@ module _ (c : Configuration) (E : ℕ → Type 0) where
 
   pub without_timers-set : (link : ℕ) (r : Running) → AreSet c E r (without_timers link r)
   without_timers-set link r =
-      both-set _ _ _ (both-set _ _ _ (both-set _ _ _ (both-set _ _ _ (both-set _ _ _ (without_timer-set link timer.L1 r) (without_timer-set link timer.L2 _)) (without_timer-set link timer.L3 _))
-      (without_timer-set link timer.L4 _)) (without_timer-set link timer.L6 _)) (without_timer-set link timer.L7 _)
+      both-set _ _ _ (both-set _ _ _ (both-set _ _ _ (both-set _ _ _ (both-set _ _ _ (both-set _ _ _ (both-set _ _ _ (without_timer-set link timer.L1 r) (without_timer-set link timer.L2 _))
+      (without_timer-set link timer.L3 _)) (without_timer-set link timer.L4 _)) (without_timer-set link timer.L6 _)) (without_timer-set link timer.L7 _))
+      (clear-set (Slt1 link) _ (λ set destination e. absurd cc))) (clear-set (Slt2 link) _ (λ set destination e. absurd cc))
 
   stops-set : (link : ℕ) (its : Option LinkTimer) (r : Running) → AreSet c E r (without_timer_if link its r)
   stops-set link None r = same-set r r refl
   stops-set link (Some its) r = without_timer-set link its r
 
-  starts-set : (link : ℕ) (its : Option LinkTimer) (r : Running) → AreSet c E r (with_timer_if c link its r)
-  starts-set link None r = same-set r r refl
-  starts-set link (Some its) r = with_timer-set link its r
+  starts-set : (period : Period) (link : ℕ) (its : Option LinkTimer) (r : Running) → AreSet c E r (with_timer_if (paced period c.timers) link its r)
+  starts-set period link None r = same-set r r refl
+  starts-set period link (Some its) r =
+      paced-set period (timer_name link its) (ticks_of (paced period c.timers) its) r (ticks-own (paced period c.timers) link its)
 
   pub timed-set : (link : ℕ) (step : Transition) (r : Running) → AreSet c E r (timed c link step r)
-  timed-set link step r = both-set _ _ _ (stops-set link step.stop r) (starts-set link step.start (without_timer_if link step.stop r))
+  timed-set link step r = both-set _ _ _ (stops-set link step.stop r) (starts-set step.period link step.start (without_timer_if link step.stop r))
 
   pub timed_sending-set : (link : ℕ) (r : Running) → AreSet c E r (timed_sending c link r)
   unfolding start_unless_running

@@ -1,6 +1,6 @@
 -- Each link keeps the timer of its state as it takes a step, fails, opens, and as its peer becomes busy.
 use Rattle.exchange_rules.proofs.Basics.{◌≡◌, ℕ, Bool, true, false, ◌&&◌, ◌||◌, not, nat_lt, nat_eq, Some, None, refl, ap, sym, subst, ◌∙◌, if◌then◌else◌}
-use Rattle.exchange_rules.proofs.Definitions.{Configuration, Alignment, Input, Go, Transition, action_at, opening, is_down, is_in_service, LinkTimer, NodeCounts, Running, is_running, start_unless_running, counts-clear, timer_name, without_timer, without_timers, with_timer, timed, timed_sending, timed_confirming, timed_busy, timed_busy_ended, Link, down_link, stepped, opened, after_failure}
+use Rattle.exchange_rules.proofs.Definitions.{paced, Period, Configuration, Alignment, Input, Go, Transition, action_at, acts_on, opening, is_down, is_in_service, LinkTimer, NodeCounts, Running, is_running, start_unless_running, counts-clear, timer_name, without_timer, without_timers, with_timer, timed, timed_sending, timed_confirming, timed_busy, timed_busy_ended, Link, down_link, stepped, opened, after_failure}
 use Rattle.link.specs.declared.action.LinkTimer.TheVariants as timer
 use Rattle.link.specs.declared.action.Action.TheVariants as act
 use Rattle.exchange_rules.specs.Aligning.{waiting_in, is_that, is_of_waits, HasItsTimer}
@@ -44,28 +44,28 @@ waits-failed link x r = record {
 }
 
 module _ (link : ℕ) (c : Configuration) where
-  no-step : (a : Alignment) (input : Input) (step : Transition) → is_down a ≡ true → action_at a input ≡ Go step → ⊥
-  no-step a input step e f =
-      let no : act.Ignored ≡ Go step = sym (ap (λ (x : Alignment). action_at x input) (down-is a e)) ∙ f in
+  no-step : (period : Period) (a : Alignment) (input : Input) (step : Transition) → is_down a ≡ true → action_at period a input ≡ Go step → ⊥
+  no-step period a input step e f =
+      let no : act.Ignored ≡ Go step = sym (ap (λ (x : Alignment). action_at period x input) (down-is a e)) ∙ f in
       absurd cc
 
-  pub waits-stepped : (x : Link) (r : Running) (input : Input) (step : Transition) → nat_lt link r.counts.links ≡ true → action_at x.alignment input ≡ Go step → Waits link x r
+  pub waits-stepped : (x : Link) (r : Running) (input : Input) (step : Transition) → nat_lt link r.counts.links ≡ true → acts_on x input ≡ Go step → Waits link x r
       → Waits link (stepped step x) (timed c link step r)
   waits-stepped x r input step there e h = record {
     timed = record {
-      waits = λ t w. turned link c step.stop step.start t r there ∙ ap (λ (b : Bool). is_that step.start t || (not (is_that step.stop t) && b)) (h.timed.waits t w) ∙ turn.waits t;
-      busy = turned link c step.stop step.start timer.L6 r there ∙ untouched (is_that step.start timer.L6) (is_that step.stop timer.L6) (runs link r timer.L6) turn.start turn.stop
+      waits = λ t w. turned link (paced step.period c.timers) step.stop step.start t r there ∙ ap (λ (b : Bool). is_that step.start t || (not (is_that step.stop t) && b)) (h.timed.waits t w) ∙ turn.waits t;
+      busy = turned link (paced step.period c.timers) step.stop step.start timer.L6 r there ∙ untouched (is_that step.start timer.L6) (is_that step.stop timer.L6) (runs link r timer.L6) turn.start turn.stop
           ∙ h.timed.busy ∙ serving (is_in_service x.alignment) refl;
     };
     calm = λ out. by (is_in_service x.alignment) refl out;
-    down = λ alone. absurd (no-step x.alignment input step (h.down alone) e);
+    down = λ alone. absurd (no-step x.period x.alignment input step (h.down alone) e);
   }
     where
       turn : IsTurn x.alignment step
-      turn = each-turn x.alignment input step e
+      turn = each-turn x.period x.alignment input step e
 
       known : IsStep x.alignment step
-      known = each-step x.alignment input step e
+      known = each-step x.period x.alignment input step e
 
       untouched : (b d f : Bool) → b ≡ false → d ≡ false → (b || (not d && f)) ≡ f
       untouched true d f g k = absurd cc
@@ -88,12 +88,12 @@ module _ (link : ℕ) (c : Configuration) where
       by true f out = no-way (is_in_service step.state) (known.stays f) out
       by false f out = h.calm f
 
-  pub waits-opened : (x : Link) (r : Running) → nat_lt link r.counts.links ≡ true → x.association ≡ false → Waits link x r → Waits link (opened x) (timed c link opening r)
-  waits-opened x r there e h = record {
+  pub waits-opened : (period : Period) (x : Link) (r : Running) → nat_lt link r.counts.links ≡ true → x.association ≡ false → Waits link x r → Waits link (opened period x) (timed c link (opening period) r)
+  waits-opened period x r there e h = record {
     timed = record {
-      waits = λ t w. turned link c None (Some timer.L2) t r there
+      waits = λ t w. turned link (paced period c.timers) None (Some timer.L2) t r there
           ∙ ap (λ (b : Bool). is_that (Some timer.L2) t || b) (h.timed.waits t w ∙ ap (λ (a : Alignment). is_that (waiting_in a) t) was) ∙ or-none (is_that (Some timer.L2) t);
-      busy = turned link c None (Some timer.L2) timer.L6 r there ∙ h.timed.busy ∙ ap (λ (a : Alignment). is_in_service a && x.peer_busy) was;
+      busy = turned link (paced period c.timers) None (Some timer.L2) timer.L6 r there ∙ h.timed.busy ∙ ap (λ (a : Alignment). is_in_service a && x.peer_busy) was;
     };
     calm = λ out. refl;
     down = λ alone. absurd cc;
@@ -129,8 +129,8 @@ module _ (link : ℕ) (c : Configuration) where
       → Waits link (record x { peer_busy = true }) (timed_busy c link r)
   waits-busied x r there e h = record {
     timed = record {
-      waits = λ t w. turned link c (Some timer.L7) (Some timer.L6) t r there ∙ busies t (runs link r t) w ∙ h.timed.waits t w;
-      busy = turned link c (Some timer.L7) (Some timer.L6) timer.L6 r there ∙ ap (λ (b : Bool). b && true) (sym e);
+      waits = λ t w. turned link c.timers (Some timer.L7) (Some timer.L6) t r there ∙ busies t (runs link r t) w ∙ h.timed.waits t w;
+      busy = turned link c.timers (Some timer.L7) (Some timer.L6) timer.L6 r there ∙ ap (λ (b : Bool). b && true) (sym e);
     };
     calm = λ out. no-way (is_in_service x.alignment) e out;
     down = h.down;
@@ -139,7 +139,7 @@ module _ (link : ℕ) (c : Configuration) where
   -- L7 alone is set or stopped
 
   pub seven-started : (t : LinkTimer) (r : Running) → nat_lt link r.counts.links ≡ true → is_that (Some timer.L7) t ≡ false → runs link (with_timer c link timer.L7 r) t ≡ runs link r t
-  seven-started t r there e = started link c timer.L7 t r there ∙ ap (λ (b : Bool). b || runs link r t) e
+  seven-started t r there e = started link c.timers timer.L7 t r there ∙ ap (λ (b : Bool). b || runs link r t) e
 
   pub seven-stopped : (t : LinkTimer) (r : Running) → is_that (Some timer.L7) t ≡ false → runs link (without_timer link timer.L7 r) t ≡ runs link r t
   seven-stopped t r e = stopped link timer.L7 t r ∙ ap (λ (b : Bool). not b && runs link r t) e

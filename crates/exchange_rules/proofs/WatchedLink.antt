@@ -1,7 +1,9 @@
 -- What becomes of the L7 of a link as its timers are set and stopped.
 use Rattle.exchange_rules.proofs.Basics.{◌≡◌, ◌≢◌, ◌<◌, ℕ, Bool, true, false, nat_lt, nat_eq, Option, Some, None, refl, ap, sym, subst, ◌∙◌, arith, if◌then◌else◌, is_some, nat_tests}
-use Rattle.exchange_rules.proofs.Definitions.{Configuration, LinkTimer, Transition, L6, L7, NodeCounts, Running, set_timer, start_unless_running, clear_timer, is_running, left-set, left-set_other, left-clear, left-clear_other, counts-clear, timer_name, ticks_of, without_timer, without_timers, with_timer, without_timer_if, with_timer_if, timed, timed_sending, timed_confirming, timed_busy, timed_busy_ended}
+use Rattle.settings_rows.specs.declared.timer_ticks.TimerTicks.{TimerTicks}
+use Rattle.exchange_rules.proofs.Definitions.{paced, Configuration, LinkTimer, Transition, L6, L7, NodeCounts, Running, set_timer, start_unless_running, clear_timer, is_running, left-set, left-set_other, left-clear, left-clear_other, counts-clear, timer_name, ticks_of, without_timer, without_timers, with_timer, without_timer_if, with_timer_if, timed, timed_sending, timed_confirming, timed_busy, timed_busy_ended}
 use Rattle.link.specs.declared.action.LinkTimer.TheVariants as timer
+use Rattle.timers.specs.declared.name.TimerName.TheVariants.{Slt1, Slt2}
 use Rattle.exchange_rules.proofs.Serving.{is_l7}
 
 module _ (link : ℕ) where
@@ -13,7 +15,9 @@ module _ (link : ℕ) where
 
   pub l7-without_timers : (r : Running) → is_running (L7 link) (without_timers link r) ≡ false
   l7-without_timers r =
-      l7-clear (without_timer link timer.L6 (without_timer link timer.L4 (without_timer link timer.L3 (without_timer link timer.L2 (without_timer link timer.L1 r)))))
+      let six : Running = without_timer link timer.L6 (without_timer link timer.L4 (without_timer link timer.L3 (without_timer link timer.L2 (without_timer link timer.L1 r)))) in
+      let seven : Running = without_timer link timer.L7 six in
+      ap is_some (left-clear_other (Slt2 link) (L7 link) (clear_timer (Slt1 link) seven) (λ e. cc) ∙ left-clear_other (Slt1 link) (L7 link) seven (λ e. cc)) ∙ l7-clear six
 
   other-timer : (t : LinkTimer) → is_l7 (Some t) ≡ false → timer_name link t ≢ L7 link
   other-timer timer.L1 e f = cc
@@ -28,12 +32,12 @@ module _ (link : ℕ) where
   l7-stop (Some t) r e = ap is_some (left-clear_other (timer_name link t) (L7 link) r (other-timer t e))
 
   module _ (c : Configuration) where
-    l7-start : (t : Option LinkTimer) (r : Running) → is_l7 t ≡ false → is_running (L7 link) (with_timer_if c link t r) ≡ is_running (L7 link) r
-    l7-start None r e = refl
-    l7-start (Some t) r e = ap is_some (left-set_other (timer_name link t) (L7 link) (ticks_of c.timers t) r (other-timer t e))
+    l7-start : (ticks : TimerTicks) (t : Option LinkTimer) (r : Running) → is_l7 t ≡ false → is_running (L7 link) (with_timer_if ticks link t r) ≡ is_running (L7 link) r
+    l7-start ticks None r e = refl
+    l7-start ticks (Some t) r e = ap is_some (left-set_other (timer_name link t) (L7 link) (ticks_of ticks t) r (other-timer t e))
 
     pub l7-timed : (step : Transition) (r : Running) → is_l7 step.stop ≡ false → is_l7 step.start ≡ false → is_running (L7 link) (timed c link step r) ≡ is_running (L7 link) r
-    l7-timed step r e f = l7-start step.start (without_timer_if link step.stop r) f ∙ l7-stop step.stop r e
+    l7-timed step r e f = l7-start (paced step.period c.timers) step.start (without_timer_if link step.stop r) f ∙ l7-stop step.stop r e
 
     pub l7-busy : (r : Running) → is_running (L7 link) (timed_busy c link r) ≡ false
     l7-busy r =

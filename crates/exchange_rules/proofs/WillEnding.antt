@@ -1,13 +1,14 @@
 -- What ends holds and completes changeovers, as single parts change.
-use Rattle.exchange_rules.proofs.Basics.{◌≡◌, ◌≢◌, ◌⊎◌, inl, inr, ◌<◌, ◌≤◌, ℕ, Bool, true, false, List, [], ◌∷◌, length, refl, ap, sym, ◌∙◌, subst, arith, ⊎_elim, cases_lt, cases_eq, get_or_past, get_or-set_same, get_or-set_other, length-set, is_some, and_parts, not, if◌then◌else◌}
-use Rattle.exchange_rules.proofs.Definitions.{Message, Configuration, Procedure, Changeover, Code, Time, Reroute, HoldSet, holds, lifted, Standing, no_changeover, failed, TimerName, Running, is_running, has_name, set_timer, key_of, left-set, left-set_other, left-clear_other, Parts, Found, changeover_of, with_changeover, timed_changeover, lose_each, lifted_parts, concluded, judged, without_tests}
+use Rattle.exchange_rules.proofs.Basics.{◌≡◌, ◌≢◌, ◌⊎◌, inl, inr, ◌<◌, ◌≤◌, ℕ, Bool, true, false, List, [], ◌∷◌, length, refl, ap, sym, ◌∙◌, subst, arith, ⊎_elim, cases_lt, cases_eq, get_or_past, get_or-set_same, get_or-set_other, length-set, ◌&&◌, is_some, and_parts, and_from, not, if◌then◌else◌}
+use Rattle.exchange_rules.proofs.Definitions.{Message, Configuration, Procedure, Changeover, Code, Time, Reroute, HoldSet, holds, lifted, Standing, no_changeover, failed, TimerName, Running, is_running, has_name, set_timer, key_of, left-set, left-set_other, left-clear_other, Parts, Found, changeover_of, with_changeover, timed_changeover, lose_each, lifted_parts, concluded, judged, without_tests, Link, down_link, is_in_service, link_at, links_with, in_service, in_outage, after_failure}
 use Rattle.exchange_rules.specs.ChangingOver.{with_losses}
 use Rattle.flow_hold.specs.Holds.{is_same}
 use Rattle.flow_hold.proofs.Pairing.{contains-lifted, ends_its_own}
 use Rattle.timers.specs.declared.name.TimerName.TheVariants as name
 use Rattle.timers.specs.declared.name.RouteTimer.TheVariants as of_set
 use Rattle.std.specs.FinSet.{contains}
-use Rattle.exchange_rules.specs.LastingHolds.{WillEnd, WillComplete, AllWillEnd}
+use Rattle.exchange_rules.specs.LastingHolds.{WillEnd, WillComplete, WillPass, AllWillEnd}
+use Rattle.node_links.specs.NodeLinks.{link_in}
 use Rattle.exchange_rules.proofs.Steps.{ends_holds}
 use Rattle.exchange_rules.proofs.SteppingTimers.{clear_set-endings}
 
@@ -37,43 +38,100 @@ its-own link other apart out = ⊎_elim (λ (e : name.T1 other ≡ name.T1 link)
 its-wait : (link other : ℕ) → other ≢ link → Its link (name.T2 other) → ⊥
 its-wait link other apart out = ⊎_elim (λ (e : name.T2 other ≡ name.T1 link). cc) (λ (e : name.T2 other ≡ name.T2 link). apart (ap (λ (x : TimerName). (key_of x).row) e)) out
 
+-- ---- links that are in an outage
+
+-- what holds of a link holds of it still, and an outage goes on
+pub record LinkAs (x y : Link) : Type 0 where
+  pub passes : WillPass x → WillPass y
+  pub out : WillPass x → x.peer_outage ≡ true → y.peer_outage ≡ true
+
+pub link-same : (x : Link) → LinkAs x x
+link-same x = record { passes = λ h. h; out = λ h o. o }
+
+pub link-both : (x y z : Link) → LinkAs x y → LinkAs y z → LinkAs x z
+link-both x y z e f = record { passes = λ h. f.passes (e.passes h); out = λ h o. f.out (e.passes h) (e.out h o) }
+
+pub links-same : (p q : Parts) → q.links ≡ p.links → (link : ℕ) → LinkAs (link_at p link) (link_at q link)
+links-same p q e link = subst (λ (all : List Link). LinkAs (link_in p.links link) (link_in all link)) (sym e) (link-same (link_at p link))
+
+-- one link changes
+pub link-set : (p : Parts) (k : ℕ) (x : Link) → LinkAs (link_at p k) x → (link : ℕ) → LinkAs (link_at p link) (link_in (links_with p k x) link)
+link-set p k x f link = by (cases_eq link k)
+  where
+    there : (k < length p.links) ⊎ (length p.links ≤ k) → LinkAs (link_in p.links k) (link_in (links_with p k x) k)
+    there (inl l) = subst (LinkAs (link_at p k)) (sym (get_or-set_same p.links k x down_link l)) f
+    there (inr l) =
+        subst (LinkAs (link_at p k)) (get_or_past p.links k down_link l ∙ sym (get_or_past (links_with p k x) k down_link (omega (arith, l, length-set p.links k x)))) (link-same (link_at p k))
+
+    by : (link ≡ k) ⊎ (link ≢ k) → LinkAs (link_in p.links link) (link_in (links_with p k x) link)
+    by (inl same) = subst (λ (l : ℕ). LinkAs (link_in p.links l) (link_in (links_with p k x) l)) (sym same) (there (cases_lt k (length p.links)))
+    by (inr apart) = subst (LinkAs (link_at p link)) (sym (get_or-set_other p.links k link x down_link apart)) (link-same (link_at p link))
+
+-- a link that is in an outage still is in it
+pub still-out : (p q : Parts) (link : ℕ) → LinkAs (link_at p link) (link_at q link) → WillPass (link_at p link) → in_outage p link ≡ true → in_outage q link ≡ true
+still-out p q link e h out =
+    let o : (link_at q link).peer_outage ≡ true = e.out h (and_parts (in_service p link) (link_at p link).peer_outage out).1 in
+    and_from (in_service q link) (link_at q link).peer_outage (and_parts (in_service q link) (link_at q link).peer_busy ((e.passes h).watched o)).0 o
+
+-- a link that isn't in service is in none, and may become another
+pub idle-set : (x y : Link) → is_in_service x.alignment ≡ false → WillPass y → LinkAs x y
+idle-set x y e h = record { passes = λ was. h; out = λ was o. no-way (is_in_service x.alignment) e (and_parts (is_in_service x.alignment) x.peer_busy (was.watched o)).0 }
+
+-- no link is in an outage that failed, nor one that isn't there
+pub failed-passes : (x : Link) → WillPass (after_failure x)
+failed-passes x = record { watched = λ o. absurd cc; alone = λ e. refl }
+
+pub none-passes : WillPass down_link
+none-passes = record { watched = λ o. absurd cc; alone = λ e. refl }
+
+pub fails-passes : (p : Parts) (link : ℕ) → WillPass (link_in (links_with p link (after_failure (link_at p link))) link)
+fails-passes p link = by (cases_lt link (length p.links))
+  where
+    by : (link < length p.links) ⊎ (length p.links ≤ link) → WillPass (link_in (links_with p link (after_failure (link_at p link))) link)
+    by (inl l) = subst WillPass (sym (get_or-set_same p.links link (after_failure (link_at p link)) down_link l)) (failed-passes (link_at p link))
+    by (inr l) =
+        subst WillPass (sym (get_or_past (links_with p link (after_failure (link_at p link))) link down_link (omega (arith, l, length-set p.links link (after_failure (link_at p link)))))) none-passes
+
 -- ---- parts that are alike in this
 
 pub record Alike (p q : Parts) : Type 0 where
+  pub links : (link : ℕ) → LinkAs (link_at p link) (link_at q link)
   pub holds : q.holds ≡ p.holds
   pub changeovers : q.changeovers ≡ p.changeovers
   pub timers : (timer : TimerName) → ends_holds timer ≡ true → q.timers.left timer ≡ p.timers.left timer
 
 pub alike-both : (p q r : Parts) → Alike p q → Alike q r → Alike p r
 alike-both p q r e f = record {
+  links = λ link. link-both (link_at p link) (link_at q link) (link_at r link) (e.links link) (f.links link);
   holds = f.holds ∙ e.holds;
   changeovers = f.changeovers ∙ e.changeovers;
   timers = λ timer h. f.timers timer h ∙ e.timers timer h;
 }
 
 pub alike-same : (p : Parts) → Alike p p
-alike-same p = record { holds = refl; changeovers = refl; timers = λ timer h. refl }
+alike-same p = record { links = λ link. link-same (link_at p link); holds = refl; changeovers = refl; timers = λ timer h. refl }
 
 pub losses-alike : (ms : List Message) (p : Parts) → Alike p (lose_each ms p)
 losses-alike [] p = alike-same p
-losses-alike (m ∷ ms) p = (let rest = losses-alike ms _ in record { holds = rest.holds; changeovers = rest.changeovers; timers = rest.timers })
+losses-alike (m ∷ ms) p = (let rest = losses-alike ms _ in record { links = rest.links; holds = rest.holds; changeovers = rest.changeovers; timers = rest.timers })
 
 pub judged-alike : (reasonable : Bool) (p : Parts) → Alike p (judged reasonable p)
 judged-alike true p = alike-same p
-judged-alike false p = record { holds = refl; changeovers = refl; timers = λ timer h. refl }
+judged-alike false p = record { links = λ link. link-same (link_at p link); holds = refl; changeovers = refl; timers = λ timer h. refl }
 
 pub untested-alike : (others : Bool) (set : ℕ) (p : Parts) → Alike p (if others then p else without_tests set p)
 untested-alike true set p = alike-same p
-untested-alike false set p = record { holds = refl; changeovers = refl; timers = clear_set-endings of_set.T10 set p.timers }
+untested-alike false set p = record { links = λ link. link-same (link_at p link); holds = refl; changeovers = refl; timers = clear_set-endings of_set.T10 set p.timers }
 
 -- ---- all but the changeover of one link
 
 pub record But (link : ℕ) (p : Parts) : Type 0 where
   pub holds : (procedure : Procedure) (destination sls : ℕ) → procedure ≢ Changeover link → holds p.holds procedure destination sls ≡ true → WillEnd procedure p
   pub changeovers : (other : ℕ) → other ≢ link → WillComplete (changeover_of p other) (is_running (name.T1 other) p.timers) (is_running (name.T2 other) p.timers)
+  pub outages : (other : ℕ) → other ≢ link → WillPass (link_at p other)
 
 pub but-of : (link : ℕ) (p : Parts) → AllWillEnd p → But link p
-but-of link p h = record { holds = λ procedure destination sls apart e. h.holds procedure destination sls e; changeovers = λ other apart. h.changeovers other }
+but-of link p h = record { holds = λ procedure destination sls apart e. h.holds procedure destination sls e; changeovers = λ other apart. h.changeovers other; outages = λ other apart. h.outages other }
 
 pub still-completes : (s t : Standing) (one two one' two' : Bool) → t ≡ s → (one ≡ true → one' ≡ true) → (two ≡ true → two' ≡ true) → WillComplete s one two → WillComplete t one' two'
 still-completes s t one two one' two' same first second h = record {
@@ -84,8 +142,10 @@ still-completes s t one two one' two' same first second h = record {
 -- the changeover of that link, its holds and its timers change, and nothing else does that ends a hold
 pub but-moved : (link : ℕ) (p q : Parts)
     → ((procedure : Procedure) (destination sls : ℕ) → procedure ≢ Changeover link → holds q.holds procedure destination sls ≡ true → holds p.holds procedure destination sls ≡ true)
-    → ((other : ℕ) → other ≢ link → changeover_of q other ≡ changeover_of p other) → SameBut (Its link) p.timers q.timers → But link p → But link q
-but-moved link p q fewer standings timers h = record {
+    → ((other : ℕ) → other ≢ link → changeover_of q other ≡ changeover_of p other) → SameBut (Its link) p.timers q.timers
+    → ((other : ℕ) → other ≢ link → LinkAs (link_at p other) (link_at q other)) → But link p → But link q
+but-moved link p q fewer standings timers links h = record {
+  outages = λ other apart. (links other apart).passes (h.outages other apart);
   holds = λ procedure destination sls apart e. ended procedure apart (h.holds procedure destination sls apart (fewer procedure destination sls apart e));
   changeovers = λ other apart. still-completes (changeover_of p other) (changeover_of q other) _ _ _ _ (standings other apart)
       (runs-as (name.T1 other) p.timers q.timers (timers (name.T1 other) refl (its-own link other apart)))
@@ -93,17 +153,21 @@ but-moved link p q fewer standings timers h = record {
 }
   where
     ended : (procedure : Procedure) → procedure ≢ Changeover link → WillEnd procedure p → WillEnd procedure q
-    ended (Changeover other) apart e = ap (λ (s : Standing). s.incomplete) (standings other (λ same. apart (ap (λ (l : ℕ). Changeover l) same))) ∙ e
+    ended (Changeover other) apart e =
+        let d : other ≢ link = λ same. apart (ap (λ (l : ℕ). Changeover l) same) in
+        ⊎_elim (λ (i : (changeover_of p other).incomplete ≡ true). inl (ap (λ (s : Standing). s.incomplete) (standings other d) ∙ i))
+        (λ (o : in_outage p other ≡ true). inr (still-out p q other (links other d) (h.outages other d) o)) e
     ended (Code set code) apart e = runs-as (name.T4 set code) p.timers q.timers (timers (name.T4 set code) refl (λ out. ⊎_elim (λ x. cc) (λ x. cc) out)) e
     ended (Time other) apart e = runs-as (name.T3 other) p.timers q.timers (timers (name.T3 other) refl (λ out. ⊎_elim (λ x. cc) (λ x. cc) out)) e
     ended (Reroute destination) apart e = runs-as (name.T6 destination) p.timers q.timers (timers (name.T6 destination) refl (λ out. ⊎_elim (λ x. cc) (λ x. cc) out)) e
 
 -- and then that link's too
 pub closed : (link : ℕ) (q : Parts) → But link q
-    → ((destination sls : ℕ) → holds q.holds (Changeover link) destination sls ≡ true → (changeover_of q link).incomplete ≡ true)
-    → WillComplete (changeover_of q link) (is_running (name.T1 link) q.timers) (is_running (name.T2 link) q.timers) → AllWillEnd q
-closed link q h own completes = record {
+    → ((destination sls : ℕ) → holds q.holds (Changeover link) destination sls ≡ true → WillEnd (Changeover link) q)
+    → WillComplete (changeover_of q link) (is_running (name.T1 link) q.timers) (is_running (name.T2 link) q.timers) → WillPass (link_at q link) → AllWillEnd q
+closed link q h own completes passes = record {
   holds = each;
+  outages = λ other. ⊎_elim (λ (e : other ≡ link). subst (λ (l : ℕ). WillPass (link_at q l)) (sym e) passes) (λ (d : other ≢ link). h.outages other d) (cases_eq other link);
   changeovers = λ other. ⊎_elim
       (λ (e : other ≡ link). subst (λ (l : ℕ). WillComplete (changeover_of q l) (is_running (name.T1 l) q.timers) (is_running (name.T2 l) q.timers)) (sym e) completes)
       (λ (d : other ≢ link). h.changeovers other d) (cases_eq other link);
@@ -112,7 +176,7 @@ closed link q h own completes = record {
     each : (procedure : Procedure) (destination sls : ℕ) → holds q.holds procedure destination sls ≡ true → WillEnd procedure q
     each (Changeover other) destination sls e =
         ⊎_elim
-        (λ (same : other ≡ link). subst (λ (l : ℕ). (changeover_of q l).incomplete ≡ true) (sym same) (own destination sls (subst (λ (l : ℕ). holds q.holds (Changeover l) destination sls ≡ true) same e)))
+        (λ (same : other ≡ link). subst (λ (l : ℕ). WillEnd (Changeover l) q) (sym same) (own destination sls (subst (λ (l : ℕ). holds q.holds (Changeover l) destination sls ≡ true) same e)))
         (λ (d : other ≢ link). h.holds (Changeover other) destination sls (λ same. d (link-of other same)) e) (cases_eq other link)
       where
         link-of : (l : ℕ) → Changeover l ≡ Changeover link → l ≡ link
@@ -124,8 +188,10 @@ closed link q h own completes = record {
 -- ---- nothing changes, or fewer flows are held
 
 pub will-stay : (p q : Parts) → ((procedure : Procedure) (destination sls : ℕ) → holds q.holds procedure destination sls ≡ true → holds p.holds procedure destination sls ≡ true)
-    → q.changeovers ≡ p.changeovers → ((timer : TimerName) → ends_holds timer ≡ true → is_running timer p.timers ≡ true → is_running timer q.timers ≡ true) → AllWillEnd p → AllWillEnd q
-will-stay p q fewer standings timers h = record {
+    → q.changeovers ≡ p.changeovers → ((timer : TimerName) → ends_holds timer ≡ true → is_running timer p.timers ≡ true → is_running timer q.timers ≡ true)
+    → ((link : ℕ) → LinkAs (link_at p link) (link_at q link)) → AllWillEnd p → AllWillEnd q
+will-stay p q fewer standings timers links h = record {
+  outages = λ link. (links link).passes (h.outages link);
   holds = λ procedure destination sls e. ended procedure (h.holds procedure destination sls (fewer procedure destination sls e));
   changeovers = λ other. still-completes (changeover_of p other) (changeover_of q other) _ _ _ _ (standing other)
       (timers (name.T1 other) refl) (timers (name.T2 other) refl) (h.changeovers other);
@@ -135,13 +201,15 @@ will-stay p q fewer standings timers h = record {
     standing other = ap (λ (all : List Standing). changeover_of (record p { changeovers = all }) other) standings
 
     ended : (procedure : Procedure) → WillEnd procedure p → WillEnd procedure q
-    ended (Changeover other) e = ap (λ (s : Standing). s.incomplete) (standing other) ∙ e
+    ended (Changeover other) e =
+        ⊎_elim (λ (i : (changeover_of p other).incomplete ≡ true). inl (ap (λ (s : Standing). s.incomplete) (standing other) ∙ i))
+        (λ (o : in_outage p other ≡ true). inr (still-out p q other (links other) (h.outages other) o)) e
     ended (Code set code) e = timers (name.T4 set code) refl e
     ended (Time other) e = timers (name.T3 other) refl e
     ended (Reroute destination) e = timers (name.T6 destination) refl e
 
 pub alike-stay : (p q : Parts) → Alike p q → AllWillEnd p → AllWillEnd q
-alike-stay p q e h = will-stay p q (λ procedure destination sls held. sym (ap (λ (x : HoldSet). holds x procedure destination sls) e.holds) ∙ held) e.changeovers (λ timer ends. runs-as timer p.timers q.timers (e.timers timer ends)) h
+alike-stay p q e h = will-stay p q (λ procedure destination sls held. sym (ap (λ (x : HoldSet). holds x procedure destination sls) e.holds) ∙ held) e.changeovers (λ timer ends. runs-as timer p.timers q.timers (e.timers timer ends)) e.links h
 
 pub lifted-fewer : (h : HoldSet) (procedure other : Procedure) (destination sls : ℕ) → holds (lifted h procedure) other destination sls ≡ true → holds h other destination sls ≡ true
 lifted-fewer h procedure other destination sls e =
@@ -172,18 +240,19 @@ complete-now s t one two (inr none) done waits = record {
 
 -- it is completed: its hold is lifted, and T1 stops
 pub completes : (link : ℕ) (found : Found) (s : Standing) (p : Parts) → But link p → s.incomplete ≡ false → (s.awaited ≡ true → is_running (name.T2 link) p.timers ≡ true)
-    → AllWillEnd (concluded link found (with_changeover link s p))
-completes link found s p h done waits =
+    → WillPass (link_at p link) → AllWillEnd (concluded link found (with_changeover link s p))
+completes link found s p h done waits passes =
     closed link q
     (but-moved link p q
     (λ procedure destination sls apart e.
     sym (ap (λ (x : HoldSet). holds x procedure destination sls) same.holds) ∙ lifted-fewer b.holds (Changeover link) procedure destination sls e)
     (λ other apart. ap (λ (all : List Standing). changeover_of (record p { changeovers = all }) other) same.changeovers ∙ other-standing p.changeovers link other s p apart)
-    (λ timer ends out. left-clear_other (name.T1 link) timer b.timers (λ e. out (inl (sym e))) ∙ same.timers timer ends) h)
+    (λ timer ends out. left-clear_other (name.T1 link) timer b.timers (λ e. out (inl (sym e))) ∙ same.timers timer ends) (λ other apart. same.links other) h)
     (λ destination sls e. no-way (holds q.holds (Changeover link) destination sls) (ends_its_own b.holds (Changeover link) destination sls) e)
     (complete-now s (changeover_of q link) _ _
     (⊎_elim (λ (e : changeover_of a link ≡ s). inl (standing ∙ e)) (λ (e : changeover_of a link ≡ no_changeover). inr (standing ∙ e)) (its-standing link s p)) done
     (λ e. runs-as (name.T2 link) p.timers q.timers (left-clear_other (name.T1 link) (name.T2 link) b.timers (λ x. cc) ∙ same.timers (name.T2 link) refl) (waits e)))
+    ((same.links link).passes passes)
   where
     a : Parts
     a = with_changeover link s p
@@ -202,17 +271,18 @@ completes link found s p h done waits =
 
 -- it was complete
 pub is-complete : (link : ℕ) (s : Standing) (p : Parts) → But link p → s.incomplete ≡ false → (s.awaited ≡ true → is_running (name.T2 link) p.timers ≡ true)
-    → ((destination sls : ℕ) → holds p.holds (Changeover link) destination sls ≡ true → ⊥) → AllWillEnd (with_changeover link s p)
-is-complete link s p h done waits unheld =
+    → ((destination sls : ℕ) → holds p.holds (Changeover link) destination sls ≡ true → in_outage p link ≡ true) → WillPass (link_at p link) → AllWillEnd (with_changeover link s p)
+is-complete link s p h done waits unheld passes =
     closed link (with_changeover link s p)
-    (but-moved link p (with_changeover link s p) (λ procedure destination sls apart e. e) (λ other apart. other-standing p.changeovers link other s p apart) (λ timer ends out. refl) h)
-    (λ destination sls e. absurd (unheld destination sls e))
-    (complete-now s (changeover_of (with_changeover link s p) link) _ _ (its-standing link s p) done waits)
+    (but-moved link p (with_changeover link s p) (λ procedure destination sls apart e. e) (λ other apart. other-standing p.changeovers link other s p apart) (λ timer ends out. refl)
+    (λ other apart. link-same (link_at p other)) h)
+    (λ destination sls e. inr (unheld destination sls e))
+    (complete-now s (changeover_of (with_changeover link s p) link) _ _ (its-standing link s p) done waits) passes
 
 -- it begins: the flows that fail are held, and T2 or T1 starts
 pub begins : (c : Configuration) (ordered : Bool) (link : ℕ) (p q : Parts) → But link q → has_name q.timers.counts (name.T1 link) ≡ true → has_name q.timers.counts (name.T2 link) ≡ true
-    → link < length q.changeovers → AllWillEnd (record q { changeovers = (with_changeover link (failed ordered (changeover_of q link)) q).changeovers; timers = timed_changeover c ordered link q.timers })
-begins c ordered link p q h first second there = by ordered
+    → link < length q.changeovers → WillPass (link_at q link) → AllWillEnd (record q { changeovers = (with_changeover link (failed ordered (changeover_of q link)) q).changeovers; timers = timed_changeover c ordered link q.timers })
+begins c ordered link p q h first second there passes = by ordered
   where
     r : Bool → Parts
     r b = record q { changeovers = (with_changeover link (failed b (changeover_of q link)) q).changeovers; timers = timed_changeover c b link q.timers }
@@ -231,6 +301,7 @@ begins c ordered link p q h first second there = by ordered
     by : (b : Bool) → AllWillEnd (r b)
     by b =
         closed link (r b)
-        (but-moved link q (r b) (λ procedure destination sls apart e. e) (λ other apart. other-standing q.changeovers link other (failed b (changeover_of q link)) q apart) (others b) h)
-        (λ destination sls e. ap (λ (s : Standing). s.incomplete) (is b))
-        (still-completes (failed b (changeover_of q link)) (changeover_of (r b) link) _ _ _ _ (is b) (λ e. e) (λ e. e) (timed b))
+        (but-moved link q (r b) (λ procedure destination sls apart e. e) (λ other apart. other-standing q.changeovers link other (failed b (changeover_of q link)) q apart) (others b)
+        (λ other apart. link-same (link_at q other)) h)
+        (λ destination sls e. inl (ap (λ (s : Standing). s.incomplete) (is b)))
+        (still-completes (failed b (changeover_of q link)) (changeover_of (r b) link) _ _ _ _ (is b) (λ e. e) (λ e. e) (timed b)) passes

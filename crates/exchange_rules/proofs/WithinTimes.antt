@@ -1,6 +1,6 @@
 -- No timer that completes a changeover or ends holds has more ticks left than the longest of them is set to.
 use Rattle.exchange_rules.proofs.Basics.{◌≡◌, ◌≢◌, ◌≤◌, ◌-◌, ℕ, Bool, true, false, List, [], ◌∷◌, Option, Some, None, refl, ap, sym, ◌∙◌, subst, arith, max, ⊎_elim, if◌then◌else◌}
-use Rattle.exchange_rules.proofs.Definitions.{Configuration, FailureReason, Facts, opening, completed, TimerName, Running, has_name, set_timer, after_due, after-clear, after-none, due_name, one_less, left-set, left-set_other, left-ticked, left-none, Parts, Node, with_parts, answer, Handled, Ignored, link_at, in_service, down, set_of, suspended, fail_link, has_other, make_unavailable, changing, begin, change_over, begin_by_peer, fail_by_peer, changeover_order, changeover_of, with_changeover, complete_if, fail_by_order, complete_by_order, changeover_acknowledgement, on_changeover_order, with_changeover_acknowledged, hold_flows, held_by_rerouting, carries, is_link, with_timers, first_state, WholeQueues, whole}
+use Rattle.exchange_rules.proofs.Definitions.{period_of, Configuration, FailureReason, Facts, opening, completed, TimerName, Running, has_name, set_timer, after_due, after-clear, after-none, due_name, one_less, left-set, left-set_other, left-ticked, left-none, Parts, Node, with_parts, answer, Handled, Ignored, link_at, in_service, down, set_of, suspended, fail_link, has_other, make_unavailable, changing, begin, change_over, begin_by_peer, fail_by_peer, changeover_order, changeover_of, with_changeover, complete_if, fail_by_order, complete_by_order, changeover_acknowledgement, on_changeover_order, with_changeover_acknowledged, hold_flows, held_by_rerouting, carries, is_link, with_timers, first_state, WholeQueues, whole}
 use Rattle.timers.proofs.Maps.{set-absent}
 use Rattle.timers.specs.declared.name.TimerName.TheVariants as name
 use Rattle.signalling_types.specs.declared.notice.FailureReason.TheVariants as reasons
@@ -29,6 +29,9 @@ waited (name.L6 link) e = refl
 waited (name.L7 link) e = refl
 waited (name.T8 set destination) e = absurd cc
 waited (name.T10 set destination) e = absurd cc
+waited (name.Slt1 link) e = absurd cc
+waited (name.Slt2 link) e = absurd cc
+waited name.Sst e = absurd cc
 
 -- those of a kind have at most n ticks left
 pub record Within (kind : TimerName → Bool) (most : ℕ) (r : Running) : Type 0 where
@@ -153,6 +156,7 @@ module _ (c : Configuration) where
   bounds-rules = record {
     sends = bounds-sends;
     tested = λ link point test n e f. bounds-as most n _ refl;
+    probed = λ link n e. bounds-as most n _ refl;
     held = λ m n e. bounds-as most n _ refl;
     taken_out = λ n. bounds-as most n _ refl;
     late = λ notice n e. bounds-as most n _ refl;
@@ -161,16 +165,18 @@ module _ (c : Configuration) where
     told = λ t n e. bounds-as most n _ refl;
     titled = λ rows n. bounds-as most n _ refl;
     unequipped = λ counts n e. bounds-as most n _ refl;
-    linked = λ link x n e. bounds-as most n _ refl;
+    linked = λ link x n e o. bounds-as most n _ refl;
     parted = λ link n e. bounds-as most n _ refl;
-    opened = λ link n own there e f may. bounds-same most n _ (timed-for link c opening n.parts.timers).endings;
+    opened = λ link n own there e f may. bounds-same most n _ (timed-for link c (opening (period_of c link n.parts)) n.parts.timers).endings;
     stepped = λ link input step n own e k. bounds-same most n _ (timed-for link c step n.parts.timers).endings;
     busied = λ link n own e f. bounds-same most n _ (timed_busy-for link c n.parts.timers).endings;
-    resumed = λ link n own e f. bounds-same most n _ (timed_busy_ended-for link c (whole.outstanding n.queues link) n.parts.timers).endings;
+    resumed = λ link n own e f o. bounds-same most n _ (timed_busy_ended-for link c (whole.outstanding n.queues link) n.parts.timers).endings;
     accepted = λ link d confirmed n own e f.
         bounds-same most n _
         (timed_confirming-for link c (link_at n.parts link).peer_busy confirmed (whole.outstanding (whole.accepted n.queues link d.fsn d.bsn (carries d)) link) n.parts.timers).endings;
     sent = λ link next n own e. bounds-same most n _ (timed_sending-for link c n.parts.timers).endings;
+    put = λ link n set e b. bounds-as most n _ refl;
+    back = λ link n e may. bounds-as most n _ refl;
     fails = λ link why n may up. fails-bounds (in_service n.parts link) link why n;
     orders = λ link number n falls ends. orders-bounds link number n;
     acknowledges = λ link number n may. acknowledges-bounds (changeover_of n.parts link).awaited link number n;

@@ -4,6 +4,8 @@ use Rattle.settings_rows.specs.Configuration.{Configuration}
 use Rattle.signalling_types.specs.declared.limits.TheConstants.Limits.{LINKS}
 use Rattle.link.specs.declared.alignment.Alignment.{Alignment}
 use Rattle.link.specs.declared.alignment.Alignment.TheVariants.{Down, NotAligned, Aligned, Proving, AlignedReady, InService}
+use Rattle.link.specs.declared.period.Period.{Period}
+use Rattle.link.specs.declared.period.Period.TheVariants.{Fixed}
 use Rattle.link.specs.declared.action.LinkTimer.{LinkTimer}
 use Rattle.link.specs.declared.action.LinkTimer.TheVariants.{L1, L2, L3, L4, L6, L7}
 use Rattle.link.specs.Table.{timer_number}
@@ -91,12 +93,17 @@ MayEnter link what p =
     (RunsOut (name.L4 link) what p.timers × (state_of p link ≡ Proving true))
     ⊎ ((Says link Ready what ⊎ Carries link what) × (state_of p link ≡ AlignedReady))
 
+-- a link may be aligned again: it is proved, and its period isn't fixed
+abbrev pub MayAlignAgain : Period → Alignment → Type 0
+MayAlignAgain period state = (period ≢ Fixed) × ((ready : Bool) × (state ≡ Proving ready))
+
 -- What led a link to the state that it is in after an event, if that is another than before: its association that comes
 -- up, its peer's words, and L4.
 pub record IsProvedFirst (what : Happening) (link : ℕ) (p : Parts) (after : Alignment) : Type 0 where
   pub begins : after ≡ NotAligned → state_of p link ≢ NotAligned → what ≡ CameUp link
   pub aligns : after ≡ Aligned → state_of p link ≢ Aligned →
-      Says link AlignmentStatus what × (state_of p link ≡ NotAligned)
+      Says link AlignmentStatus what
+      × ((state_of p link ≡ NotAligned) ⊎ MayAlignAgain (link_at p link).period (state_of p link))
   pub proves : after ≡ Proving false → state_of p link ≢ Proving false →
       (Says link ProvingNormal what ⊎ Says link ProvingEmergency what)
       × ((state_of p link ≡ NotAligned) ⊎ (state_of p link ≡ Aligned))

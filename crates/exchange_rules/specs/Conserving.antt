@@ -2,7 +2,6 @@
 use Rattle.std.specs.Prelude.{Bool, Err, List, None, Ok, Option, Result, Some, [], count_by, false, filter, if◌then◌else◌, is_some, nat_eq, not, suc, sum_by, take, true, zero, ℕ, ◌&&◌, ◌++◌, ◌+◌, ◌-◌, ◌∷◌}
 use Rattle.changeover.specs.Changeover.{accepted_count, users_of}
 use Rattle.changeover.specs.Laws.{count_in_the_end}
-use Rattle.link.specs.Table.{action_at}
 use Rattle.link.specs.declared.action.Action.{Action}
 use Rattle.link.specs.declared.action.Input.TheVariants.{UserData}
 use Rattle.link.specs.Queue.{Queue, count_confirmed, unconfirmed}
@@ -13,7 +12,8 @@ use Rattle.mtp3_codec.specs.declared.fault.MgmtFault.{MgmtFault}
 use Rattle.mtp3_codec.specs.declared.management.Management.{Management}
 use Rattle.mtp3_codec.specs.declared.management.Management.TheVariants.{EmergencyChangeoverAcknowledgement, EmergencyChangeoverOrder, ExtendedChangeoverAcknowledgement, ExtendedChangeoverOrder}
 use Rattle.mtp3_codec.specs.declared.discrimination.Discrimination.{Discrimination}
-use Rattle.sccp_relay.specs.Relay.{RelayedValue, relay, returned}
+use Rattle.sccp_relay.specs.Relay.{RelayedValue, relay}
+use Rattle.sccp_relay.specs.Returning.{returned}
 use Rattle.settings_rows.specs.Configuration.{Configuration}
 use Rattle.signalling_types.specs.Message.{Message, flow_of, is_management, opc_of, service_indicator}
 use Rattle.signalling_types.specs.declared.notice.FrameFault.{FrameFault}
@@ -22,7 +22,8 @@ use Rattle.signalling_types.specs.declared.outcome.Outcome.TheVariants.{Handled,
 use Rattle.timers.specs.Timers.{after_due, due_count, due_name, ticked}
 use Rattle.timers.specs.declared.name.TimerName.{TimerName}
 use Rattle.timers.specs.declared.name.TimerName.TheVariants.{T1, T2}
-use Rattle.exchange_rules.specs.Messages.{transfer, is_adjacent, link_with_code, sccp, testing, whither_goes, in_place_of, own_of}
+use Rattle.exchange_rules.specs.Messages.{transfer, is_adjacent, link_with_code, sccp, whither_goes, in_place_of, own_of}
+use Rattle.exchange_rules.specs.LinkTests.{testing}
 use Rattle.exchange_rules.specs.ChangingOver.{fail_by_order, changeover_of}
 use Rattle.exchange_rules.specs.Exchange.{handle_event, outcome_of, run_next, with_timers}
 use Rattle.exchange_rules.specs.Frames.{Carrying, data_of, numbers, advance}
@@ -33,6 +34,7 @@ use Rattle.exchange_rules.specs.Queues.{WholeQueues, queue_at, whole}
 use Rattle.exchange_rules.specs.Receiving.{new_message}
 use Rattle.exchange_rules.specs.First.{Abstract}
 use Rattle.link.specs.declared.action.Action.TheVariants as act
+use Rattle.node_links.specs.NodeLinks.{acts_on}
 use Rattle.sccp_relay.specs.Relay as relays
 use Rattle.mtp3_codec.specs.declared.discrimination.Discrimination.TheVariants as whither
 
@@ -65,6 +67,7 @@ entering c m node = taken_in (transfer whole c None m node).outcome m
 abbrev pub relayed_in : RelayedValue → Outcome → Message → List Message
 relayed_in relays.Delivered outcome m = []
 relayed_in (relays.Onward sif) outcome m = taken_in outcome (in_place_of m sif)
+relayed_in (relays.Heard news) outcome m = []
 relayed_in (relays.Refused cause) outcome m = []
 
 -- the UDTS or XUDTS that returns it, if one does
@@ -74,7 +77,8 @@ returned_in None c m node = []
 
 -- it is returned if it is refused
 abbrev pub answered_in : Outcome → Configuration → Message → Node WholeQueues → List Message
-answered_in (Refused cause) c m node = returned_in (returned (own_of c node.parts) node.parts.titles m.sif cause) c m node
+answered_in (Refused cause) c m node =
+    returned_in (returned (own_of c node.parts) node.parts.titles m.sif cause) c m node
 answered_in (Queued link) c m node = []
 answered_in Held c m node = []
 answered_in Local c m node = []
@@ -148,7 +152,7 @@ confirmed_at (act.Go step) link d c node =
 abbrev pub confirmed_in : Option Carrying → ℕ → Configuration → Node WholeQueues → List Message
 confirmed_in None link c node = []
 confirmed_in (Some d) link c node =
-    confirmed_at (action_at (link_at node.parts link).alignment UserData) link d c node
+    confirmed_at (acts_on (link_at node.parts link) UserData) link d c node
 
 abbrev pub confirmed_of : Result FrameValue FrameFault → ℕ → Configuration → Node WholeQueues → List Message
 confirmed_of (Ok frame) link c node = confirmed_in (data_of frame) link c node

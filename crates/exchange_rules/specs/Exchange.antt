@@ -11,10 +11,12 @@ use Rattle.signalling_types.specs.declared.outcome.Outcome.TheVariants.{Handled}
 use Rattle.link.specs.declared.action.LinkTimer.TheVariants as timer
 use Rattle.timers.specs.declared.name.TimerName.{TimerName}
 use Rattle.timers.specs.declared.name.TimerName.TheVariants.{L1, L2, L3, L4, L6, L7, T1, T2, T3, T4, T6, T8, T10}
+use Rattle.timers.specs.declared.name.TimerName.TheVariants.{Slt1, Slt2, Sst}
 use Rattle.timers.specs.Timers.{Running, ticked, due_name, due_count, after_due}
 use Rattle.signalling_types.specs.declared.notice.ChangeoverTimer.TheVariants as changeover
 use Rattle.exchange_rules.specs.Frames.{run_out, receive}
 use Rattle.exchange_rules.specs.ChangingBack.{late_time, late_code}
+use Rattle.exchange_rules.specs.LinkTests.{begin_test, test_unanswered}
 use Rattle.exchange_rules.specs.Rerouting.{rerouting_ended, ask_again}
 use Rattle.signalling_types.specs.declared.outcome.Outcome.{Outcome}
 use Rattle.m2pa_codec.specs.Frames.{FrameValue}
@@ -69,6 +71,9 @@ module _ {Q : Type 0} (q : QueueKind Q) (c : Configuration) where
   run_timer (T6 destination) node = with_parts node (rerouting_ended destination node.parts)
   run_timer (T8 set destination) node = node
   run_timer (T10 set destination) node = ask_again q c set destination node
+  run_timer (Slt1 link) node = test_unanswered q c link node
+  run_timer (Slt2 link) node = begin_test q c link node
+  run_timer Sst node = node
 
   abbrev pub run_due : Option TimerName → Node Q → Node Q
   run_due None node = node

@@ -14,7 +14,7 @@ use Rattle.changeover.specs.Changeover.{no_changeover}
 use Rattle.changeback.specs.Codes.{no_codes}
 use Rattle.route_management.specs.Told.{first_told}
 use Rattle.flow_hold.specs.Holds.{no_holds}
-use Rattle.sccp_relay.specs.Rows.{table_of}
+use Rattle.sccp_relay.specs.Statuses.{first_titles}
 
 -- the abstract state: whole queues
 abbrev pub Abstract : Type 0
@@ -48,7 +48,7 @@ first_parts c = record {
   changeovers = replicate (length c.links) no_changeover;
   codes = no_codes (length c.sets);
   holds = no_holds (length c.links) (length c.sets) (length c.destinations);
-  titles = table_of c.titles;
+  titles = first_titles c.titles;
   unequipped = replicate (length c.destinations) 0;
   timers = none_running (counts_in c);
   notices = record { last = []; count = 0 };

@@ -11,15 +11,17 @@ use Rattle.link.specs.declared.action.Action.TheVariants as act
 use Rattle.link.specs.declared.action.Input.TheVariants.{Status, Expiry, UserData}
 use Rattle.link.specs.declared.action.LinkTimer.{LinkTimer}
 use Rattle.link.specs.declared.action.Transition.{Transition}
-use Rattle.link.specs.Table.{action_at}
-use Rattle.exchange_rules.specs.State.{QueueKind, Parts, Node, Done, with_parts, answer, link_at, links_with, in_service, unless◌then◌else◌, refuse, is_link, with_link, down, note}
-use Rattle.node_links.specs.NodeLinks.{stepped, is_in_service}
+use Rattle.exchange_rules.specs.State.{QueueKind, Parts, Node, Done, with_parts, answer, link_at, links_with, in_service, unless◌then◌else◌, refuse, is_link, with_link, down, note, ◌▷◌}
+use Rattle.node_links.specs.NodeLinks.{acts_on, stepped, is_in_service}
 use Rattle.routes.specs.Routes.{Facts}
 use Rattle.exchange_rules.specs.Routing.{facts, set_of}
 use Rattle.exchange_rules.specs.Timing.{timed, timed_busy, timed_busy_ended, timed_confirming}
 use Rattle.exchange_rules.specs.Rerouting.{with_set_reset}
-use Rattle.exchange_rules.specs.ChangingOver.{has_other, fail}
+use Rattle.flow_hold.specs.declared.procedure.Procedure.TheVariants.{Changeover}
+use Rattle.flow_hold.specs.Holds.{lifted}
+use Rattle.exchange_rules.specs.ChangingOver.{has_other, fail, suspended}
 use Rattle.exchange_rules.specs.ChangingBack.{change_back}
+use Rattle.exchange_rules.specs.LinkTests.{begin_test}
 use Rattle.signalling_types.specs.Message.{Message}
 use Rattle.signalling_types.specs.declared.cause.Cause.TheVariants.{NoSuchName}
 use Rattle.signalling_types.specs.declared.notice.Notice.TheVariants as notices
@@ -53,6 +55,45 @@ end_busy c link outstanding p =
     }
     else p
 
+-- ---- The peer's processor is out (Q.703 §8, RFC 4165 §4.1.4), where the settings keep a link in service meanwhile.
+
+-- whether a link is in service while its peer's processor is out
+abbrev pub in_outage : Parts → ℕ → Bool
+in_outage p link = in_service p link && (link_at p link).peer_outage
+
+abbrev pub is_outage : LinkStatus → Bool
+is_outage says.ProcessorOutage = true
+is_outage _ = false
+
+abbrev pub is_recovery : LinkStatus → Bool
+is_recovery says.ProcessorRecovered = true
+is_recovery _ = false
+
+-- whether a status tells a link in service that its peer's processor is out, and the settings keep it in service
+abbrev pub tells_outage : Configuration → ℕ → LinkStatus → Parts → Bool
+tells_outage c link status p = c.processor_outage && (is_outage status && in_service p link)
+
+-- whether a status ends an outage
+abbrev pub tells_recovery : ℕ → LinkStatus → Parts → Bool
+tells_recovery link status p = is_recovery status && in_outage p link
+
+-- the changeover of the link holds the flows that would fail with it, and the outage is remembered
+abbrev pub put_out : Configuration → ℕ → (unconfirmed : List Message) → Parts → Parts
+put_out c link unconfirmed p =
+    suspended c link unconfirmed (with_link p link (record (link_at p link) { peer_outage = true }))
+
+-- the outage is over, and so is that hold
+abbrev pub let_back : ℕ → Parts → Parts
+let_back link p = record (with_link p link (record (link_at p link) { peer_outage = false })) {
+  holds = lifted p.holds (Changeover link);
+}
+
+-- Busy Ended is ignored in an outage, as Busy is: the peer takes no messages as long as its processor is out, and L6
+-- watches that (this node's own choice)
+abbrev pub hear_busy_ended : Configuration → ℕ → (outstanding : ℕ) → Parts → Parts
+hear_busy_ended c link outstanding p =
+    if (link_at p link).peer_outage then p else end_busy c link outstanding p
+
 -- whether a link enters service by a step
 abbrev pub enters : ℕ → Transition → Parts → Bool
 enters link step p = is_in_service step.state && not (in_service p link)
@@ -73,11 +114,20 @@ module _ {Q : Type 0} (q : QueueKind Q) (c : Configuration) where
   return_if true link before node = change_back q c link before node
   return_if false link before node = node
 
-  -- a link takes a step of its alignment
-  abbrev pub advance : ℕ → Transition → Node Q → Node Q
-  advance link step node =
+  -- a link takes a step of its alignment, and its flows back if it enters service by this
+  abbrev pub take_step : ℕ → Transition → Node Q → Node Q
+  take_step link step node =
       return_if (enters link step node.parts) link (facts c node.parts)
       (with_parts node (moved_on c link step node.parts))
+
+  -- a link that entered service is tested
+  abbrev pub test_if : (entered : Bool) → ℕ → Node Q → Node Q
+  test_if true link node = begin_test q c link node
+  test_if false link node = node
+
+  -- a link takes a step of its alignment, and is tested if it enters service by this
+  abbrev pub advance : ℕ → Transition → Node Q → Node Q
+  advance link step node = node ▷ take_step link step ▷ test_if (enters link step node.parts) link
 
   -- what a link's alignment does about an input; if the link must fail, nothing changes here
   abbrev pub act_by : Action → ℕ → Node Q → Node Q
@@ -89,7 +139,7 @@ module _ {Q : Type 0} (q : QueueKind Q) (c : Configuration) where
   abbrev pub serve_status : ℕ → LinkStatus → Node Q → Node Q
   serve_status link says.Busy node = with_parts node (become_busy c link node.parts)
   serve_status link says.BusyEnded node =
-      with_parts node (end_busy c link (q.outstanding node.queues link) node.parts)
+      with_parts node (hear_busy_ended c link (q.outstanding node.queues link) node.parts)
   serve_status link _ node = node
 
   -- a link takes a step about a status
@@ -104,9 +154,32 @@ module _ {Q : Type 0} (q : QueueKind Q) (c : Configuration) where
   act_by_status act.Fail link status node = answer Handled (fail q c link reasons.Status node)
   act_by_status (act.Go step) link status node = answer Handled (step_by_status link status step node)
 
+  -- an outage begins: a Busy of the peer is forgotten, it takes no messages from now on, which L6 watches in place of
+  -- L7, and the flows of the link are held
+  abbrev pub begin_outage : ℕ → Node Q → Node Q
+  begin_outage link node =
+      with_parts node
+      (node.parts
+      ▷ end_busy c link (q.outstanding node.queues link)
+      ▷ become_busy c link
+      ▷ put_out c link (q.unconfirmed node.queues link))
+
+  -- if the peer says so twice, the second changes nothing
+  abbrev pub hear_outage : ℕ → Node Q → Node Q
+  hear_outage link node = if (link_at node.parts link).peer_outage then node else begin_outage link node
+
+  -- an outage ends: the flows are held no longer, and the peer takes messages again
+  abbrev pub end_outage : ℕ → Node Q → Node Q
+  end_outage link node =
+      with_parts node (node.parts ▷ let_back link ▷ end_busy c link (q.outstanding node.queues link))
+
+  -- a status that a peer tells: that its processor is out, or recovered, where that is no failure; any other by the
+  -- table
   abbrev pub on_link_status : ℕ → LinkStatus → Node Q → Done Q
   on_link_status link status node =
-      act_by_status (action_at (link_at node.parts link).alignment (Status status)) link status node
+      if tells_outage c link status node.parts then answer Handled (hear_outage link node)
+      else if tells_recovery link status node.parts then answer Handled (end_outage link node)
+      else act_by_status (acts_on (link_at node.parts link) (Status status)) link status node
 
   -- what a link does about a timer of its own that ran out
   abbrev pub act_by_timer : Action → ℕ → Node Q → Node Q
@@ -116,7 +189,7 @@ module _ {Q : Type 0} (q : QueueKind Q) (c : Configuration) where
 
   abbrev pub run_out : ℕ → LinkTimer → Node Q → Node Q
   run_out link timer node =
-      act_by_timer (action_at (link_at node.parts link).alignment (Expiry timer)) link node
+      act_by_timer (acts_on (link_at node.parts link) (Expiry timer)) link node
 
 -- ---- A frame that came by a link (RFC 4165 §4.2.1).
 
@@ -187,7 +260,7 @@ module _ {Q : Type 0} (q : QueueKind Q) (c : Configuration) where
   act_by_data (act.Go step) link d node = handle link d (advance q c link step node)
 
   abbrev pub receive_data : ℕ → Carrying → Node Q → Done Q
-  receive_data link d node = act_by_data (action_at (link_at node.parts link).alignment UserData) link d node
+  receive_data link d node = act_by_data (acts_on (link_at node.parts link) UserData) link d node
 
   -- a frame by its kind; the numbers of a link status are ignored
   abbrev pub receive_frame : ℕ → FrameValue → Node Q → Done Q

@@ -1,5 +1,5 @@
 -- Every hold has a timer that runs, or an answer that is awaited: laws.
-use Rattle.std.specs.Prelude.{◌≡◌, ◌≤◌, ◌⊎◌, ℕ, Bool, true, length, List}
+use Rattle.std.specs.Prelude.{◌≡◌, ◌≤◌, ◌⊎◌, ◌&&◌, ℕ, Bool, true, false, length, List}
 use Rattle.signalling_types.specs.declared.limits.TheConstants.Limits.{LINKS}
 use Rattle.settings_rows.specs.Configuration.{Configuration}
 use Rattle.timers.specs.declared.name.TimerName.TheVariants.{T1, T2, T3, T4, T6}
@@ -8,15 +8,17 @@ use Rattle.changeover.specs.Changeover.{Standing}
 use Rattle.flow_hold.specs.declared.procedure.Procedure.{Procedure}
 use Rattle.flow_hold.specs.declared.procedure.Procedure.TheVariants.{Changeover, Code, Time, Reroute}
 use Rattle.flow_hold.specs.Holds.{holds}
-use Rattle.exchange_rules.specs.State.{Asking, Parts}
+use Rattle.exchange_rules.specs.State.{Asking, Parts, link_at}
+use Rattle.exchange_rules.specs.Frames.{in_outage}
+use Rattle.node_links.specs.NodeLinks.{Link, is_down, is_in_service}
 use Rattle.exchange_rules.specs.ChangingOver.{changeover_of}
 use Rattle.exchange_rules.specs.Lasting.{after_each, HasAllPlaces}
 use Rattle.exchange_rules.specs.First.{Abstract, first_state}
 
--- what ends the holds of a procedure: a changeover that isn't complete yet, or a timer that runs: T4 of a code, T3 of a
--- link that returned, or T6 of a destination
+-- what ends the holds of a procedure: a changeover that isn't complete yet, or the outage that a link in service is in;
+-- or a timer that runs: T4 of a code, T3 of a link that returned, or T6 of a destination
 abbrev pub WillEnd : Procedure → Parts → Type 0
-WillEnd (Changeover link) p = (changeover_of p link).incomplete ≡ true
+WillEnd (Changeover link) p = ((changeover_of p link).incomplete ≡ true) ⊎ (in_outage p link ≡ true)
 WillEnd (Code set code) p = is_running (T4 set code) p.timers ≡ true
 WillEnd (Time link) p = is_running (T3 link) p.timers ≡ true
 WillEnd (Reroute destination) p = is_running (T6 destination) p.timers ≡ true
@@ -27,12 +29,19 @@ pub record WillComplete (s : Standing) (t1_runs t2_runs : Bool) : Type 0 where
   pub incomplete : s.incomplete ≡ true → (t1_runs ≡ true) ⊎ (s.awaited ≡ true)
   pub awaited : s.awaited ≡ true → t2_runs ≡ true
 
--- each procedure that holds a flow will end, and each changeover will complete
+-- an outage is of a link in service whose peer takes no messages, so that L6 watches it; and a link without an
+-- association is down
+pub record WillPass (l : Link) : Type 0 where
+  pub watched : l.peer_outage ≡ true → (is_in_service l.alignment && l.peer_busy) ≡ true
+  pub alone : l.association ≡ false → is_down l.alignment ≡ true
+
+-- each procedure that holds a flow will end, each changeover will complete, and each outage will pass
 pub record AllWillEnd (p : Parts) : Type 0 where
   pub holds : (procedure : Procedure) (destination sls : ℕ) → holds p.holds procedure destination sls ≡ true →
       WillEnd procedure p
   pub changeovers : (link : ℕ) →
       WillComplete (changeover_of p link) (is_running (T1 link) p.timers) (is_running (T2 link) p.timers)
+  pub outages : (link : ℕ) → WillPass (link_at p link)
 
 -- this stays so, whatever is asked
 abbrev pub holds_stay_timed : Type 0

@@ -10,10 +10,10 @@ use Rattle.m2pa_codec.specs.Frames.{FrameValue, read_frame}
 use Rattle.link.specs.declared.action.Action.{Action}
 use Rattle.link.specs.declared.action.Action.TheVariants as act
 use Rattle.link.specs.declared.action.Input.TheVariants.{UserData}
-use Rattle.link.specs.Table.{action_at}
 use Rattle.link.specs.Queue.{count_confirmed}
 use Rattle.exchange_rules.specs.State.{Parts, Node, with_node, with_parts, is_link, link_at, in_service, note, Happening, CameUp, WentDown, FrameCame, Ticked, Submitted, Activated, Deactivated, TitleAdded, TitleRemoved}
 use Rattle.link.specs.declared.action.Transition.{Transition}
+use Rattle.node_links.specs.NodeLinks.{acts_on}
 use Rattle.exchange_rules.specs.ChangingOver.{complete_if}
 use Rattle.exchange_rules.specs.Telling.{send_routed, is_all_told, answer_no_route, answer_no_user_part, tell_owed}
 use Rattle.exchange_rules.specs.Frames.{advance, Carrying, numbers, accept, data_of}
@@ -43,7 +43,7 @@ accept_data (act.Go step) link d c node =
 abbrev pub accept_frame : Option Carrying → ℕ → Configuration → Node WholeQueues → Node WholeQueues
 accept_frame None link c node = node
 accept_frame (Some d) link c node =
-    accept_data (action_at (link_at node.parts link).alignment UserData) link d c node
+    accept_data (acts_on (link_at node.parts link) UserData) link d c node
 
 -- the node after the frame of this text was accepted; a text that isn't User Data isn't
 abbrev pub accept_text : ℕ → Result FrameValue FrameFault → Abstract → Node WholeQueues

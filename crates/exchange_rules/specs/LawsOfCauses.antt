@@ -1,5 +1,7 @@
 -- What ends a hold, and what takes a link down: laws.
-use Rattle.std.specs.Prelude.{◌≡◌, ◌⊎◌, ℕ, Bool, true, false, Contains, List, Option, Some, None, Result, Ok, Err, if◌then◌else◌}
+use Rattle.std.specs.Prelude.{◌≡◌, ◌≤◌, ◌==◌, ◌⊎◌, ℕ, Bool, true, false, Contains, List, Option, Some, None, Result, Ok, Err}
+use Rattle.std.specs.Prelude.{if◌then◌else◌}
+use Rattle.std.specs.List.{count_by}
 use Rattle.std.specs.Option.{option_map}
 use Rattle.settings_rows.specs.Configuration.{Configuration}
 use Rattle.settings.specs.Readings.{set_place}
@@ -12,6 +14,7 @@ use Rattle.signalling_types.specs.declared.notice.FrameFault.{FrameFault}
 use Rattle.signalling_types.specs.declared.notice.FrameFault.TheVariants as faults
 use Rattle.m2pa_codec.specs.Frames.{FrameValue, read_frame}
 use Rattle.m2pa_codec.specs.declared.status.LinkStatus.{LinkStatus}
+use Rattle.m2pa_codec.specs.declared.status.LinkStatus.TheVariants.{ProcessorRecovered}
 use Rattle.mtp3_codec.specs.Management.{read_management}
 use Rattle.mtp3_codec.specs.declared.fault.MgmtFault.{MgmtFault}
 use Rattle.mtp3_codec.specs.declared.management.Management.{Management}
@@ -23,22 +26,22 @@ use Rattle.link.specs.declared.action.Action.TheVariants as act
 use Rattle.link.specs.declared.action.Input.TheVariants.{Status, UserData}
 use Rattle.link.specs.declared.action.LinkTimer.{LinkTimer}
 use Rattle.link.specs.declared.fault.SeqFault.{SeqFault}
-use Rattle.link.specs.Table.{action_at}
+use Rattle.node_links.specs.NodeLinks.{acts_on}
 use Rattle.timers.specs.declared.name.TimerName.{TimerName}
-use Rattle.timers.specs.declared.name.TimerName.TheVariants.{T1, T2, T3, T4, T6}
+use Rattle.timers.specs.declared.name.TimerName.TheVariants.{T1, T2, T3, T4, T6, Slt1}
 use Rattle.flow_hold.specs.declared.procedure.Procedure.{Procedure}
 use Rattle.flow_hold.specs.declared.procedure.Procedure.TheVariants.{Changeover, Code, Time, Reroute}
 use Rattle.flow_hold.specs.Holds.{holds}
-use Rattle.exchange_rules.specs.State.{Happening, FrameCame, WentDown, Deactivated, Node, noted_all, down}
+use Rattle.exchange_rules.specs.State.{Happening, FrameCame, WentDown, Deactivated, Node, noted_all, down, link_at}
 use Rattle.exchange_rules.specs.Timing.{timer_name}
-use Rattle.exchange_rules.specs.Frames.{Carrying, data_of, numbers, advance}
+use Rattle.exchange_rules.specs.Frames.{Carrying, data_of, numbers, advance, in_outage, tells_outage}
 use Rattle.exchange_rules.specs.Messages.{whither_goes, link_with_code}
 use Rattle.exchange_rules.specs.Exchange.{after, taken}
 use Rattle.exchange_rules.specs.Queues.{WholeQueues, whole}
 use Rattle.exchange_rules.specs.First.{Abstract}
 use Rattle.exchange_rules.specs.Receiving.{new_message}
 use Rattle.exchange_rules.specs.Conserving.{is_word}
-use Rattle.exchange_rules.specs.Aligning.{RunsOut, Says, state_of}
+use Rattle.exchange_rules.specs.Aligning.{RunsOut, Says}
 
 -- ---- the management message of an event
 
@@ -98,13 +101,21 @@ pub record EndsByTimer (procedure : Procedure) (what : Happening) (a : Abstract)
   pub runs_out : RunsOut timer what a.node.parts.timers
   pub ends : ended_by_timer timer ≡ Some procedure
 
--- a procedure that holds a flow before an event, and doesn't after it, ended by such a word, or by such a timer
+-- that of the changeover of a link whose peer's processor was out: the peer says that it recovered
+pub record EndsByRecovery (procedure : Procedure) (what : Happening) (a : Abstract) : Type 0 where
+  pub link : ℕ
+  pub says : Says link ProcessorRecovered what
+  pub out : in_outage a.node.parts link ≡ true
+  pub ends : procedure ≡ Changeover link
+
+-- a procedure that holds a flow before an event, and doesn't after it, ended by such a word, by such a timer, or by the
+-- end of an outage
 abbrev pub holds_end_so : Type 0
 holds_end_so =
     (what : Happening) (a : Abstract) (procedure : Procedure) (destination sls : ℕ) →
     holds a.node.parts.holds procedure destination sls ≡ true →
     holds (after whole what a).node.parts.holds procedure destination sls ≡ false →
-    EndsByWord procedure what a ⊎ EndsByTimer procedure what a
+    EndsByWord procedure what a ⊎ (EndsByTimer procedure what a ⊎ EndsByRecovery procedure what a)
 
 -- a take ends none, and begins none
 abbrev pub takes_leave_holds : Type 0
@@ -125,7 +136,7 @@ is_misplaced_at (act.Go step) link d c node = is_wrong (numbers whole c link d (
 abbrev pub is_misplaced_in : Option Carrying → ℕ → Configuration → Node WholeQueues → Bool
 is_misplaced_in None link c node = false
 is_misplaced_in (Some d) link c node =
-    is_misplaced_at (action_at (state_of node.parts link) UserData) link d c node
+    is_misplaced_at (acts_on (link_at node.parts link) UserData) link d c node
 
 abbrev pub is_misplaced : Result FrameValue FrameFault → ℕ → Configuration → Node WholeQueues → Bool
 is_misplaced (Ok frame) link c node = is_misplaced_in (data_of frame) link c node
@@ -138,8 +149,8 @@ ordered_by c point (EmergencyChangeoverOrder slc) = link_with_code c point slc
 ordered_by c point other = None
 
 -- a link may fail by an event, for each reason: its association goes down; one of its timers runs out; a frame came by
--- it, with User Data out of place, with a status that fails it in its state, or of a wrong length; its peer orders a
--- changeover of it, by any link; or the operator deactivates it
+-- it, with User Data out of place, with a status that fails it in its state and begins no outage, or of a wrong length;
+-- its peer orders a changeover of it, by any link; the operator deactivates it; or a test of it isn't answered in time
 abbrev pub MayFail : FailureReason → (link : ℕ) → Happening → Abstract → Type 0
 MayFail reasons.Association link what a = what ≡ WentDown link
 MayFail reasons.Timer link what a =
@@ -148,16 +159,27 @@ MayFail reasons.Sequence link what a =
     (text : List ℕ) × (what ≡ FrameCame link text)
     × (is_misplaced (read_frame text) link a.settings a.node ≡ true)
 MayFail reasons.Status link what a =
-    (status : LinkStatus) × Says link status what
-    × (action_at (state_of a.node.parts link) (Status status) ≡ act.Fail)
+    (status : LinkStatus) × Says link status what × (tells_outage a.settings link status a.node.parts ≡ false)
+    × (acts_on (link_at a.node.parts link) (Status status) ≡ act.Fail)
 MayFail reasons.Length link what a =
     (text : List ℕ) × (what ≡ FrameCame link text) × (read_frame text ≡ Err faults.Length)
 MayFail reasons.Changeover link what a =
     (word : Word) × (word_heard what a ≡ Some word) × (ordered_by a.settings word.point word.says ≡ Some link)
 MayFail reasons.Operator link what a = what ≡ Deactivated link
+MayFail reasons.Test link what a = RunsOut (Slt1 link) what a.node.parts.timers
 
--- An event makes these notices. It names a link as failed exactly if it takes it down, and with a reason for which it
--- may fail it.
+-- whether a notice names this link as failed
+abbrev pub says_failed : (link : ℕ) → Notice → Bool
+says_failed link (notices.Failed other why) = other == link
+says_failed link (notices.Lost cause point sls) = false
+says_failed link (notices.Unsent cause point) = false
+says_failed link (notices.Expired timer other) = false
+says_failed link (notices.Refused cause other) = false
+says_failed link (notices.Frame fault other) = false
+says_failed link (notices.Late timer number) = false
+
+-- An event makes these notices. It names a link as failed exactly if it takes it down, once, and with a reason for which
+-- it may fail it.
 pub record AreFailuresNamed (what : Happening) (a : Abstract) (new : Node WholeQueues) : Type 0 where
   pub made : List Notice
   pub noted : new.parts.notices ≡ noted_all made a.node.parts.notices
@@ -166,6 +188,7 @@ pub record AreFailuresNamed (what : Happening) (a : Abstract) (new : Node WholeQ
       (down a.node.parts link ≡ false) × (down new.parts link ≡ true)
   pub named : (link : ℕ) → down a.node.parts link ≡ false → down new.parts link ≡ true →
       (why : FailureReason) × Contains made (notices.Failed link why)
+  pub once : (link : ℕ) → count_by (says_failed link) made ≤ 1
 
 abbrev pub links_fail_so : Type 0
 links_fail_so = (what : Happening) (a : Abstract) → AreFailuresNamed what a (after whole what a).node

@@ -1,13 +1,21 @@
 -- User messages are conserved: laws.
-use Rattle.std.specs.Prelude.{Bool, List, Some, [], false, length, true, ℕ, ◌++◌, ◌+◌, ◌∷◌, ◌≡◌, ◌≤◌}
+use Rattle.std.specs.Prelude.{Bool, Err, List, Ok, Result, Some, [], drop, false, is_some, length, nat_eq, not, true, ℕ, ◌&&◌, ◌++◌, ◌+◌, ◌∷◌, ◌≡◌, ◌≤◌}
 use Rattle.settings_rows.specs.Configuration.{Configuration}
-use Rattle.signalling_types.specs.Message.{Message, is_management}
+use Rattle.mtp3_codec.specs.Headings.{label_at}
+use Rattle.sccp_codec.specs.declared.fault.SccpFault.{SccpFault}
+use Rattle.sccp_codec.specs.Management.{ManagementValue, read_management}
+use Rattle.sccp_codec.specs.Messages.{UdtValue, UdtsValue, is_by_ssn}
+use Rattle.sccp_relay.specs.Relay as relays
+use Rattle.sccp_relay.specs.Relay.{is_status}
+use Rattle.sccp_relay.specs.Sccp.{Extended, Plain, SccpValue, read_sccp}
+use Rattle.signalling_types.specs.Message.{Message, is_management, service_indicator}
 use Rattle.signalling_types.specs.declared.limits.TheConstants.Limits.{LINKS, WINDOW}
 use Rattle.signalling_types.specs.declared.outcome.Outcome.{Outcome}
 use Rattle.signalling_types.specs.declared.outcome.Outcome.TheVariants.{Handled, Held, Ignored, Local, Queued, Refused}
 use Rattle.exchange_rules.specs.Exchange.{after, outcome_of, taken}
 use Rattle.exchange_rules.specs.First.{first_state, Abstract}
 use Rattle.exchange_rules.specs.State.{Asking, AsksWants, Happens, Takes, FrameCame, Happening, Submitted}
+use Rattle.exchange_rules.specs.Messages.{sccp}
 use Rattle.exchange_rules.specs.Lasting.{HasAllPlaces, after_asking, after_each}
 use Rattle.exchange_rules.specs.LastingLinks.{AreLinksSteady}
 use Rattle.exchange_rules.specs.Queues.{whole}
@@ -29,24 +37,43 @@ takes_leave_user_messages =
     (a : Abstract) (link : ℕ) (of : Message → Bool) →
     standing of (taken whole a link).node.queues ≡ standing of a.node.queues
 
--- whether a message is queued, held, delivered or refused
-abbrev pub has_fate : Outcome → Bool
-has_fate (Queued link) = true
-has_fate Held = true
-has_fate Local = true
-has_fate (Refused cause) = true
-has_fate Handled = false
-has_fate Ignored = false
+-- whether a message says something of a subsystem at another point, and is heard: a UDT for SCCP management by its
+-- subsystem number, with an SSP or an SSA, from another point
+abbrev pub says_in : Configuration → (sender : ℕ) → Result ManagementValue SccpFault → Bool
+says_in c sender (Err fault) = false
+says_in c sender (Ok about) = is_status about.kind && not (nat_eq sender c.own)
+
+abbrev pub says_status : Configuration → (sender : ℕ) → Result SccpValue SccpFault → Bool
+says_status c sender (Ok (Plain (UdtValue class_octet parts))) =
+    is_by_ssn parts.called.routing
+    && (relays.is_management parts.called.ssn && says_in c sender (read_management parts.data))
+says_status c sender (Ok (Plain (UdtsValue return_cause parts))) = false
+says_status c sender (Ok (Extended extended)) = false
+says_status c sender (Err fault) = false
+
+abbrev pub is_heard : Configuration → Message → Bool
+is_heard c m =
+    nat_eq (service_indicator m) sccp
+    && (is_some c.timers.sst && says_status c (label_at m.sif).opc (read_sccp c.extended_unitdata (drop 4 m.sif)))
+
+-- whether a message is queued, held, delivered or refused; or handled, if it is heard
+abbrev pub has_fate : (is_heard : Bool) → Outcome → Bool
+has_fate is_heard (Queued link) = true
+has_fate is_heard Held = true
+has_fate is_heard Local = true
+has_fate is_heard (Refused cause) = true
+has_fate is_heard Handled = is_heard
+has_fate is_heard Ignored = false
 
 -- one of these becomes of each user message that a frame newly carries, and of each that is submitted
 abbrev pub carried_messages_have_a_fate : Type 0
 carried_messages_have_a_fate =
     (a : Abstract) (link : ℕ) (text : List ℕ) (m : Message) → new_message link text a ≡ Some m →
-    is_management m ≡ false → has_fate (outcome_of whole (FrameCame link text) a) ≡ true
+    is_management m ≡ false → has_fate (is_heard a.settings m) (outcome_of whole (FrameCame link text) a) ≡ true
 
 abbrev pub submissions_have_a_fate : Type 0
 submissions_have_a_fate =
-    (a : Abstract) (m : Message) → has_fate (outcome_of whole (Submitted m) a) ≡ true
+    (a : Abstract) (m : Message) → has_fate (is_heard a.settings m) (outcome_of whole (Submitted m) a) ≡ true
 
 -- ---- over every event and every take
 

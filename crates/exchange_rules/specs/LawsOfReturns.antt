@@ -12,7 +12,7 @@ use Rattle.exchange_rules.specs.State.{Parts, Node, with_parts}
 use Rattle.exchange_rules.specs.Routing.{set_of, facts}
 use Rattle.exchange_rules.specs.Queues.{WholeQueues, queue_at, whole}
 use Rattle.exchange_rules.specs.ChangingBack.{declaration, take_back_each, change_back}
-use Rattle.exchange_rules.specs.Frames.{enters, moved_on, advance}
+use Rattle.exchange_rules.specs.Frames.{enters, moved_on, take_step, advance}
 use Rattle.exchange_rules.specs.Places.{HasPlacesFor}
 use Rattle.exchange_rules.specs.Lasting.{HasAllPlaces}
 
@@ -114,10 +114,10 @@ flows_return_by_their_procedures =
     (c : Configuration) (link : ℕ) (before : Parts) (node : Node WholeQueues) → HasAllPlaces c node →
     (by : ℕ → Procedure) × IsReturn c link (facts c before) node (change_back whole c link (facts c before) node) by
 
--- and when a link enters service
+-- and when a link enters service, before it is tested
 abbrev pub entries_are_returns : Type 0
 entries_are_returns =
     (c : Configuration) (link : ℕ) (step : Transition) (node : Node WholeQueues) → HasAllPlaces c node →
     enters link step node.parts ≡ true →
     (by : ℕ → Procedure) × IsReturn c link (facts c node.parts) (with_parts node (moved_on c link step node.parts))
-    (advance whole c link step node) by
+    (take_step whole c link step node) by

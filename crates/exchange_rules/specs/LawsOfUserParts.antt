@@ -1,13 +1,17 @@
 -- Messages for user parts that aren't here: laws.
-use Rattle.std.specs.Prelude.{◌≡◌, ◌≢◌, ◌<◌, ◌^◌, ◌+◌, ◌*◌, ◌%◌, ◌&&◌, ◌||◌, ℕ, Bool, true, false, not, nat_eq, nat_lt, is_some, slice_index_or, slice_set, Option, Some, None, Ok}
+use Rattle.std.specs.Prelude.{◌≡◌, ◌≢◌, ◌<◌, ◌^◌, ◌+◌, ◌*◌, ◌%◌, ◌&&◌, ◌||◌, ℕ, Bool, true, false, not, nat_eq, nat_lt, is_some, slice_index_or, slice_set, Some, None, Ok, length, replicate, if◌then◌else◌}
 use Rattle.settings_rows.specs.Configuration.{Configuration}
 use Rattle.signalling_types.specs.Message.{Message, flow_of, is_management, opc_of, service_indicator}
+use Rattle.signalling_types.specs.declared.cause.Cause.TheVariants.{NoUserPart}
+use Rattle.signalling_types.specs.declared.outcome.Outcome.TheVariants.{Local, Refused}
 use Rattle.mtp3_codec.specs.Headings.{label_at}
 use Rattle.mtp3_codec.specs.Management.{read_management}
 use Rattle.mtp3_codec.specs.declared.management.Management.TheVariants.{UserPartUnavailable}
 use Rattle.mtp3_codec.specs.declared.unavailability.UnavailabilityCause.TheVariants.{Unequipped}
 use Rattle.settings.specs.Readings.{destination_place}
-use Rattle.exchange_rules.specs.State.{Node, with_parts}
+use Rattle.exchange_rules.specs.State.{Node, with_parts, answer, refuse}
+use Rattle.exchange_rules.specs.First.{Abstract, first_state}
+use Rattle.exchange_rules.specs.Exchange.{taken}
 use Rattle.exchange_rules.specs.Places.{HasPlacesFor}
 use Rattle.exchange_rules.specs.Routing.{link_of, queue_on}
 use Rattle.exchange_rules.specs.Telling.{unavailable}
@@ -34,6 +38,12 @@ abbrev pub is_sender_told : Configuration → (origin : ℕ) → Message → Nod
 is_sender_told c origin m node =
     nat_lt (whole.managements node.queues) 128 && nat_eq (count_from origin node) 0
     && is_some (link_of c node.parts (flow_of (unavailable c m)))
+
+-- the message is refused, whether its sender is told or not
+abbrev pub lacking_is_refused : Type 0
+lacking_is_refused =
+    (c : Configuration) (link : ℕ) (m : Message) (node : Node WholeQueues) → lacks_part c m ≡ true →
+    (distribute whole c link m node).outcome ≡ Refused NoUserPart
 
 -- if it is told, what is left is the node with its count one higher, and UPU at the end of the queue of that link
 abbrev pub told_by_one : Type 0
@@ -73,17 +83,34 @@ upu_reads_back =
     × (label_at (unavailable c m).sif ≡ record { dpc = opc_of m; opc = c.own; sls = 0 })
     × (read_management (unavailable c m).sif ≡ Ok (UserPartUnavailable c.own (service_indicator m) Unequipped))
 
+-- a message for a user part that is here is that part's, and leaves the node as it was
+abbrev pub parts_get_their_messages : Type 0
+parts_get_their_messages =
+    (c : Configuration) (link : ℕ) (m : Message) (node : Node WholeQueues) → is_management m ≡ false →
+    nat_eq (service_indicator m) sccp ≡ false → is_user c (service_indicator m) ≡ true →
+    distribute whole c link m node ≡ answer Local node
+
 -- the same settings with which nobody is told
 abbrev pub silent : Configuration → Configuration
 silent c = record c { user_part_unavailable = false }
 
--- every other user message goes as if nobody were told, and so does each that is submitted
+-- every user message that lacks no part, so also one for SCCP, goes as if nobody were told
 abbrev pub others_go_the_same : Type 0
 others_go_the_same =
     (c : Configuration) (link : ℕ) (m : Message) (node : Node WholeQueues) → is_management m ≡ false →
     lacks_part c m ≡ false → distribute whole c link m node ≡ distribute whole (silent c) link m node
 
+-- a message that is submitted, but not for SCCP, is its user part's or is refused, and leaves the node as it was
 abbrev pub submissions_tell_nobody : Type 0
 submissions_tell_nobody =
-    (c : Configuration) (m : Message) (node : Node WholeQueues) →
-    local whole c None m node ≡ local whole (silent c) None m node
+    (c : Configuration) (m : Message) (node : Node WholeQueues) → nat_eq (service_indicator m) sccp ≡ false →
+    local whole c None m node
+    ≡ (if is_user c (service_indicator m) then answer Local node else refuse NoUserPart node)
+
+-- at first no message is counted, and a take counts none
+abbrev pub none_is_counted_at_first : Type 0
+none_is_counted_at_first =
+    (c : Configuration) → (first_state c).node.parts.unequipped ≡ replicate (length c.destinations) 0
+
+abbrev pub takes_count_none : Type 0
+takes_count_none = (a : Abstract) (link : ℕ) → (taken whole a link).node.parts.unequipped ≡ a.node.parts.unequipped

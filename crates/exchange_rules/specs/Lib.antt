@@ -7,6 +7,7 @@ pub mod ChangingOver
 pub mod ChangingBack
 pub mod Messages
 pub mod Opening
+pub mod LinkTests
 pub mod Frames
 pub mod Sending
 pub mod Exchange
@@ -19,7 +20,9 @@ pub mod Lasting
 pub mod LawsOfReturns
 pub mod LawsOfAnswers
 pub mod LawsOfShares
+pub mod LawsOfPeriods
 pub mod LawsOfUserParts
+pub mod LawsOfTests
 pub mod LastingLinks
 pub mod LastingHolds
 pub mod TickingAlone
@@ -33,6 +36,8 @@ pub mod LoneRoutes
 pub mod Receiving
 pub mod Conserving
 pub mod LawsOfMessages
+pub mod LawsOfOutage
 pub mod LawsOfLosses
 pub mod LawsOfCauses
+pub mod LawsOfSubsystems
 pub mod RuleExamples

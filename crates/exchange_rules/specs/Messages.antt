@@ -9,13 +9,15 @@ use Rattle.signalling_types.specs.declared.cause.Cause.TheVariants.{UnknownDesti
 use Rattle.signalling_types.specs.declared.outcome.Outcome.TheVariants.{Queued, Held, Local, Handled, Ignored, Refused}
 use Rattle.exchange_rules.specs.State.{unless◌then◌else◌, QueueKind, Node, Done, refuse, Parts, with_parts, answer, note_refusal}
 use Rattle.exchange_rules.specs.Routing.{link_of, waits, hold, no_room, no_room_on, queue_on, route_about}
-use Rattle.exchange_rules.specs.Telling.{answer_no_route, answer_no_user_part, own_sio, send_on, on_route_test}
+use Rattle.exchange_rules.specs.Telling.{answer_no_route, answer_no_user_part, send_on, on_route_test}
 use Rattle.std.specs.Option.{option_or, option_and_then}
 use Rattle.signalling_types.specs.declared.outcome.Outcome.{Outcome}
 use Rattle.sccp_codec.specs.declared.title.TitleKey.{TitleKey}
 use Rattle.sccp_relay.specs.Rows.{place_of, has_row, with_row, without_row, add_refusal}
-use Rattle.sccp_relay.specs.Relay.{OwnValue, RelayedValue, relay, returned}
+use Rattle.sccp_relay.specs.Points.{OwnValue}
+use Rattle.sccp_relay.specs.Returning.{returned}
 use Rattle.sccp_relay.specs.Relay as relays
+use Rattle.sccp_relay.specs.Statuses.{TitlesValue, heard}
 use Rattle.std.specs.List.{list_any}
 use Rattle.mtp3_codec.specs.declared.fault.MgmtFault.{MgmtFault}
 use Rattle.mtp3_codec.specs.declared.fault.MgmtFault.TheVariants as faults
@@ -23,10 +25,11 @@ use Rattle.mtp3_codec.specs.declared.link_test.TestKind.{TestKind}
 use Rattle.mtp3_codec.specs.declared.link_test.TestKind.TheVariants.{Test, Acknowledgement}
 use Rattle.mtp3_codec.specs.declared.management.Management.{Management}
 use Rattle.mtp3_codec.specs.declared.management.Management.TheVariants.{TrafficRestartAllowed, ExtendedChangeoverOrder, ExtendedChangeoverAcknowledgement, EmergencyChangeoverOrder, EmergencyChangeoverAcknowledgement, ChangebackDeclaration, ChangebackAcknowledgement, TransferProhibited, TransferRestricted, TransferAllowed, RouteSetTestProhibited, RouteSetTestRestricted, UserPartUnavailable}
-use Rattle.mtp3_codec.specs.Management.{LinkTestValue, read_link_test, spelled, answer_to, read_management}
+use Rattle.mtp3_codec.specs.Management.{LinkTestValue, read_link_test, answer_to, read_management}
 use Rattle.routes.specs.declared.route.RouteStatus.TheVariants as status
 use Rattle.route_management.specs.declared.heard.RouteTest.TheVariants as test
 use Rattle.exchange_rules.specs.ChangingOver.{on_changeover_order, on_changeover_acknowledgement}
+use Rattle.exchange_rules.specs.LinkTests.{testing, test_message, on_test_answer}
 use Rattle.exchange_rules.specs.ChangingBack.{on_changeback_declaration, on_changeback_acknowledgement}
 use Rattle.exchange_rules.specs.Rerouting.{on_route_status}
 use Rattle.signalling_types.specs.declared.limits.TheConstants.Limits.{SIF_OCTETS}
@@ -70,8 +73,13 @@ own_of c p = record {
   subsystems = c.subsystems;
   extended = c.extended_unitdata;
   answers_tests = c.subsystem_tests;
+  hears_statuses = is_some c.timers.sst;
   leads = λ point sls. is_some (link_of c p (record { point = point; sls = sls }));
 }
+
+-- the same parts with other translation rows, or other prohibited subsystems
+abbrev pub with_titles : TitlesValue → Parts → Parts
+with_titles titles p = record p { titles = titles }
 
 -- a message in the place of another, with the same service information octet
 abbrev pub in_place_of : Message → (sif : List ℕ) → Message
@@ -103,21 +111,23 @@ module _ {Q : Type 0} (q : QueueKind Q) (c : Configuration) where
   -- ---- a message
 
   -- by what becomes of it: one that goes on goes the way of any message for another point, and nobody is told if it
-  -- finds no route
-  abbrev pub relay_by : RelayedValue → Message → Node Q → Done Q
+  -- finds no route; what it says of a subsystem at another point is heard
+  abbrev pub relay_by : relays.RelayedValue → Message → Node Q → Done Q
   relay_by relays.Delivered m node = answer Local node
   relay_by (relays.Onward sif) m node = transfer q c None (in_place_of m sif) node
+  relay_by (relays.Heard news) m node =
+      answer Handled (with_parts node (with_titles (heard news node.parts.titles) node.parts))
   relay_by (relays.Refused cause) m node = refuse cause node
 
   -- an SCCP message for this point
   abbrev pub on_unitdata : Message → Node Q → Done Q
-  on_unitdata m node = return_refusal m (relay_by (relay (own_of c node.parts) node.parts.titles m.sif) m node)
+  on_unitdata m node = return_refusal m (relay_by (relays.relay (own_of c node.parts) node.parts.titles m.sif) m node)
 
 -- ---- translation rows
 
 -- the same parts with other rows
-abbrev pub with_titles : List TitleEntry → Parts → Parts
-with_titles titles p = record p { titles = titles }
+abbrev pub with_rows : List TitleEntry → Parts → Parts
+with_rows rows p = with_titles (record p.titles { rows = rows }) p
 
 -- why a row isn't added: the table's refusal, else that memory for it was refused
 abbrev pub title_refusal : List TitleEntry → TitleEntry → (is_memory_refused : Bool) → Option Cause
@@ -127,26 +137,23 @@ title_refusal titles row is_memory_refused =
 abbrev pub add_title_unless : {Q : Type 0} → Option Cause → TitleEntry → Node Q → Done Q
 add_title_unless (Some cause) row node = refuse cause node
 add_title_unless None row node =
-    answer Handled (with_parts node (with_titles (with_row row node.parts.titles) node.parts))
+    answer Handled (with_parts node (with_rows (with_row row node.parts.titles.rows) node.parts))
 
 -- an operator adds a row
 abbrev pub add_title : {Q : Type 0} → TitleEntry → (is_memory_refused : Bool) → Node Q → Done Q
 add_title row is_memory_refused node =
-    add_title_unless (title_refusal node.parts.titles row is_memory_refused) row node
+    add_title_unless (title_refusal node.parts.titles.rows row is_memory_refused) row node
 
 -- an operator removes the row of this key and these digits
 abbrev pub remove_title : {Q : Type 0} → TitleKey → (digits : List ℕ) → Node Q → Done Q
 remove_title key digits node =
-    unless has_row node.parts.titles (place_of key digits) then refuse NoSuchName node
+    unless has_row node.parts.titles.rows (place_of key digits) then refuse NoSuchName node
     else answer Handled
-    (with_parts node (with_titles (without_row (place_of key digits) node.parts.titles) node.parts))
+    (with_parts node (with_rows (without_row (place_of key digits) node.parts.titles.rows) node.parts))
 
 -- ---- HMDT, message distribution (Q.704 §2.4): a message for this point, by its service indicator (§14.2.1).
 
--- the service indicators of tests and of SCCP; that of management is 0
-abbrev pub testing : ℕ
-testing = 1
-
+-- the service indicator of SCCP; that of management is 0, that of tests 1
 abbrev pub sccp : ℕ
 sccp = 3
 
@@ -166,8 +173,7 @@ is_unavailability _ = false
 abbrev pub says_unavailable : Message → Bool
 says_unavailable m = nat_eq (service_indicator m) 0 && is_unavailability (read_management m.sif)
 
--- such a message is handled and has no other effect: nothing tells the users here. It is left out if this node doesn't
--- say so itself
+-- such a message is handled and has no other effect; it is left out if this node doesn't say so itself
 abbrev pub on_unavailable : Configuration → Outcome
 on_unavailable c = if c.user_part_unavailable then Handled else Refused NotInProfile
 
@@ -182,7 +188,7 @@ cause_of faults.NotInProfile = NotInProfile
 
 -- the answer to a link test from a point
 abbrev pub test_answer : Configuration → ℕ → LinkTestValue → Message
-test_answer c point test = record { sio = own_sio c testing; sif = spelled point c.own (answer_to test) }
+test_answer c point test = test_message c point (answer_to test)
 
 -- the link of a code in a set
 abbrev pub link_in_set : Configuration → (slc set : ℕ) → Option ℕ
@@ -193,10 +199,11 @@ abbrev pub link_with_code : Configuration → (point slc : ℕ) → Option ℕ
 link_with_code c point slc = option_and_then (link_in_set c slc) (set_place c point)
 
 module _ {Q : Type 0} (q : QueueKind Q) (c : Configuration) where
-  -- a link test is answered on the link that it came by, and an answer to one is ignored (Q.707 §2.2)
+  -- a link test is answered on the link that it came by, and an answer to one goes to the test of that link
+  -- (Q.707 §2.2)
   abbrev pub do_kind : TestKind → ℕ → ℕ → LinkTestValue → Node Q → Done Q
   do_kind Test link point test node = answer Handled (send_on q c link (test_answer c point test) node)
-  do_kind Acknowledgement link point test node = answer Ignored node
+  do_kind Acknowledgement link point test node = on_test_answer q c link point test node
 
   abbrev pub do_test : Result LinkTestValue MgmtFault → ℕ → ℕ → Node Q → Done Q
   do_test (Err fault) link point node = refuse (cause_of fault) node
@@ -249,8 +256,8 @@ module _ {Q : Type 0} (q : QueueKind Q) (c : Configuration) where
       then do_test (read_link_test m.sif) link (opc_of m) node
       else do_management (read_management m.sif) (opc_of m) node
 
-  -- a message for SCCP, or for a user part, with the link that it came by, if any. The sender of one that came by a link
-  -- for a user part that isn't here is told so
+  -- a message for SCCP, or for a user part, with the link that it came by, if any. The sender of one that came by a
+  -- link for a user part that isn't here is told so
   abbrev pub local : (from : Option ℕ) → Message → Node Q → Done Q
   local from m node =
       if nat_eq (service_indicator m) sccp then on_unitdata q c m node

@@ -1,11 +1,13 @@
 -- TLAC, link availability control (Q.704 §3.2): associations that come up and go down, and the operator's orders about
 -- a link (RFC 4165 §4.1.3).
-use Rattle.std.specs.Prelude.{ℕ, Bool, true, false, ◌&&◌, not, if◌then◌else◌}
+use Rattle.std.specs.Prelude.{ℕ, Bool, true, false, ◌&&◌, not, if◌then◌else◌, Option, Some, None}
 use Rattle.settings_rows.specs.Configuration.{Configuration}
 use Rattle.signalling_types.specs.declared.cause.Cause.TheVariants.{NoSuchName, LinkNotReady, ChangeoverPending}
 use Rattle.signalling_types.specs.declared.notice.FailureReason.{FailureReason}
 use Rattle.signalling_types.specs.declared.notice.FailureReason.TheVariants as reasons
 use Rattle.signalling_types.specs.declared.outcome.Outcome.TheVariants.{Handled, Ignored}
+use Rattle.link.specs.declared.period.Period.{Period}
+use Rattle.link.specs.declared.period.Period.TheVariants.{Fixed, Normal, Emergency}
 use Rattle.link.specs.Table.{opening}
 use Rattle.node_links.specs.NodeLinks.{Link, is_down, opened}
 use Rattle.exchange_rules.specs.declared.wants.Wants.{Wants}
@@ -13,7 +15,7 @@ use Rattle.exchange_rules.specs.declared.wants.Wants.TheVariants.{Nothing, Open,
 use Rattle.exchange_rules.specs.State.{unless◌then◌else◌, ◌▷◌, QueueKind, Parts, Node, Done, with_parts, answer, refuse, is_link, link_at, links_with, with_link, down}
 use Rattle.exchange_rules.specs.Timing.{timed}
 use Rattle.changeover.specs.Changeover.{may_restart}
-use Rattle.exchange_rules.specs.ChangingOver.{changeover_of, fail}
+use Rattle.exchange_rules.specs.ChangingOver.{changeover_of, has_other, fail}
 
 -- a link may open if it has no association yet, and the operator lets it
 abbrev pub may_open : Link → Bool
@@ -40,10 +42,23 @@ without_association link p = with_link p link (record (link_at p link) { associa
 abbrev pub with_active : Bool → ℕ → Parts → Parts
 with_active active link p = with_link p link (record (link_at p link) { active = active })
 
--- a link that begins to align
+-- how long a link is to be proved: for the emergency period, if no other link of its set is in service (Q.703 §7.1 leaves
+-- that to level 3); always equally long, if the settings have no such period
+abbrev pub period_by : (emergency : Option ℕ) → (has_other : Bool) → Period
+period_by None has_other = Fixed
+period_by (Some ticks) true = Normal
+period_by (Some ticks) false = Emergency
+
+abbrev pub period_of : Configuration → ℕ → Parts → Period
+period_of c link p = period_by c.timers.l4e (has_other c link p)
+
+-- a link begins to align, with a period for its proving
+abbrev pub begun_with : Configuration → ℕ → Period → Parts → Parts
+begun_with c link period p =
+    record p { links = links_with p link (opened period (link_at p link)); timers = timed c link (opening period) p.timers }
+
 abbrev pub begun : Configuration → ℕ → Parts → Parts
-begun c link p =
-    record p { links = links_with p link (opened (link_at p link)); timers = timed c link opening p.timers }
+begun c link p = begun_with c link (period_of c link p) p
 
 module _ {Q : Type 0} (q : QueueKind Q) (c : Configuration) where
   -- a new epoch begins: the queue and its counts are empty, and the link isn't aligned yet

@@ -10,8 +10,8 @@ use Rattle.m2pa_codec.specs.Frames.{FrameValue, read_frame}
 use Rattle.link.specs.declared.action.Action.{Action}
 use Rattle.link.specs.declared.action.Action.TheVariants as act
 use Rattle.link.specs.declared.action.Input.TheVariants.{UserData}
-use Rattle.link.specs.Table.{action_at}
 use Rattle.link.specs.declared.fault.SeqFault.{SeqFault}
+use Rattle.node_links.specs.NodeLinks.{acts_on}
 use Rattle.exchange_rules.specs.State.{Happening, CameUp, FrameCame, Node, is_link, link_at, down}
 use Rattle.exchange_rules.specs.Frames.{advance, Carrying, data_of, numbers}
 use Rattle.exchange_rules.specs.Queues.{WholeQueues, queue_at, whole}
@@ -33,7 +33,7 @@ new_at (act.Go step) link d c node = new_by (numbers whole c link d (advance who
 -- that of a frame: a link status has none
 abbrev pub new_in : Option Carrying → ℕ → Configuration → Node WholeQueues → Option Message
 new_in None link c node = None
-new_in (Some d) link c node = new_at (action_at (link_at node.parts link).alignment UserData) link d c node
+new_in (Some d) link c node = new_at (acts_on (link_at node.parts link) UserData) link d c node
 
 abbrev pub new_of : Result FrameValue FrameFault → ℕ → Configuration → Node WholeQueues → Option Message
 new_of (Ok frame) link c node = new_in (data_of frame) link c node

@@ -45,6 +45,9 @@ ticks = record {
   t6 = 1;
   t8 = 1;
   t10 = 1;
+  link_tests = None;
+  l4e = None;
+  sst = None;
 }
 
 -- one link to an adjacent point, which is the only destination
@@ -59,6 +62,7 @@ settings = record {
   extended_unitdata = false;
   subsystem_tests = false;
   user_part_unavailable = false;
+  processor_outage = false;
   timers = ticks;
   sets = record { name = []; adjacent = 2 } ∷ [];
   links = record { name = []; set = 0; slc = 0; share = None } ∷ [];

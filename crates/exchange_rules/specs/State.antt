@@ -16,6 +16,7 @@ use Rattle.changeback.specs.Codes.{Codes}
 use Rattle.route_management.specs.Told.{ToldTable}
 use Rattle.flow_hold.specs.Holds.{HoldSet}
 use Rattle.sccp_codec.specs.declared.title.TitleKey.{TitleKey}
+use Rattle.sccp_relay.specs.Statuses.{TitlesValue}
 use Rattle.circular_buffer.specs.Buffer.{keep_last}
 use Rattle.signalling_types.specs.declared.limits.TheConstants.Limits.{NOTICES}
 use Rattle.signalling_types.specs.declared.notice.Notice.TheVariants as notices
@@ -47,8 +48,8 @@ pub record Parts : Type 0 where
   -- for each set, which changeback codes wait for their answer
   pub codes : Codes
   pub holds : HoldSet
-  -- the translation rows, in their order
-  pub titles : List TitleEntry
+  -- the translation rows, in their order, and which of the subsystems that they lead to are prohibited
+  pub titles : TitlesValue
   -- for each destination, how many messages for user parts that aren't here came from it, modulo 8
   pub unequipped : List ℕ
   pub timers : Running

@@ -1,17 +1,21 @@
 -- Timers are set to their settings: laws.
-use Rattle.std.specs.Prelude.{◌≡◌, ◌≤◌, ◌⊎◌, ℕ, max, List, Option, Some, None}
+use Rattle.std.specs.Prelude.{◌≡◌, ◌≤◌, ◌⊎◌, ℕ, max, List, Option, Some, None, unwrap_or}
+use Rattle.std.specs.Option.{option_map_or}
 use Rattle.settings_rows.specs.Configuration.{Configuration}
 use Rattle.settings_rows.specs.declared.timer_ticks.TimerTicks.{TimerTicks}
 use Rattle.timers.specs.declared.name.TimerName.{TimerName}
 use Rattle.timers.specs.declared.name.TimerName.TheVariants.{L1, L2, L3, L4, L6, L7, T1, T2, T3, T4, T6, T8, T10}
+use Rattle.timers.specs.declared.name.TimerName.TheVariants.{Slt1, Slt2, Sst}
 use Rattle.timers.specs.Timers.{one_less}
+use Rattle.link.specs.declared.period.Period.{Period}
+use Rattle.exchange_rules.specs.Timing.{paced}
 use Rattle.exchange_rules.specs.State.{Asking, Happening, CameUp, WentDown, FrameCame, Ticked, Submitted, Activated, Deactivated, TitleAdded, TitleRemoved}
 use Rattle.exchange_rules.specs.Queues.{whole}
 use Rattle.exchange_rules.specs.Exchange.{after, taken}
 use Rattle.exchange_rules.specs.First.{Abstract, first_state}
 use Rattle.exchange_rules.specs.Lasting.{after_each}
 
--- how many ticks the settings give each timer
+-- how many ticks the settings give each timer; 0 if it is left out
 abbrev pub setting_of : TimerTicks → TimerName → ℕ
 setting_of ticks (L1 link) = ticks.l1
 setting_of ticks (L2 link) = ticks.l2
@@ -26,10 +30,17 @@ setting_of ticks (T4 set code) = ticks.t4
 setting_of ticks (T6 destination) = ticks.t6
 setting_of ticks (T8 set destination) = ticks.t8
 setting_of ticks (T10 set destination) = ticks.t10
+setting_of ticks (Slt1 link) = option_map_or (λ tests. tests.slt1) ticks.link_tests 0
+setting_of ticks (Slt2 link) = option_map_or (λ tests. tests.slt2) ticks.link_tests 0
+setting_of ticks Sst = unwrap_or ticks.sst 0
+
+-- it was set to as many, L4 by the period for which its link is proved
+abbrev pub IsSetBy : TimerTicks → TimerName → Option ℕ → Type 0
+IsSetBy ticks timer left = (period : Period) × (left ≡ Some (max 1 (setting_of (paced period ticks) timer)))
 
 -- a timer has as many ticks left as before, was set to as many as the settings give it, or doesn't run
-abbrev pub RunsBy : (setting : ℕ) → (before after : Option ℕ) → Type 0
-RunsBy setting before after = (after ≡ before) ⊎ ((after ≡ Some (max 1 setting)) ⊎ (after ≡ None))
+abbrev pub RunsBy : TimerTicks → TimerName → (before after : Option ℕ) → Type 0
+RunsBy ticks timer before after = (after ≡ before) ⊎ (IsSetBy ticks timer after ⊎ (after ≡ None))
 
 -- the ticks left to a timer as an event begins: a tick takes one from each
 abbrev pub left_by : Happening → Option ℕ → Option ℕ
@@ -47,13 +58,13 @@ left_by (TitleRemoved key digits) left = left
 abbrev pub events_set_timers_to_their_settings : Type 0
 events_set_timers_to_their_settings =
     (what : Happening) (a : Abstract) (timer : TimerName) →
-    RunsBy (setting_of a.settings.timers timer) (left_by what (a.node.parts.timers.left timer))
+    RunsBy a.settings.timers timer (left_by what (a.node.parts.timers.left timer))
     ((after whole what a).node.parts.timers.left timer)
 
 abbrev pub takes_set_timers_to_their_settings : Type 0
 takes_set_timers_to_their_settings =
     (a : Abstract) (link : ℕ) (timer : TimerName) →
-    RunsBy (setting_of a.settings.timers timer) (a.node.parts.timers.left timer)
+    RunsBy a.settings.timers timer (a.node.parts.timers.left timer)
     ((taken whole a link).node.parts.timers.left timer)
 
 -- so in each state reached from the first no timer has more ticks left
@@ -61,4 +72,4 @@ abbrev pub timers_keep_their_settings : Type 0
 timers_keep_their_settings =
     (c : Configuration) (asked : List Asking) (timer : TimerName) (left : ℕ) →
     (after_each asked (first_state c)).node.parts.timers.left timer ≡ Some left →
-    left ≤ max 1 (setting_of c.timers timer)
+    (period : Period) × (left ≤ max 1 (setting_of (paced period c.timers) timer))

@@ -1,10 +1,12 @@
 -- The timers of links (Q.703 §12.3).
-use Rattle.std.specs.Prelude.{ℕ, Bool, Option, Some, None, nat_eq, if◌then◌else◌}
+use Rattle.std.specs.Prelude.{ℕ, Bool, Option, Some, None, nat_eq, if◌then◌else◌, unwrap_or}
 use Rattle.settings_rows.specs.Configuration.{Configuration}
 use Rattle.settings_rows.specs.declared.timer_ticks.TimerTicks.{TimerTicks}
 use Rattle.link.specs.declared.action.LinkTimer.{LinkTimer}
 use Rattle.link.specs.declared.action.LinkTimer.TheVariants.{L1, L2, L3, L4, L6, L7}
 use Rattle.link.specs.declared.action.Transition.{Transition}
+use Rattle.link.specs.declared.period.Period.{Period}
+use Rattle.link.specs.declared.period.Period.TheVariants.{Fixed, Normal, Emergency}
 use Rattle.timers.specs.declared.name.TimerName.{TimerName}
 use Rattle.timers.specs.declared.name.TimerName.TheVariants as name
 use Rattle.timers.specs.Timers.{Running, set_timer, start_unless_running, clear_timer}
@@ -27,15 +29,22 @@ ticks_of ticks L4 = ticks.l4
 ticks_of ticks L6 = ticks.l6
 ticks_of ticks L7 = ticks.l7
 
+-- the same for a link that is proved for a period: L4 runs for emergency proving by a setting of its own, if there is one
+abbrev pub paced : Period → TimerTicks → TimerTicks
+paced Fixed ticks = ticks
+paced Normal ticks = ticks
+paced Emergency ticks = record ticks { l4 = unwrap_or ticks.l4e ticks.l4 }
+
 -- a timer of a link stops
 abbrev pub without_timer : ℕ → LinkTimer → Running → Running
 without_timer link timer r = clear_timer (timer_name link timer) r
 
--- none of the link's timers runs
+-- none of the link's timers runs, those of its tests included
 abbrev pub without_timers : ℕ → Running → Running
 without_timers link r =
     r ▷ without_timer link L1 ▷ without_timer link L2 ▷ without_timer link L3
     ▷ without_timer link L4 ▷ without_timer link L6 ▷ without_timer link L7
+    ▷ clear_timer (name.Slt1 link) ▷ clear_timer (name.Slt2 link)
 
 -- a timer of a link starts, or restarts
 abbrev pub with_timer : Configuration → ℕ → LinkTimer → Running → Running
@@ -45,13 +54,14 @@ abbrev pub without_timer_if : ℕ → Option LinkTimer → Running → Running
 without_timer_if link None r = r
 without_timer_if link (Some timer) r = without_timer link timer r
 
-abbrev pub with_timer_if : Configuration → ℕ → Option LinkTimer → Running → Running
-with_timer_if c link None r = r
-with_timer_if c link (Some timer) r = with_timer c link timer r
+abbrev pub with_timer_if : TimerTicks → ℕ → Option LinkTimer → Running → Running
+with_timer_if ticks link None r = r
+with_timer_if ticks link (Some timer) r = set_timer (timer_name link timer) (ticks_of ticks timer) r
 
 -- a step of the alignment stops one and starts another
 abbrev pub timed : Configuration → ℕ → Transition → Running → Running
-timed c link step r = r ▷ without_timer_if link step.stop ▷ with_timer_if c link step.start
+timed c link step r =
+    r ▷ without_timer_if link step.stop ▷ with_timer_if (paced step.period c.timers) link step.start
 
 -- L7 watches the oldest message that was sent and isn't confirmed; it doesn't run while the peer is busy
 

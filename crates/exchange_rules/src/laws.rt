@@ -29,14 +29,20 @@ ghost use Rattle.exchange_rules.specs.LawsOfReturns.{returns_keep_holds};
 ghost use Rattle.exchange_rules.specs.LawsOfReturns.{flows_return_by_their_procedures, entries_are_returns};
 ghost use Rattle.exchange_rules.specs.LawsOfShares.{full_shares_refuse, others_know_no_shares};
 
+pub mod link_tests;
 pub mod links;
+pub mod outage;
+pub mod subsystems;
 pub mod user_parts;
 
+pub use link_tests::links_are_tested;
 pub use links::{
     links_are_proved_before_they_enter_service, links_have_the_timers_of_their_states,
     links_open_where_they_want_to, links_stay_steady, links_that_fail_are_named,
     only_links_in_service_are_given_messages, other_links_are_left, what_was_received_is_counted,
 };
+pub use outage::outages_are_a_state_where_asked_for;
+pub use subsystems::{rows_keep_off_prohibited_subsystems, subsystems_are_as_their_points_say};
 pub use user_parts::absent_user_parts_are_told_once_in_eight;
 
 /// A refused event changes nothing, but that a refused message may be answered: one of SCCP for this point is returned,
@@ -161,9 +167,10 @@ pub fn flags_never_fall()
 {}
 
 /// Every hold has its timer or its word, whatever happens and whatever is taken. The changeover that holds a flow isn't
-/// complete; T4 of a code that holds one runs, T3 of a link that holds one by time, and T6 of a destination whose flows
-/// are rerouted. While a changeover isn't complete T1 runs, or the answer to its order is awaited; and while that is
-/// awaited T2 runs. So nothing is held that neither a timer nor a word of the peer ends.
+/// complete, or its link is in service and in an outage of its peer's processor, which L6 watches
+/// (`outages_are_a_state_where_asked_for`); T4 of a code that holds one runs, T3 of a link that holds one by time, and
+/// T6 of a destination whose flows are rerouted. While a changeover isn't complete T1 runs, or the answer to its order
+/// is awaited; and while that is awaited T2 runs. So nothing is held that neither a timer nor a word of the peer ends.
 pub fn every_hold_has_its_timer_or_its_word()
     ensures stays { holds_stay_timed }
     ensures always { every_hold_has_its_timer_or_its_word }
@@ -171,9 +178,10 @@ pub fn every_hold_has_its_timer_or_its_word()
 
 /// A hold ends only by its word, or as a timer of it runs out. A procedure that holds a flow before an event, and
 /// doesn't hold it after, is a changeover, and its peer ordered that or answered the order, or T1 or T2 of the link ran
-/// out (Q.704 §5.4 to §5.7); or a code, and the answer to its declaration came, or T4 ran out (§6.3); or it holds by
-/// time, and T3 ran out (§6.4); or a rerouting, and T6 ran out (§8.2). The words are those of the message that a frame
-/// newly carries, if an adjacent point sent it. No other event ends a hold, and no take does.
+/// out (Q.704 §5.4 to §5.7), or the link was in an outage, and its peer said that its processor recovered (Q.703 §8);
+/// or a code, and the answer to its declaration came, or T4 ran out (§6.3); or it holds by time, and T3 ran out (§6.4);
+/// or a rerouting, and T6 ran out (§8.2). The words are those of the message that a frame newly carries, if an adjacent
+/// point sent it. No other event ends a hold, and no take does.
 pub fn holds_end_by_word_or_timer()
     ensures event { holds_end_so }
     ensures take { takes_leave_holds }
@@ -189,10 +197,11 @@ pub fn timers_are_set_to_their_settings()
 {}
 
 /// So where nothing but ticks happens, all holds end, from each state that comes of the first: after as many ticks as
-/// the longest of T1, T2, T3, T4 and T6 takes no flow is held and no message waits in Held, if no L4, L6 or L7 runs.
-/// These may take a link into service or out of it, and so begin another wait. They run while a link is being proved,
-/// while a peer is busy, and while something that was sent isn't confirmed; then it takes as many ticks more as the
-/// longest of them.
+/// the longest of T1, T2, T3, T4 and T6 takes no flow is held and no message waits in Held, if no L4, L6 or L7 runs,
+/// and neither timer of a link test. These may take a link into service or out of it, and so begin another wait. L4, L6 and
+/// L7 run while a link is being proved, while a peer is busy, and while something that was sent isn't confirmed; then
+/// it takes as many ticks more as the longest of them, and, of a node that tests its links, as the longest pause between
+/// two tests and two answers that are awaited.
 pub fn ticks_end_all_holds()
     ensures quiet { ticks_end_holds_where_it_is_quiet }
     ensures always { ticks_end_all_holds }
@@ -241,7 +250,8 @@ pub fn flows_to_a_point_stay_on_its_only_set()
 /// first. A take changes no such number. So whatever happens and whatever is taken, all that ever came in stands, was
 /// accepted by a peer, or is named as lost.
 ///
-/// And each user message that a frame newly carries, and each that is submitted, is queued, held, delivered or refused.
+/// And each user message that a frame newly carries, and each that is submitted, is queued, held, delivered or refused;
+/// or handled, if it says something of a subsystem at another point, and is heard.
 pub fn user_messages_are_conserved()
     ensures carried { carried_messages_have_a_fate }
     ensures submitted { submissions_have_a_fate }

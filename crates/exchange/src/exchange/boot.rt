@@ -6,7 +6,7 @@ ghost use Rattle.timers.specs.Timers.{none_running};
 ghost use Rattle.changeback.specs.Codes.{no_codes};
 ghost use Rattle.route_management.specs.Told.{first_told, shape_of};
 ghost use Rattle.flow_hold.specs.Holds.{no_holds};
-ghost use Rattle.sccp_relay.specs.Rows.{table_of};
+ghost use Rattle.sccp_relay.specs.Statuses.{first_titles};
 ghost use Rattle.link.specs.Counts.{kept_first};
 ghost use Rattle.route_management.specs.Updates.{first_updates};
 ghost use Rattle.exchange.specs.Calls.{StandsFor, kept_of};
@@ -24,7 +24,7 @@ use flow_hold::Holds;
 use link::Sequence;
 use node_links::NodeLinks;
 use route_management::{PendingUpdates, Told};
-use sccp_relay::Translations;
+use sccp_relay::Titles;
 use settings::{Limits, Settings};
 use std::alloc::{AllocError, Global};
 use timers::{NodeCounts, Timers};
@@ -120,7 +120,7 @@ struct NetworkParts {
     told: Told,
     changeback: Changeback,
     holds: Holds,
-    titles: Translations,
+    titles: Titles,
     unequipped: Unequipped,
     timers: Timers,
     // nothing is owed yet, which the first event finds out
@@ -137,7 +137,7 @@ impl NetworkParts {
         ensures changeback { IfOk result (λ parts. parts.changeback ≡ no_codes (length settings.now.sets)) }
         ensures holds { IfOk result (λ parts. parts.holds ≡ no_holds (length settings.now.links)
             (length settings.now.sets) (length settings.now.destinations)) }
-        ensures titles { IfOk result (λ parts. parts.titles ≡ table_of settings.now.titles) }
+        ensures titles { IfOk result (λ parts. parts.titles ≡ first_titles settings.now.titles) }
         ensures unequipped { IfOk result (λ parts.
             parts.unequipped ≡ replicate (length settings.now.destinations) 0) }
         ensures timers { IfOk result (λ parts. parts.timers ≡ none_running (counts_in settings.now)) }
@@ -203,11 +203,11 @@ fn no_holds(alloc: Global, settings: &Settings) -> Result<Holds, AllocError>
     Holds::new(alloc, settings.links().len(), sets, destinations)
 }
 
-/// The translation rows of these settings, in their order.
-fn first_titles(alloc: Global, settings: &Settings) -> Result<Translations, AllocError>
-    ensures { IfOk result (λ titles. titles ≡ table_of settings.now.titles) }
+/// The translation rows of these settings, in their order. All subsystems are allowed.
+fn first_titles(alloc: Global, settings: &Settings) -> Result<Titles, AllocError>
+    ensures { IfOk result (λ titles. titles ≡ first_titles settings.now.titles) }
 {
-    Translations::of_rows(alloc, settings.titles())
+    Titles::of_rows(alloc, settings.titles())
 }
 
 /// How many links, sets and destinations the settings have.

@@ -107,7 +107,7 @@ impl Exchange {
     }
 
     /// Whether a link of the same set is in service.
-    fn has_other(&self, link: LinkId) -> bool
+    pub(super) fn has_other(&self, link: LinkId) -> bool
         requires { link < length self.now.settings.links }
         ensures { result ≡ rule.has_other self.now.settings link self.now.node.parts }
     {

@@ -2,11 +2,11 @@
 
 ghost use Rattle.std.specs.Prelude.{◌≡◌, ◌<◌, drop, length, not, false, if◌then◌else◌};
 ghost use Rattle.exchange_rules.specs.State.{with_node, with_parts, link_at, with_link};
-ghost use Rattle.link.specs.Table.{action_at};
-ghost use Rattle.node_links.specs.NodeLinks.{after_action, after_failure, opened};
+ghost use Rattle.node_links.specs.NodeLinks.{acts_on, after_action, after_failure, opened};
+ghost use Rattle.exchange_rules.specs.LinkTests.{with_test_failed};
 
 use super::Exchange;
-use link::{Action, Input};
+use link::{Action, Input, Period};
 use settings::LinkId;
 
 impl Exchange {
@@ -26,6 +26,24 @@ impl Exchange {
             (record (link_at self.old.node.parts link) { peer_busy = busy }))) }
     {
         self.links.set_peer_busy(link, busy);
+    }
+
+    /// Sets whether the processor of a link's peer counts as out.
+    pub(super) fn set_peer_outage(&mut self, link: LinkId, out: bool)
+        requires { link < length self.old.settings.links }
+        ensures { self.new ≡ with_node self.old (with_parts self.old.node (with_link self.old.node.parts link
+            (record (link_at self.old.node.parts link) { peer_outage = out }))) }
+    {
+        self.links.set_peer_outage(link, out);
+    }
+
+    /// Sets whether a link's last test failed.
+    pub(super) fn set_test_failed(&mut self, link: LinkId, failed: bool)
+        requires { link < length self.old.settings.links }
+        ensures { self.new ≡ with_node self.old
+            (with_parts self.old.node (with_test_failed failed link self.old.node.parts)) }
+    {
+        self.links.set_test_failed(link, failed);
     }
 
     /// Drops the status that has waited longest, if there is one.
@@ -57,15 +75,15 @@ impl Exchange {
         self.links.allow(link, active);
     }
 
-    /// A link begins to align, with an association.
-    pub(super) fn begin_to_align(&mut self, link: LinkId)
+    /// A link begins to align, with an association and a proving period.
+    pub(super) fn begin_to_align(&mut self, link: LinkId, period: Period)
         requires { link < length self.old.settings.links }
         ensures { self.new ≡ with_node self.old (with_parts self.old.node
-            (with_link self.old.node.parts link (opened (link_at self.old.node.parts link)))) }
+            (with_link self.old.node.parts link (opened period (link_at self.old.node.parts link)))) }
     {
         self.pending
             .add_all_if(self.links.state(link).is_in_service());
-        self.links.open(link);
+        self.links.open(link, period);
     }
 
     /// A link is down. Its association stays.
@@ -83,7 +101,7 @@ impl Exchange {
     #[inline(always)]
     pub(super) fn align(&mut self, link: LinkId, input: Input) -> Action
         requires { link < length self.old.settings.links }
-        ensures action { result ≡ action_at (link_at self.old.node.parts link).alignment input }
+        ensures action { result ≡ acts_on (link_at self.old.node.parts link) input }
         ensures state { self.new ≡ with_node self.old (with_parts self.old.node
             (with_link self.old.node.parts link (after_action result (link_at self.old.node.parts link)))) }
     {

@@ -12,7 +12,7 @@ ghost use Rattle.exchange_rules.specs.Exchange.{Ends};
 ghost use Rattle.exchange_rules.specs.Messages as rule;
 
 use super::Exchange;
-use mtp3_codec::{ANSWER_OCTETS, Label, LinkTest, Management, MgmtFault, TestKind};
+use mtp3_codec::{Label, LinkTest, Management, MgmtFault, TEST_OCTETS, TestKind};
 use route_management::RouteTest;
 use routes::RouteStatus;
 use settings::{Cause, LinkId, MsuRef, Outcome, PointCode, SetId, Sls};
@@ -137,7 +137,7 @@ impl Exchange {
                 self.answer_test(link, point, &test);
                 Outcome::Handled
             }
-            Ok(_) => Outcome::Ignored,
+            Ok(test) => self.on_test_answer(link, point, &test),
         }
     }
 
@@ -148,7 +148,7 @@ impl Exchange {
         ensures { self.new ≡ with_node self.old (send_on kept self.old.settings link
             (rule.test_answer self.old.settings point (test_value test.now)) self.old.node) }
     {
-        let mut octets = [0; ANSWER_OCTETS];
+        let mut octets = [0; TEST_OCTETS];
         let count = test.answer(point, self.settings.own(), &mut octets);
         let answer = MsuRef {
             sio: self.own_sio(TESTING),

@@ -12,7 +12,7 @@ ghost use Rattle.exchange.specs.Views.{may_restart_at};
 
 use super::Exchange;
 use exchange_rules::Wants;
-use link::{Alignment, Sequence};
+use link::{Alignment, Period, Sequence};
 use settings::{Cause, FailureReason, LinkId, Outcome};
 
 impl Exchange {
@@ -74,10 +74,26 @@ impl Exchange {
         requires { link < length self.old.settings.links }
         ensures { self.new ≡ with_node self.old (rule.open_link kept self.old.settings link self.old.node) }
     {
+        let period = self.period_of(link);
         self.drop_all(link);
         self.sequences[link.index()] = Sequence::start();
-        self.begin_to_align(link);
-        self.time(link, &Alignment::open());
+        self.begin_to_align(link, period);
+        self.time(link, &Alignment::open(period));
+    }
+
+    /// How long a link is to be proved: for the emergency period, if no other link of its set is in service (Q.703
+    /// §7.1); always equally long, if the settings have no such period.
+    fn period_of(&self, link: LinkId) -> Period
+        requires { link < length self.now.settings.links }
+        ensures { result ≡ rule.period_of self.now.settings link self.now.node.parts }
+    {
+        if self.settings.timers().l4e.is_none() {
+            Period::Fixed
+        } else if self.has_other(link) {
+            Period::Normal
+        } else {
+            Period::Emergency
+        }
     }
 
     /// An association goes down.

@@ -51,7 +51,7 @@ impl Exchange {
     }
 
     /// What happens to an SCCP message, before it is returned. One that goes on is rewritten, and handled like any
-    /// message for another point.
+    /// message for another point; what it says of a subsystem at another point is heard.
     fn relay(&mut self, message: MsuRef<'_>) -> Outcome
         requires { 4 ≤ length message.sif.now }
         ensures { Ends self.old result self.new (rule.relay_by kept self.old.settings
@@ -68,6 +68,10 @@ impl Exchange {
                     sif: &field[..count],
                 };
                 self.transfer_written(onward)
+            }
+            Relayed::Heard(news) => {
+                self.titles.hear(&news);
+                Outcome::Handled
             }
             Relayed::Refused(cause) => Outcome::Refused(cause),
         }
@@ -109,6 +113,7 @@ impl Exchange {
             subsystems: self.settings.subsystems(),
             extended: self.settings.extended_unitdata(),
             answers_tests: self.settings.subsystem_tests(),
+            hears_statuses: self.settings.timers().sst.is_some(),
             ways: LinkWays { exchange: self },
         }
     }

@@ -7,8 +7,9 @@ ghost use Rattle.exchange.specs.KeptQueues.{kept};
 ghost use Rattle.exchange_rules.specs.Exchange.{Ends};
 ghost use Rattle.routes.specs.Routes.{with_link};
 ghost use Rattle.exchange_rules.specs.Routing.{set_of, facts};
-ghost use Rattle.exchange.specs.Entering.{entered, is_first_in, stepped_by};
-ghost use Rattle.link.specs.Table.{action_at};
+ghost use Rattle.exchange.specs.Entering.{entered, is_first_in, stepped_by, taken_back};
+ghost use Rattle.node_links.specs.NodeLinks.{acts_on};
+ghost use Rattle.link.specs.declared.action.Input.TheVariants as its;
 ghost use Rattle.exchange_rules.specs.Frames as rule;
 
 use super::Exchange;
@@ -23,10 +24,12 @@ impl Exchange {
     #[inline(always)]
     pub(super) fn act_by(&mut self, link: LinkId, input: Input) -> Action
         requires { link < length self.old.settings.links }
-        ensures action { result ≡ action_at (link_at self.old.node.parts link).alignment input }
+        ensures action { result ≡ acts_on (link_at self.old.node.parts link) input }
         ensures state { self.new ≡
             with_node self.old (rule.act_by kept self.old.settings result link self.old.node) }
     {
+        // reading a field gives the prover the invariant
+        let _ = &self.links;
         let served = self.serves(link);
         let action = self.step_alignment(link, input);
         if !served && self.serves(link) {
@@ -36,11 +39,20 @@ impl Exchange {
     }
 
     /// A link entered service. If it is the first of its set, everything known over that set is reset. Then it takes
-    /// its flows back.
+    /// its flows back, and is tested.
     #[inline(never)]
     fn enter_service(&mut self, link: LinkId)
         requires { link < length self.old.settings.links }
         ensures { self.new ≡ with_node self.old (entered kept self.old.settings link self.old.node) }
+    {
+        self.take_flows_back(link);
+        self.begin_test(link);
+    }
+
+    /// If a link is the first of its set, everything known over that set is reset. Then it takes its flows back.
+    fn take_flows_back(&mut self, link: LinkId)
+        requires { link < length self.old.settings.links }
+        ensures { self.new ≡ with_node self.old (taken_back kept self.old.settings link self.old.node) }
     {
         if self.is_first(link) {
             self.reset_set(self.set_of(link));
@@ -71,7 +83,7 @@ impl Exchange {
     #[inline(always)]
     fn step_alignment(&mut self, link: LinkId, input: Input) -> Action
         requires { link < length self.old.settings.links }
-        ensures action { result ≡ action_at (link_at self.old.node.parts link).alignment input }
+        ensures action { result ≡ acts_on (link_at self.old.node.parts link) input }
         ensures state { self.new ≡
             with_node self.old (stepped_by self.old.settings result link self.old.node) }
     {
@@ -87,6 +99,23 @@ impl Exchange {
     pub(super) fn on_link_status(&mut self, link: LinkId, status: LinkStatus) -> Outcome
         requires { link < length self.old.settings.links }
         ensures { Ends self.old result self.new (rule.on_link_status kept self.old.settings link status self.old.node) }
+    {
+        if self.tells_outage(link, status) {
+            self.hear_outage(link);
+            return Outcome::Handled;
+        }
+        if self.tells_recovery(link, status) {
+            self.end_outage(link);
+            return Outcome::Handled;
+        }
+        self.act_by_status(link, status)
+    }
+
+    /// What the alignment of a link does about a status.
+    fn act_by_status(&mut self, link: LinkId, status: LinkStatus) -> Outcome
+        requires { link < length self.old.settings.links }
+        ensures { Ends self.old result self.new (rule.act_by_status kept self.old.settings
+            (acts_on (link_at self.old.node.parts link) (its.Status status)) link status self.old.node) }
     {
         match self.act_by(link, Input::Status(status)) {
             Action::Ignored => Outcome::Ignored,
@@ -111,13 +140,24 @@ impl Exchange {
     {
         match status {
             LinkStatus::Busy => self.become_busy(link),
-            LinkStatus::BusyEnded => self.end_busy(link),
+            LinkStatus::BusyEnded => self.hear_busy_ended(link),
             _ => {}
         }
     }
 
+    /// The peer takes messages again, unless its processor is out.
+    fn hear_busy_ended(&mut self, link: LinkId)
+        requires { link < length self.old.settings.links }
+        ensures { self.new ≡ with_node self.old (with_parts self.old.node (rule.hear_busy_ended self.old.settings link
+            (kept.outstanding self.old.node.queues link) self.old.node.parts)) }
+    {
+        if !self.links.state(link).is_peer_out() {
+            self.end_busy(link);
+        }
+    }
+
     /// The peer takes no messages for now.
-    fn become_busy(&mut self, link: LinkId)
+    pub(super) fn become_busy(&mut self, link: LinkId)
         requires { link < length self.old.settings.links }
         ensures { self.new ≡ with_node self.old
             (with_parts self.old.node (rule.become_busy self.old.settings link self.old.node.parts)) }
@@ -131,7 +171,7 @@ impl Exchange {
     }
 
     /// The peer takes messages again.
-    fn end_busy(&mut self, link: LinkId)
+    pub(super) fn end_busy(&mut self, link: LinkId)
         requires { link < length self.old.settings.links }
         ensures { self.new ≡ with_node self.old (with_parts self.old.node (rule.end_busy self.old.settings link
             (kept.outstanding self.old.node.queues link) self.old.node.parts)) }

@@ -57,6 +57,9 @@ impl Exchange {
             TimerName::T6(destination) => self.end_rerouting(destination),
             TimerName::T8(_, _) => {}
             TimerName::T10(set, destination) => self.ask_again(set, destination),
+            TimerName::Slt1(link) => self.test_unanswered(link),
+            TimerName::Slt2(link) => self.next_test(link),
+            TimerName::Sst => {}
         }
     }
 }

@@ -7,7 +7,7 @@ ghost use Rattle.exchange_rules.specs.Exchange.{with_timers};
 ghost use Rattle.exchange_rules.specs.Timing as rule;
 
 use super::Exchange;
-use link::{LinkTimer, Transition};
+use link::{LinkTimer, Period, Transition};
 use settings::{LinkId, TimerTicks};
 use timers::{TimerName, Timers};
 
@@ -21,7 +21,8 @@ impl Exchange {
             self.stop(link, timer);
         }
         if let Some(timer) = step.start {
-            self.start(link, timer);
+            let ticks = ticks_of(&paced(step.period, self.settings.timers()), timer);
+            self.timers.set(timer_name(link, timer), ticks);
         }
     }
 
@@ -51,7 +52,7 @@ impl Exchange {
         self.timers.clear(timer_name(link, timer));
     }
 
-    /// Stops all timers of a link.
+    /// Stops all timers of a link, those of its tests included.
     pub(super) fn stop_all(&mut self, link: LinkId)
         ensures { self.new ≡ with_node self.old (with_timers self.old.node
             (rule.without_timers link self.old.node.parts.timers)) }
@@ -62,6 +63,8 @@ impl Exchange {
         self.timers.clear(TimerName::L4(link));
         self.timers.clear(TimerName::L6(link));
         self.timers.clear(TimerName::L7(link));
+        self.timers.clear(TimerName::Slt1(link));
+        self.timers.clear(TimerName::Slt2(link));
     }
 }
 
@@ -75,6 +78,19 @@ fn timer_name(link: LinkId, timer: LinkTimer) -> TimerName
         LinkTimer::L4 => TimerName::L4(link),
         LinkTimer::L6 => TimerName::L6(link),
         LinkTimer::L7 => TimerName::L7(link),
+    }
+}
+
+/// How many ticks timers run for a link that is proved for a period.
+fn paced(period: Period, ticks: TimerTicks) -> TimerTicks
+    ensures { result ≡ rule.paced period ticks }
+{
+    match period {
+        Period::Fixed | Period::Normal => ticks,
+        Period::Emergency => TimerTicks {
+            l4: ticks.l4e.unwrap_or(ticks.l4),
+            ..ticks
+        },
     }
 }
 

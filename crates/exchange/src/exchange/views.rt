@@ -14,6 +14,7 @@ ghost use Rattle.exchange.specs.Views.{link_view, route_view};
 use super::Exchange;
 use crate::view::{LinkStanding, LinkView, NewNotices, RouteView, status_shown};
 use circular_buffer::HeapCircularBuffer;
+use sccp_relay::Titles;
 use settings::{LinkId, Notice, Settings, TitleRow};
 
 impl Exchange {
@@ -130,19 +131,27 @@ impl Exchange {
     /// A translation row, by its number in the order of the rows: by translation type, plan, nature, then digit by
     /// digit, a prefix before the longer ones. `None` past the last.
     pub fn title(&self, index: usize) -> Option<TitleRow>
-        ensures title { (a : Abstract) → StandsFor self.now a → result ≡ slice_get a.node.parts.titles index }
-        ensures kept_title { result ≡ slice_get self.now.node.parts.titles index }
-        ensures order { IsOrdered self.now.node.parts.titles }
+        ensures title { (a : Abstract) → StandsFor self.now a → result ≡ slice_get a.node.parts.titles.rows index }
+        ensures kept_title { result ≡ slice_get self.now.node.parts.titles.rows index }
+        ensures order { IsOrdered self.now.node.parts.titles.rows }
     {
         self.titles.row(index)
     }
 
     /// How many translation rows there are.
     pub fn title_count(&self) -> usize
-        ensures count { (a : Abstract) → StandsFor self.now a → result ≡ length a.node.parts.titles }
-        ensures kept_count { result ≡ length self.now.node.parts.titles }
+        ensures count { (a : Abstract) → StandsFor self.now a → result ≡ length a.node.parts.titles.rows }
+        ensures kept_count { result ≡ length self.now.node.parts.titles.rows }
     {
         self.titles.len()
+    }
+
+    /// The translation rows, and which of the subsystems that they lead to are prohibited.
+    pub fn titles(&self) -> &Titles
+        ensures titles { (a : Abstract) → StandsFor self.now a → result.now ≡ a.node.parts.titles }
+        ensures kept_titles { result.now ≡ self.now.node.parts.titles }
+    {
+        &self.titles
     }
 
     /// Every exchange has a place for each link, set and destination of its settings, whatever happened to it.

@@ -8,6 +8,7 @@ ghost use Rattle.exchange_rules.specs.Touching.{other_links_are_left, takes_leav
 ghost use Rattle.exchange_rules.specs.Receiving.{received_is_counted, takes_receive_nothing, nothing_new_is_delivered};
 ghost use Rattle.exchange_rules.specs.Aligning.{links_are_proved_first, links_have_their_timers};
 ghost use Rattle.exchange_rules.specs.LawsOfAnswers.{wanted_links_open};
+ghost use Rattle.exchange_rules.specs.LawsOfPeriods.{periods_are_chosen_with_emergency, periods_are_fixed_without_emergency};
 ghost use Rattle.exchange_rules.specs.LawsOfCauses.{links_fail_so};
 
 /// The link that an answer Queued names is in service. So is each whose queue changes as management made here goes out,
@@ -51,10 +52,17 @@ pub fn links_are_proved_before_they_enter_service()
     ensures { links_are_proved_first }
 {}
 
-/// An event names a link as failed (Failed) exactly if it takes it down, and with a reason that holds of the event: its
-/// association went down; a timer of its own ran out; a frame came by it whose length is wrong, or with a status that
-/// fails it in its state, or with User Data that it doesn't expect or that has a wrong number; its peer ordered a
-/// changeover of it, by a frame on any link; or the operator deactivated it (Q.704 §3.2, RFC 4165 §4.1.3).
+/// Without emergency proving in the settings (`l4e`) each link is always proved for the same period. With it, each link
+/// that is up has the normal period or that of emergency (Q.703 §7.3).
+pub fn the_settings_say_whether_periods_are_chosen()
+    ensures fixed { periods_are_fixed_without_emergency }
+    ensures chosen { periods_are_chosen_with_emergency }
+{}
+
+/// An event names a link as failed (Failed) exactly if it takes it down, once, and with a reason that holds of the event:
+/// its association went down; a timer of its own ran out; a frame came by it whose length is wrong, or with a status that
+/// fails it in its state and begins no outage, or with User Data that it doesn't expect or that has a wrong number; its
+/// peer ordered a changeover of it, by a frame on any link; or the operator deactivated it (Q.704 §3.2, RFC 4165 §4.1.3).
 pub fn links_that_fail_are_named()
     ensures { links_fail_so }
 {}

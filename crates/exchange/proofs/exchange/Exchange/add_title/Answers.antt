@@ -5,5 +5,5 @@ use Rattle.exchange.proofs.exchange.Exchange.add_title.Goals as goal
 
 pub returns : goal.returns
 returns c = rw (← c.self.view_is, c.handled_or_refused.ensures)
-    (adding (kept_in c.self.inside) c.args.row (add_refusal c.self.inside.titles c.args.row) c.add.result c.add.new.self
+    (adding (kept_in c.self.inside) c.args.row (add_refusal c.self.inside.titles.rows c.args.row) c.add.result c.add.new.self
     c.add.ensures.added c.add.ensures.unchanged c.add.ensures.refused c.add.ensures.memory)

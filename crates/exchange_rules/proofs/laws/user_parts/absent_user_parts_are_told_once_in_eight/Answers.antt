@@ -1,4 +1,4 @@
-use Rattle.exchange_rules.proofs.AbsentParts.{by-one, by-count, by-none, by-eight, reads, the-same, nobody}
+use Rattle.exchange_rules.proofs.AbsentParts.{refused, by-one, by-count, by-none, by-eight, reads, given, the-same, nobody, zeros, taking}
 use Rattle.exchange_rules.proofs.laws.user_parts.absent_user_parts_are_told_once_in_eight.Goals as goal
 
 pub returns-clause-told : goal.returns-clause-told
@@ -21,3 +21,15 @@ returns-clause-others c = the-same
 
 pub returns-clause-submitted : goal.returns-clause-submitted
 returns-clause-submitted c = nobody
+
+pub returns-clause-refused : goal.returns-clause-refused
+returns-clause-refused c = refused
+
+pub returns-clause-here : goal.returns-clause-here
+returns-clause-here c = given
+
+pub returns-clause-first : goal.returns-clause-first
+returns-clause-first c = zeros
+
+pub returns-clause-take : goal.returns-clause-take
+returns-clause-take c = taking
