@@ -34,6 +34,7 @@ points-steps c = record {
   routed = λ link m n e. record { same = refl };
   declared = λ link other code n e f. record { same = refl };
   tested = λ link point test n e f. record { same = refl };
+  probed = λ link n e. record { same = refl };
   held = λ m n e. record { same = refl };
   taken_out = λ n. record { same = refl };
   noted = λ notice n e. record { same = refl };

@@ -12,11 +12,11 @@ use Rattle.neighbour_rules.specs.Promises.{AreBooked, EachOnce, InOrder}
 use Rattle.neighbour_rules.specs.Laws.{AreFinal, IsCarried, MovesLacked, NoneIsLeft}
 use Rattle.neighbour_rules.specs.Anew.{BothKeep, HoldAnew, IsQuietEnd, IsQuietPair, KeepsPromises, LostNothingSince, Stays, after_all, begun_anew, most, pairs_begin_quietly, promises_begin_anew, times_late, times_lost}
 use Rattle.neighbour_rules.proofs.Counted.{Base, CanGrow, IsBase, counts_of}
-use Rattle.neighbour_rules.proofs.World.{says_of, shown}
+use Rattle.neighbour_rules.proofs.World.{reading, says_of, shown}
 use Rattle.neighbour_rules.proofs.Good.{Good}
 use Rattle.neighbour_rules.proofs.Asked.{AreEnds, begin-ends, ends-turned, steps-ends}
 use Rattle.neighbour_rules.proofs.Staying.{are-booked, with_settings, written}
-use Rattle.neighbour_rules.proofs.Sharing.{AreFacing, are-facing, facing_back, far_joint, near_joint}
+use Rattle.neighbour_rules.proofs.Sharing.{AreFacing, are-facing, facing_back, far_joint, near_joint, facing-own}
 use Rattle.neighbour_rules.proofs.Standing.{Since, Stands, since-back}
 use Rattle.neighbour_rules.proofs.AllSteps.{stands-turned, steps-stand}
 use Rattle.neighbour_rules.proofs.Promised.{once-there, order-there}
@@ -26,7 +26,7 @@ use Rattle.neighbour_rules.proofs.Quieted.{quiet-shown}
 
 -- ---- what stands keeps its promises
 
-module _ (c z : Configuration) (a : AreFacing c z) (q : PairState) (s : Stands c z a q) (since : Since c z a q) (t : AreEnds c z q) where
+module _ (c z : Configuration) (a : AreFacing c z) (q : PairState) (s : Stands c z a q) (since : Since c z a q) (t : AreEnds c z q) (own : a.base.there ≡ z.own) where
   abbrev r : PairState
   r = with_settings c z q
 
@@ -53,12 +53,12 @@ module _ (c z : Configuration) (a : AreFacing c z) (q : PairState) (s : Stands c
   far-booked = are-booked z c (turned r) (ends-turned c z r ends-written)
 
   in-order : nat_lt a.base.near.late (times_late q) ≡ false → InOrder q
-  in-order punctual = so InOrder (order-there c z a q stands-written since-written near-booked far-booked punctual)
+  in-order punctual = so InOrder (order-there c z a q stands-written since-written own near-booked far-booked punctual)
 
   -- order is kept from where the late ones were counted on
   keeps : (p : PairState) → (Stays (times_late p) (times_late q) → InOrder q) → KeepsPromises p q
   keeps p order = record {
-    once = so EachOnce (once-there c z a q stands-written since-written near-booked far-booked);
+    once = so EachOnce (once-there c z a q stands-written since-written own near-booked far-booked);
     order = order;
     carried = so IsCarried (carried-there c z a q stands-written since-written);
     left = so NoneIsLeft (left-there c z a q stands-written since-written);
@@ -92,15 +92,18 @@ module _ (c z : Configuration) (a : AreFacing c z) (q : PairState) (w : Works c 
     far_given : (code : ℕ) → is_outstanding p.far.exchange.node.parts.codes a.far_set code ≡ base.far_given_up code
 
   module _ (b : Bases) where
+    abbrev based : Base
+    based = record b.base { there = a.base.there; back = a.base.back }
+
     abbrev view : Pair
-    view = shown c z a.near_set a.far_set b.base (world_of (begun_anew p) s.to_near s.to_far)
+    view = shown c z a.near_set a.far_set based (world_of (begun_anew p) s.to_near s.to_far)
 
     abbrev anew : AreFacing c z
-    anew = record a { base = b.base; near_grows = b.near_grows; far_grows = b.far_grows; start = view }
+    anew = record a { base = based; near_grows = b.near_grows; far_grows = b.far_grows; start = view }
 
-    quietly : IsQuiet (says_of c.own z.own) view
+    quietly : IsQuiet (reading c.own z.own based) view
     quietly =
-        quiet-shown c z a q s.near_good.fits s.far_good.fits t.near_is.exchange t.far_is.exchange s.near_flags s.far_flags quiet b.base b.near_given b.far_given s.to_near s.to_far
+        quiet-shown c z a q s.near_good.fits s.far_good.fits t.near_is.exchange t.far_is.exchange s.near_flags s.far_flags quiet based w.own.there w.own.back b.near_given b.far_given s.to_near s.to_far
 
     begins : Stands c z anew (begun_anew p)
     begins = record {
@@ -123,7 +126,7 @@ module _ (c z : Configuration) (a : AreFacing c z) (q : PairState) (w : Works c 
       near_good = (let g : Good c z (near_joint c z (begun c z w.start a)) (world_of p s.to_near s.to_far) = s.near_good in record {
         fits = g.fits;
         counted = b.near;
-        route = g.route;
+        route = record { beyond = g.route.beyond; between = g.route.between };
         unawaited = g.unawaited;
         silent = g.silent;
         queued = g.queued;
@@ -136,7 +139,7 @@ module _ (c z : Configuration) (a : AreFacing c z) (q : PairState) (w : Works c 
       far_good = (let g : Good z c (far_joint c z (begun c z w.start a)) (world_of (turned p) s.to_far s.to_near) = s.far_good in record {
         fits = g.fits;
         counted = b.far;
-        route = g.route;
+        route = record { beyond = g.route.beyond; between = g.route.between };
         unawaited = g.unawaited;
         silent = g.silent;
         queued = g.queued;
@@ -146,7 +149,7 @@ module _ (c z : Configuration) (a : AreFacing c z) (q : PairState) (w : Works c 
         arrived = g.arrived;
         coming = g.coming;
       });
-      goes = goes-none (says_of c.own z.own) view;
+      goes = goes-none (reading c.own z.own a.base) view;
     }
 
   module _ (steps : List Step) (since : LostNothingSince p (after_steps steps (begun_anew p))) where
@@ -168,6 +171,8 @@ module _ (c z : Configuration) (a : AreFacing c z) (q : PairState) (w : Works c 
         far = record { lost = times_lost (turned p); late = far_late };
         near_given_up = λ code. is_outstanding p.near.exchange.node.parts.codes a.near_set code;
         far_given_up = λ code. is_outstanding p.far.exchange.node.parts.codes a.far_set code;
+        there = a.base.there;
+        back = a.base.back;
       };
       near_grows = record { lost = since.near.countable; late = near_grows };
       far_grows = record { lost = since.far.countable; late = far_grows };
@@ -182,7 +187,7 @@ module _ (c z : Configuration) (a : AreFacing c z) (q : PairState) (w : Works c 
       b = counted near_late far_late near_grows far_grows near far
 
       later-stands : Stands c z (anew b) later
-      later-stands = steps-stand c z (anew b) steps (begun_anew p) (begins b)
+      later-stands = steps-stand c z (anew b) (record { there = w.own.there; back = w.own.back }) steps (begun_anew p) (begins b)
 
       later-since : Since c z (anew b) later
       later-since = record { quiet = quietly b; near = not-since _ _ since.near; far = not-since _ _ since.far }
@@ -194,15 +199,15 @@ module _ (c z : Configuration) (a : AreFacing c z) (q : PairState) (w : Works c 
       back-since = since-back c z (anew b) later later-since
 
       order-on : nat_lt near_late (times_late later) ≡ false → InOrder later
-      order-on punctual = in-order c z (anew b) later later-stands later-since later-ends punctual
+      order-on punctual = in-order c z (anew b) later later-stands later-since later-ends w.own.there punctual
 
       order-back : nat_lt far_late (times_late (turned later)) ≡ false → InOrder (turned later)
-      order-back punctual = in-order z c (facing_back c z (anew b)) (turned later) back-stands back-since (ends-turned c z later later-ends) punctual
+      order-back punctual = in-order z c (facing_back c z (anew b)) (turned later) back-stands back-since (ends-turned c z later later-ends) w.own.back punctual
 
       both-with : (Stays (times_late p) (times_late later) → InOrder later) → (Stays (times_late (turned p)) (times_late (turned later)) → InOrder (turned later)) → BothKeep p later
       both-with there back = record {
-        there = keeps c z (anew b) later later-stands later-since later-ends p there;
-        back = keeps z c (facing_back c z (anew b)) (turned later) back-stands back-since (ends-turned c z later later-ends) (turned p) back;
+        there = keeps c z (anew b) later later-stands later-since later-ends w.own.there p there;
+        back = keeps z c (facing_back c z (anew b)) (turned later) back-stands back-since (ends-turned c z later later-ends) w.own.back (turned p) back;
       }
 
     both-keep : BothKeep p later
@@ -216,7 +221,7 @@ begins-anew near far changes g quiet steps since =
     let p : PairState = after_all changes (first_pair near far) in
     let a : AreFacing near far = are-facing near far g in
     let t : AreEnds near far p = all-changes-end near far changes (first_pair near far) (begin-ends near far) in
-    by near far a p (all-work near far a changes) t quiet steps since
+    by near far a p (all-work near far a (facing-own near far g) changes) t quiet steps since
   where
     by : (c z : Configuration) (a : AreFacing c z) (p : PairState) → Works c z a p → AreEnds c z p → IsQuietPair p → HoldAnew p
     by c z a p w t quiet =

@@ -1,6 +1,6 @@
 -- A frame comes, between the two nodes or from elsewhere: whole events at the near node, by moves.
-use Rattle.pair_rules.proofs.Basics.{◌≡◌, ◌≢◌, ◌<◌, ◌++◌, ◌∷◌, ◌&&◌, ℕ, Bool, true, false, not, ◌||◌, List, [], length, Option, None, Result, Ok, Err, refl, sym, subst, nat_lt, arith, nat_tests, if◌then◌else◌, option_to_list}
-use Rattle.pair_rules.proofs.Definitions.{Message, Ignored, Outcome, Configuration, FrameValue, EmptyFrame, MessageFrame, StatusFrame, read_frame, set_of, Node, Done, FrameCame, UserData, action_at, WholeQueues, whole, is_link, link_at, down, answer, refuse, with_parts, fit-steps, Fits, read, all_wait, apply, handle_event, accept_text, brought_by, brought_in, new_message, new_of}
+use Rattle.pair_rules.proofs.Basics.{◌≡◌, ◌≢◌, ◌<◌, ◌++◌, ◌∷◌, ◌&&◌, ℕ, Bool, true, false, not, ◌||◌, List, [], length, Option, None, Result, Ok, Err, refl, sym, subst, nat_lt, arith, nat_tests, if◌then◌else◌, option_to_list, Some}
+use Rattle.pair_rules.proofs.Definitions.{Message, Ignored, Outcome, Configuration, FrameValue, EmptyFrame, MessageFrame, StatusFrame, read_frame, set_of, Node, Done, FrameCame, UserData, acts_on, WholeQueues, whole, is_link, link_at, down, answer, refuse, with_parts, fit-steps, Fits, read, all_wait, apply, handle_event, accept_text, brought_by, brought_in, new_message, new_of}
 use Rattle.signalling_types.specs.declared.cause.Cause.TheVariants as causes
 use Rattle.signalling_types.specs.declared.notice.FailureReason.TheVariants as reasons
 use Rattle.signalling_types.specs.declared.notice.FrameFault.{FrameFault}
@@ -14,6 +14,7 @@ use Rattle.pair_rules.proofs.Good.{Each, IsTelling, telling}
 use Rattle.pair_rules.proofs.Steps.{outcome-same}
 use Rattle.pair_rules.proofs.World.{Flying, World}
 use Rattle.neighbour_rules.specs.Neighbours.{is_management_between, users_to}
+use Rattle.neighbour_rules.proofs.Untold.{IsUntoldBy}
 use Rattle.neighbour_rules.proofs.World.{is_between}
 use Rattle.neighbour_rules.proofs.Good.{Good, IsFlying, Joint, Passes, at, carrying, empty, passes-both, passes-good, set}
 use Rattle.neighbour_rules.proofs.Bringing.{accepting, none-accepted}
@@ -39,8 +40,8 @@ module _ (c z : Configuration) (j : Joint c z) where
   came w f link text n = record w {
     to_near = f;
     near = record w.near {
-      accepted = w.near.accepted ++ users_to z.own (brought_in (FrameCame link text) (exchange n));
-      received = w.near.received ++ users_to c.own (option_to_list (new_message link text (exchange n)));
+      accepted = w.near.accepted ++ users_to j.base.there (brought_in (FrameCame link text) (exchange n));
+      received = w.near.received ++ users_to j.base.back (option_to_list (new_message link text (exchange n)));
     };
   }
 
@@ -101,22 +102,26 @@ module _ (c z : Configuration) (j : Joint c z) where
   -- ---- between the two
 
   module _ (w : World) (n : Node WholeQueues) (link : ℕ) (text : List ℕ) (wait : all_wait c n.parts.holds n.queues.held ≡ true) (knows : KnowsPoints c n) where
-    data-read : (f : ℕ → List FrameValue) (frame : FrameValue) → IsFlying z c j.shares.far_set frame → Pops c z j w link frame f → down n.parts link ≡ false
-        → ((other : ℕ) → Each (IsFlying z c j.shares.far_set) (w.to_near.user_data other))
-        → Passes c z j (at c z j w n [] []) (read_as w (bringing c z j (popped c z j w f)) n link text (Ok frame))
-    data-read f _ (empty bsn fsn s) p up each = empty-acted c z j w link bsn fsn f p (action_at (link_at n.parts link).alignment UserData) n refl up
-    data-read f _ (carrying bsn fsn sio sif s is bound) p up each =
-        message-acted c z j w link bsn fsn sio sif f p (action_at (link_at n.parts link).alignment UserData) n refl up each wait knows
+    -- a message that a frame carries tells nothing of the route to the point
+    abbrev IsUntoldIn : Option Message → Type 0
+    IsUntoldIn o = (m : Message) → o ≡ Some m → IsUntoldBy c z j m
 
-    pub data-comes : (f : ℕ → List FrameValue) (frame : FrameValue) → IsNext w.to_near.user_data f link frame → read_frame text ≡ Ok frame
+    data-read : (f : ℕ → List FrameValue) (frame : FrameValue) → IsFlying z c j.base.back j.shares.far_set frame → Pops c z j w link frame f → down n.parts link ≡ false
+        → ((other : ℕ) → Each (IsFlying z c j.base.back j.shares.far_set) (w.to_near.user_data other)) → IsUntoldIn (carried_message (Ok frame))
+        → Passes c z j (at c z j w n [] []) (read_as w (bringing c z j (popped c z j w f)) n link text (Ok frame))
+    data-read f _ (empty bsn fsn s) p up each untold = empty-acted c z j w link bsn fsn f p (acts_on (link_at n.parts link) UserData) n refl up
+    data-read f _ (carrying bsn fsn sio sif s is bound) p up each untold =
+        message-acted c z j w link bsn fsn sio sif f p (acts_on (link_at n.parts link) UserData) n refl up each wait knows (untold _ refl)
+
+    pub data-comes : (f : ℕ → List FrameValue) (frame : FrameValue) → IsNext w.to_near.user_data f link frame → read_frame text ≡ Ok frame → IsUntoldIn (carried_message (read_frame text))
         → Passes c z j (at c z j w n [] []) (at c z j (came w (record w.to_near { user_data = f }) link text n) (apply whole c (FrameCame link text) n).left [] [])
-    data-comes f frame is reads =
+    data-comes f frame is reads untold =
         let p : Pops c z j w link frame f = record { rest = is.rest; first = is.first; here = is.here; others = is.others; inside = is.inside; its = is.its } in
         event-received w (bringing c z j (popped c z j w f)) n link text is.inside
         (λ gone. none-brought c z j (at c z j w n [] []) (popped c z j w f) n [] [] (dropping-frame c z j w link frame f p n gone))
         (λ g up.
         subst (λ (r : Result FrameValue FrameFault). Passes c z j (at c z j w n [] []) (read_as w (bringing c z j (popped c z j w f)) n link text r)) (sym reads)
-        (data-read f frame (subst (Each (IsFlying z c j.shares.far_set)) is.first (g.coming.user_data link)).0 p up g.coming.user_data))
+        (data-read f frame (subst (Each (IsFlying z c j.base.back j.shares.far_set)) is.first (g.coming.user_data link)).0 p up g.coming.user_data (subst (λ (r : Result FrameValue FrameFault). IsUntoldIn (carried_message r)) reads untold)))
 
     status-read : (f : ℕ → List FrameValue) (frame : FrameValue) (rest : List FrameValue) → IsTelling frame → Retells c z j w link frame rest rest f
         → Passes c z j (at c z j w n [] []) (read_as w (bringing c z j (retold c z j w f)) n link text (Ok frame))
@@ -148,9 +153,9 @@ module _ (c z : Configuration) (j : Joint c z) where
 
     away-read : set_of c link ≢ set c z j → down n.parts link ≡ false → (r : Result FrameValue FrameFault)
         → list_any (λ (m : Message). is_management_between c.own z.own m || is_management_between z.own c.own m) (option_to_list (carried_message r)) ≡ false → Comes r
-    away-read apart up (Ok (EmptyFrame bsn fsn)) honest = empty-away c z j w link apart bsn fsn (action_at (link_at n.parts link).alignment UserData) n refl up
+    away-read apart up (Ok (EmptyFrame bsn fsn)) honest = empty-away c z j w link apart bsn fsn (acts_on (link_at n.parts link) UserData) n refl up
     away-read apart up (Ok (MessageFrame bsn fsn sio sif)) honest =
-        message-away c z j w link apart bsn fsn sio sif (first-false (is_between c.own z.own (record { sio = sio; sif = sif })) honest) (action_at (link_at n.parts link).alignment UserData) n refl up wait knows
+        message-away c z j w link apart bsn fsn sio sif (first-false (is_between c.own z.own (record { sio = sio; sif = sif })) honest) (acts_on (link_at n.parts link) UserData) n refl up wait knows
       where
         first-false : (b : Bool) → (b || false) ≡ false → b ≡ false
         first-false true e = e

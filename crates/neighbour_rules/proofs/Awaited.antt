@@ -26,10 +26,10 @@ use Rattle.neighbour_rules.proofs.SaidWords.{codes-alike, count-alike}
 
 module _ (c z : Configuration) (a : AreFacing c z) (q : PairState) (s : Stands c z a (with_settings c z q)) (kept : Since c z a (with_settings c z q)) where
   -- as many are under way there as in the machine
-  pub ways : (of : Kind) (named : ℕ) (test : Saying → Bool) → test Other ≡ false → ((m : Message) → IsSent c z a.near_set m → says_to of c.own z named m ≡ test (says_of c.own z.own m))
-      → under_way of named (with_settings c z q) ≡ moves.under_way (saying (says_of c.own z.own) test) (shown c z a.near_set a.far_set a.base (world_of (with_settings c z q) s.to_near s.to_far))
+  pub ways : (of : Kind) (named : ℕ) (test : Saying → Bool) → test Other ≡ false → ((m : Message) → IsSent c z a.base.there a.near_set m → says_to of c.own z named m ≡ test (says_of c.own z.own a.base.there m))
+      → under_way of named (with_settings c z q) ≡ moves.under_way (saying (says_of c.own z.own a.base.there) test) (shown c z a.near_set a.far_set a.base (world_of (with_settings c z q) s.to_near s.to_far))
   ways of named test none same =
-      count-alike (IsSent c z a.near_set) (says_to of c.own z named) (saying (says_of c.own z.own) test) (unreceived (with_settings c z q)) same (between c z a q s kept)
+      count-alike (IsSent c z a.base.there a.near_set) (says_to of c.own z named) (saying (says_of c.own z.own a.base.there) test) (unreceived (with_settings c z q)) same (between c z a q s kept)
       ∙ counted c z a q s kept test none
 
 module _ (c z : Configuration) (a : AreFacing c z) (q : PairState) (s : Stands c z a (with_settings c z q)) (kept : Since c z a (with_settings c z q)) where
@@ -43,22 +43,26 @@ module _ (c z : Configuration) (a : AreFacing c z) (q : PairState) (s : Stands c
   view = shown c z a.near_set a.far_set a.base w
 
   abbrev read : Message → Saying
-  read = says_of c.own z.own
+  read = says_of c.own z.own a.base.there
 
-  back : (of : Kind) (named : ℕ) (test : Saying → Bool) → test Other ≡ false → ((m : Message) → IsSent z c a.far_set m → says_to of z.own c named m ≡ test (says_of z.own c.own m))
-      → under_way of named (turned p) ≡ moves.under_way (saying read test) (ends.turned view)
+  -- of what comes back
+  abbrev heard : Message → Saying
+  heard = says_of c.own z.own a.base.back
+
+  back : (of : Kind) (named : ℕ) (test : Saying → Bool) → test Other ≡ false → ((m : Message) → IsSent z c a.base.back a.far_set m → says_to of z.own c named m ≡ test (says_of z.own c.own a.base.back m))
+      → under_way of named (turned p) ≡ moves.under_way (saying heard test) (ends.turned view)
   back of named test none same =
       ways z c (facing_back c z a) (turned q) (stands-turned c z a p s) (since-back c z a p kept) of named test none same
-      ∙ ap (λ (reads : Message → Saying). moves.under_way (saying reads test) (ends.turned view)) (sym (says-alike c.own z.own))
+      ∙ ap (λ (reads : Message → Saying). moves.under_way (saying reads test) (ends.turned view)) (sym (says-alike c.own z.own a.base.back))
 
   module _ (link other : ℕ) (e : IsLine c z (near_joint c z a) link other) where
     back-line : IsLine z c (far_joint c z a) other link
     back-line = far_ends.ends-turned c z a.near_set a.far_set link other e
 
-    answered : (m : Message) → IsSent z c a.far_set m → says_to acknowledged z.own c link m ≡ is_answer (code_of c link) (says_of z.own c.own m)
-    answered m is = (said.says-alike z c (far_joint c z a) other link back-line m is).answers ∙ ap (λ (k : ℕ). is_answer k (says_of z.own c.own m)) e.code
+    answered : (m : Message) → IsSent z c a.base.back a.far_set m → says_to acknowledged z.own c link m ≡ is_answer (code_of c link) (says_of z.own c.own a.base.back m)
+    answered m is = (said.says-alike z c (far_joint c z a) other link back-line m is).answers ∙ ap (λ (k : ℕ). is_answer k (says_of z.own c.own a.base.back m)) e.code
 
-    awaited : moves.under_way (saying read (is_order (code_of c link))) view + moves.under_way (saying read (is_answer (code_of c link))) (ends.turned view) ≡ one_if (line_at w link other).near.awaited
+    awaited : moves.under_way (saying read (is_order (code_of c link))) view + moves.under_way (saying heard (is_answer (code_of c link))) (ends.turned view) ≡ one_if (line_at w link other).near.awaited
     awaited =
         (of-shown c z a q s kept OrdersAreAwaited orders_are_awaited-always).there (code_of c link)
         ∙ ap (λ (l : ends.Line). one_if l.near.awaited) (line-known c z (near_joint c z a) w link other e)
@@ -86,4 +90,4 @@ module _ (c z : Configuration) (a : AreFacing c z) (q : PairState) (s : Stands c
   }
 
 pub nothing-in-vain : nothing_is_awaited_in_vain
-nothing-in-vain = always AwaitsNothingInVain (λ c z a q s kept near far. awaits-there c z (from_first c z a) q s kept (λ code. refl))
+nothing-in-vain = always AwaitsNothingInVain (λ c z a q own s kept near far. awaits-there c z (from_first c z a) q s kept (λ code. refl))

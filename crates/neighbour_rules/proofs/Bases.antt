@@ -50,6 +50,7 @@ based-steps c = record {
   routed = λ link m n e. one-queue link (appended (queue_at n.queues link) m) n _ refl (λ b. b);
   declared = λ link other code n e f. one-queue other (appended (queue_at n.queues other) _) n _ refl (λ b. b);
   tested = λ link point test n e f. one-queue link (appended (queue_at n.queues link) _) n _ refl (λ b. b);
+  probed = λ link n e. one-queue link (appended (queue_at n.queues link) _) n _ refl (λ b. b);
   held = λ m n e. same-queues n _ refl;
   taken_out = λ n. same-queues n _ refl;
   noted = λ notice n e. same-queues n _ refl;

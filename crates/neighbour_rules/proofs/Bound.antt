@@ -13,8 +13,9 @@ use Rattle.exchange_rules.specs.Routing.{entry_of, is_flow_held, is_held_at, pee
 use Rattle.mtp3_codec.specs.declared.management.Management.TheVariants.{ChangebackDeclaration}
 use Rattle.exchange_rules.proofs.LastingMessages.{accepted-all, sent-all}
 use Rattle.exchange_rules.proofs.MadeManagement.{made-management}
-use Rattle.exchange_rules.proofs.Onward.{answer-onward, declaration-onward, routed-onward, waiting-onward}
-use Rattle.exchange_rules.proofs.OwnManagement.{answer-management}
+use Rattle.exchange_rules.specs.LinkTests.{link_test}
+use Rattle.exchange_rules.proofs.Onward.{answer-onward, declaration-onward, test-onward, routed-onward, waiting-onward}
+use Rattle.exchange_rules.proofs.OwnManagement.{answer-management, test-management}
 use Rattle.pair_rules.proofs.Good.{Each, each-behind}
 use Rattle.pair_rules.proofs.UserLists.{each-drop, each-filter}
 
@@ -95,6 +96,8 @@ module _ (c : Configuration) (well : IsWell c) where
         (record { onward = declaration-onward c well link code; known = inl (made-management c well (peer_of c link) (ChangebackDeclaration (entry_of c link).slc code)) });
     tested = λ link point test n e f. queued-keeps link (test_answer c point test) n
         (record { onward = answer-onward c well point test f; known = inl (answer-management c point test) });
+    probed = λ link n e. queued-keeps link (link_test c link) n
+        (record { onward = test-onward c well link; known = inl (test-management c link) });
     held = λ m n e. record { stay = λ h. record { held = each-behind (IsBound c) n.queues.held (m ∷ []) h.held (waiting-bound c well n.parts.holds m e, tt); queued = h.queued } };
     taken_out = λ n. record { stay = λ h. record { held = tt; queued = h.queued } };
     noted = λ notice n e. same-queues n _ refl;

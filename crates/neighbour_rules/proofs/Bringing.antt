@@ -3,11 +3,15 @@
 use Rattle.signalling_types.specs.Message.{opc_of}
 use Rattle.pair_rules.proofs.Basics.{◌≡◌, ◌≢◌, ◌⊎◌, inl, inr, ◌≤◌, ◌<◌, ℕ, Bool, true, false, not, ◌&&◌, ◌||◌, List, [], ◌∷◌, ◌++◌, length, Option, Some, None, refl, ap, sym, subst, ◌∙◌, nat_eq, nat_lt, arith, if◌then◌else◌, is_some, nat_tests, append-nil, ⊎_elim, cases_eq, eq-eqb, slice_index_or}
 use Rattle.std.proofs.lemmas.List.Quantifiers.{position-Some}
-use Rattle.pair_rules.proofs.Definitions.{Message, flow_of, is_management, dpc_of, service_indicator, network_indicator, SIF_OCTETS, Cause, Outcome, Handled, Held, Ignored, Local, Queued, Refused, Configuration, DestinationEntry, TitleEntry, IsWell, IsDestination, Discrimination, Label, Saying, UserMessage, is_user_message, destination_place, is_user, local, on_unitdata, sccp, Node, Done, answer, refuse, WholeQueues, whole, no_room_for, all_wait, waits, submit_to, whither_goes, link_of, comes-here}
+use Rattle.pair_rules.proofs.Definitions.{with_parts, with_titles, Message, flow_of, is_management, dpc_of, service_indicator, network_indicator, SIF_OCTETS, Cause, Outcome, Handled, Held, Ignored, Local, Queued, Refused, Configuration, DestinationEntry, TitleEntry, IsWell, IsDestination, Discrimination, Label, Saying, UserMessage, is_user_message, destination_place, is_user, local, on_unitdata, sccp, Node, Done, answer, refuse, WholeQueues, whole, no_room_for, all_wait, waits, submit_to, whither_goes, link_of, comes-here}
 use Rattle.signalling_types.specs.declared.cause.Cause.TheVariants as causes
 use Rattle.mtp3_codec.specs.Headings.{label_at}
 use Rattle.mtp3_codec.specs.declared.discrimination.Discrimination.TheVariants as whither
 use Rattle.sccp_relay.specs.Relay as relays
+use Rattle.sccp_relay.specs.Points.{OwnValue}
+use Rattle.sccp_relay.specs.Returning.{returned}
+use Rattle.sccp_relay.specs.Statuses.{TitlesValue, heard}
+use Rattle.neighbour_rules.proofs.Relinked.{titled-passes}
 use Rattle.exchange_rules.specs.Messages.{is_destination, offer, transfer, in_place_of, own_of, relay_by, return_outcome, send_udts}
 use Rattle.exchange_rules.specs.Conserving.{answered_in, brought_here, brought_to, relayed_in, returned_in, taken_in, unitdata_in}
 use Rattle.exchange_rules.specs.Telling.{answer_no_route, answer_no_user_part}
@@ -20,8 +24,8 @@ use Rattle.pair_rules.proofs.Written.{Fits, onward-fits, returned-fits}
 use Rattle.pair_rules.proofs.World.{World}
 use Rattle.pair_rules.proofs.Going.{goes-one}
 use Rattle.neighbour_rules.specs.Neighbours.{users_to}
-use Rattle.neighbour_rules.proofs.World.{is_between, is_for_either, says_by, says_of}
-use Rattle.neighbour_rules.proofs.Good.{IsAccepted, Joint, Passes, accepted, at, passes-both, passes-none}
+use Rattle.neighbour_rules.proofs.World.{is_between, reading, says_by, says_of}
+use Rattle.neighbour_rules.proofs.Good.{ComesHere, IsAccepted, Joint, Passes, accepted, at, passes-both, passes-none}
 use Rattle.neighbour_rules.proofs.Messages.{free-user, keeping, making, onto, says-user}
 use Rattle.neighbour_rules.proofs.Made.{not-same}
 use Rattle.neighbour_rules.proofs.Telling.{answer_no_route-passes, answer_no_user_part-passes}
@@ -45,44 +49,38 @@ destination-far c well point place e same =
 
 module _ (c z : Configuration) (j : Joint c z) where
   abbrev read : Message → Saying
-  read = says_of c.own z.own
+  read = says_of c.own z.own j.base.there
 
   -- ---- what a message says that is on its way
 
-  user-says : (m : Message) → is_management m ≡ false → dpc_of m ≡ z.own → read m ≡ UserMessage
+  pub user-says : (m : Message) → is_management m ≡ false → dpc_of m ≡ j.base.there → read m ≡ UserMessage
   user-says m user to =
-      ap (λ (b : Bool). says_by b (is_between c.own z.own m) (is_for_either c.own z.own m) m) user
-      ∙ ap (λ (b : Bool). says_by false (is_between c.own z.own m) (nat_eq (dpc_of m) c.own || b) m) (eq-eqb (dpc_of m) z.own to)
-      ∙ by (nat_eq (dpc_of m) c.own)
-    where
-      by : (b : Bool) → says_by false (is_between c.own z.own m) (b || true) m ≡ UserMessage
-      by true = refl
-      by false = refl
+      ap (λ (b : Bool). says_by b (is_between c.own z.own m) (nat_eq (dpc_of m) j.base.there) m) user
+      ∙ ap (λ (b : Bool). says_by false (is_between c.own z.own m) b m) (eq-eqb (dpc_of m) j.base.there to)
 
-  past-says : (m : Message) → is_management m ≡ false → dpc_of m ≢ c.own → dpc_of m ≢ z.own → read m ≡ Other
-  past-says m user d e =
-      ap (λ (b : Bool). says_by b (is_between c.own z.own m) (is_for_either c.own z.own m) m) user
-      ∙ ap (λ (b : Bool). says_by false (is_between c.own z.own m) (b || nat_eq (dpc_of m) z.own) m) (not-same (dpc_of m) c.own d)
-      ∙ ap (λ (b : Bool). says_by false (is_between c.own z.own m) b m) (not-same (dpc_of m) z.own e)
+  past-says : (m : Message) → is_management m ≡ false → dpc_of m ≢ j.base.there → read m ≡ Other
+  past-says m user d =
+      ap (λ (b : Bool). says_by b (is_between c.own z.own m) (nat_eq (dpc_of m) j.base.there) m) user
+      ∙ ap (λ (b : Bool). says_by false (is_between c.own z.own m) b m) (not-same (dpc_of m) j.base.there d)
 
   -- one that passes by isn't booked
-  unbooked : (m : Message) → read m ≡ Other → users_to z.own (m ∷ []) ≡ []
-  unbooked m says = by (is_management m) (nat_eq (dpc_of m) z.own) refl refl
+  unbooked : (m : Message) → read m ≡ Other → users_to j.base.there (m ∷ []) ≡ []
+  unbooked m says = by (is_management m) (nat_eq (dpc_of m) j.base.there) refl refl
     where
-      by : (b d : Bool) → is_management m ≡ b → nat_eq (dpc_of m) z.own ≡ d → (if not b && d then m ∷ [] else []) ≡ []
+      by : (b d : Bool) → is_management m ≡ b → nat_eq (dpc_of m) j.base.there ≡ d → (if not b && d then m ∷ [] else []) ≡ []
       by true d e f = refl
       by false false e f = refl
-      by false true e f = (let no : UserMessage ≡ Other = sym (user-says m e (eqb-true (dpc_of m) z.own f)) ∙ says in absurd cc)
+      by false true e f = (let no : UserMessage ≡ Other = sym (user-says m e (eqb-true (dpc_of m) j.base.there f)) ∙ says in absurd cc)
 
-  one-booked : (m : Message) → IsAccepted z m → users_to z.own (m ∷ []) ≡ m ∷ []
+  one-booked : (m : Message) → IsAccepted z j.base.there m → users_to j.base.there (m ∷ []) ≡ m ∷ []
   one-booked m is =
-      ap (λ (b : Bool). if not b && nat_eq (dpc_of m) z.own then m ∷ [] else []) is.user
-      ∙ ap (λ (b : Bool). if b then m ∷ [] else []) (eq-eqb (dpc_of m) z.own is.to)
+      ap (λ (b : Bool). if not b && nat_eq (dpc_of m) j.base.there then m ∷ [] else []) is.user
+      ∙ ap (λ (b : Bool). if b then m ∷ [] else []) (eq-eqb (dpc_of m) j.base.there is.to)
 
   -- ---- a message comes in
 
   abbrev pub accepting : World → List Message → World
-  accepting w ms = record w { near = record w.near { accepted = w.near.accepted ++ users_to z.own ms } }
+  accepting w ms = record w { near = record w.near { accepted = w.near.accepted ++ users_to j.base.there ms } }
 
   -- with these booked
   abbrev booking : World → List Message → World
@@ -93,9 +91,9 @@ module _ (c z : Configuration) (j : Joint c z) where
       subst (λ (ms : List Message). Passes c z j (at c z j w n [] []) (record w { near = record { node = n; arrived = []; loose = []; accepted = ms; received = w.near.received } }))
       (sym (append-nil w.near.accepted)) (passes-none c z j (at c z j w n [] []))
 
-  taking-in : (w : World) (n : Node WholeQueues) (m : Message) → IsAccepted z m → Passes c z j (at c z j w n [] []) (at c z j (booking w (m ∷ [])) n [] (m ∷ []))
+  taking-in : (w : World) (n : Node WholeQueues) (m : Message) → IsAccepted z j.base.there m → Passes c z j (at c z j w n [] []) (at c z j (booking w (m ∷ [])) n [] (m ∷ []))
   taking-in w n m is = record {
-    goes = λ g. goes-one read _ _ (moves.accepts (record { message = m; user = ap is_user_message (user-says m is.user is.to); after = refl }));
+    goes = λ g. goes-one (reading c.own z.own j.base) _ _ (moves.accepts (record { message = m; user = ap is_user_message (user-says m is.user is.to); after = refl }));
     good = λ g. record {
       fits = g.fits;
       route = g.route;
@@ -117,7 +115,7 @@ module _ (c z : Configuration) (j : Joint c z) where
     pub short : length m.sif ≤ SIF_OCTETS
 
   abbrev pub IsOnItsWay : Message → Type 0
-  IsOnItsWay m = IsAccepted z m ⊎ IsPassing m
+  IsOnItsWay m = IsAccepted z j.base.there m ⊎ IsPassing m
 
   pub coming-in : (w : World) (n : Node WholeQueues) (m : Message) → IsOnItsWay m → Passes c z j (at c z j w n [] []) (at c z j (accepting w (m ∷ [])) n [] (m ∷ []))
   coming-in w n m (inl is) =
@@ -138,7 +136,7 @@ module _ (c z : Configuration) (j : Joint c z) where
       passes-both c z j _ _ _ (answer_no_route-passes c z j w [] [] from (destination_place c (dpc_of m)) n) (none-accepted w (answer_no_route whole c from (destination_place c (dpc_of m)) n))
   offered None false (Some link) from w n m is e f wait =
       passes-both c z j _ _ _ (coming-in w n m is)
-      (onto c z j (accepting w (m ∷ [])) n [] link m [] f (λ g user. free-user c z j n.parts.holds m (says-user c.own z.own m user) e) (λ user. wait) (λ g. g.loose.0))
+      (onto c z j (accepting w (m ∷ [])) n [] link m [] f (λ g user. free-user c z j n.parts.holds m (says-user c.own z.own j.base.there m user) e) (λ user. wait) (λ g. g.loose.0))
 
   pub transferred : (from : Option ℕ) (w : World) (n : Node WholeQueues) (m : Message) → (is_destination c (dpc_of m) ≡ true → IsOnItsWay m) → all_wait c n.parts.holds n.queues.held ≡ true
       → Passes c z j (at c z j w n [] []) (at c z j (accepting w (taken_in (transfer whole c from m n).outcome m)) (transfer whole c from m n).left [] [])
@@ -153,13 +151,10 @@ module _ (c z : Configuration) (j : Joint c z) where
       by false e = none-accepted w n
 
   -- a user message on its way to a destination
-  pub user-way : (m : Message) → is_management m ≡ false → length m.sif ≤ SIF_OCTETS → (dpc_of m ≡ z.own → IsAccepted z m) → is_destination c (dpc_of m) ≡ true → IsOnItsWay m
-  user-way m user short there e =
-      ⊎_elim (λ (to : dpc_of m ≡ z.own). inl (there to)) (λ (d : dpc_of m ≢ z.own). inr (record { says = past-says m user (known (destination_place c (dpc_of m)) refl e) d; short = short })) (cases_eq (dpc_of m) z.own)
-    where
-      known : (o : Option ℕ) → destination_place c (dpc_of m) ≡ o → is_some o ≡ true → dpc_of m ≢ c.own
-      known (Some place) f h = destination-far c j.near_well (dpc_of m) place f
-      known None f h = absurd cc
+  pub user-way : (m : Message) → is_management m ≡ false → length m.sif ≤ SIF_OCTETS → (dpc_of m ≡ z.own → ComesHere z m) → IsOnItsWay m
+  user-way m user short here =
+      ⊎_elim (λ (to : dpc_of m ≡ j.base.there). inl (record { user = user; to = to; short = short; here = λ own. here (to ∙ own) }))
+      (λ (d : dpc_of m ≢ j.base.there). inr (record { says = past-says m user d; short = short })) (cases_eq (dpc_of m) j.base.there)
 
   -- ---- what SCCP makes of a message for this point
 
@@ -169,8 +164,7 @@ module _ (c z : Configuration) (j : Joint c z) where
         (at c z j (accepting w (taken_in (transfer whole c None (in_place_of m sif) n).outcome (in_place_of m sif))) (transfer whole c None (in_place_of m sif) n).left [] [])
     written sif f =
         transferred None w n (in_place_of m sif)
-        (user-way (in_place_of m sif) user f.short
-        (λ to. record { user = user; to = to; label = label_at sif; here = comes-here z (in_place_of m sif) f.long f.short (network ∙ j.shares.network) to })) wait
+        (λ known. user-way (in_place_of m sif) user f.short (λ to. record { label = label_at sif; here = comes-here z (in_place_of m sif) f.long f.short (network ∙ j.shares.network) to })) wait
 
     -- the UDTS that returns it
     answered : (udts : Option (List ℕ)) → ((sif : List ℕ) → udts ≡ Some sif → Fits sif)
@@ -178,10 +172,10 @@ module _ (c z : Configuration) (j : Joint c z) where
     answered (Some sif) f = written sif (f sif refl)
     answered None f = none-accepted w n
 
-    abbrev rows : List TitleEntry
+    abbrev rows : TitlesValue
     rows = n.parts.titles
 
-    abbrev own : relays.OwnValue
+    abbrev own : OwnValue
     own = own_of c n.parts
 
     -- where it is refused, which left the node as it was, or told that there is no route
@@ -192,7 +186,7 @@ module _ (c z : Configuration) (j : Joint c z) where
         subst (λ (x : Node WholeQueues).
         Passes c z j (at c z j w n [] []) (at c z j (accepting w (answered_in (Refused cause) c m n)) (return_outcome whole c (Refused cause) m x) [] []))
         (sym (same cause refl))
-        (answered (relays.returned own rows m.sif cause) (λ sif e. returned-fits own rows m.sif cause sif e))
+        (answered (returned own rows m.sif cause) (λ sif e. returned-fits own rows m.sif cause sif e))
     returning out (Queued link) left same p = p
     returning out Held left same p = p
     returning out Local left same p = p
@@ -209,7 +203,10 @@ module _ (c z : Configuration) (j : Joint c z) where
     relayed-passes (relays.Onward sif) e =
         returning (in_place_of m sif) (relayed (relays.Onward sif)).outcome (relayed (relays.Onward sif)).left (relay_by-leaves c n (relays.Onward sif) m).left
         (written sif (onward-fits own rows m.sif sif e))
-    relayed-passes (relays.Refused cause) e = answered (relays.returned own rows m.sif cause) (λ sif e. returned-fits own rows m.sif cause sif e)
+    relayed-passes (relays.Heard news) e =
+        let left : Node WholeQueues = with_parts n (with_titles (heard news n.parts.titles) n.parts) in
+        passes-both c z j _ _ _ (titled-passes c z j w n (heard news n.parts.titles)) (none-accepted w left)
+    relayed-passes (relays.Refused cause) e = answered (returned own rows m.sif cause) (λ sif e. returned-fits own rows m.sif cause sif e)
 
     pub unitdata-passes : Passes c z j (at c z j w n [] []) (at c z j (accepting w (unitdata_in (on_unitdata whole c m n).outcome c m n)) (on_unitdata whole c m n).left [] [])
     unitdata-passes = relayed-passes (relays.relay own rows m.sif) refl
@@ -241,14 +238,14 @@ module _ (c z : Configuration) (j : Joint c z) where
       grind (arith, nat_tests, ours.0)
 
   -- the other takes it as its own, where it is for the other
-  pub goes-on : (m : Message) (label : Label) → is_management m ≡ false → whither_goes c m ≡ whither.Transfer label → dpc_of m ≡ z.own → IsAccepted z m
-  goes-on m label user e to =
+  pub goes-here : (m : Message) (label : Label) → whither_goes c m ≡ whither.Transfer label → dpc_of m ≡ z.own → ComesHere z m
+  goes-here m label e to =
       let ours : (nat_lt SIF_OCTETS (length m.sif) ≡ false) × (nat_lt (length m.sif) 4 ≡ false) × (nat_eq (network_indicator m) c.network ≡ true) =
       decided-on (nat_lt SIF_OCTETS (length m.sif)) (nat_lt (length m.sif) 4) (nat_eq (network_indicator m) c.network) (nat_eq (dpc_of m) c.own) (label_at m.sif) label e in
       let short : length m.sif ≤ SIF_OCTETS = grind (arith, nat_tests, ours.0) in
       let long : 4 ≤ length m.sif = grind (arith, nat_tests, ours.1) in
       let same : network_indicator m ≡ c.network = grind (arith, nat_tests, ours.2) in
-      record { user = user; to = to; label = label_at m.sif; here = comes-here z m long short (same ∙ j.shares.network) to }
+      record { label = label_at m.sif; here = comes-here z m long short (same ∙ j.shares.network) to }
 
   -- ---- a user part hands a message over
 
@@ -268,4 +265,4 @@ module _ (c z : Configuration) (j : Joint c z) where
       by : (b : Bool) → is_management m ≡ b → Passes c z j (at c z j w n [] [])
           (at c z j (accepting w (taken_in (if b then refuse causes.NotInProfile n else transfer whole c None m n).outcome m)) (if b then refuse causes.NotInProfile n else transfer whole c None m n).left [] [])
       by true f = none-accepted w n
-      by false f = transferred None w n m (user-way m f (goes-short m label e) (goes-on m label f e)) wait
+      by false f = transferred None w n m (λ known. user-way m f (goes-short m label e) (goes-here m label e)) wait

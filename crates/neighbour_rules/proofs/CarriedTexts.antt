@@ -28,25 +28,25 @@ taken-one q from m e l =
 
 -- ---- what texts carry
 
-module _ (c z : Configuration) (its : ℕ) where
+module _ (c z : Configuration) (there its : ℕ) where
   -- User Data isn't a link status
   abbrev is_data : FrameValue → Bool
   is_data (EmptyFrame bsn fsn) = true
   is_data (MessageFrame bsn fsn sio sif) = true
   is_data (StatusFrame bsn fsn status) = false
 
-  flies-data : (frame : FrameValue) → IsFlying c z its frame → is_data frame ≡ true
+  flies-data : (frame : FrameValue) → IsFlying c z there its frame → is_data frame ≡ true
   flies-data _ (good.empty bsn fsn s) = refl
   flies-data _ (good.carrying bsn fsn sio sif s b bound) = refl
 
-  text-carries : (frame : FrameValue) → IsFlying c z its frame → carried_message (read_frame (spelled frame)) ≡ carried_message (Ok frame)
-  text-carries frame f = ap carried_message (flies-back c z its frame f)
+  text-carries : (frame : FrameValue) → IsFlying c z there its frame → carried_message (read_frame (spelled frame)) ≡ carried_message (Ok frame)
+  text-carries frame f = ap carried_message (flies-back c z there its frame f)
 
-  one-more : (frame : FrameValue) (frames : List FrameValue) → IsFlying c z its frame → messages_in (map spelled (frame ∷ frames)) ≡ cons_option (carried_message (Ok frame)) (messages_in (map spelled frames))
+  one-more : (frame : FrameValue) (frames : List FrameValue) → IsFlying c z there its frame → messages_in (map spelled (frame ∷ frames)) ≡ cons_option (carried_message (Ok frame)) (messages_in (map spelled frames))
   one-more frame frames f = ap (λ (o : Option Message). cons_option o (messages_in (map spelled frames))) (text-carries frame f)
 
   -- those of frames that carry a queue from one count on are its messages from there up to the last that was sent
-  pub texts-carry : (q : Queue) (from : ℕ) (frames : List FrameValue) → Each (IsFlying c z its) frames → Carry q from (map frame_of frames)
+  pub texts-carry : (q : Queue) (from : ℕ) (frames : List FrameValue) → Each (IsFlying c z there its) frames → Carry q from (map frame_of frames)
       → messages_in (map spelled frames) ≡ take (q.sent - from) (drop from q.all)
   texts-carry q from [] f h =
       let none : 0 ≡ q.sent - from = omega (arith, h) in
@@ -66,9 +66,9 @@ module _ (c z : Configuration) (its : ℕ) where
   first-carried q from (StatusFrame bsn fsn status) rest m h e = absurd cc
   first-carried q from (MessageFrame bsn fsn sio sif) rest m h e = h.1 ∙ e
 
-  pub first-text : (q : Queue) (from : ℕ) (frames : List FrameValue) (texts : List (List ℕ)) (text : List ℕ) (m : Message) → IsFirst frames texts text → Each (IsFlying c z its) frames
+  pub first-text : (q : Queue) (from : ℕ) (frames : List FrameValue) (texts : List (List ℕ)) (text : List ℕ) (m : Message) → IsFirst frames texts text → Each (IsFlying c z there its) frames
       → Carry q from (map frame_of frames) → carried_message (read_frame text) ≡ Some m → slice_get q.all from ≡ Some m
   first-text q from frames texts text m first f h e =
-      let flies : IsFlying c z its first.frame = (subst (Each (IsFlying c z its)) first.first f).0 in
+      let flies : IsFlying c z there its first.frame = (subst (Each (IsFlying c z there its)) first.first f).0 in
       first-carried q from first.frame first.rest m (subst (λ (fs : List FrameValue). Carry q from (map frame_of fs)) first.first h)
       (sym (text-carries first.frame flies) ∙ ap (λ (octets : List ℕ). carried_message (read_frame octets)) (sym first.spells) ∙ e)

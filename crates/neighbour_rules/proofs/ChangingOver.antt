@@ -14,7 +14,7 @@ use Rattle.pair_rules.proofs.World.{World, end_of}
 use Rattle.pair_rules.proofs.Good.{previous-fits}
 use Rattle.pair_rules.proofs.Going.{goes-one}
 use Rattle.pair_rules.proofs.Lines.{end-by, end_by, link-here, standing-here, standing-other}
-use Rattle.neighbour_rules.proofs.World.{code_of, line_of, route_of, says_of, shown}
+use Rattle.neighbour_rules.proofs.World.{code_of, line_of, reading, route_of, says_of, shown}
 use Rattle.neighbour_rules.proofs.Good.{IsMade, IsSent, Joint, Passes, answers, at, made, passes-both, passes-good, passes-none, set}
 use Rattle.neighbour_rules.proofs.Lines.{at-line, becomes, own-line}
 use Rattle.neighbour_rules.proofs.Made.{adjacent-fits, made-brief, past-other, word-made, word-says}
@@ -26,7 +26,11 @@ use Rattle.neighbour_rules.proofs.Completions.{anew-passes, by_answer, by_any-el
 
 module _ (c z : Configuration) (j : Joint c z) where
   abbrev read : Message → Saying
-  read = says_of c.own z.own
+  read = says_of c.own z.own j.base.there
+
+  -- of what comes back
+  abbrev heard : Message → Saying
+  heard = says_of c.own z.own j.base.back
 
   -- ---- the answer to an order
 
@@ -39,7 +43,7 @@ module _ (c z : Configuration) (j : Joint c z) where
   reply-to : (link number : ℕ) → set_of c link ≡ set c z j → changeover_acknowledgement c link number ≡ management_to c z.own (reply_word link number)
   reply-to link number its = ap (λ (point : ℕ). management_to c point (reply_word link number)) (shared-peer c z j.shares j.near_well link its)
 
-  reply-sent : (link : ℕ) (q : Queue) → set_of c link ≡ set c z j → link < length c.links → IsSent c z (set c z j) (changeover_acknowledgement c link (last_accepted q))
+  reply-sent : (link : ℕ) (q : Queue) → set_of c link ≡ set c z j → link < length c.links → IsSent c z j.base.there (set c z j) (changeover_acknowledgement c link (last_accepted q))
   reply-sent link q its l =
       made (subst (IsMade c z (set c z j)) (sym (reply-to link (last_accepted q) its))
       (word-made c z j (reply_word link (last_accepted q)) (reply-fits link q) (answers link (last_accepted q) l its)))
@@ -48,7 +52,7 @@ module _ (c z : Configuration) (j : Joint c z) where
   reply-says link q its = ap read (reply-to link (last_accepted q) its) ∙ word-says c z j (reply_word link (last_accepted q)) (reply-fits link q)
 
   -- one to another point passes by
-  reply-past : (link : ℕ) (q : Queue) → set_of c link ≢ set c z j → says_of c.own z.own (changeover_acknowledgement c link (last_accepted q)) ≡ Other
+  reply-past : (link : ℕ) (q : Queue) → set_of c link ≢ set c z j → says_of c.own z.own j.base.there (changeover_acknowledgement c link (last_accepted q)) ≡ Other
   reply-past link q d = past-other c z j (peer_of c link) (reply_word link (last_accepted q)) (adjacent-fits c j.near_well (set_of c link)) (reply-fits link q) (other-peer c z j link d)
 
   -- ---- what was received stays
@@ -95,13 +99,13 @@ module _ (c z : Configuration) (j : Joint c z) where
       ∙ ap (λ (xs : List Standing). with_parts n (record n.parts { changeovers = xs })) (set-get_or n.parts.changeovers link no_changeover)
 
   replying : (w : World) (n : Node WholeQueues) (m : Message) (rest : List Message) (link number : ℕ) (reply : Message) → set_of c link ≡ set c z j → link < length c.links
-      → read m ≡ Order (code_of c link) number → (Fits c n → down n.parts link ≡ true)
-      → (changeover_of n.parts link).incomplete ≡ false → read reply ≡ Answer (code_of c link) (last_accepted (queue_at n.queues link)) → IsSent c z (set c z j) reply
+      → heard m ≡ Order (code_of c link) number → (Fits c n → down n.parts link ≡ true)
+      → (changeover_of n.parts link).incomplete ≡ false → read reply ≡ Answer (code_of c link) (last_accepted (queue_at n.queues link)) → IsSent c z j.base.there (set c z j) reply
       → Passes c z j (at c z j w n (m ∷ rest) []) (at c z j w n rest (reply ∷ []))
   replying w n m rest link number reply its l says gone complete answering sent = record {
     goes = λ g.
         let mine : own c z j (code_of c link) ≡ link = own-line c j.near_well (set c z j) link l its in
-        goes-one read _ _
+        goes-one (reading c.own z.own j.base) _ _
         (moves.answers_order (record {
           link = code_of c link;
           number = number;
@@ -138,7 +142,7 @@ module _ (c z : Configuration) (j : Joint c z) where
       (fit-steps c).both _ _ _ ((fit-steps c).completed link number s n e refl)
       (concluded-steps (fit-steps c) link (found_by c z j (queue_at n.queues link) (accepted_count (queue_at n.queues link) number)) (record { queues = whole.completed n.queues link number; parts = with_changeover link s n.parts }))
 
-  module _ (w : World) (n : Node WholeQueues) (m : Message) (rest : List Message) (link number : ℕ) (its : set_of c link ≡ set c z j) (says : read m ≡ Order (code_of c link) number) (l : link < length c.links) where
+  module _ (w : World) (n : Node WholeQueues) (m : Message) (rest : List Message) (link number : ℕ) (its : set_of c link ≡ set c z j) (says : heard m ≡ Order (code_of c link) number) (l : link < length c.links) where
     abbrev s : Standing
     s = completed (changeover_of n.parts link)
 
@@ -173,7 +177,7 @@ module _ (c z : Configuration) (j : Joint c z) where
         (subst (λ (reply : Message). Passes c z j (at c z j w n (m ∷ rest) []) (at c z j w two rest (reply ∷ []))) same (order-completes (changeover_of n.parts link).incomplete refl gone))
         (send_routed-passes c z j w two rest (sent_back two) [] (made-management c (peer_of c link) (reply_word link (last_accepted (queue_at two.queues link)))))
 
-  pub order-passes : (w : World) (n : Node WholeQueues) (m : Message) (rest : List Message) (link number : ℕ) → set_of c link ≡ set c z j → read m ≡ Order (code_of c link) number → link < length c.links
+  pub order-passes : (w : World) (n : Node WholeQueues) (m : Message) (rest : List Message) (link number : ℕ) → set_of c link ≡ set c z j → heard m ≡ Order (code_of c link) number → link < length c.links
       → Passes c z j (at c z j w n (m ∷ rest) []) (at c z j w (on_changeover_order whole c link (Some number) n).left rest [])
   order-passes w n m rest link number its says l =
       let one : Node WholeQueues = fail_by_order whole c link n in
@@ -243,7 +247,7 @@ module _ (c z : Configuration) (j : Joint c z) where
     waited-other other d = end-by c z n acknowledged_node other (queue_at n.queues other) (link_at n.parts other) (changeover_of n.parts other) refl refl (standing-other c z n.parts link other over d)
 
   -- the peer answers one
-  module _ (w : World) (n : Node WholeQueues) (m : Message) (rest : List Message) (link number : ℕ) (its : set_of c link ≡ set c z j) (says : read m ≡ Answer (code_of c link) number) (l : link < length c.links) where
+  module _ (w : World) (n : Node WholeQueues) (m : Message) (rest : List Message) (link number : ℕ) (its : set_of c link ≡ set c z j) (says : heard m ≡ Answer (code_of c link) number) (l : link < length c.links) where
     mine : own c z j (code_of c link) ≡ link
     mine = own-line c j.near_well (set c z j) link l its
 
@@ -260,7 +264,7 @@ module _ (c z : Configuration) (j : Joint c z) where
         wait_ends = record {
           goes = λ g.
               let done : Pair = shown c z (set c z j) j.shares.far_set j.base (at c z j w (acknowledged_node n link) rest []) in
-              goes-one read (shown c z (set c z j) j.shares.far_set j.base (at c z j w n (m ∷ rest) [])) done
+              goes-one (reading c.own z.own j.base) (shown c z (set c z j) j.shares.far_set j.base (at c z j w n (m ∷ rest) [])) done
               (moves.ends_wait (record {
                 link = code_of c link;
                 number = number;
@@ -268,7 +272,7 @@ module _ (c z : Configuration) (j : Joint c z) where
                 awaited = ap (λ (k : ℕ). (changeover_of n.parts k).awaited) mine ∙ awaited;
                 complete = ap (λ (k : ℕ). (changeover_of n.parts k).incomplete) mine ∙ e;
                 lines = line_of c z (set c z j) j.shares.far_set (at c z j w (acknowledged_node n link) rest []);
-                set = becomes c z j (at c z j w n (m ∷ rest) []) (acknowledged_node n link) rest [] (route_of c z (set c z j) n.parts) link
+                set = becomes c z j (at c z j w n (m ∷ rest) []) (acknowledged_node n link) rest [] (route_of c j.base.there (set c z j) n.parts) link
                     (without_wait (line_of c z (set c z j) j.shares.far_set (at c z j w n (m ∷ rest) []) (code_of c link))).near l its
                     (end-by c z n (acknowledged_node n link) link (queue_at n.queues link) (link_at n.parts link) (over n link) refl refl
                     (standing-here c z n.parts link (over n link) (subst (λ (k : ℕ). link < k) (sym g.fits.places.parts.changeovers) l))
@@ -295,7 +299,7 @@ module _ (c z : Configuration) (j : Joint c z) where
     unheard : (changeover_of n.parts link).awaited ≡ false → Passes c z j (at c z j w n (m ∷ rest) []) (at c z j w n rest [])
     unheard e = record {
       goes = λ g.
-          goes-one read _ _
+          goes-one (reading c.own z.own j.base) _ _
           (moves.ignores_answer (record {
             link = code_of c link;
             number = number;

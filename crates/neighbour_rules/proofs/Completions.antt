@@ -17,7 +17,7 @@ use Rattle.pair_rules.proofs.Going.{Goes, goes-both, goes-one, goes-lost, goes-s
 use Rattle.pair_rules.proofs.Lines.{end-by, end_by, queue-here, queue-other, standing-here, standing-other}
 use Rattle.pair_rules.proofs.UserLists.{each-drop, each-filter}
 use Rattle.neighbour_rules.proofs.Counted.{IsBase, base-lost, beyond-lost, counts_of}
-use Rattle.neighbour_rules.proofs.World.{code_of, holds_of, line_of, route_of, says_of, shown}
+use Rattle.neighbour_rules.proofs.World.{code_of, holds_of, line_of, reading, route_of, says_of, shown}
 use Rattle.neighbour_rules.proofs.Good.{Good, IsSent, Joint, Passes, at, passes-both, passes-none, set}
 use Rattle.neighbour_rules.proofs.Lines.{at-line, becomes, none-becomes, own-line}
 use Rattle.neighbour_rules.proofs.Placing.{other-leaves}
@@ -33,10 +33,14 @@ others-leave read (m ∷ ms) more e = other-leaves read m (ms ++ more) e.0 ∙ o
 
 module _ (c z : Configuration) (j : Joint c z) where
   abbrev read : Message → Saying
-  read = says_of c.own z.own
+  read = says_of c.own z.own j.base.there
+
+  -- of what comes back
+  abbrev heard : Message → Saying
+  heard = says_of c.own z.own j.base.back
 
   abbrev Sent : Message → Type 0
-  Sent m = IsSent c z (set c z j) m
+  Sent m = IsSent c z j.base.there (set c z j) m
 
   -- ---- a changeover is complete
 
@@ -55,7 +59,7 @@ module _ (c z : Configuration) (j : Joint c z) where
   }
 
   -- other procedures hold what they held
-  others-hold : (h : HoldSet) (link : ℕ) (procedure : ends.Procedure) (sls : ℕ) → ((code : ℕ) → procedure ≡ ends.Changeover code → own c z j code ≢ link)
+  pub others-hold : (h : HoldSet) (link : ℕ) (procedure : ends.Procedure) (sls : ℕ) → ((code : ℕ) → procedure ≡ ends.Changeover code → own c z j code ≢ link)
       → hold_by c z j (lifted h (held_by.Changeover link)) procedure sls ≡ hold_by c z j h procedure sls
   others-hold h link (ends.Changeover code) sls d =
       leaves_others h (held_by.Changeover link) (held_by.Changeover (own c z j code)) j.destination sls (λ e. d code refl (let same : own c z j code ≡ link = cc in same))
@@ -108,7 +112,7 @@ module _ (c z : Configuration) (j : Joint c z) where
     done-held : Each Sent (queue_at n.queues link).all → Each Sent n.queues.held → Each Sent done.queues.held
     done-held each held = each-behind Sent (users_of moved) n.queues.held (moved-each Sent (λ m. not (is_management m)) each) held
 
-    done-good : (arrived rest before next : List Message) → StaysFit c n done → Each (IsSent z c j.shares.far_set) rest → Each Sent next → (s.awaited ≡ true → (changeover_of n.parts link).awaited ≡ true)
+    done-good : (arrived rest before next : List Message) → StaysFit c n done → Each (IsSent z c j.base.back j.shares.far_set) rest → Each Sent next → (s.awaited ≡ true → (changeover_of n.parts link).awaited ≡ true)
         → link < length c.links → Good c z j (at c z j w n arrived before) → Good c z j (at c z j w done rest next)
     done-good arrived rest before next stay r m awaits l g = record {
       fits = stay.stay g.fits;
@@ -126,10 +130,10 @@ module _ (c z : Configuration) (j : Joint c z) where
 
     -- ---- of a link between the two
 
-    lifts : link < length c.links → ChangesOnly (holds_of c z (set c z j) n.parts) (ends.Changeover (code_of c link)) (holds_of c z (set c z j) done.parts)
+    lifts : link < length c.links → ChangesOnly (holds_of c j.base.there (set c z j) n.parts) (ends.Changeover (code_of c link)) (holds_of c j.base.there (set c z j) done.parts)
     lifts l procedure flow d =
         holds-by c z j done.parts procedure flow
-        ∙ ap (λ (b : Bool). nat_eq flow.point z.own && b)
+        ∙ ap (λ (b : Bool). nat_eq flow.point j.base.there && b)
         (others-hold n.parts.holds link procedure flow.sls (λ code e same. d (e ∙ ap ends.Changeover (sym (at-line c j.near_well (set c z j) link code l same).its_code))))
         ∙ sym (holds-by c z j n.parts procedure flow)
 
@@ -146,18 +150,18 @@ module _ (c z : Configuration) (j : Joint c z) where
     as_moved p held loose = record p { near = record p.near { held = held; loose = loose } }
 
     relisted : (p : Pair) (k : ℕ) → k ≡ link → (more : List Message)
-        → Goes read (as_moved p (coarse.users_of read (drop count (queue_at n.queues k).all) ++ n.queues.held) (coarse.managements_of read (drop count (queue_at n.queues k).all) ++ more))
+        → Goes (reading c.own z.own j.base) (as_moved p (coarse.users_of read (drop count (queue_at n.queues k).all) ++ n.queues.held) (coarse.managements_of read (drop count (queue_at n.queues k).all) ++ more))
         (as_moved p (users_of moved ++ n.queues.held) (anew ++ more))
     relisted p k mine more =
-        mixing c.own z.own (as_moved p (coarse.users_of read (drop count (queue_at n.queues k).all) ++ n.queues.held) (coarse.managements_of read (drop count (queue_at n.queues k).all) ++ more))
+        mixing c.own z.own j.base (as_moved p (coarse.users_of read (drop count (queue_at n.queues k).all) ++ n.queues.held) (coarse.managements_of read (drop count (queue_at n.queues k).all) ++ more))
         (users_of moved ++ n.queues.held) (anew ++ more)
-        (users-stay c.own z.own moved n.queues.held
+        (users-stay c.own z.own j.base moved n.queues.held
         ∙ ap (λ (x : ℕ). without_others read (coarse.users_of read (drop count (queue_at n.queues x).all) ++ n.queues.held)) (sym mine))
-        (managements-stay c.own z.own moved more
+        (managements-stay c.own z.own j.base moved more
         ∙ ap (λ (x : ℕ). without_others read (coarse.managements_of read (drop count (queue_at n.queues x).all) ++ more)) (sym mine))
 
     -- an order completes it, and is answered
-    completing : (m : Message) (rest : List Message) (number : ℕ) (reply : Message) → set_of c link ≡ set c z j → read m ≡ Order (code_of c link) number → link < length c.links
+    completing : (m : Message) (rest : List Message) (number : ℕ) (reply : Message) → set_of c link ≡ set c z j → heard m ≡ Order (code_of c link) number → link < length c.links
         → (changeover_of n.parts link).incomplete ≡ true → s.incomplete ≡ false → s.awaited ≡ (changeover_of n.parts link).awaited → named_count (queue_at n.queues link) number ≡ Some count
         → read reply ≡ Answer (code_of c link) (last_accepted (queue_at n.queues link)) → Sent reply → StaysFit c n done
         → Passes c z j (at c z j w n (m ∷ rest) []) (at c z j w done rest (anew ++ reply ∷ []))
@@ -169,8 +173,8 @@ module _ (c z : Configuration) (j : Joint c z) where
           let after : Pair = shown c z (set c z j) j.shares.far_set j.base (at c z j w done rest (anew ++ reply ∷ [])) in
           let between : Pair = as_moved after (coarse.users_of read (drop count (queue_at n.queues k).all) ++ n.queues.held)
           (coarse.managements_of read (drop count (queue_at n.queues k).all) ++ reply ∷ []) in
-          goes-both read before between after
-          (goes-one read before between
+          goes-both (reading c.own z.own j.base) before between after
+          (goes-one (reading c.own z.own j.base) before between
           (moves.completes_by_order (record {
             link = code_of c link;
             number = number;
@@ -180,10 +184,10 @@ module _ (c z : Configuration) (j : Joint c z) where
             named = ap (λ (x : ℕ). named_count (queue_at n.queues x) number) mine ∙ named;
             answer = reply;
             answers = answers ∙ ap (λ (x : ℕ). Answer (code_of c link) (last_accepted (queue_at n.queues x))) (sym mine);
-            holds = holds_of c z (set c z j) done.parts;
+            holds = holds_of c j.base.there (set c z j) done.parts;
             lifted = lifts l;
             lines = line_of c z (set c z j) j.shares.far_set (at c z j w done rest (anew ++ reply ∷ []));
-            set = becomes c z j (at c z j w n (m ∷ rest) []) done rest (anew ++ reply ∷ []) (route_of c z (set c z j) n.parts) link
+            set = becomes c z j (at c z j w n (m ∷ rest) []) done rest (anew ++ reply ∷ []) (route_of c j.base.there (set c z j) n.parts) link
                 (with_completion (line_of c z (set c z j) j.shares.far_set (at c z j w n (m ∷ rest) []) (code_of c link)) (changeover_of n.parts k).awaited).near l its
                 (done-here g.fits l its complete (m ∷ rest) []
                 ∙ ap (λ (b : Bool). (with_completion (line_of c z (set c z j) j.shares.far_set (at c z j w n (m ∷ rest) []) (code_of c link)) b).near)
@@ -199,7 +203,7 @@ module _ (c z : Configuration) (j : Joint c z) where
     }
 
     -- so does an answer
-    ending : (m : Message) (rest : List Message) (number : ℕ) → set_of c link ≡ set c z j → read m ≡ Answer (code_of c link) number → link < length c.links
+    ending : (m : Message) (rest : List Message) (number : ℕ) → set_of c link ≡ set c z j → heard m ≡ Answer (code_of c link) number → link < length c.links
         → (changeover_of n.parts link).incomplete ≡ true → (changeover_of n.parts link).awaited ≡ true → s.incomplete ≡ false → s.awaited ≡ false
         → named_count (queue_at n.queues link) number ≡ Some count → StaysFit c n done
         → Passes c z j (at c z j w n (m ∷ rest) []) (at c z j w done rest (anew ++ []))
@@ -211,8 +215,8 @@ module _ (c z : Configuration) (j : Joint c z) where
           let after : Pair = shown c z (set c z j) j.shares.far_set j.base (at c z j w done rest (anew ++ [])) in
           let between : Pair = as_moved after (coarse.users_of read (drop count (queue_at n.queues k).all) ++ n.queues.held)
           (coarse.managements_of read (drop count (queue_at n.queues k).all) ++ []) in
-          goes-both read before between after
-          (goes-one read before between
+          goes-both (reading c.own z.own j.base) before between after
+          (goes-one (reading c.own z.own j.base) before between
           (moves.completes_by_answer (record {
             link = code_of c link;
             number = number;
@@ -221,10 +225,10 @@ module _ (c z : Configuration) (j : Joint c z) where
             incomplete = ap (λ (x : ℕ). (changeover_of n.parts x).incomplete) mine ∙ incomplete;
             count = count;
             named = ap (λ (x : ℕ). named_count (queue_at n.queues x) number) mine ∙ named;
-            holds = holds_of c z (set c z j) done.parts;
+            holds = holds_of c j.base.there (set c z j) done.parts;
             lifted = lifts l;
             lines = line_of c z (set c z j) j.shares.far_set (at c z j w done rest (anew ++ []));
-            set = becomes c z j (at c z j w n (m ∷ rest) []) done rest (anew ++ []) (route_of c z (set c z j) n.parts) link
+            set = becomes c z j (at c z j w n (m ∷ rest) []) done rest (anew ++ []) (route_of c j.base.there (set c z j) n.parts) link
                 (with_completion (line_of c z (set c z j) j.shares.far_set (at c z j w n (m ∷ rest) []) (code_of c link)) false).near l its
                 (done-here g.fits l its complete (m ∷ rest) []
                 ∙ ap (λ (b : Bool). (with_completion (line_of c z (set c z j) j.shares.far_set (at c z j w n (m ∷ rest) []) (code_of c link)) b).near) over)
@@ -252,21 +256,21 @@ module _ (c z : Configuration) (j : Joint c z) where
             line = none-becomes c z j (at c z j w n arrived more) done arrived (anew ++ more) link l d done-other i;
             near = record between.near { holds = λ procedure flow. holds-past procedure flow i };
           } in
-          goes-both read before between after
-          (mixing c.own z.own before (users_of moved ++ n.queues.held) (anew ++ more)
+          goes-both (reading c.own z.own j.base) before between after
+          (mixing c.own z.own j.base before (users_of moved ++ n.queues.held) (anew ++ more)
           (others-leave read (users_of moved) n.queues.held (moved-each (λ x. read x ≡ Other) (λ m. not (is_management m)) (g.elsewhere link d)))
           (others-leave read anew more (moved-each (λ x. read x ≡ Other) is_management (g.elsewhere link d))))
-          (goes-same read between after (sym same));
+          (goes-same (reading c.own z.own j.base) between after (sym same));
       good = λ g.
           done-good arrived arrived more (anew ++ more) stay g.arrived
           (each-behind Sent anew more (moved-each Sent is_management (g.queued link)) g.loose)
           awaits l g;
     }
       where
-        holds-past : (procedure : ends.Procedure) (flow : Flow) → holds_of c z (set c z j) done.parts procedure flow ≡ holds_of c z (set c z j) n.parts procedure flow
+        holds-past : (procedure : ends.Procedure) (flow : Flow) → holds_of c j.base.there (set c z j) done.parts procedure flow ≡ holds_of c j.base.there (set c z j) n.parts procedure flow
         holds-past procedure flow =
             holds-by c z j done.parts procedure flow
-            ∙ ap (λ (b : Bool). nat_eq flow.point z.own && b)
+            ∙ ap (λ (b : Bool). nat_eq flow.point j.base.there && b)
             (others-hold n.parts.holds link procedure flow.sls (λ code e same. d (at-line c j.near_well (set c z j) link code l same).of_set))
             ∙ sym (holds-by c z j n.parts procedure flow)
 
@@ -330,14 +334,17 @@ module _ (c z : Configuration) (j : Joint c z) where
     pub concluded-beyond : IsBase j.base.near (counts_of n.parts) → nat_lt j.base.near.lost (concluded_at None).parts.times_lost ≡ true
     concluded-beyond h = beyond-lost j.base.near (counts_of lost_then) (counts_of (concluded_at None).parts) j.grows refl (still-counted h)
 
-    pub lost-good : (arrived rest before next : List Message) → StaysFit c n (concluded_at None) → (Good c z j (at c z j w n arrived before) → Each (IsSent z c j.shares.far_set) rest)
+    pub lost-good : (arrived rest before next : List Message) → StaysFit c n (concluded_at None) → (Good c z j (at c z j w n arrived before) → Each (IsSent z c j.base.back j.shares.far_set) rest)
         → (Good c z j (at c z j w n arrived before) → Each Sent next) → (s.awaited ≡ true → (changeover_of n.parts link).awaited ≡ true) → link < length c.links
         → Good c z j (at c z j w n arrived before) → Good c z j (at c z j w (concluded_at None) rest next)
     lost-good arrived rest before next stay r m awaits l g =
         let noted : IsNoted ended lost_then = losses-noted (users_of (completion.in_doubt q None)) ended in
         record {
           fits = stay.stay g.fits;
-          route = ap (λ (rs : List (List Route)). slice_index_or rs j.destination []) noted.routes ∙ g.route;
+          route = record {
+            beyond = ap (λ (rs : List (List Route)). slice_index_or rs j.destination []) noted.routes ∙ g.route.beyond;
+            between = ap (λ (rs : List (List Route)). slice_index_or rs j.adjacent []) noted.routes ∙ g.route.between;
+          };
           unawaited = λ other up.
               ap (λ (xs : List Standing). (standing_at xs other).awaited) noted.changeovers
               ∙ done-awaits w n link q.sent s t g.fits awaits l g.unawaited other (ap (λ (xs : List Link). is_down (link_in xs other).alignment) (sym noted.links) ∙ up);
@@ -355,27 +362,27 @@ module _ (c z : Configuration) (j : Joint c z) where
     anew-sent each = moved-each w n link q.sent s t Sent is_management each
 
     -- an order completes the changeover by this count
-    pub by_order : (count : Option ℕ) (m : Message) (rest : List Message) (number : ℕ) (reply : Message) → set_of c link ≡ set c z j → named_count q number ≡ count → read m ≡ Order (code_of c link) number
+    pub by_order : (count : Option ℕ) (m : Message) (rest : List Message) (number : ℕ) (reply : Message) → set_of c link ≡ set c z j → named_count q number ≡ count → heard m ≡ Order (code_of c link) number
         → link < length c.links → (changeover_of n.parts link).incomplete ≡ true → s.incomplete ≡ false → s.awaited ≡ (changeover_of n.parts link).awaited
         → read reply ≡ Answer (code_of c link) (last_accepted q) → Sent reply → StaysFit c n (concluded_at count)
         → Passes c z j (at c z j w n (m ∷ rest) []) (at c z j w (concluded_at count) rest (managements_of (behind q count) ++ reply ∷ []))
     by_order (Some count) m rest number reply its named says l incomplete complete same answers sent stay =
         completing w n link count s (clear_timer (T1 link) t) m rest number reply its says l incomplete complete same named answers sent stay
     by_order None m rest number reply its named says l incomplete complete same answers sent stay = record {
-      goes = λ g. goes-lost read _ _ (concluded-beyond g.counted);
+      goes = λ g. goes-lost (reading c.own z.own j.base) _ _ (concluded-beyond g.counted);
       good = λ g. lost-good (m ∷ rest) rest [] (managements_of (behind q None) ++ reply ∷ []) stay (λ h. h.arrived.1)
           (λ h. each-behind Sent (managements_of (behind q None)) (reply ∷ []) (anew-sent (h.queued link)) (sent, tt))
           (λ e. sym same ∙ e) l g;
     }
 
     -- and an answer does
-    pub by_answer : (count : Option ℕ) (m : Message) (rest : List Message) (number : ℕ) → set_of c link ≡ set c z j → named_count q number ≡ count → read m ≡ Answer (code_of c link) number
+    pub by_answer : (count : Option ℕ) (m : Message) (rest : List Message) (number : ℕ) → set_of c link ≡ set c z j → named_count q number ≡ count → heard m ≡ Answer (code_of c link) number
         → link < length c.links → (changeover_of n.parts link).incomplete ≡ true → (changeover_of n.parts link).awaited ≡ true → s.incomplete ≡ false → s.awaited ≡ false
         → StaysFit c n (concluded_at count) → Passes c z j (at c z j w n (m ∷ rest) []) (at c z j w (concluded_at count) rest (managements_of (behind q count) ++ []))
     by_answer (Some count) m rest number its named says l incomplete awaited complete over stay =
         ending w n link count s (clear_timer (T1 link) t) m rest number its says l incomplete awaited complete over named stay
     by_answer None m rest number its named says l incomplete awaited complete over stay = record {
-      goes = λ g. goes-lost read _ _ (concluded-beyond g.counted);
+      goes = λ g. goes-lost (reading c.own z.own j.base) _ _ (concluded-beyond g.counted);
       good = λ g. lost-good (m ∷ rest) rest [] (managements_of (behind q None) ++ []) stay (λ h. h.arrived.1)
           (λ h. each-behind Sent (managements_of (behind q None)) [] (anew-sent (h.queued link)) tt) (λ e. awaited) l g;
     }
@@ -385,7 +392,7 @@ module _ (c z : Configuration) (j : Joint c z) where
         → StaysFit c n (concluded_at count) → Passes c z j (at c z j w n arrived more) (at c z j w (concluded_at count) arrived (managements_of (behind q count) ++ more))
     by_any-elsewhere (Some count) arrived more d l awaits stay = finishing-elsewhere w n link count s (clear_timer (T1 link) t) arrived more d l awaits stay
     by_any-elsewhere None arrived more d l awaits stay = record {
-      goes = λ g. goes-lost read _ _ (concluded-beyond g.counted);
+      goes = λ g. goes-lost (reading c.own z.own j.base) _ _ (concluded-beyond g.counted);
       good = λ g. lost-good arrived arrived more (managements_of (behind q None) ++ more) stay (λ h. h.arrived)
           (λ h. each-behind Sent (managements_of (behind q None)) more (anew-sent (h.queued link)) h.loose) awaits l g;
     }

@@ -26,16 +26,26 @@ pub record Base : Type 0 where
   -- the codes of the set between the two that awaited their answers then, and do so for good
   pub near_given_up : ℕ → Bool
   pub far_given_up : ℕ → Bool
+  -- the points for which the user messages are that go from the near node to the far one, and that come back
+  pub there : ℕ
+  pub back : ℕ
 
 -- as the far node sees it
 abbrev pub turned_base : Base → Base
-turned_base b = record { near = b.far; far = b.near; near_given_up = b.far_given_up; far_given_up = b.near_given_up }
+turned_base b = record { near = b.far; far = b.near; near_given_up = b.far_given_up; far_given_up = b.near_given_up; there = b.back; back = b.there }
 
 abbrev pub no_counts : Counts
 no_counts = record { lost = 0; late = 0 }
 
-abbrev pub no_base : Base
-no_base = record { near = no_counts; far = no_counts; near_given_up = λ code. false; far_given_up = λ code. false }
+abbrev pub no_base : (there back : ℕ) → Base
+no_base there back = record {
+  near = no_counts;
+  far = no_counts;
+  near_given_up = λ code. false;
+  far_given_up = λ code. false;
+  there = there;
+  back = back;
+}
 
 -- ---- what goes beyond a base
 

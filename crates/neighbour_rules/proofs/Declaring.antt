@@ -22,7 +22,7 @@ use Rattle.pair_rules.proofs.Good.{Each, each-behind}
 use Rattle.pair_rules.proofs.Going.{goes-one, goes-same}
 use Rattle.pair_rules.proofs.Lines.{queue-here, queue-other, served-listed}
 use Rattle.pair_rules.proofs.Routes.{and-true, lt-true}
-use Rattle.neighbour_rules.proofs.World.{code_of, holds_of, line_of, procedure_of, says_of, shown_by}
+use Rattle.neighbour_rules.proofs.World.{code_of, holds_of, line_of, procedure_of, reading, says_of, shown_by}
 use Rattle.neighbour_rules.proofs.Good.{Good, IsMade, IsSent, Joint, Passes, at, declares, made, passes-both, passes-good, passes-none, set}
 use Rattle.neighbour_rules.proofs.Lines.{at-line, becomes, own-line}
 use Rattle.neighbour_rules.proofs.Made.{adjacent-fits, made-brief, past-other, word-made, word-says}
@@ -36,7 +36,7 @@ use Rattle.pair_moves.specs.Sayings.{Other}
 
 module _ (c z : Configuration) (j : Joint c z) where
   abbrev read : Message → Saying
-  read = says_of c.own z.own
+  read = says_of c.own z.own j.base.there
 
   -- ---- the link that entered is one of the two
 
@@ -56,15 +56,15 @@ module _ (c z : Configuration) (j : Joint c z) where
         → PassesBy c z j (by_turn other) (by_turn (suc other)) (mid n) (mid (given_by None other n))
     by-time other n a e = record {
       goes = λ g.
-          let mine : procedure_of c z (set c z j) (ends.Time (code_of c link)) ≡ held_by.Time link = ap held_by.Time (own-line c j.near_well (set c z j) link i.there its) in
-          goes-one read _ _
+          let mine : procedure_of c j.base.there (set c z j) (ends.Time (code_of c link)) ≡ held_by.Time link = ap held_by.Time (own-line c j.near_well (set c z j) link i.there its) in
+          goes-one (reading c.own z.own j.base) _ _
           (moves.waits_for_time (record {
             former = code_of c other;
             link = code_of c link;
             route = by_turn (suc other);
-            holds = holds_of c z (set c z j) (given_by None other n).parts;
+            holds = holds_of c j.base.there (set c z j) (given_by None other n).parts;
             added = adds c z j link p first i n.parts (given_by None other n).parts (held_by.Time link) (ends.Time (code_of c link)) other refl (λ one d. apart-time c z j link one i.there d);
-            leaves = stays-or-held c z j link p first i other (mid n) (ends.Time (code_of c link)) (holds_of c z (set c z j) (given_by None other n).parts)
+            leaves = stays-or-held c z j link p first i other (mid n) (ends.Time (code_of c link)) (holds_of c j.base.there (set c z j) (given_by None other n).parts)
                 (λ flow l.
                 leaver-held c z j link p first i n.parts (given_by None other n).parts (held_by.Time link) (ends.Time (code_of c link)) other flow refl mine l
                 (time-there c z j link p first i n g.fits) (destination-there c z j link p first i n g.fits));
@@ -100,7 +100,7 @@ module _ (c z : Configuration) (j : Joint c z) where
     said : (code : ℕ) → code < 16 → read (declaration c link code) ≡ Declaration code
     said code few = ap read (for-other code) ∙ word-says c z j (word code) (fits-word code few)
 
-    sent : (code : ℕ) → code < 16 → IsSent c z (set c z j) (declaration c link code)
+    sent : (code : ℕ) → code < 16 → IsSent c z j.base.there (set c z j) (declaration c link code)
     sent code few =
         made (subst (IsMade c z (set c z j)) (sym (for-other code))
         (word-made c z j (word code) (fits-word code few) (declares (code_of c link) code (code-fits c j.near_well link) (omega (arith, few)))))
@@ -121,21 +121,21 @@ module _ (c z : Configuration) (j : Joint c z) where
         ap (λ (k : ℕ). is_outstanding (with_code n.parts.codes (set_of c link) code true) k code) (sym its)
         ∙ outstanding-own n.parts.codes (set_of c link) code (codes-there n.parts.codes (set_of c link) code u.there) u.there
 
-    apart-its : (code : ℕ) (one : ends.Procedure) → one ≢ ends.Code code → procedure_of c z (set c z j) one ≢ held_by.Code (set_of c link) code
+    apart-its : (code : ℕ) (one : ends.Procedure) → one ≢ ends.Code code → procedure_of c j.base.there (set c z j) one ≢ held_by.Code (set_of c link) code
     apart-its code one d e = apart-code c z j code one d (e ∙ ap (λ (k : ℕ). held_by.Code k code) its)
 
     -- and holds what leaves
     holds-now : (n : Node WholeQueues) (other code : ℕ) → Fits c n → code < 16 → (flow : Flow) → Leaves c z j p first.parts link other flow
-        → holds_of c z (set c z j) (given_by (Some code) other n).parts (ends.Code code) flow ≡ true
+        → holds_of c j.base.there (set c z j) (given_by (Some code) other n).parts (ends.Code code) flow ≡ true
     holds-now n other code f few flow l =
         leaver-held c z j link p first i n.parts (given_by (Some code) other n).parts (held_by.Code (set_of c link) code) (ends.Code code) other flow refl
         (ap (λ (k : ℕ). held_by.Code k code) (sym its)) l (code-there n code f few) (destination-there c z j link p first i n f)
 
-    declared-still : (n : Node WholeQueues) (other code : ℕ) → ((k : ℕ) → Each (IsSent c z (set c z j)) (queue_at n.queues k).all) → IsSent c z (set c z j) (declaration c link code)
-        → (k : ℕ) → Each (IsSent c z (set c z j)) (queue_at (given_by (Some code) other n).queues k).all
+    declared-still : (n : Node WholeQueues) (other code : ℕ) → ((k : ℕ) → Each (IsSent c z j.base.there (set c z j)) (queue_at n.queues k).all) → IsSent c z j.base.there (set c z j) (declaration c link code)
+        → (k : ℕ) → Each (IsSent c z j.base.there (set c z j)) (queue_at (given_by (Some code) other n).queues k).all
     declared-still n other code each b k =
-        each-set (λ (q : Queue). Each (IsSent c z (set c z j)) q.all) n.queues.links other k (appended (queue_at n.queues other) (declaration c link code)) first_queue each
-        (each-behind (IsSent c z (set c z j)) (queue_at n.queues other).all (declaration c link code ∷ []) (each other) (b, tt))
+        each-set (λ (q : Queue). Each (IsSent c z j.base.there (set c z j)) q.all) n.queues.links other k (appended (queue_at n.queues other) (declaration c link code)) first_queue each
+        (each-behind (IsSent c z j.base.there (set c z j)) (queue_at n.queues other).all (declaration c link code ∷ []) (each other) (b, tt))
 
     by-code : (other code : ℕ) (n : Node WholeQueues) → IsAlike whole c n first → loses_flows c (facts c p) (facts c first.parts) other link ≡ true
         → IsUsable c (facts c p) (facts c first.parts) link first other code n
@@ -147,7 +147,7 @@ module _ (c z : Configuration) (j : Joint c z) where
           let serves : in_service n.parts other ≡ true = loser-serves c link p first i n other a e in
           let l : other < length c.links = served-listed c z n other g.fits serves in
           let mine : own c z j (code_of c other) ≡ other = own-line c j.near_well (set c z j) other l (u.same ∙ its) in
-          goes-one read _ _
+          goes-one (reading c.own z.own j.base) _ _
           (moves.declares (record {
             former = code_of c other;
             serving = ap (λ (k : ℕ). in_service n.parts k) mine ∙ serves;
@@ -159,9 +159,9 @@ module _ (c z : Configuration) (j : Joint c z) where
             used = used-now n other code u;
             others = λ k apart. outstanding-other n.parts.codes (set_of c link) code (set c z j) k (λ s f. apart f);
             route = by_turn (suc other);
-            holds = holds_of c z (set c z j) (given_by (Some code) other n).parts;
+            holds = holds_of c j.base.there (set c z j) (given_by (Some code) other n).parts;
             added = adds c z j link p first i n.parts (given_by (Some code) other n).parts (held_by.Code (set_of c link) code) (ends.Code code) other refl (apart-its code);
-            leaves = stays-or-held c z j link p first i other (mid n) (ends.Code code) (holds_of c z (set c z j) (given_by (Some code) other n).parts) (holds-now n other code g.fits few);
+            leaves = stays-or-held c z j link p first i other (mid n) (ends.Code code) (holds_of c j.base.there (set c z j) (given_by (Some code) other n).parts) (holds-now n other code g.fits few);
             lines = line_of c z (set c z j) j.shares.far_set (mid (given_by (Some code) other n));
             set = becomes c z j (mid n) (given_by (Some code) other n) arrived [] (by_turn other) other
                 (record (end_of n (own c z j (code_of c other))) { queue = appended (queue_at n.queues (own c z j (code_of c other))) (declaration c link code) }) l (u.same ∙ its)
@@ -212,7 +212,7 @@ module _ (c z : Configuration) (j : Joint c z) where
           (λ (same : by_turn (suc other) flow ≡ by_turn other flow). sym same)
           (λ (l : Leaves c z j p first.parts link other flow). absurd (none-leaves other e flow l))
           (turn-of c z j p first.parts link other flow i.known)) in
-          goes-same read _ _ (ap (λ (r : Flow → Option ℕ). shown_by c z (set c z j) j.shares.far_set j.base r (mid n)) stay);
+          goes-same (reading c.own z.own j.base) _ _ (ap (λ (r : Flow → Option ℕ). shown_by c z (set c z j) j.shares.far_set j.base r (mid n)) stay);
       good = λ g. g;
     }
 
@@ -235,7 +235,7 @@ module _ (c z : Configuration) (j : Joint c z) where
     its_given code other n = given c link p first i code other n
 
     -- neither its time nor a code of its set is shown
-    time-aside : (one : ends.Procedure) → procedure_of c z (set c z j) one ≢ held_by.Time link
+    time-aside : (one : ends.Procedure) → procedure_of c j.base.there (set c z j) one ≢ held_by.Time link
     time-aside (ends.Changeover k) e = absurd cc
     time-aside (ends.Code code) e = absurd cc
     time-aside (ends.Time k) e =
@@ -243,7 +243,7 @@ module _ (c z : Configuration) (j : Joint c z) where
         d (at-line c j.near_well (set c z j) link k i.there same).of_set
 
     -- holds begin that aren't shown
-    holding-aside : (n : Node WholeQueues) (procedure : Procedure) (timers : Running) (test : (destination sls : ℕ) → Bool) → ((one : ends.Procedure) → procedure_of c z (set c z j) one ≢ procedure)
+    holding-aside : (n : Node WholeQueues) (procedure : Procedure) (timers : Running) (test : (destination sls : ℕ) → Bool) → ((one : ends.Procedure) → procedure_of c j.base.there (set c z j) one ≢ procedure)
         → StaysFit c n (with_parts n (record n.parts { holds = with_flows n.parts.holds procedure test; timers = timers }))
         → Passes c z j (its_mid n) (its_mid (with_parts n (record n.parts { holds = with_flows n.parts.holds procedure test; timers = timers })))
     holding-aside n procedure timers test aside stay = unseen-passes c z j n _ (record {
@@ -251,7 +251,7 @@ module _ (c z : Configuration) (j : Joint c z) where
       queues = refl;
       alignments = λ code. refl;
       standings = λ code. refl;
-      holds = λ one sls. flows_leave n.parts.holds procedure (procedure_of c z (set c z j) one) test j.destination sls (aside one);
+      holds = λ one sls. flows_leave n.parts.holds procedure (procedure_of c j.base.there (set c z j) one) test j.destination sls (aside one);
       codes = λ code. refl;
       lost = refl;
       late = refl;

@@ -7,7 +7,7 @@ use Rattle.signalling_types.specs.declared.outcome.Outcome.TheVariants.{Ignored}
 use Rattle.settings_rows.specs.Configuration.{Configuration}
 use Rattle.m2pa_codec.specs.Frames.{FrameValue, EmptyFrame, MessageFrame, StatusFrame, read_frame}
 use Rattle.link.specs.Queue.{count_confirmed}
-use Rattle.link.specs.Table.{action_at}
+use Rattle.node_links.specs.NodeLinks.{acts_on}
 use Rattle.link.specs.declared.action.Action.{Action}
 use Rattle.link.specs.declared.action.Action.TheVariants as act
 use Rattle.link.specs.declared.action.Input.TheVariants.{UserData}
@@ -35,9 +35,9 @@ module _ (c : Configuration) (link : ℕ) (m : Message) where
 
   by-read : (r : Result FrameValue FrameFault) (n : Node WholeQueues) → new_of r link c n ≡ Some m
       → read whole c link r n ≡ deliver whole c link m (accept_text link r (record { settings = c; node = n }))
-  by-read (Ok (EmptyFrame bsn fsn)) n e = by-action (action_at (link_at n.parts link).alignment UserData) (empty_data bsn fsn) n e
+  by-read (Ok (EmptyFrame bsn fsn)) n e = by-action (acts_on (link_at n.parts link) UserData) (empty_data bsn fsn) n e
   by-read (Ok (MessageFrame bsn fsn sio sif)) n e =
-      by-action (action_at (link_at n.parts link).alignment UserData) (message_data bsn fsn sio sif) n e
+      by-action (acts_on (link_at n.parts link) UserData) (message_data bsn fsn sio sif) n e
   by-read (Ok (StatusFrame bsn fsn status)) n e = absurd cc
   by-read (Err fault) n e = absurd cc
 

@@ -1,7 +1,7 @@
 -- User Data is handed in, the next that is in flight on a link between the two, or by a link that leads elsewhere: by
 -- moves.
 use Rattle.pair_rules.proofs.Basics.{slice_index_or, inl, ◌≡◌, ◌≢◌, ◌<◌, ℕ, Bool, true, false, not, List, [], ◌∷◌, length, Some, Result, Ok, Err, refl, ap, sym, subst, ◌∙◌, option_to_list}
-use Rattle.pair_rules.proofs.Definitions.{Message, Flow, FailureReason, Configuration, FrameValue, EmptyFrame, MessageFrame, Alignment, Down, NotAligned, Aligned, Proving, AlignedReady, InService, Action, UserData, action_at, SeqFault, Link, after_failure, down_link, is_down, is_in_service, Node, with_parts, down, in_service, link_at, set_of, WholeQueues, whole, fail, Carrying, accept, act_by_data, empty_data, handle_by, message_data, numbers, owing, new_by, new_at, advance, Fits, fit-steps, alike-at, confirming, owing-steps, fail-links, advance-serves, data-serves, all_wait, brought_by, accept_data, count_confirmed, Saying, Pair}
+use Rattle.pair_rules.proofs.Definitions.{Period, Message, Flow, FailureReason, Configuration, FrameValue, EmptyFrame, MessageFrame, Alignment, Down, NotAligned, Aligned, Proving, AlignedReady, InService, Action, UserData, action_at, acts_on, SeqFault, Link, after_failure, down_link, is_down, is_in_service, Node, with_parts, down, in_service, link_at, set_of, WholeQueues, whole, fail, Carrying, accept, act_by_data, empty_data, handle_by, message_data, numbers, owing, new_by, new_at, advance, Fits, fit-steps, alike-at, confirming, owing-steps, fail-links, advance-serves, data-serves, all_wait, brought_by, accept_data, count_confirmed, Saying, Pair}
 use Rattle.exchange_rules.proofs.Rules.{rules-of}
 use Rattle.exchange_rules.proofs.SteppingLinks.{advance-steps}
 use Rattle.std.specs.Prelude.{map}
@@ -15,7 +15,8 @@ use Rattle.pair_rules.proofs.Good.{Each}
 use Rattle.pair_rules.proofs.Going.{goes-one}
 use Rattle.pair_rules.proofs.Deliveries.{serving-up}
 use Rattle.pair_rules.proofs.Lines.{link-here}
-use Rattle.neighbour_rules.proofs.World.{code_of, is_between, line_of, says_of, shown}
+use Rattle.neighbour_rules.proofs.Untold.{IsUntoldBy}
+use Rattle.neighbour_rules.proofs.World.{code_of, is_between, line_of, reading, says_of, shown}
 use Rattle.neighbour_rules.proofs.Good.{IsFlying, IsSent, Joint, Passes, at, carrying, passes-both, passes-good, set}
 use Rattle.neighbour_rules.proofs.Adjacents.{KnowsPoints, points-steps, still-knows}
 use Rattle.neighbour_rules.proofs.Bound.{AreBound, bound-steps}
@@ -31,14 +32,14 @@ use Rattle.neighbour_rules.proofs.Returns.{advance-elsewhere, advance-passes}
 -- ---- what the table of the alignment says
 
 -- a link that is up acts about User Data
-data-acts : (a : Alignment) → is_down a ≡ false → action_at a UserData ≡ act.Ignored → false ≡ true
-data-acts Down e f = sym e
-data-acts NotAligned e f = absurd cc
-data-acts Aligned e f = absurd cc
-data-acts (Proving true) e f = absurd cc
-data-acts (Proving false) e f = absurd cc
-data-acts AlignedReady e f = absurd cc
-data-acts InService e f = absurd cc
+data-acts : (period : Period) (a : Alignment) → is_down a ≡ false → action_at period a UserData ≡ act.Ignored → false ≡ true
+data-acts period Down e f = sym e
+data-acts period NotAligned e f = absurd cc
+data-acts period Aligned e f = absurd cc
+data-acts period (Proving true) e f = absurd cc
+data-acts period (Proving false) e f = absurd cc
+data-acts period AlignedReady e f = absurd cc
+data-acts period InService e f = absurd cc
 
 -- a link that has to acknowledge serves as before
 serves-owing : (link : ℕ) (m : Message) (n : Node WholeQueues) → in_service n.parts link ≡ true → in_service (owing link (Some m) n.parts) link ≡ true
@@ -47,7 +48,7 @@ serves-owing link m n serves =
 
 module _ (c z : Configuration) (j : Joint c z) where
   abbrev read : Message → Saying
-  read = says_of c.own z.own
+  read = says_of c.own z.own j.base.there
 
   abbrev view : World → Pair
   view w = shown c z (set c z j) j.shares.far_set j.base w
@@ -73,7 +74,7 @@ module _ (c z : Configuration) (j : Joint c z) where
       let b : AreBound c (confirming c link d confirmed n) = ((bound-steps c knows.well).accepted link d confirmed n tt serves e).stay knows.bound in
       record { well = knows.well; bound = record { held = b.held; queued = b.queued }; adjacents = knows.adjacents }
 
-  next-knows : (link : ℕ) (step : _) (n : Node WholeQueues) → action_at (link_at n.parts link).alignment UserData ≡ act.Go step → KnowsPoints c n → KnowsPoints c (advance whole c link step n)
+  next-knows : (link : ℕ) (step : _) (n : Node WholeQueues) → acts_on (link_at n.parts link) UserData ≡ act.Go step → KnowsPoints c n → KnowsPoints c (advance whole c link step n)
   next-knows link step n e knows =
       still-knows c n (advance whole c link step n) (advance-steps (rules-of (points-steps c)) link UserData step n tt e)
       (advance-steps (rules-of (bound-steps c knows.well)) link UserData step n tt e) knows
@@ -98,7 +99,7 @@ module _ (c z : Configuration) (j : Joint c z) where
       goes = λ g.
           let o : Node WholeQueues = confirming c link (empty_data bsn fsn) confirmed n in
           let after : Pair = view (at c z j (popped c z j w f) o [] []) in
-          goes-one read (view (at c z j w n [] [])) after
+          goes-one (reading c.own z.own j.base) (view (at c z j w n [] [])) after
           (moves.takes_empty (record {
             link = code_of c link;
             fsn = fsn;
@@ -123,16 +124,16 @@ module _ (c z : Configuration) (j : Joint c z) where
         none-brought c z j (at c z j w n [] []) (popped c z j w f) _ [] [] (empty-taken n confirmed serves e)
     empty-handled (Err fault) n serves e = failing-frame w link (EmptyFrame bsn fsn) f p n reasons.Sequence (serving-up (link_at n.parts link).alignment serves)
 
-    pub empty-acted : (a : Action) (n : Node WholeQueues) → action_at (link_at n.parts link).alignment UserData ≡ a → down n.parts link ≡ false
+    pub empty-acted : (a : Action) (n : Node WholeQueues) → acts_on (link_at n.parts link) UserData ≡ a → down n.parts link ≡ false
         → Passes c z j (at c z j w n [] [])
         (at c z j (bringing c z j (popped c z j w f) (option_to_list (new_at a link (empty_data bsn fsn) c n)) (brought_by (new_at a link (empty_data bsn fsn) c n) (act_by_data whole c a link (empty_data bsn fsn) n).outcome c (accept_data a link (empty_data bsn fsn) c n)))
         (act_by_data whole c a link (empty_data bsn fsn) n).left [] [])
-    empty-acted act.Ignored n e up = (let no : false ≡ true = data-acts (link_at n.parts link).alignment up e in absurd cc)
+    empty-acted act.Ignored n e up = (let no : false ≡ true = data-acts (link_at n.parts link).period (link_at n.parts link).alignment up e in absurd cc)
     empty-acted act.Fail n e up = failing-frame w link (EmptyFrame bsn fsn) f p n reasons.Sequence up
     empty-acted (act.Go step) n e up =
         let next : Node WholeQueues = advance whole c link step n in
-        passes-both c z j _ _ _ (advance-passes c z j w n [] link UserData step e (inl (data-heard (link_at n.parts link).alignment step e)))
-        (empty-handled (numbers whole c link (empty_data bsn fsn) next) next (advance-serves c link UserData step n e ∙ data-serves (link_at n.parts link).alignment step e) refl)
+        passes-both c z j _ _ _ (advance-passes c z j w n [] link UserData step e (inl (data-heard (link_at n.parts link).period (link_at n.parts link).alignment step e)))
+        (empty-handled (numbers whole c link (empty_data bsn fsn) next) next (advance-serves c link UserData step n e ∙ data-serves (link_at n.parts link).period (link_at n.parts link).alignment step e) refl)
 
   -- ---- User Data with a message
 
@@ -143,10 +144,10 @@ module _ (c z : Configuration) (j : Joint c z) where
     abbrev d : Carrying
     d = message_data bsn fsn sio sif
 
-    sent : ((other : ℕ) → Each (IsFlying z c j.shares.far_set) (w.to_near.user_data other)) → IsSent z c j.shares.far_set came
-    sent each = by (subst (Each (IsFlying z c j.shares.far_set)) p.first (each link)).0
+    sent : ((other : ℕ) → Each (IsFlying z c j.base.back j.shares.far_set) (w.to_near.user_data other)) → IsSent z c j.base.back j.shares.far_set came
+    sent each = by (subst (Each (IsFlying z c j.base.back j.shares.far_set)) p.first (each link)).0
       where
-        by : IsFlying z c j.shares.far_set (MessageFrame bsn fsn sio sif) → IsSent z c j.shares.far_set came
+        by : IsFlying z c j.base.back j.shares.far_set (MessageFrame bsn fsn sio sif) → IsSent z c j.base.back j.shares.far_set came
         by (carrying b k s t sayable x bound) = x
 
     message-taken : (n : Node WholeQueues) (confirmed : ℕ) → in_service n.parts link ≡ true → numbers whole c link d n ≡ Ok confirmed
@@ -155,7 +156,7 @@ module _ (c z : Configuration) (j : Joint c z) where
       goes = λ g.
           let o : Node WholeQueues = confirming c link d confirmed n in
           let after : Pair = view (at c z j (popped c z j w f) o (came ∷ []) []) in
-          goes-one read (view (at c z j w n [] [])) after
+          goes-one (reading c.own z.own j.base) (view (at c z j w n [] [])) after
           (moves.takes_message (record {
             link = code_of c link;
             fsn = fsn;
@@ -174,28 +175,28 @@ module _ (c z : Configuration) (j : Joint c z) where
     }
 
     message-handled : (r : Result ℕ SeqFault) (n : Node WholeQueues) → in_service n.parts link ≡ true → numbers whole c link d n ≡ r
-        → ((other : ℕ) → Each (IsFlying z c j.shares.far_set) (w.to_near.user_data other)) → all_wait c n.parts.holds n.queues.held ≡ true → KnowsPoints c n
+        → ((other : ℕ) → Each (IsFlying z c j.base.back j.shares.far_set) (w.to_near.user_data other)) → all_wait c n.parts.holds n.queues.held ≡ true → KnowsPoints c n → IsUntoldBy c z j came
         → Passes c z j (at c z j w n [] [])
         (at c z j (bringing c z j (popped c z j w f) (option_to_list (new_by r d)) (brought_by (new_by r d) (handle_by whole c r link d n).outcome c (accept whole c link d (count_confirmed r) n)))
         (handle_by whole c r link d n).left [] [])
-    message-handled (Ok confirmed) n serves e each wait knows =
+    message-handled (Ok confirmed) n serves e each wait knows untold =
         let o : Node WholeQueues = confirming c link d confirmed n in
         passes-both c z j _ _ _ (message-taken n confirmed serves e)
         (passes-both c z j _ _ _ (owed-passes (popped c z j w f) o link came (came ∷ []) (serving-up (link_at n.parts link).alignment serves))
-        (deliver-passes c z j (popped c z j w f) (accept whole c link d confirmed n) link came (serves-owing link came o serves) wait (confirmed-knows d n confirmed came link serves e knows) (sent each)))
-    message-handled (Err fault) n serves e each wait knows = failing-frame w link (MessageFrame bsn fsn sio sif) f p n reasons.Sequence (serving-up (link_at n.parts link).alignment serves)
+        (deliver-passes c z j (popped c z j w f) (accept whole c link d confirmed n) link came (serves-owing link came o serves) wait (confirmed-knows d n confirmed came link serves e knows) (sent each) untold))
+    message-handled (Err fault) n serves e each wait knows untold = failing-frame w link (MessageFrame bsn fsn sio sif) f p n reasons.Sequence (serving-up (link_at n.parts link).alignment serves)
 
-    pub message-acted : (a : Action) (n : Node WholeQueues) → action_at (link_at n.parts link).alignment UserData ≡ a → down n.parts link ≡ false
-        → ((other : ℕ) → Each (IsFlying z c j.shares.far_set) (w.to_near.user_data other)) → all_wait c n.parts.holds n.queues.held ≡ true → KnowsPoints c n
+    pub message-acted : (a : Action) (n : Node WholeQueues) → acts_on (link_at n.parts link) UserData ≡ a → down n.parts link ≡ false
+        → ((other : ℕ) → Each (IsFlying z c j.base.back j.shares.far_set) (w.to_near.user_data other)) → all_wait c n.parts.holds n.queues.held ≡ true → KnowsPoints c n → IsUntoldBy c z j came
         → Passes c z j (at c z j w n [] [])
         (at c z j (bringing c z j (popped c z j w f) (option_to_list (new_at a link d c n)) (brought_by (new_at a link d c n) (act_by_data whole c a link d n).outcome c (accept_data a link d c n)))
         (act_by_data whole c a link d n).left [] [])
-    message-acted act.Ignored n e up each wait knows = (let no : false ≡ true = data-acts (link_at n.parts link).alignment up e in absurd cc)
-    message-acted act.Fail n e up each wait knows = failing-frame w link (MessageFrame bsn fsn sio sif) f p n reasons.Sequence up
-    message-acted (act.Go step) n e up each wait knows =
+    message-acted act.Ignored n e up each wait knows untold = (let no : false ≡ true = data-acts (link_at n.parts link).period (link_at n.parts link).alignment up e in absurd cc)
+    message-acted act.Fail n e up each wait knows untold = failing-frame w link (MessageFrame bsn fsn sio sif) f p n reasons.Sequence up
+    message-acted (act.Go step) n e up each wait knows untold =
         let next : Node WholeQueues = advance whole c link step n in
-        passes-both c z j _ _ _ (advance-passes c z j w n [] link UserData step e (inl (data-heard (link_at n.parts link).alignment step e)))
-        (message-handled (numbers whole c link d next) next (advance-serves c link UserData step n e ∙ data-serves (link_at n.parts link).alignment step e) refl each (advance-waits c link step n wait) (next-knows link step n e knows))
+        passes-both c z j _ _ _ (advance-passes c z j w n [] link UserData step e (inl (data-heard (link_at n.parts link).period (link_at n.parts link).alignment step e)))
+        (message-handled (numbers whole c link d next) next (advance-serves c link UserData step n e ∙ data-serves (link_at n.parts link).period (link_at n.parts link).alignment step e) refl each (advance-waits c link step n wait) (next-knows link step n e knows) untold)
 
   -- ---- by a link that leads elsewhere
 
@@ -215,15 +216,15 @@ module _ (c z : Configuration) (j : Joint c z) where
           passes-both c z j _ _ _ (accepted-elsewhere c z j w n link away x confirmed serves e [] []) (none-accepted c z j w (confirming c link x confirmed n))
       empty-past (Err fault) n serves e = failing-away n reasons.Sequence (serving-up (link_at n.parts link).alignment serves)
 
-      pub empty-away : (a : Action) (n : Node WholeQueues) → action_at (link_at n.parts link).alignment UserData ≡ a → down n.parts link ≡ false
+      pub empty-away : (a : Action) (n : Node WholeQueues) → acts_on (link_at n.parts link) UserData ≡ a → down n.parts link ≡ false
           → Passes c z j (at c z j w n [] [])
           (at c z j (accepting c z j w (brought_by (new_at a link x c n) (act_by_data whole c a link x n).outcome c (accept_data a link x c n))) (act_by_data whole c a link x n).left [] [])
-      empty-away act.Ignored n e up = (let no : false ≡ true = data-acts (link_at n.parts link).alignment up e in absurd cc)
+      empty-away act.Ignored n e up = (let no : false ≡ true = data-acts (link_at n.parts link).period (link_at n.parts link).alignment up e in absurd cc)
       empty-away act.Fail n e up = failing-away n reasons.Sequence up
       empty-away (act.Go step) n e up =
           let next : Node WholeQueues = advance whole c link step n in
           passes-both c z j _ _ _ (advance-elsewhere c z j w n [] link UserData step e away)
-          (empty-past (numbers whole c link x next) next (advance-serves c link UserData step n e ∙ data-serves (link_at n.parts link).alignment step e) refl)
+          (empty-past (numbers whole c link x next) next (advance-serves c link UserData step n e ∙ data-serves (link_at n.parts link).period (link_at n.parts link).alignment step e) refl)
 
     -- with one that isn't management between the two
     module _ (bsn fsn sio : ℕ) (sif : List ℕ) (apart : is_between c.own z.own (record { sio = sio; sif = sif }) ≡ false) where
@@ -243,12 +244,12 @@ module _ (c z : Configuration) (j : Joint c z) where
           (deliver-away c z j w link m (accept whole c link y confirmed n) (serves-owing link m o serves) wait (confirmed-knows y n confirmed m link serves e knows) apart))
       message-past (Err fault) n serves e wait knows = failing-away n reasons.Sequence (serving-up (link_at n.parts link).alignment serves)
 
-      pub message-away : (a : Action) (n : Node WholeQueues) → action_at (link_at n.parts link).alignment UserData ≡ a → down n.parts link ≡ false → all_wait c n.parts.holds n.queues.held ≡ true → KnowsPoints c n
+      pub message-away : (a : Action) (n : Node WholeQueues) → acts_on (link_at n.parts link) UserData ≡ a → down n.parts link ≡ false → all_wait c n.parts.holds n.queues.held ≡ true → KnowsPoints c n
           → Passes c z j (at c z j w n [] [])
           (at c z j (accepting c z j w (brought_by (new_at a link y c n) (act_by_data whole c a link y n).outcome c (accept_data a link y c n))) (act_by_data whole c a link y n).left [] [])
-      message-away act.Ignored n e up wait knows = (let no : false ≡ true = data-acts (link_at n.parts link).alignment up e in absurd cc)
+      message-away act.Ignored n e up wait knows = (let no : false ≡ true = data-acts (link_at n.parts link).period (link_at n.parts link).alignment up e in absurd cc)
       message-away act.Fail n e up wait knows = failing-away n reasons.Sequence up
       message-away (act.Go step) n e up wait knows =
           let next : Node WholeQueues = advance whole c link step n in
           passes-both c z j _ _ _ (advance-elsewhere c z j w n [] link UserData step e away)
-          (message-past (numbers whole c link y next) next (advance-serves c link UserData step n e ∙ data-serves (link_at n.parts link).alignment step e) refl (advance-waits c link step n wait) (next-knows link step n e knows))
+          (message-past (numbers whole c link y next) next (advance-serves c link UserData step n e ∙ data-serves (link_at n.parts link).period (link_at n.parts link).alignment step e) refl (advance-waits c link step n wait) (next-knows link step n e knows))

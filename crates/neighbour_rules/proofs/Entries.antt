@@ -45,5 +45,5 @@ anew-open false c link leads destination p e = e
 
 module _ (c z : Configuration) (j : Joint c z) where
   -- the link of a flow to the other
-  pub link-there : (p : Parts) (flow : Flow) → flow.point ≡ z.own → link_of c p flow ≡ chosen_link (facts c p) j.destination flow.sls
+  pub link-there : (p : Parts) (flow : Flow) → flow.point ≡ j.base.there → link_of c p flow ≡ chosen_link (facts c p) j.destination flow.sls
   link-there p flow e = ap (option_and_then (λ (place : ℕ). chosen_link (facts c p) place flow.sls)) (ap (destination_place c) e ∙ j.place)

@@ -8,7 +8,7 @@ use Rattle.pair_rules.proofs.World.{World}
 use Rattle.pair_rules.proofs.Going.{goes-lost}
 use Rattle.pair_rules.proofs.Lines.{standing-here, standing-other}
 use Rattle.neighbour_rules.proofs.Counted.{IsBase, base-lost, beyond-lost, counts_of, with_loss}
-use Rattle.neighbour_rules.proofs.World.{says_of}
+use Rattle.neighbour_rules.proofs.World.{reading, says_of}
 use Rattle.neighbour_rules.proofs.Good.{Joint, Passes, at, passes-both, passes-good, passes-none}
 use Rattle.neighbour_rules.proofs.Relinked.{noted-passes}
 use Rattle.neighbour_rules.proofs.Completions.{anew-passes, anew-sent, concluded-beyond, concluded_at, found_by, lost-good}
@@ -32,7 +32,7 @@ module _ (c z : Configuration) (j : Joint c z) where
         passes-both c z j _ _ _
         (subst (λ (loose : List Message). Passes c z j (at c z j w n [] []) (at c z j w (concluded_at c z j w n link s n.parts.timers None) [] loose)) (sym (append-nil ms))
         (record {
-          goes = λ g. goes-lost (says_of c.own z.own) _ _ (concluded-beyond c z j w n link s n.parts.timers g.counted);
+          goes = λ g. goes-lost (reading c.own z.own j.base) _ _ (concluded-beyond c z j w n link s n.parts.timers g.counted);
           good = λ g. lost-good c z j w n link s n.parts.timers [] [] [] ms concluded-fits (λ h. tt) (λ h. anew-sent c z j w n link s n.parts.timers (h.queued link)) awaits (listed n link g.fits there) g;
         }))
         (anew-passes c z j (behind q None) w (concluded_at c z j w n link s n.parts.timers None) [] [])
@@ -56,7 +56,7 @@ module _ (c z : Configuration) (j : Joint c z) where
       → Passes c z j (at c z j w n [] []) (at c z j w (complete_if whole c b link None (with_parts n (with_changeover link (acknowledged (changeover_of n.parts link)) n.parts))) [] [])
   t2-ends true w n link e there lost = ends-lost w n link (acknowledged (changeover_of n.parts link)) (λ h. absurd cc) there e refl
   t2-ends false w n link e there lost = record {
-    goes = λ g. goes-lost (says_of c.own z.own) _ _ lost;
+    goes = λ g. goes-lost (reading c.own z.own j.base) _ _ lost;
     good = λ g. record {
       fits = ((fit-steps c).answered link over n e refl (λ a. absurd cc)).stay g.fits;
       route = g.route;
@@ -88,7 +88,7 @@ module _ (c z : Configuration) (j : Joint c z) where
       → Passes c z j (at c z j w n [] [])
       (at c z j w (with_parts n (record n.parts { notices = (with_expiry timer.T2 link n.parts).notices; times_lost = (with_expiry timer.T2 link n.parts).times_lost })) [] [])
   flagging w n link = record {
-    goes = λ g. goes-lost (says_of c.own z.own) _ _ (flagged-beyond n g.counted);
+    goes = λ g. goes-lost (reading c.own z.own j.base) _ _ (flagged-beyond n g.counted);
     good = λ g. record {
       fits = ((fit-steps c).both _ _ _ ((fit-steps c).lost n) ((fit-steps c).noted (notices.Expired timer.T2 link) (with_parts n (flagged n.parts)) (record { other = refl; lost = λ f. refl; late = λ f. absurd cc }))).stay g.fits;
       route = g.route;

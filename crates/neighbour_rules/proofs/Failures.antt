@@ -12,7 +12,7 @@ use Rattle.pair_rules.proofs.Good.{IsSilent}
 use Rattle.pair_rules.proofs.Going.{goes-one}
 use Rattle.pair_rules.proofs.Lines.{end_by, end-by, link-here, link-other, up-listed}
 use Rattle.pair_rules.proofs.Routes.{failed-facts}
-use Rattle.neighbour_rules.proofs.World.{code_of, holds_of, line_of, route_of, says_of, shown}
+use Rattle.neighbour_rules.proofs.World.{code_of, holds_of, line_of, reading, route_of, says_of, shown}
 use Rattle.neighbour_rules.proofs.Good.{Joint, Passes, at, passes-both, passes-good, set}
 use Rattle.neighbour_rules.proofs.Lines.{becomes, own-line}
 use Rattle.neighbour_rules.proofs.Made.{made-brief, adjacent-fits, past-other}
@@ -131,7 +131,7 @@ module _ (c z : Configuration) (j : Joint c z) where
     dropped-silent : ((other : ℕ) → IsSilent (link_at n.parts other)) → (other : ℕ) → IsSilent (link_at lost.parts other)
     dropped-silent h other = each-set (λ (x : Link). IsSilent x) n.parts.links link other (after_failure (link_at n.parts link)) down_link h (λ d. (refl, refl))
 
-    same-holds : (procedure : ends.Procedure) (flow : Flow) → holds_of c z (set c z j) lost.parts procedure flow ≡ holds_of c z (set c z j) n.parts procedure flow
+    same-holds : (procedure : ends.Procedure) (flow : Flow) → holds_of c j.base.there (set c z j) lost.parts procedure flow ≡ holds_of c j.base.there (set c z j) n.parts procedure flow
     same-holds procedure flow = ap (λ (h : ends.Procedure → Flow → Bool). h procedure flow) (holds-alike c z j n.parts lost.parts refl)
 
     dropped : set_of c link ≡ set c z j → Passes c z j (at c z j w n arrived []) (at c z j w lost arrived [])
@@ -139,12 +139,12 @@ module _ (c z : Configuration) (j : Joint c z) where
       goes = λ g.
           let l : link < length c.links = up-listed c z n link g.fits up in
           let mine : own c z j (code_of c link) ≡ link = own-line c j.near_well (set c z j) link l its in
-          goes-one (says_of c.own z.own) (shown c z (set c z j) j.shares.far_set j.base (at c z j w n arrived [])) (shown c z (set c z j) j.shares.far_set j.base (at c z j w lost arrived []))
+          goes-one (reading c.own z.own j.base) (shown c z (set c z j) j.shares.far_set j.base (at c z j w n arrived [])) (shown c z (set c z j) j.shares.far_set j.base (at c z j w lost arrived []))
           (moves.falls (record {
             link = code_of c link;
             up = ap (λ (k : ℕ). not (down n.parts k)) mine ∙ ap not up;
-            route = route_of c z (set c z j) lost.parts;
-            holds = holds_of c z (set c z j) lost.parts;
+            route = route_of c j.base.there (set c z j) lost.parts;
+            holds = holds_of c j.base.there (set c z j) lost.parts;
             suspends = record {
               others = λ flow other d f. route-stays c z j n.parts lost.parts link other flow (failed-facts c link n.parts lost.parts.links refl) d f;
               kept = λ procedure flow f. same-holds procedure flow ∙ f;
@@ -152,7 +152,7 @@ module _ (c z : Configuration) (j : Joint c z) where
               held = λ flow serving f. (let no : true ≡ false = sym serving ∙ ap (λ (k : ℕ). in_service n.parts k) mine ∙ out in absurd cc);
             };
             lines = line_of c z (set c z j) j.shares.far_set (at c z j w lost arrived []);
-            set = becomes c z j (at c z j w n arrived []) lost arrived [] (route_of c z (set c z j) n.parts) link
+            set = becomes c z j (at c z j w n arrived []) lost arrived [] (route_of c j.base.there (set c z j) n.parts) link
                 (with_failure (line_of c z (set c z j) j.shares.far_set (at c z j w n arrived []) (code_of c link)) (changeover_of n.parts (own c z j (code_of c link))).awaited).near l its
                 (dropped-here g.fits l its
                 ∙ ap (λ (k : ℕ). (with_failure (line_of c z (set c z j) j.shares.far_set (at c z j w n arrived []) (code_of c link)) (changeover_of n.parts k).awaited).near) (sym mine))

@@ -12,7 +12,7 @@ use Rattle.pair_rules.proofs.Going.{goes-one}
 use Rattle.pair_rules.proofs.Lines.{end_by, end-by, link-here, link-other, standing-here, standing-other, up-listed}
 use Rattle.pair_rules.proofs.Routes.{and-more, and-true, eq-self, failed-facts, lt-true, or-first, or-true}
 use Rattle.exchange_rules.proofs.SharingNodes.{shared-peer}
-use Rattle.neighbour_rules.proofs.World.{code_of, holds_at, holds_of, line_of, procedure_of, route_of, says_of, shown}
+use Rattle.neighbour_rules.proofs.World.{code_of, holds_at, holds_of, line_of, procedure_of, reading, route_of, says_of, shown}
 use Rattle.neighbour_rules.proofs.Good.{Good, IsMade, IsSent, Joint, Passes, at, made, orders, set}
 use Rattle.neighbour_rules.proofs.Lines.{at-line, becomes, own-line}
 use Rattle.neighbour_rules.proofs.Made.{word-made, word-says}
@@ -22,17 +22,17 @@ use Rattle.neighbour_rules.proofs.Unseen.{own, unseen-passes}
 module _ (c z : Configuration) (j : Joint c z) where
   -- the holds of a shown procedure for the other's destination
   abbrev pub hold_by : HoldSet → ends.Procedure → (sls : ℕ) → Bool
-  hold_by h procedure sls = hold.holds h (procedure_of c z (set c z j) procedure) j.destination sls
+  hold_by h procedure sls = hold.holds h (procedure_of c j.base.there (set c z j) procedure) j.destination sls
 
   -- what is shown of holds
-  pub holds-by : (p : Parts) (procedure : ends.Procedure) (flow : Flow) → holds_of c z (set c z j) p procedure flow ≡ (nat_eq flow.point z.own && hold_by p.holds procedure flow.sls)
-  holds-by p procedure flow = ap (λ (d : Option ℕ). nat_eq flow.point z.own && holds_at c z (set c z j) d p procedure flow.sls) j.place
+  pub holds-by : (p : Parts) (procedure : ends.Procedure) (flow : Flow) → holds_of c j.base.there (set c z j) p procedure flow ≡ (nat_eq flow.point j.base.there && hold_by p.holds procedure flow.sls)
+  holds-by p procedure flow = ap (λ (d : Option ℕ). nat_eq flow.point j.base.there && holds_at c j.base.there (set c z j) d p procedure flow.sls) j.place
 
   -- the same is shown of the same holds
-  pub holds-alike : (p q : Parts) → q.holds ≡ p.holds → holds_of c z (set c z j) q ≡ holds_of c z (set c z j) p
+  pub holds-alike : (p q : Parts) → q.holds ≡ p.holds → holds_of c j.base.there (set c z j) q ≡ holds_of c j.base.there (set c z j) p
   holds-alike p q e = λ i. λ procedure flow.
       (holds-by q procedure flow
-      ∙ ap (λ (h : HoldSet). nat_eq flow.point z.own && hold_by h procedure flow.sls) e
+      ∙ ap (λ (h : HoldSet). nat_eq flow.point j.base.there && hold_by h procedure flow.sls) e
       ∙ sym (holds-by p procedure flow)) i
 
   -- a line whose link isn't this one
@@ -42,7 +42,7 @@ module _ (c z : Configuration) (j : Joint c z) where
   -- ---- what the changeover of the link holds
 
   -- other procedures hold what they held
-  hold-others : (h : HoldSet) (link : ℕ) (test : (destination sls : ℕ) → Bool) (procedure : ends.Procedure) (sls : ℕ) → ((code : ℕ) → procedure ≡ ends.Changeover code → own c z j code ≢ link)
+  pub hold-others : (h : HoldSet) (link : ℕ) (test : (destination sls : ℕ) → Bool) (procedure : ends.Procedure) (sls : ℕ) → ((code : ℕ) → procedure ≡ ends.Changeover code → own c z j code ≢ link)
       → hold_by (with_flows h (held_by.Changeover link) test) procedure sls ≡ hold_by h procedure sls
   hold-others h link test (ends.Changeover code) sls d =
       flows_leave h (held_by.Changeover link) (held_by.Changeover (own c z j code)) test j.destination sls (λ e. d code refl (let same : own c z j code ≡ link = cc in same))
@@ -118,11 +118,11 @@ module _ (c z : Configuration) (j : Joint c z) where
 
     -- the flows of the link are held from now on
     held-now : (s : Standing) (t : Running) (flow : Flow) → Good c z j (at c z j w n arrived loose) → link < length c.links → set_of c link ≡ set c z j
-        → route_of c z (set c z j) n.parts flow ≡ Some (code_of c link) → holds_of c z (set c z j) (fell s t).parts (ends.Changeover (code_of c link)) flow ≡ true
+        → route_of c j.base.there (set c z j) n.parts flow ≡ Some (code_of c link) → holds_of c j.base.there (set c z j) (fell s t).parts (ends.Changeover (code_of c link)) flow ≡ true
     held-now s t flow g l its e =
         let r : IsRouted c z j n.parts flow (code_of c link) = is-routed c z j n.parts flow (code_of c link) e in
         let mine : own c z j (code_of c link) ≡ link = own-line c j.near_well (set c z j) link l its in
-        let same : r.link ≡ link = sym (its-own c z j n.parts flow (code_of c link) g.route r) ∙ mine in
+        let same : r.link ≡ link = sym (its-own c z j n.parts flow (code_of c link) g.route.beyond r) ∙ mine in
         let chosen : chosen_link (facts c n.parts) j.destination flow.sls ≡ Some link = r.chosen ∙ ap (λ (k : ℕ). Some k) same in
         let places : hold.may_hold n.parts.holds (held_by.Changeover link) j.destination flow.sls ≡ true =
         and-true (nat_lt link n.parts.holds.links) (nat_lt j.destination n.parts.holds.destinations && nat_lt flow.sls SELECTIONS)
@@ -131,24 +131,24 @@ module _ (c z : Configuration) (j : Joint c z) where
         (lt-true j.destination n.parts.holds.destinations (subst (λ (k : ℕ). j.destination < k) (sym g.fits.places.parts.holds.destinations) j.there)) r.selection) in
         let fails : test j.destination flow.sls ≡ true = or-first (goes_by (chosen_link (facts c n.parts) j.destination flow.sls) link) _ (ap (λ (o : Option ℕ). goes_by o link) chosen ∙ eq-self link) in
         holds-by (fell s t).parts (ends.Changeover (code_of c link)) flow
-        ∙ and-true (nat_eq flow.point z.own) (hold_by begun (ends.Changeover (code_of c link)) flow.sls)
-        (ap (λ (k : ℕ). nat_eq k z.own) r.point ∙ eq-self z.own)
+        ∙ and-true (nat_eq flow.point j.base.there) (hold_by begun (ends.Changeover (code_of c link)) flow.sls)
+        (ap (λ (k : ℕ). nat_eq k j.base.there) r.point ∙ eq-self j.base.there)
         (ap (λ (k : ℕ). hold.holds begun (held_by.Changeover k) j.destination flow.sls) mine
         ∙ flows_add n.parts.holds (held_by.Changeover link) test j.destination flow.sls
         ∙ or-first (hold.may_hold n.parts.holds (held_by.Changeover link) j.destination flow.sls && test j.destination flow.sls) (hold.holds n.parts.holds (held_by.Changeover link) j.destination flow.sls)
         (and-true (hold.may_hold n.parts.holds (held_by.Changeover link) j.destination flow.sls) (test j.destination flow.sls) places fails))
 
     suspending : (s : Standing) (t : Running) → Good c z j (at c z j w n arrived loose) → link < length c.links → set_of c link ≡ set c z j
-        → Suspends (shown c z (set c z j) j.shares.far_set j.base (at c z j w n arrived loose)) (code_of c link) (route_of c z (set c z j) (fell s t).parts) (holds_of c z (set c z j) (fell s t).parts)
+        → Suspends (shown c z (set c z j) j.shares.far_set j.base (at c z j w n arrived loose)) (code_of c link) (route_of c j.base.there (set c z j) (fell s t).parts) (holds_of c j.base.there (set c z j) (fell s t).parts)
     suspending s t g l its = record {
       others = λ flow other d e. route-stays c z j n.parts (fell s t).parts link other flow (failed-facts c link n.parts (fell s t).parts.links refl) d e;
       kept = λ procedure flow e.
           holds-by (fell s t).parts procedure flow
-          ∙ and-more (nat_eq flow.point z.own) (hold_by n.parts.holds procedure flow.sls) (hold_by begun procedure flow.sls) (pair-kept n.parts.holds link test procedure flow.sls)
+          ∙ and-more (nat_eq flow.point j.base.there) (hold_by n.parts.holds procedure flow.sls) (hold_by begun procedure flow.sls) (pair-kept n.parts.holds link test procedure flow.sls)
           (sym (holds-by n.parts procedure flow) ∙ e);
       same = λ procedure flow d.
           holds-by (fell s t).parts procedure flow
-          ∙ ap (λ (b : Bool). nat_eq flow.point z.own && b)
+          ∙ ap (λ (b : Bool). nat_eq flow.point j.base.there && b)
           (hold-others n.parts.holds link test procedure flow.sls (λ code e. apart-own link code l (λ same. d (e ∙ ap ends.Changeover same))))
           ∙ sym (holds-by n.parts procedure flow);
       held = λ flow serving e. held-now s t flow g l its e;
@@ -168,7 +168,7 @@ module _ (c z : Configuration) (j : Joint c z) where
           heard = false;
         }) (sym (own-line c j.near_well (set c z j) link l its))
 
-    fell-good : (s : Standing) (t : Running) (next : List Message) → link < length c.links → StaysFit c n (fell s t) → Each (IsSent c z (set c z j)) next
+    fell-good : (s : Standing) (t : Running) (next : List Message) → link < length c.links → StaysFit c n (fell s t) → Each (IsSent c z j.base.there (set c z j)) next
         → Good c z j (at c z j w n arrived loose) → Good c z j (at c z j w (fell s t) arrived next)
     fell-good s t next l stay m g = record {
       fits = stay.stay g.fits;
@@ -192,15 +192,15 @@ module _ (c z : Configuration) (j : Joint c z) where
       goes = λ g.
           let l : link < length c.links = up-listed c z n link g.fits up in
           let mine : own c z j (code_of c link) ≡ link = own-line c j.near_well (set c z j) link l its in
-          goes-one (says_of c.own z.own) _ _
+          goes-one (reading c.own z.own j.base) _ _
           (moves.falls (record {
             link = code_of c link;
             up = ap (λ (k : ℕ). not (down n.parts k)) mine ∙ ap not up;
-            route = route_of c z (set c z j) (fell s t).parts;
-            holds = holds_of c z (set c z j) (fell s t).parts;
+            route = route_of c j.base.there (set c z j) (fell s t).parts;
+            holds = holds_of c j.base.there (set c z j) (fell s t).parts;
             suspends = suspending s t g l its;
             lines = line_of c z (set c z j) j.shares.far_set (at c z j w (fell s t) arrived loose);
-            set = becomes c z j (at c z j w n arrived loose) (fell s t) arrived loose (route_of c z (set c z j) n.parts) link
+            set = becomes c z j (at c z j w n arrived loose) (fell s t) arrived loose (route_of c j.base.there (set c z j) n.parts) link
                 (with_failure (line_of c z (set c z j) j.shares.far_set (at c z j w n arrived loose) (code_of c link)) (changeover_of n.parts (own c z j (code_of c link))).awaited).near l its
                 (fell-here s t g.fits l ∙ failed-end s e i l its
                 ∙ ap (λ (b : Bool). (with_failure (line_of c z (set c z j) j.shares.far_set (at c z j w n arrived loose) (code_of c link)) b).near)
@@ -252,18 +252,18 @@ module _ (c z : Configuration) (j : Joint c z) where
     goes = λ g.
         let l : link < length c.links = up-listed c z n link g.fits up in
         let mine : own c z j (code_of c link) ≡ link = own-line c j.near_well (set c z j) link l its in
-        goes-one (says_of c.own z.own) _ _
+        goes-one (reading c.own z.own j.base) _ _
         (moves.falls_with_order (record {
           link = code_of c link;
           serving = ap (λ (k : ℕ). in_service n.parts k) mine ∙ e;
           order = order;
-          says = ap (says_of c.own z.own) (is ∙ to_far link (whole.last_accepted n.queues link) its) ∙ word-says c z j (order_word link n) (order_fits link n)
+          says = ap (says_of c.own z.own j.base.there) (is ∙ to_far link (whole.last_accepted n.queues link) its) ∙ word-says c z j (order_word link n) (order_fits link n)
               ∙ ap (λ (k : ℕ). Order (code_of c link) (last_accepted (queue_at n.queues k))) (sym mine);
-          route = route_of c z (set c z j) (fell w n arrived [] link why s t).parts;
-          holds = holds_of c z (set c z j) (fell w n arrived [] link why s t).parts;
+          route = route_of c j.base.there (set c z j) (fell w n arrived [] link why s t).parts;
+          holds = holds_of c j.base.there (set c z j) (fell w n arrived [] link why s t).parts;
           suspends = suspending w n arrived [] link why s t g l its;
           lines = line_of c z (set c z j) j.shares.far_set (at c z j w (fell w n arrived [] link why s t) arrived (order ∷ []));
-          set = becomes c z j (at c z j w n arrived []) (fell w n arrived [] link why s t) arrived (order ∷ []) (route_of c z (set c z j) n.parts) link
+          set = becomes c z j (at c z j w n arrived []) (fell w n arrived [] link why s t) arrived (order ∷ []) (route_of c j.base.there (set c z j) n.parts) link
               (with_failure (line_of c z (set c z j) j.shares.far_set (at c z j w n arrived []) (code_of c link)) true).near l its
               (fell-here w n arrived [] link why s t g.fits l ∙ failed-end w n arrived [] link why s e i l its
               ∙ ap (λ (b : Bool). (with_failure (line_of c z (set c z j) j.shares.far_set (at c z j w n arrived []) (code_of c link)) b).near) awaits)

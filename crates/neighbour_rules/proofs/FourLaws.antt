@@ -23,7 +23,7 @@ use Rattle.pair_rules.proofs.CarriedTexts.{may-so, new-up, no-message, none-show
 use Rattle.pair_rules.proofs.SaidWords.{contained-behind, contained-join, contained-take, each-drop, each-join, none-contained}
 use Rattle.neighbour_rules.specs.Neighbours.{end_there}
 use Rattle.neighbour_rules.specs.Laws.{AreFinal, FramesCarry, IsCarried, IsFinal, IsInFlight, IsUnderWay, MovesLacked, NextIsFirst, NoneIsLeft, OpenedAlone, frames_carry, is_in_use, moves_are_lacked, none_is_left, unreceived, unreceived_at, unreceived_by, words_are_final}
-use Rattle.neighbour_rules.proofs.World.{code_of, line_of, says_of, shown}
+use Rattle.neighbour_rules.proofs.World.{code_of, line_of, says_of, shown, reading}
 use Rattle.neighbour_rules.proofs.Good.{IsSent, Joint}
 use Rattle.neighbour_rules.proofs.Staying.{with_settings}
 use Rattle.neighbour_rules.proofs.Sharing.{AreFacing, facing_back, far_joint, from_first, near_joint}
@@ -46,7 +46,7 @@ module _ (c z : Configuration) (a : AreFacing c z) (q : PairState) (s : Stands c
   w = world_of p s.to_near s.to_far
 
   abbrev read : Message → Saying
-  read = says_of c.own z.own
+  read = says_of c.own z.own j.base.there
 
   abbrev view : Pair
   view = shown c z a.near_set a.far_set a.base w
@@ -81,7 +81,7 @@ module _ (c z : Configuration) (a : AreFacing c z) (q : PairState) (s : Stands c
           received = f.received;
           carried = λ up.
               ap (λ (texts : List (List ℕ)). messages_in texts) (s.far_texts.user_data.each other)
-              ∙ texts-carry c z a.near_set (queue_of p.near link) (queue_of p.far other).received (s.to_far.user_data other) (s.far_good.coming.user_data other) (f.carried (ap not up));
+              ∙ texts-carry c z a.base.there a.near_set (queue_of p.near link) (queue_of p.far other).received (s.to_far.user_data other) (s.far_good.coming.user_data other) (f.carried (ap not up));
         }
 
     -- ---- one end opened first
@@ -114,7 +114,7 @@ module _ (c z : Configuration) (a : AreFacing c z) (q : PairState) (s : Stands c
           untold = s.near_texts.statuses.each link ∙ ap (λ (fs : List FrameValue). map spelled fs) (none-told (s.to_near.statuses link) o.untold);
           empty =
               ap (λ (texts : List (List ℕ)). messages_in texts) (s.far_texts.user_data.each other)
-              ∙ texts-carry c z a.near_set first_queue 0 (s.to_far.user_data other) (s.far_good.coming.user_data other) o.carried;
+              ∙ texts-carry c z a.base.there a.near_set first_queue 0 (s.to_far.user_data other) (s.far_good.coming.user_data other) o.carried;
         }
 
     pub next-there : NextIsFirst p link other
@@ -122,7 +122,7 @@ module _ (c z : Configuration) (a : AreFacing c z) (q : PairState) (s : Stands c
         let up : not (down p.far.exchange.node.parts other) ≡ true = new-up other text p.far.exchange message n in
         let coming : in_flight p.far.incoming.user_data other ≡ [] → false ≡ true = λ none. nothing-first (in_flight p.far.incoming.user_data other) text f none in
         let flow : Flows (line_at w link other) = flows (heard-used up coming) in
-        first-text c z a.near_set (queue_of p.near link) (queue_of p.far other).received (s.to_far.user_data other) (in_flight p.far.incoming.user_data other) text message
+        first-text c z a.base.there a.near_set (queue_of p.near link) (queue_of p.far other).received (s.to_far.user_data other) (in_flight p.far.incoming.user_data other) text message
         (first-frame (s.to_far.user_data other) (in_flight p.far.incoming.user_data other) text (s.far_texts.user_data.each other) f) (s.far_good.coming.user_data other) (flow.carried up)
         (new-carried other text p.far.exchange message n)
 
@@ -162,14 +162,14 @@ module _ (c z : Configuration) (a : AreFacing c z) (q : PairState) (s : Stands c
         sum-alike (λ link. if nat_eq (set_of c link) a.near_set then count_by of (lacks c z a q s kept link) else 0) (λ link. count_by of (row link)) links its-count in
         omega (arith, both, joined, summed, summed-lines c z a q s kept of)
 
-  pub between : Each (IsSent c z a.near_set) (unreceived p)
+  pub between : Each (IsSent c z a.base.there a.near_set) (unreceived p)
   between =
-      each-behind (IsSent c z a.near_set) (join_to row links) p.near.exchange.node.queues.held
-      (each-join (IsSent c z a.near_set) row links (λ link. by link (far_of link)))
+      each-behind (IsSent c z a.base.there a.near_set) (join_to row links) p.near.exchange.node.queues.held
+      (each-join (IsSent c z a.base.there a.near_set) row links (λ link. by link (far_of link)))
       s.near_good.held
     where
-      by : (link : ℕ) (o : Option ℕ) → Each (IsSent c z a.near_set) (unreceived_by p link o)
-      by link (Some other) = each-drop (IsSent c z a.near_set) (queue_of p.far other).received (queue_of p.near link).all (s.near_good.queued link)
+      by : (link : ℕ) (o : Option ℕ) → Each (IsSent c z a.base.there a.near_set) (unreceived_by p link o)
+      by link (Some other) = each-drop (IsSent c z a.base.there a.near_set) (queue_of p.far other).received (queue_of p.near link).all (s.near_good.queued link)
       by link None = s.near_good.queued link
 
   -- what a link has is among it
@@ -225,16 +225,14 @@ module _ (c z : Configuration) (a : AreFacing c z) (q : PairState) (s : Stands c
   abbrev Said : ℕ → Pair → ℕ
   Said code x = under_way (saying read (is_order code)) x + under_way (saying read (is_answer code)) x
 
-  opens-both : theorems.BothWays (λ x. (code : ℕ) → MayOpen (x.line code).near → MayOpen (x.line code).far → Said code x ≡ 0) view
-  opens-both =
-      of-shown c z a q s kept (λ read x. (code : ℕ) → MayOpen (x.line code).near → MayOpen (x.line code).far
-      → under_way (saying read (is_order code)) x + under_way (saying read (is_answer code)) x ≡ 0) opens_with_nothing-always
+  opens-both : theorems.BothWays (λ reads x. (code : ℕ) → MayOpen (x.line code).near → MayOpen (x.line code).far
+      → under_way (saying reads.there (is_order code)) x + under_way (saying reads.there (is_answer code)) x ≡ 0) (reading c.own z.own a.base) view
+  opens-both = of-shown c z a q s kept _ opens_with_nothing-always
 
-  follows-both : theorems.BothWays (λ x. (code : ℕ) → (x.line code).near_may_follow ≡ true → Said code x + Said code (ends.turned x) ≡ 0) view
-  follows-both =
-      of-shown c z a q s kept (λ read x. (code : ℕ) → (x.line code).near_may_follow ≡ true
-      → (under_way (saying read (is_order code)) x + under_way (saying read (is_answer code)) x)
-      + (under_way (saying read (is_order code)) (ends.turned x) + under_way (saying read (is_answer code)) (ends.turned x)) ≡ 0) follows_with_nothing-always
+  follows-both : theorems.BothWays (λ reads x. (code : ℕ) → (x.line code).near_may_follow ≡ true
+      → (under_way (saying reads.there (is_order code)) x + under_way (saying reads.there (is_answer code)) x)
+      + (under_way (saying reads.back (is_order code)) (ends.turned x) + under_way (saying reads.back (is_answer code)) (ends.turned x)) ≡ 0) (reading c.own z.own a.base) view
+  follows-both = of-shown c z a q s kept _ follows_with_nothing-always
 
   module _ (link other : ℕ) (e : IsLine c z j link other) where
     abbrev its : ℕ
@@ -261,7 +259,7 @@ module _ (c z : Configuration) (a : AreFacing c z) (q : PairState) (s : Stands c
 
     none-left-there : Said its view ≡ 0 → (word : Word) → IsUnderWay p word → word.link ≢ other
     none-left-there none word u same =
-        let said : Says c z u.message word = word-says c z u.message word u.says in
+        let said : Says c z a.base.there u.message word = word-says c z a.base.there u.message word u.says in
         let at : IsCode c z j said.slc word.link = is-code c z j said.slc word.link said.there in
         let here : nat_eq said.slc its ≡ true = ap (λ (k : ℕ). nat_eq k its) (sym at.code ∙ ap (code_of z) same ∙ e.code) ∙ same-link its in
         let no : true ≡ false =
@@ -291,8 +289,8 @@ module _ (c z : Configuration) (a : AreFacing c z) (q : PairState) (s : Stands c
       (λ (f : read u.message ≡ Answer said.slc word.number). by (true-answer said.slc up last word.number (ap untrue (sym f) ∙ true_one)))
       said.said
     where
-      said : Says c z u.message word
-      said = word-says c z u.message word u.says
+      said : Says c z a.base.there u.message word
+      said = word-says c z a.base.there u.message word u.says
 
       at : IsCode c z j said.slc word.link
       at = is-code c z j said.slc word.link said.there
@@ -386,13 +384,13 @@ module _ (c z : Configuration) (a : AreFacing c z) (q : PairState) (s : Stands c
 -- ---- always
 
 pub frames-carry : frames_carry
-frames-carry = always IsCarried (λ c z a q s kept near far. carried-there c z (from_first c z a) q s kept)
+frames-carry = always IsCarried (λ c z a q own s kept near far. carried-there c z (from_first c z a) q s kept)
 
 pub none-left : none_is_left
-none-left = always NoneIsLeft (λ c z a q s kept near far. left-there c z (from_first c z a) q s kept)
+none-left = always NoneIsLeft (λ c z a q own s kept near far. left-there c z (from_first c z a) q s kept)
 
 pub words-final : words_are_final
-words-final = always AreFinal (λ c z a q s kept near far. final-there c z (from_first c z a) q s kept)
+words-final = always AreFinal (λ c z a q own s kept near far. final-there c z (from_first c z a) q s kept)
 
 pub moves-lacked : moves_are_lacked
-moves-lacked = always MovesLacked (λ c z a q s kept near far. lacked-there c z (from_first c z a) q s kept)
+moves-lacked = always MovesLacked (λ c z a q own s kept near far. lacked-there c z (from_first c z a) q s kept)

@@ -12,7 +12,7 @@ use Rattle.pair_rules.proofs.Good.{Each, IsTelling}
 use Rattle.pair_rules.proofs.Going.{goes-one, goes-same}
 use Rattle.pair_rules.proofs.Lines.{queue-here, queue-other, served-listed}
 use Rattle.neighbour_rules.specs.Neighbours.{users_to}
-use Rattle.neighbour_rules.proofs.World.{code_of, line_of, says_of, shown}
+use Rattle.neighbour_rules.proofs.World.{code_of, line_of, reading, says_of, shown}
 use Rattle.neighbour_rules.proofs.Good.{AreFlying, Good, IsFlying, IsSent, Joint, Passes, at, set}
 use Rattle.neighbour_rules.proofs.Lines.{at-line, none-becomes, own-line}
 use Rattle.neighbour_rules.proofs.Bringing.{accepting}
@@ -21,7 +21,7 @@ use Rattle.neighbour_rules.proofs.Unseen.{own}
 
 module _ (c z : Configuration) (j : Joint c z) where
   abbrev read : Message → Saying
-  read = says_of c.own z.own
+  read = says_of c.own z.own j.base.there
 
   abbrev view : World → Pair
   view w = shown c z (set c z j) j.shares.far_set j.base w
@@ -32,7 +32,7 @@ module _ (c z : Configuration) (j : Joint c z) where
   -- ---- what is booked: user messages for this point are received here, and then some for the other are accepted
 
   abbrev pub receiving : World → List Message → World
-  receiving w ms = record w { near = record w.near { received = w.near.received ++ users_to c.own ms } }
+  receiving w ms = record w { near = record w.near { received = w.near.received ++ users_to j.base.back ms } }
 
   abbrev pub bringing : World → (received accepted : List Message) → World
   bringing w ms ks = accepting c z j (receiving w ms) ks
@@ -71,7 +71,7 @@ module _ (c z : Configuration) (j : Joint c z) where
   retold w f = record w { to_near = record w.to_near { statuses = f } }
 
   module _ (w : World) (link : ℕ) (frame : FrameValue) (rest next : List FrameValue) (f : ℕ → List FrameValue) (r : Retells w link frame rest next f) where
-    still-telling : Each IsTelling next → AreFlying z c j.shares.far_set w.to_near → AreFlying z c j.shares.far_set (record w.to_near { statuses = f })
+    still-telling : Each IsTelling next → AreFlying z c j.base.back j.shares.far_set w.to_near → AreFlying z c j.base.back j.shares.far_set (record w.to_near { statuses = f })
     still-telling each coming = record {
       user_data = coming.user_data;
       statuses = λ other.
@@ -118,7 +118,7 @@ module _ (c z : Configuration) (j : Joint c z) where
       → (n : Node WholeQueues) → Passes c z j (at c z j w n [] []) (at c z j (retold w f) n [] [])
   status-taken w link frame rest f r n = record {
     goes = λ g.
-        goes-one read _ _
+        goes-one (reading c.own z.own j.base) _ _
         (moves.takes_status (record {
           link = code_of c link;
           rest = length rest;
@@ -135,7 +135,7 @@ module _ (c z : Configuration) (j : Joint c z) where
       → (n : Node WholeQueues) → Passes c z j (at c z j w n [] []) (at c z j (retold w f) n [] [])
   status-doubled w link frame rest f r n = record {
     goes = λ g.
-        goes-one read _ _
+        goes-one (reading c.own z.own j.base) _ _
         (moves.doubles_status (record {
           link = code_of c link;
           rest = length rest;
@@ -177,15 +177,15 @@ module _ (c z : Configuration) (j : Joint c z) where
       by (Err fault) e = e
 
   module _ (w : World) (link : ℕ) (frame : FrameValue) (f : ℕ → List FrameValue) (p : Pops w link frame f) where
-    still-coming : AreFlying z c j.shares.far_set w.to_near → AreFlying z c j.shares.far_set (record w.to_near { user_data = f })
+    still-coming : AreFlying z c j.base.back j.shares.far_set w.to_near → AreFlying z c j.base.back j.shares.far_set (record w.to_near { user_data = f })
     still-coming coming = record {
       statuses = coming.statuses;
       user_data = λ other.
           ⊎_elim
           (λ (same : other ≡ link).
-          subst (λ (k : ℕ). Each (IsFlying z c j.shares.far_set) (f k)) (sym same)
-          (subst (Each (IsFlying z c j.shares.far_set)) (sym p.here) (subst (Each (IsFlying z c j.shares.far_set)) p.first (coming.user_data link)).1))
-          (λ (d : other ≢ link). subst (Each (IsFlying z c j.shares.far_set)) (sym (p.others other d)) (coming.user_data other))
+          subst (λ (k : ℕ). Each (IsFlying z c j.base.back j.shares.far_set) (f k)) (sym same)
+          (subst (Each (IsFlying z c j.base.back j.shares.far_set)) (sym p.here) (subst (Each (IsFlying z c j.base.back j.shares.far_set)) p.first (coming.user_data link)).1))
+          (λ (d : other ≢ link). subst (Each (IsFlying z c j.base.back j.shares.far_set)) (sym (p.others other d)) (coming.user_data other))
           (cases_eq other link);
     }
 
@@ -202,7 +202,7 @@ module _ (c z : Configuration) (j : Joint c z) where
     pub dropping-frame : (n : Node WholeQueues) → down n.parts link ≡ true → Passes c z j (at c z j w n [] []) (at c z j (popped w f) n [] [])
     dropping-frame n gone = record {
       goes = λ g.
-          goes-one read _ _
+          goes-one (reading c.own z.own j.base) _ _
           (moves.drops (record {
             link = code_of c link;
             frame = frame_of frame;
@@ -268,13 +268,13 @@ module _ (c z : Configuration) (j : Joint c z) where
             ∙ ap (λ (fs : List FrameValue). record (lines_of (at c z j w n [] []) code) { to_near = map frame_of fs }) (p.others (own c z j code) (apart code x));
       }
 
-      pub accepted-good : (arrived : List Message) → (Good c z j (at c z j w n [] []) → Each (IsSent z c j.shares.far_set) arrived) → Good c z j (at c z j w n [] []) → Good c z j (at c z j (popped w f) o arrived [])
+      pub accepted-good : (arrived : List Message) → (Good c z j (at c z j w n [] []) → Each (IsSent z c j.base.back j.shares.far_set) arrived) → Good c z j (at c z j w n [] []) → Good c z j (at c z j (popped w f) o arrived [])
       accepted-good arrived came g = record {
         fits = ((fit-steps c).accepted link d confirmed n tt serves accepts).stay g.fits;
         route = g.route;
         unawaited = g.unawaited;
         silent = g.silent;
-        queued = λ other. accepted-all (IsSent c z (set c z j)) n link d other g.queued;
+        queued = λ other. accepted-all (IsSent c z j.base.there (set c z j)) n link d other g.queued;
         elsewhere = still-elsewhere n link d g.fits p.inside g.elsewhere;
         held = g.held;
         loose = tt;
@@ -301,13 +301,13 @@ module _ (c z : Configuration) (j : Joint c z) where
             line = none-becomes c z j (at c z j w n arrived loose) past arrived loose link (served-listed c z n link g.fits serves) away past-other i;
             near = record before.near { holds = holds-alike c z j n.parts past.parts refl i };
           } in
-          goes-same read before after (sym same);
+          goes-same (reading c.own z.own j.base) before after (sym same);
       good = λ g. record {
         fits = ((fit-steps c).accepted link d confirmed n tt serves accepts).stay g.fits;
         route = g.route;
         unawaited = g.unawaited;
         silent = g.silent;
-        queued = λ other. accepted-all (IsSent c z (set c z j)) n link d other g.queued;
+        queued = λ other. accepted-all (IsSent c z j.base.there (set c z j)) n link d other g.queued;
         elsewhere = still-elsewhere n link d g.fits (served-listed c z n link g.fits serves) g.elsewhere;
         held = g.held;
         loose = g.loose;

@@ -15,10 +15,10 @@ use Rattle.pair_rules.proofs.World.{World}
 use Rattle.pair_rules.proofs.Going.{goes-one}
 use Rattle.pair_rules.proofs.Bringing.{decided, here-network, is-no-sccp}
 use Rattle.neighbour_rules.specs.Neighbours.{is_management_between, users_to}
-use Rattle.neighbour_rules.proofs.World.{code_of, is_between, is_for_either, management_says, read_says, says-alike, says_by, says_of}
+use Rattle.neighbour_rules.proofs.World.{code_of, is_between, management_says, read_says, reading, says-alike, says_by, says_of}
 use Rattle.neighbour_rules.proofs.Good.{IsAccepted, IsMade, IsSent, IsWord, Joint, Passes, accepted, answers, at, confirms, declares, made, orders, passes-both, passes_by, set}
 use Rattle.neighbour_rules.proofs.Adjacents.{KnowsPoints}
-use Rattle.neighbour_rules.proofs.Bringing.{accepting, goes-on, goes-short, local-passes, none-accepted, transferred, user-way}
+use Rattle.neighbour_rules.proofs.Bringing.{accepting, goes-here, goes-short, local-passes, none-accepted, transferred, user-way}
 use Rattle.neighbour_rules.proofs.ChangingOver.{acknowledgement-passes, order-passes}
 use Rattle.neighbour_rules.proofs.Frames.{bringing, receiving}
 use Rattle.neighbour_rules.proofs.Lates.{confirmation-passes, declaration-passes}
@@ -26,6 +26,7 @@ use Rattle.neighbour_rules.proofs.Made.{between-not}
 use Rattle.neighbour_rules.proofs.Managing.{IsNamed, is-named, manage-passes}
 use Rattle.neighbour_rules.proofs.Placing.{other-leaves}
 use Rattle.neighbour_rules.proofs.Relinked.{note_outcome-passes}
+use Rattle.neighbour_rules.proofs.Untold.{IsPlain, IsUntoldBy, untold-read}
 
 -- ---- a message that is for this point
 
@@ -60,8 +61,9 @@ neither true b e f = sym e
 neither false b e f = sym e ∙ f
 
 module _ (c z : Configuration) (j : Joint c z) where
+  -- of what comes back
   abbrev read : Message → Saying
-  read = says_of c.own z.own
+  read = says_of c.own z.own j.base.back
 
   -- ---- what is said between the two
 
@@ -76,31 +78,42 @@ module _ (c z : Configuration) (j : Joint c z) where
 
   managed-says : (m : Message) → is_management m ≡ true → service_indicator m ≡ 0 → opc_of m ≡ z.own → dpc_of m ≡ c.own → read m ≡ read_says (read_management m.sif)
   managed-says m management si from to =
-      ap (λ (b : Bool). says_by b (is_between c.own z.own m) (is_for_either c.own z.own m) m) management
-      ∙ ap (λ (b : Bool). says_by true b (is_for_either c.own z.own m) m) (is-between m si from to)
+      ap (λ (b : Bool). says_by b (is_between c.own z.own m) (nat_eq (dpc_of m) j.base.back) m) management
+      ∙ ap (λ (b : Bool). says_by true b (nat_eq (dpc_of m) j.base.back) m) (is-between m si from to)
 
-  user-says : (m : Message) → is_management m ≡ false → dpc_of m ≡ c.own → read m ≡ UserMessage
+  -- management says the same in either direction
+  management-alike : (m : Message) → is_management m ≡ true → says_of c.own z.own j.base.there m ≡ read m
+  management-alike m e =
+      ap (λ (b : Bool). says_by b (is_between c.own z.own m) (nat_eq (dpc_of m) j.base.there) m) e
+      ∙ by (is_between c.own z.own m)
+      ∙ sym (ap (λ (b : Bool). says_by b (is_between c.own z.own m) (nat_eq (dpc_of m) j.base.back) m) e)
+    where
+      by : (b : Bool) → says_by true b (nat_eq (dpc_of m) j.base.there) m ≡ says_by true b (nat_eq (dpc_of m) j.base.back) m
+      by true = refl
+      by false = refl
+
+  user-says : (m : Message) → is_management m ≡ false → dpc_of m ≡ j.base.back → read m ≡ UserMessage
   user-says m user to =
-      ap (λ (b : Bool). says_by b (is_between c.own z.own m) (is_for_either c.own z.own m) m) user
-      ∙ ap (λ (b : Bool). says_by false (is_between c.own z.own m) (b || nat_eq (dpc_of m) z.own) m) (eq-eqb (dpc_of m) c.own to)
+      ap (λ (b : Bool). says_by b (is_between c.own z.own m) (nat_eq (dpc_of m) j.base.back) m) user
+      ∙ ap (λ (b : Bool). says_by false (is_between c.own z.own m) b m) (eq-eqb (dpc_of m) j.base.back to)
 
   -- ---- what is received
 
-  received-user : (m : Message) → is_management m ≡ false → dpc_of m ≡ c.own → users_to c.own (m ∷ []) ≡ m ∷ []
+  received-user : (m : Message) → is_management m ≡ false → dpc_of m ≡ j.base.back → users_to j.base.back (m ∷ []) ≡ m ∷ []
   received-user m user to =
-      ap (λ (b : Bool). if not b && nat_eq (dpc_of m) c.own then m ∷ [] else []) user
-      ∙ ap (λ (b : Bool). if b then m ∷ [] else []) (eq-eqb (dpc_of m) c.own to)
+      ap (λ (b : Bool). if not b && nat_eq (dpc_of m) j.base.back then m ∷ [] else []) user
+      ∙ ap (λ (b : Bool). if b then m ∷ [] else []) (eq-eqb (dpc_of m) j.base.back to)
 
-  received-none : (m : Message) → is_management m ≡ true → users_to c.own (m ∷ []) ≡ []
-  received-none m management = ap (λ (b : Bool). if not b && nat_eq (dpc_of m) c.own then m ∷ [] else []) management
+  received-none : (m : Message) → is_management m ≡ true → users_to j.base.back (m ∷ []) ≡ []
+  received-none m management = ap (λ (b : Bool). if not b && nat_eq (dpc_of m) j.base.back then m ∷ [] else []) management
 
-  received-past : (m : Message) → read m ≡ Other → users_to c.own (m ∷ []) ≡ []
-  received-past m says = by (is_management m) (nat_eq (dpc_of m) c.own) refl refl
+  received-past : (m : Message) → read m ≡ Other → users_to j.base.back (m ∷ []) ≡ []
+  received-past m says = by (is_management m) (nat_eq (dpc_of m) j.base.back) refl refl
     where
-      by : (b d : Bool) → is_management m ≡ b → nat_eq (dpc_of m) c.own ≡ d → (if not b && d then m ∷ [] else []) ≡ []
+      by : (b d : Bool) → is_management m ≡ b → nat_eq (dpc_of m) j.base.back ≡ d → (if not b && d then m ∷ [] else []) ≡ []
       by true d e f = refl
       by false false e f = refl
-      by false true e f = (let no : UserMessage ≡ Other = sym (user-says m e (eqb-true (dpc_of m) c.own f)) ∙ says in absurd cc)
+      by false true e f = (let no : UserMessage ≡ Other = sym (user-says m e (eqb-true (dpc_of m) j.base.back f)) ∙ says in absurd cc)
 
   -- ---- a word of the other
 
@@ -191,44 +204,42 @@ module _ (c z : Configuration) (j : Joint c z) where
         (subst (λ (b : Bool). Passes c z j before (at c z j (accepting c z j w []) (if b then manage whole c link m n else local whole c (Some link) m n).left [] [])) (sym e)
         (passes-both c z j _ _ _ p (none-accepted c z j w (manage whole c link m n).left)))
 
+    -- a user message
+    pub user-by : (d : Discrimination) → whither_goes c m ≡ d → is_management m ≡ false → Passes c z j before (left d)
+    user-by (whither.Refused cause) e user = none-accepted c z j w n
+    user-by (whither.Transfer label) e user = transferred c z j (Some link) w n m (λ known. user-way c z j m user (goes-short c z j m label e) (goes-here c z j m label e)) wait
+    user-by (whither.Here label) e user =
+        subst (λ (b : Bool).
+        Passes c z j before
+        (at c z j (accepting c z j w (brought_here (if b then manage whole c link m n else local whole c (Some link) m n).outcome c m n)) (if b then manage whole c link m n else local whole c (Some link) m n).left [] []))
+        (sym user) (local-passes c z j w n m user (here-network c m label e) wait (Some link))
+
+    -- management that passes by
+    managed-by : (d : Discrimination) → whither_goes c m ≡ d → is_management m ≡ true → says_of c.own z.own j.base.there m ≡ Other
+        → ((label : Label) → whither_goes c m ≡ whither.Here label → opc_of m ≡ z.own → service_indicator m ≡ 0 → IsPlain c z j (read_management m.sif)) → Passes c z j before (left d)
+    managed-by (whither.Refused cause) e management says plain = none-accepted c z j w n
+    managed-by (whither.Transfer label) e management says plain = transferred c z j (Some link) w n m (λ known. inr (record { says = says; short = goes-short c z j m label e })) wait
+    managed-by (whither.Here label) e management says plain = managed-here label management (manage-passes c z j w [] link m n serves management (here-short c m label e) (plain label e) knows)
+
     -- one that passes by
-    past-by : (d : Discrimination) → whither_goes c m ≡ d → read m ≡ Other → length m.sif ≤ SIF_OCTETS → Passes c z j before (left d)
-    past-by (whither.Refused cause) e says short = none-accepted c z j w n
-    past-by (whither.Transfer label) e says short = transferred c z j (Some link) w n m (λ known. inr (record { says = says; short = short })) wait
-    past-by (whither.Here label) e says short = by (is_management m) refl
+    pub past-passes : read m ≡ Other → IsUntoldBy c z j m → Passes c z j before (left (whither_goes c m))
+    past-passes says untold = by (is_management m) refl
       where
-        by : (b : Bool) → is_management m ≡ b → Passes c z j before (left (whither.Here label))
+        by : (b : Bool) → is_management m ≡ b → Passes c z j before (left (whither_goes c m))
         by true f =
-            managed-here label f
-            (manage-passes c z j w [] link m n serves f short (λ from si. sym (managed-says m f si from (here-own c m label e)) ∙ says) knows)
-        by false f = (let no : UserMessage ≡ Other = sym (user-says m f (here-own c m label e)) ∙ says in absurd cc)
+            managed-by (whither_goes c m) refl f (management-alike m f ∙ says)
+            (λ label e from si. record { says = sym (managed-says m f si from (here-own c m label e)) ∙ says; untold = untold-read c z j m f untold })
+        by false f = user-by (whither_goes c m) refl f
 
     -- any that isn't management between the two
-    away-by : (d : Discrimination) → whither_goes c m ≡ d → is_between c.own z.own m ≡ false → Passes c z j before (left d)
-    away-by (whither.Refused cause) e apart = none-accepted c z j w n
-    away-by (whither.Transfer label) e apart = by (is_management m) refl
-      where
-        by : (b : Bool) → is_management m ≡ b → Passes c z j before (left (whither.Transfer label))
-        by true f = transferred c z j (Some link) w n m (λ known. inr (record { says = between-not c z j m f apart; short = goes-short c z j m label e })) wait
-        by false f = transferred c z j (Some link) w n m (user-way c z j m f (goes-short c z j m label e) (goes-on c z j m label f e)) wait
-    away-by (whither.Here label) e apart = by (is_management m) refl
-      where
-        by : (b : Bool) → is_management m ≡ b → Passes c z j before (left (whither.Here label))
-        by true f =
-            managed-here label f
-            (manage-passes c z j w [] link m n serves f (here-short c m label e)
-            (λ from si. let no : false ≡ true = neither (is_management_between c.own z.own m) (is_management_between z.own c.own m) apart (from-other m si from (here-own c m label e)) in absurd cc) knows)
-        by false f =
-            subst (λ (b : Bool).
-            Passes c z j before
-            (at c z j (accepting c z j w (brought_here (if b then manage whole c link m n else local whole c (Some link) m n).outcome c m n)) (if b then manage whole c link m n else local whole c (Some link) m n).left [] []))
-            (sym f) (local-passes c z j w n m f (here-network c m label e) wait (Some link))
-
-    pub past-passes : read m ≡ Other → length m.sif ≤ SIF_OCTETS → Passes c z j before (left (whither_goes c m))
-    past-passes says short = past-by (whither_goes c m) refl says short
-
     away-passes : is_between c.own z.own m ≡ false → Passes c z j before (left (whither_goes c m))
-    away-passes apart = away-by (whither_goes c m) refl apart
+    away-passes apart = by (is_management m) refl
+      where
+        by : (b : Bool) → is_management m ≡ b → Passes c z j before (left (whither_goes c m))
+        by true f =
+            managed-by (whither_goes c m) refl f (between-not c z j m f apart)
+            (λ label e from si. let no : false ≡ true = neither (is_management_between c.own z.own m) (is_management_between z.own c.own m) apart (from-other m si from (here-own c m label e)) in absurd cc)
+        by false f = user-by (whither_goes c m) refl f
 
     -- a refusal is noted
     pub deliver-away : is_between c.own z.own m ≡ false
@@ -239,14 +250,14 @@ module _ (c z : Configuration) (j : Joint c z) where
 
   -- ---- a message from the other is looked at
 
-  handing : (w : World) (n : Node WholeQueues) (m : Message) (rest : List Message) → is_management m ≡ false → dpc_of m ≡ c.own
+  handing : (w : World) (n : Node WholeQueues) (m : Message) (rest : List Message) → is_management m ≡ false → dpc_of m ≡ j.base.back
       → Passes c z j (at c z j w n (m ∷ rest) []) (at c z j (receiving c z j w (m ∷ [])) n rest [])
   handing w n m rest user to =
       subst (λ (ms : List Message). Passes c z j (at c z j w n (m ∷ rest) []) (record w { near = record { node = n; arrived = rest; loose = []; accepted = w.near.accepted; received = w.near.received ++ ms } }))
       (sym (received-user m user to))
       (record {
         goes = λ g.
-            goes-one read _ _
+            goes-one (reading c.own z.own j.base) _ _
             (moves.hands_over (record {
               heard = record { message = m; rest = rest; first = refl; says = user-says m user to };
               after = refl;
@@ -270,7 +281,7 @@ module _ (c z : Configuration) (j : Joint c z) where
   overlooking : (w : World) (n : Node WholeQueues) (m : Message) (rest : List Message) → read m ≡ Other → Passes c z j (at c z j w n (m ∷ rest) []) (at c z j w n rest [])
   overlooking w n m rest says = record {
     goes = λ g.
-        goes-one read _ _
+        goes-one (reading c.own z.own j.base) _ _
         (moves.mixes_others (record {
           held = n.queues.held;
           loose = [];
@@ -304,22 +315,16 @@ module _ (c z : Configuration) (j : Joint c z) where
     brought d = at c z j (bringing c z j w (m ∷ []) (brought_to d (deliver_to whole c d link m n).outcome c m n)) (deliver_to whole c d link m n).left [] []
 
     -- nothing is received of it
-    unreceived : (ms : List Message) (o : Node WholeQueues) → users_to c.own (m ∷ []) ≡ [] → Passes c z j came (at c z j (accepting c z j w ms) o [] [])
+    unreceived : (ms : List Message) (o : Node WholeQueues) → users_to j.base.back (m ∷ []) ≡ [] → Passes c z j came (at c z j (accepting c z j w ms) o [] [])
         → Passes c z j came (at c z j (bringing c z j w (m ∷ []) ms) o [] [])
     unreceived ms o none p =
-        subst (λ (xs : List Message). Passes c z j came (record w { near = record { node = o; arrived = []; loose = []; accepted = w.near.accepted ++ users_to z.own ms; received = w.near.received ++ xs } }))
+        subst (λ (xs : List Message). Passes c z j came (record w { near = record { node = o; arrived = []; loose = []; accepted = w.near.accepted ++ users_to j.base.there ms; received = w.near.received ++ xs } }))
         (sym none)
-        (subst (λ (xs : List Message). Passes c z j came (record w { near = record { node = o; arrived = []; loose = []; accepted = w.near.accepted ++ users_to z.own ms; received = xs } }))
+        (subst (λ (xs : List Message). Passes c z j came (record w { near = record { node = o; arrived = []; loose = []; accepted = w.near.accepted ++ users_to j.base.there ms; received = xs } }))
         (sym (append-nil w.near.received)) p)
 
-    accepted-passes : IsAccepted c m → Passes c z j came (brought (whither_goes c m))
-    accepted-passes is =
-        subst (λ (d : Discrimination). Passes c z j came (brought d)) (sym is.here)
-        (subst (λ (b : Bool).
-        Passes c z j came
-        (at c z j (bringing c z j w (m ∷ []) (brought_here (if b then manage whole c link m n else local whole c (Some link) m n).outcome c m n)) (if b then manage whole c link m n else local whole c (Some link) m n).left [] []))
-        (sym is.user)
-        (passes-both c z j _ _ _ (handing w n m [] is.user is.to) (local-passes c z j (receiving c z j w (m ∷ [])) n m is.user (here-network c m is.label is.here) wait (Some link))))
+    accepted-passes : IsAccepted c j.base.back m → Passes c z j came (brought (whither_goes c m))
+    accepted-passes is = passes-both c z j _ _ _ (handing w n m [] is.user is.to) (user-by (receiving c z j w (m ∷ [])) link m n serves wait knows (whither_goes c m) refl is.user)
 
     made-passes : IsMade z c j.shares.far_set m → Passes c z j came (brought (whither_goes c m))
     made-passes is =
@@ -335,18 +340,18 @@ module _ (c z : Configuration) (j : Joint c z) where
         (hearing is.word is.is w n m [] (managed-says m is.management is.indicator is.from is.to ∙ ap read_says is.reads))
         (none-accepted c z j w (on_management whole c is.word z.own n).left)))))
 
-    overlooked : read m ≡ Other → length m.sif ≤ SIF_OCTETS → Passes c z j came (brought (whither_goes c m))
-    overlooked says short =
+    overlooked : read m ≡ Other → IsUntoldBy c z j m → Passes c z j came (brought (whither_goes c m))
+    overlooked says untold =
         unreceived (brought_to (whither_goes c m) (deliver_to whole c (whither_goes c m) link m n).outcome c m n) (deliver_to whole c (whither_goes c m) link m n).left (received-past m says)
-        (passes-both c z j _ _ _ (overlooking w n m [] says) (past-passes w link m n serves wait knows says short))
+        (passes-both c z j _ _ _ (overlooking w n m [] says) (past-passes w link m n serves wait knows says untold))
 
-    sent-passes : IsSent z c j.shares.far_set m → Passes c z j came (brought (whither_goes c m))
-    sent-passes (made is) = made-passes is
-    sent-passes (accepted is) = accepted-passes is
-    sent-passes (passes_by says short) = overlooked (ap (λ (f : Message → Saying). f m) (says-alike c.own z.own) ∙ says) short
+    sent-passes : IsSent z c j.base.back j.shares.far_set m → IsUntoldBy c z j m → Passes c z j came (brought (whither_goes c m))
+    sent-passes (made is) untold = made-passes is
+    sent-passes (accepted is) untold = accepted-passes is
+    sent-passes (passes_by says short) untold = overlooked (ap (λ (f : Message → Saying). f m) (says-alike c.own z.own j.base.back) ∙ says) untold
 
-    pub deliver-passes : IsSent z c j.shares.far_set m
+    pub deliver-passes : IsSent z c j.base.back j.shares.far_set m → IsUntoldBy c z j m
         → Passes c z j came (at c z j (bringing c z j w (m ∷ []) (brought_to (whither_goes c m) (deliver whole c link m n).outcome c m n)) (deliver whole c link m n).left [] [])
-    deliver-passes sent =
+    deliver-passes sent untold =
         let d : Done WholeQueues = deliver_to whole c (whither_goes c m) link m n in
-        passes-both c z j _ _ _ (sent-passes sent) (note_outcome-passes c z j d.outcome link (bringing c z j w (m ∷ []) (brought_to (whither_goes c m) d.outcome c m n)) d.left [] [])
+        passes-both c z j _ _ _ (sent-passes sent untold) (note_outcome-passes c z j d.outcome link (bringing c z j w (m ∷ []) (brought_to (whither_goes c m) d.outcome c m n)) d.left [] [])

@@ -13,7 +13,7 @@ use Rattle.pair_rules.proofs.World.{World}
 use Rattle.pair_rules.proofs.Going.{goes-one}
 use Rattle.pair_rules.proofs.Lates.{freed-other, freed-own}
 use Rattle.neighbour_rules.proofs.Counted.{base-late, beyond-late, counts_of}
-use Rattle.neighbour_rules.proofs.World.{holds_of, procedure_of, says_of, shown}
+use Rattle.neighbour_rules.proofs.World.{holds_of, procedure_of, reading, says_of, shown}
 use Rattle.neighbour_rules.proofs.Good.{Joint, Passes, at, confirms, made, passes-both, set}
 use Rattle.neighbour_rules.proofs.Messages.{making, send_routed-passes}
 use Rattle.neighbour_rules.proofs.Made.{confirmation-past, made-brief, word-made, word-says}
@@ -22,36 +22,40 @@ use Rattle.neighbour_rules.proofs.Unseen.{unseen-passes}
 
 module _ (c z : Configuration) (j : Joint c z) where
   abbrev read : Message → Saying
-  read = says_of c.own z.own
+  read = says_of c.own z.own j.base.there
+
+  -- of what comes back
+  abbrev heard : Message → Saying
+  heard = says_of c.own z.own j.base.back
 
   -- ---- what other procedures hold stays where one is lifted
 
-  pub apart-code : (code : ℕ) (other : ends.Procedure) → other ≢ ends.Code code → procedure_of c z (set c z j) other ≢ held_by.Code (set c z j) code
+  pub apart-code : (code : ℕ) (other : ends.Procedure) → other ≢ ends.Code code → procedure_of c j.base.there (set c z j) other ≢ held_by.Code (set c z j) code
   apart-code code (ends.Changeover k) apart e = absurd cc
   apart-code code (ends.Code k) apart e = (let same : k ≡ code = cc in apart (ap ends.Code same))
   apart-code code (ends.Time k) apart e = absurd cc
 
-  pub apart-set : (its code : ℕ) (other : ends.Procedure) → its ≢ set c z j → procedure_of c z (set c z j) other ≢ held_by.Code its code
+  pub apart-set : (its code : ℕ) (other : ends.Procedure) → its ≢ set c z j → procedure_of c j.base.there (set c z j) other ≢ held_by.Code its code
   apart-set its code (ends.Changeover k) apart e = absurd cc
   apart-set its code (ends.Code k) apart e = (let same : set c z j ≡ its = cc in apart (sym same))
   apart-set its code (ends.Time k) apart e = absurd cc
 
-  apart-reroute : (destination : ℕ) (other : ends.Procedure) → procedure_of c z (set c z j) other ≢ held_by.Reroute destination
+  apart-reroute : (destination : ℕ) (other : ends.Procedure) → procedure_of c j.base.there (set c z j) other ≢ held_by.Reroute destination
   apart-reroute destination (ends.Changeover code) e = absurd cc
   apart-reroute destination (ends.Code code) e = absurd cc
   apart-reroute destination (ends.Time code) e = absurd cc
 
-  lifted-leaves : (h : HoldSet) (procedure : Procedure) (other : ends.Procedure) (sls : ℕ) → procedure_of c z (set c z j) other ≢ procedure
+  lifted-leaves : (h : HoldSet) (procedure : Procedure) (other : ends.Procedure) (sls : ℕ) → procedure_of c j.base.there (set c z j) other ≢ procedure
       → hold_by c z j (hold.lifted h procedure) other sls ≡ hold_by c z j h other sls
-  lifted-leaves h procedure other sls apart = leaves_others h procedure (procedure_of c z (set c z j) other) j.destination sls (λ e. apart (sym e))
+  lifted-leaves h procedure other sls apart = leaves_others h procedure (procedure_of c j.base.there (set c z j) other) j.destination sls (λ e. apart (sym e))
 
   -- ---- a declaration is confirmed
 
-  confirming : (w : World) (n : Node WholeQueues) (m : Message) (rest : List Message) (slc code : ℕ) → read m ≡ Declaration code → slc < 16 → code < 256
+  confirming : (w : World) (n : Node WholeQueues) (m : Message) (rest : List Message) (slc code : ℕ) → heard m ≡ Declaration code → slc < 16 → code < 256
       → Passes c z j (at c z j w n (m ∷ rest) []) (at c z j w n rest (changeback_acknowledgement c z.own slc code ∷ []))
   confirming w n m rest slc code says few small = record {
     goes = λ g.
-        goes-one read _ _
+        goes-one (reading c.own z.own j.base) _ _
         (moves.confirms (record {
           code = code;
           heard = record { message = m; rest = rest; first = refl; says = says };
@@ -74,7 +78,7 @@ module _ (c z : Configuration) (j : Joint c z) where
     };
   }
 
-  pub declaration-passes : (w : World) (n : Node WholeQueues) (m : Message) (rest : List Message) (slc code : ℕ) → read m ≡ Declaration code → slc < 16 → code < 256
+  pub declaration-passes : (w : World) (n : Node WholeQueues) (m : Message) (rest : List Message) (slc code : ℕ) → heard m ≡ Declaration code → slc < 16 → code < 256
       → Passes c z j (at c z j w n (m ∷ rest) []) (at c z j w (on_changeback_declaration whole c z.own slc code n).left rest [])
   declaration-passes w n m rest slc code says few small =
       passes-both c z j _ _ _ (confirming w n m rest slc code says few small)
@@ -90,21 +94,21 @@ module _ (c z : Configuration) (j : Joint c z) where
 
   -- ---- a confirmation ends its hold
 
-  freeing : (w : World) (n : Node WholeQueues) (m : Message) (rest : List Message) (code : ℕ) → read m ≡ Confirmation code
+  freeing : (w : World) (n : Node WholeQueues) (m : Message) (rest : List Message) (code : ℕ) → heard m ≡ Confirmation code
       → Passes c z j (at c z j w n (m ∷ rest) []) (at c z j w (with_parts n (freed (set c z j) code n.parts)) rest [])
   freeing w n m rest code says = record {
     goes = λ g.
-        goes-one read _ _
+        goes-one (reading c.own z.own j.base) _ _
         (moves.ends_hold (record {
           code = code;
           heard = record { message = m; rest = rest; first = refl; says = says };
           outstanding = λ k. is_outstanding (freed (set c z j) code n.parts).codes (set c z j) k;
           freed = freed-own n.parts.codes (set c z j) code;
           others = λ other apart. freed-other n.parts.codes (set c z j) code other apart;
-          holds = holds_of c z (set c z j) (freed (set c z j) code n.parts);
+          holds = holds_of c j.base.there (set c z j) (freed (set c z j) code n.parts);
           lifted = λ procedure flow apart.
               holds-by c z j (freed (set c z j) code n.parts) procedure flow
-              ∙ ap (λ (b : Bool). nat_eq flow.point z.own && b) (lifted-leaves n.parts.holds (held_by.Code (set c z j) code) procedure flow.sls (apart-code code procedure apart))
+              ∙ ap (λ (b : Bool). nat_eq flow.point j.base.there && b) (lifted-leaves n.parts.holds (held_by.Code (set c z j) code) procedure flow.sls (apart-code code procedure apart))
               ∙ sym (holds-by c z j n.parts procedure flow);
           after = refl;
         }));
@@ -123,11 +127,11 @@ module _ (c z : Configuration) (j : Joint c z) where
     };
   }
 
-  unasked : (w : World) (n : Node WholeQueues) (m : Message) (rest : List Message) (code : ℕ) → read m ≡ Confirmation code → is_outstanding n.parts.codes (set c z j) code ≡ false
+  unasked : (w : World) (n : Node WholeQueues) (m : Message) (rest : List Message) (code : ℕ) → heard m ≡ Confirmation code → is_outstanding n.parts.codes (set c z j) code ≡ false
       → Passes c z j (at c z j w n (m ∷ rest) []) (at c z j w n rest [])
   unasked w n m rest code says free = record {
     goes = λ g.
-        goes-one read _ _
+        goes-one (reading c.own z.own j.base) _ _
         (moves.ignores_confirmation (record {
           code = code;
           heard = record { message = m; rest = rest; first = refl; says = says };
@@ -149,7 +153,7 @@ module _ (c z : Configuration) (j : Joint c z) where
     };
   }
 
-  pub confirmation-passes : (w : World) (n : Node WholeQueues) (m : Message) (rest : List Message) (code : ℕ) → read m ≡ Confirmation code
+  pub confirmation-passes : (w : World) (n : Node WholeQueues) (m : Message) (rest : List Message) (code : ℕ) → heard m ≡ Confirmation code
       → Passes c z j (at c z j w n (m ∷ rest) []) (at c z j w (on_changeback_acknowledgement whole c (Some (set c z j)) code n).left rest [])
   confirmation-passes w n m rest code says = by (is_outstanding n.parts.codes (set c z j) code) refl
     where
@@ -186,8 +190,8 @@ module _ (c z : Configuration) (j : Joint c z) where
   running-late w n arrived loose procedure notices stay = record {
     goes = λ g.
         let before : Pair = shown c z (set c z j) j.shares.far_set j.base (at c z j w n arrived loose) in
-        let held_then : ends.Procedure → Flow → Bool = holds_of c z (set c z j) (ended procedure notices n).parts in
-        goes-one read _ _
+        let held_then : ends.Procedure → Flow → Bool = holds_of c j.base.there (set c z j) (ended procedure notices n).parts in
+        goes-one (reading c.own z.own j.base) _ _
         (moves.runs_late (record {
           holds = held_then;
           after = ap (λ (late : Bool). record before { near = record before.near { holds = held_then; late = late } }) (beyond-late j.base.near (counts_of n.parts) j.grows g.counted);

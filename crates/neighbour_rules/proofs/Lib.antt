@@ -44,6 +44,8 @@ pub mod Entries
 pub mod Turns
 pub mod ChangingOver
 pub mod Expiries
+pub mod Outages
+pub mod Testing
 pub mod Statuses
 pub mod Declaring
 pub mod Frames
@@ -57,3 +59,4 @@ pub mod Summed
 pub mod Delivered
 pub mod ThirdNode
 pub mod AfterRestart
+pub mod Untold

@@ -7,7 +7,8 @@ use Rattle.std.proofs.lemmas.List.Quantifiers.{position-Some}
 use Rattle.pair_rules.proofs.Definitions.{DestinationEntry, Message, dpc_of, flow_of, is_management, service_indicator, Outcome, Handled, Held, Ignored, Local, Queued, Refused, Configuration, destination_place, read_frame, Discrimination, Node, Done, answer, refuse, WholeQueues, whole, no_room_for, waits, link_of, accept_text, answered_in, brought_by, brought_here, brought_in, brought_to, taken_in, unitdata_in, is_user, local, manage, sccp, on_unitdata, deliver_to, submit_to, whither_goes, new_message, FrameCame, Submitted, outcome_of}
 use Rattle.signalling_types.specs.declared.cause.Cause.TheVariants as causes
 use Rattle.mtp3_codec.specs.declared.discrimination.Discrimination.TheVariants as whither
-use Rattle.sccp_relay.specs.Relay.{RelayedValue, relay, returned}
+use Rattle.sccp_relay.specs.Relay.{RelayedValue, relay}
+use Rattle.sccp_relay.specs.Returning.{returned}
 use Rattle.sccp_relay.specs.Relay as relays
 use Rattle.settings.specs.Facing.{LeadsOnlyTo}
 use Rattle.exchange_rules.specs.Messages.{is_destination, offer, transfer, in_place_of, own_of, relay_by}
@@ -98,6 +99,7 @@ module _ (c : Configuration) (far : ℕ) (only : HasOnly c far) where
     relayed-in : (v : RelayedValue) → Are (relayed_in v (relay_by whole c v m n).outcome m)
     relayed-in relays.Delivered = none
     relayed-in (relays.Onward sif) = transferred None (in_place_of m sif) n user
+    relayed-in (relays.Heard news) = none
     relayed-in (relays.Refused cause) = none
 
     unitdata-in : Are (unitdata_in (on_unitdata whole c m n).outcome c m n)

@@ -8,13 +8,14 @@ use Rattle.routes.specs.declared.route.RouteStatus.TheVariants.{Allowed, Restric
 use Rattle.exchange_rules.proofs.Basics.{eqb-true}
 use Rattle.exchange_rules.proofs.MadeManagement.{made-management, made-network, made-long, made-short}
 use Rattle.exchange_rules.specs.Routing.{adjacent_of, point_of}
-use Rattle.exchange_rules.proofs.OwnManagement.{answer-management}
+use Rattle.exchange_rules.proofs.OwnManagement.{answer-management, test-management}
+use Rattle.exchange_rules.specs.LinkTests.{link_test}
 use Rattle.exchange_rules.specs.Messages.{test_answer}
 use Rattle.exchange_rules.specs.Telling.{route_message, telling}
 use Rattle.mtp3_codec.specs.Management.{LinkTestValue}
 use Rattle.pair_moves.specs.Sayings.{Other}
 use Rattle.neighbour_rules.specs.Neighbours.{is_management_between}
-use Rattle.neighbour_rules.proofs.World.{is_between, is_for_either, management_says, read_says, says_by, says_of}
+use Rattle.neighbour_rules.proofs.World.{is_between, management_says, read_says, says_by, says_of}
 use Rattle.neighbour_rules.proofs.Good.{IsMade, IsWord, Joint, set}
 
 pub not-same : (m n : ℕ) → m ≢ n → nat_eq m n ≡ false
@@ -55,19 +56,19 @@ point-fits c well destination =
 module _ (c z : Configuration) (j : Joint c z) where
   -- ---- management of other kinds, to whichever point
 
-  pub plain-other : (point : ℕ) (word : Management) → point < 2 ^ 14 → IsManagement word → management_says word ≡ Other → says_of c.own z.own (management_to c point word) ≡ Other
+  pub plain-other : (point : ℕ) (word : Management) → point < 2 ^ 14 → IsManagement word → management_says word ≡ Other → says_of c.own z.own j.base.there (management_to c point word) ≡ Other
   plain-other point word fits h e =
-      ap (λ (b : Bool). says_by b (is_between c.own z.own m) (is_for_either c.own z.own m) m) (made-management c j.near_well point word) ∙ by (is_between c.own z.own m)
+      ap (λ (b : Bool). says_by b (is_between c.own z.own m) (nat_eq (dpc_of m) j.base.there) m) (made-management c j.near_well point word) ∙ by (is_between c.own z.own m)
     where
       m : Message
       m = management_to c point word
 
-      by : (b : Bool) → says_by true b (is_for_either c.own z.own (management_to c point word)) (management_to c point word) ≡ Other
+      by : (b : Bool) → says_by true b (nat_eq (dpc_of (management_to c point word)) j.base.there) (management_to c point word) ≡ Other
       by true = ap read_says (made-says c j.near_well point word fits h) ∙ e
       by false = refl
 
   -- what tells a status of a point
-  pub route-other : (its destination : ℕ) (status : RouteStatus) → says_of c.own z.own (route_message c its destination status) ≡ Other
+  pub route-other : (its destination : ℕ) (status : RouteStatus) → says_of c.own z.own j.base.there (route_message c its destination status) ≡ Other
   route-other its destination Prohibited = plain-other (adjacent_of c its) (says.TransferProhibited (point_of c destination)) (adjacent-fits c j.near_well its) (point-fits c j.near_well destination) refl
   route-other its destination Restricted = plain-other (adjacent_of c its) (says.TransferRestricted (point_of c destination)) (adjacent-fits c j.near_well its) (point-fits c j.near_well destination) refl
   route-other its destination Allowed = plain-other (adjacent_of c its) (says.TransferAllowed (point_of c destination)) (adjacent-fits c j.near_well its) (point-fits c j.near_well destination) refl
@@ -90,16 +91,16 @@ module _ (c z : Configuration) (j : Joint c z) where
           ∙ none-first (nat_eq (service_indicator (management_to c point word)) 0) (nat_eq (dpc_of (management_to c point word)) c.own)
 
   -- management that isn't between the two passes by
-  pub between-not : (m : Message) → is_management m ≡ true → is_between c.own z.own m ≡ false → says_of c.own z.own m ≡ Other
+  pub between-not : (m : Message) → is_management m ≡ true → is_between c.own z.own m ≡ false → says_of c.own z.own j.base.there m ≡ Other
   between-not m e f =
-      ap (λ (b : Bool). says_by b (is_between c.own z.own m) (is_for_either c.own z.own m) m) e
-      ∙ ap (λ (b : Bool). says_by true b (is_for_either c.own z.own m) m) f
+      ap (λ (b : Bool). says_by b (is_between c.own z.own m) (nat_eq (dpc_of m) j.base.there) m) e
+      ∙ ap (λ (b : Bool). says_by true b (nat_eq (dpc_of m) j.base.there) m) f
 
-  pub past-other : (point : ℕ) (word : Management) → point < 2 ^ 14 → IsManagement word → point ≢ z.own → says_of c.own z.own (management_to c point word) ≡ Other
+  pub past-other : (point : ℕ) (word : Management) → point < 2 ^ 14 → IsManagement word → point ≢ z.own → says_of c.own z.own j.base.there (management_to c point word) ≡ Other
   past-other point word fits h d = between-not (management_to c point word) (made-management c j.near_well point word) (past-between point word fits h d)
 
   -- the confirmation of a code, whatever octet that is
-  pub confirmation-past : (point slc code : ℕ) → point < 2 ^ 14 → slc < 2 ^ 4 → point ≢ z.own → says_of c.own z.own (changeback_acknowledgement c point slc code) ≡ Other
+  pub confirmation-past : (point slc code : ℕ) → point < 2 ^ 14 → slc < 2 ^ 4 → point ≢ z.own → says_of c.own z.own j.base.there (changeback_acknowledgement c point slc code) ≡ Other
   confirmation-past point slc code fits small d =
       between-not (changeback_acknowledgement c point slc code) (made-management c j.near_well point (says.ChangebackAcknowledgement slc code))
       (past-between point (says.ChangebackAcknowledgement slc 0) fits (small, omega arith) d)
@@ -108,11 +109,18 @@ module _ (c z : Configuration) (j : Joint c z) where
   test-indicator : (network : ℕ) → (network * 64 + 1) % 16 ≡ 1
   test-indicator network = omega arith
 
-  pub test-past : (point : ℕ) (test : LinkTestValue) → says_of c.own z.own (test_answer c point test) ≡ Other
+  pub test-past : (point : ℕ) (test : LinkTestValue) → says_of c.own z.own j.base.there (test_answer c point test) ≡ Other
   test-past point test =
       between-not (test_answer c point test) (answer-management c point test)
       (ap (λ (k : ℕ). (nat_eq k 0 && (nat_eq (opc_of (test_answer c point test)) c.own && nat_eq (dpc_of (test_answer c point test)) z.own))
       || (nat_eq k 0 && (nat_eq (opc_of (test_answer c point test)) z.own && nat_eq (dpc_of (test_answer c point test)) c.own))) (test-indicator c.network))
+
+  -- and a link test of one's own
+  pub own_test-past : (link : ℕ) → says_of c.own z.own j.base.there (link_test c link) ≡ Other
+  own_test-past link =
+      between-not (link_test c link) (test-management c link)
+      (ap (λ (k : ℕ). (nat_eq k 0 && (nat_eq (opc_of (link_test c link)) c.own && nat_eq (dpc_of (link_test c link)) z.own))
+      || (nat_eq k 0 && (nat_eq (opc_of (link_test c link)) z.own && nat_eq (dpc_of (link_test c link)) c.own))) (test-indicator c.network))
 
   -- ---- all of it is short
 
@@ -146,10 +154,10 @@ module _ (c z : Configuration) (j : Joint c z) where
         ∙ ap (λ (b : Bool). (b && nat_eq (dpc_of m) z.own) || is_management_between z.own c.own m) (eq-eqb (opc_of m) c.own its-opc)
         ∙ ap (λ (b : Bool). b || is_management_between z.own c.own m) (eq-eqb (dpc_of m) z.own its-dpc)
 
-    pub word-says : says_of c.own z.own m ≡ management_says word
+    pub word-says : says_of c.own z.own j.base.there m ≡ management_says word
     word-says =
-        ap (λ (b : Bool). says_by b (is_between c.own z.own m) (is_for_either c.own z.own m) m) (made-management c j.near_well z.own word)
-        ∙ ap (λ (b : Bool). says_by true b (is_for_either c.own z.own m) m) between
+        ap (λ (b : Bool). says_by b (is_between c.own z.own m) (nat_eq (dpc_of m) j.base.there) m) (made-management c j.near_well z.own word)
+        ∙ ap (λ (b : Bool). says_by true b (nat_eq (dpc_of m) j.base.there) m) between
         ∙ ap read_says its-word
 
     pub word-made : IsWord c (set c z j) word → IsMade c z (set c z j) m

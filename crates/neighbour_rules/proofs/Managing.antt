@@ -1,5 +1,5 @@
 -- Link tests, and management that passes by, as it comes to a node: by moves.
-use Rattle.pair_rules.proofs.Basics.{suc, ◌≡◌, ◌≢◌, ◌<◌, ◌≤◌, ◌+◌, ◌^◌, ◌/◌, ◌%◌, ◌&&◌, ℕ, Bool, true, false, List, [], ◌∷◌, length, Option, Some, None, Result, Ok, Err, refl, ap, sym, subst, ◌∙◌, nat_eq, nat_lt, arith, nat_tests, drop, take, if◌then◌else◌, option_and_then, slice_index_or, ⊎_elim, cases_eq}
+use Rattle.pair_rules.proofs.Basics.{◌⊎◌, inl, inr, eq-eqb, suc, ◌≡◌, ◌≢◌, ◌<◌, ◌≤◌, ◌+◌, ◌^◌, ◌/◌, ◌%◌, ◌&&◌, ℕ, Bool, true, false, List, [], ◌∷◌, length, Option, Some, None, Result, Ok, Err, refl, ap, sym, subst, ◌∙◌, nat_eq, nat_lt, arith, nat_tests, drop, take, if◌then◌else◌, option_and_then, slice_index_or, ⊎_elim, cases_eq}
 use Rattle.pair_rules.proofs.Definitions.{Message, SIF_OCTETS, flow_of, is_management, opc_of, service_indicator, Cause, Handled, Ignored, Configuration, LinkEntry, SetEntry, set_place, destination_place, Management, MgmtFault, read_management, Node, answer, refuse, with_parts, in_service, set_of, link_of, no_room, send, queue_on, link_with_code, is_outstanding, freed, on_changeback_acknowledgement, on_management, do_management, do_order, do_acknowledgement, do_test, manage, testing, is_adjacent, WholeQueues, whole, StaysFit, fit-steps, Saying}
 use Rattle.std.proofs.lemmas.List.{length-drop, length-take}
 use Rattle.std.proofs.lemmas.List.Quantifiers.{position-Some}
@@ -29,7 +29,9 @@ use Rattle.neighbour_rules.proofs.Lates.{declaration_past-passes, freed-elsewher
 use Rattle.neighbour_rules.proofs.Made.{test-past}
 use Rattle.neighbour_rules.proofs.Messages.{dropping, making, says-user}
 use Rattle.neighbour_rules.proofs.Placing.{leaving, placing}
-use Rattle.neighbour_rules.proofs.Rerouted.{on_route_status-passes, on_route_test-passes}
+use Rattle.neighbour_rules.proofs.Testing.{on_test_answer-passes}
+use Rattle.neighbour_rules.proofs.Rerouted.{on_route_status-passes, on_route_test-passes, IsUntold}
+use Rattle.neighbour_rules.proofs.Untold.{IsPlain, known-place, place-point}
 
 -- ---- what is read
 
@@ -110,7 +112,7 @@ answer-short c point sif test short e =
 
 module _ (c z : Configuration) (j : Joint c z) where
   abbrev read : Message → Saying
-  read = says_of c.own z.own
+  read = says_of c.own z.own j.base.there
 
   -- ---- sets of points
 
@@ -125,6 +127,18 @@ module _ (c z : Configuration) (j : Joint c z) where
   set-apart : (point its : ℕ) → set_place c point ≡ Some its → point ≢ z.own → its ≢ set c z j
   set-apart point its e d same =
       d (sym (set-point point its e) ∙ ap (adjacent_of c) same ∙ set-point z.own (set c z j) j.shares.near_leads.adjacent)
+
+  -- what a third point tells of routes is about its own set
+  untold-past : (point about : ℕ) → point ≢ z.own → IsUntold c z j (route_about (set_place c point) (destination_place c about))
+  untold-past point about d its destination e i same = absurd (set-apart point its (known-place (set_place c point) (destination_place c about) its destination e).0 d i)
+
+  -- and what the other tells is about another point, or about itself
+  untold-plain : (point about : ℕ) → (j.base.there ≡ z.own) ⊎ (nat_eq about j.base.there ≡ false) → IsUntold c z j (route_about (set_place c point) (destination_place c about))
+  untold-plain point about (inl own) its destination e i same = own
+  untold-plain point about (inr apart) its destination e i same =
+      let place : destination_place c about ≡ Some j.destination = (known-place (set_place c point) (destination_place c about) its destination e).1 ∙ ap (λ (k : ℕ). Some k) same in
+      let no : true ≡ false = sym (eq-eqb about j.base.there (place-point c about j.base.there j.destination place j.place)) ∙ apart in
+      absurd cc
 
   -- the link that a point names is one of its set
   pub record IsNamed (point slc link : ℕ) : Type 0 where
@@ -173,7 +187,7 @@ module _ (c z : Configuration) (j : Joint c z) where
         ⊎_elim
         (λ (its : set_of c link ≡ set c z j).
         placing c z j w n arrived link m [] serves its stay
-        (λ g user. let no : true ≡ false = sym (answer-management c point test) ∙ says-user c.own z.own m user in absurd cc))
+        (λ g user. let no : true ≡ false = sym (answer-management c point test) ∙ says-user c.own z.own j.base.there m user in absurd cc))
         (λ (d : set_of c link ≢ set c z j). leaving c z j w n arrived link m [] serves d (test-past c z j point test) stay)
         (cases_eq (set_of c link) (set c z j))
 
@@ -182,7 +196,7 @@ module _ (c z : Configuration) (j : Joint c z) where
     kind-passes Test link point test n serves adjacent short =
         let m : Message = test_answer c point test in
         passes-both c z j _ _ _ (making c z j w n arrived m [] (test-past c z j point test) short) (answered (no_room whole c m n.queues) link point test n serves adjacent)
-    kind-passes Acknowledgement link point test n serves adjacent short = none n
+    kind-passes Acknowledgement link point test n serves adjacent short = on_test_answer-passes c z j w arrived link point test n
 
     test-passes : (r : Result LinkTestValue MgmtFault) (link point : ℕ) (n : Node WholeQueues) → in_service n.parts link ≡ true → is_adjacent c point ≡ true
         → ((test : LinkTestValue) → r ≡ Ok test → length (test_answer c point test).sif ≤ SIF_OCTETS) → Pass n (do_test whole c r link point n).left
@@ -220,32 +234,38 @@ module _ (c z : Configuration) (j : Joint c z) where
     past (says.EmergencyChangeoverAcknowledgement slc) point n fits coded d knows = answer-past (link_with_code c point slc) point slc None n refl d
     past (says.ChangebackDeclaration slc code) point n fits coded d knows = declaration_past-passes c z j w n arrived point slc code fits coded d
     past (says.ChangebackAcknowledgement slc code) point n fits coded d knows = confirmed-past (set_place c point) point code n refl d
-    past (says.TransferProhibited about) point n fits coded d knows = on_route_status-passes c z j w arrived [] Prohibited (route_about (set_place c point) (destination_place c about)) n knows
-    past (says.TransferRestricted about) point n fits coded d knows = on_route_status-passes c z j w arrived [] Restricted (route_about (set_place c point) (destination_place c about)) n knows
-    past (says.TransferAllowed about) point n fits coded d knows = on_route_status-passes c z j w arrived [] Allowed (route_about (set_place c point) (destination_place c about)) n knows
+    past (says.TransferProhibited about) point n fits coded d knows =
+        on_route_status-passes c z j w arrived [] Prohibited (route_about (set_place c point) (destination_place c about)) n knows (untold-past point about d)
+    past (says.TransferRestricted about) point n fits coded d knows =
+        on_route_status-passes c z j w arrived [] Restricted (route_about (set_place c point) (destination_place c about)) n knows (untold-past point about d)
+    past (says.TransferAllowed about) point n fits coded d knows =
+        on_route_status-passes c z j w arrived [] Allowed (route_about (set_place c point) (destination_place c about)) n knows (untold-past point about d)
     past (says.RouteSetTestProhibited about) point n fits coded d knows = on_route_test-passes c z j w arrived [] tests.Prohibited (route_about (set_place c point) (destination_place c about)) n
     past (says.RouteSetTestRestricted about) point n fits coded d knows = on_route_test-passes c z j w arrived [] tests.Restricted (route_about (set_place c point) (destination_place c about)) n
 
     -- ---- what the other says that passes by
 
-    plain : (word : Management) (point : ℕ) (n : Node WholeQueues) → management_says word ≡ Other → KnowsPoints c n → Pass n (on_management whole c word point n).left
+    plain : (word : Management) (point : ℕ) (n : Node WholeQueues) → IsPlain c z j (Ok word) → KnowsPoints c n → Pass n (on_management whole c word point n).left
     plain says.TrafficRestartAllowed point n e knows = none n
     plain (says.UserPartUnavailable about user_part cause) point n e knows = none n
-    plain (says.ExtendedChangeoverOrder slc number) point n e knows = absurd cc
-    plain (says.EmergencyChangeoverOrder slc) point n e knows = absurd cc
-    plain (says.ExtendedChangeoverAcknowledgement slc number) point n e knows = absurd cc
-    plain (says.EmergencyChangeoverAcknowledgement slc) point n e knows = absurd cc
-    plain (says.ChangebackDeclaration slc code) point n e knows = absurd cc
-    plain (says.ChangebackAcknowledgement slc code) point n e knows = absurd cc
-    plain (says.TransferProhibited about) point n e knows = on_route_status-passes c z j w arrived [] Prohibited (route_about (set_place c point) (destination_place c about)) n knows
-    plain (says.TransferRestricted about) point n e knows = on_route_status-passes c z j w arrived [] Restricted (route_about (set_place c point) (destination_place c about)) n knows
-    plain (says.TransferAllowed about) point n e knows = on_route_status-passes c z j w arrived [] Allowed (route_about (set_place c point) (destination_place c about)) n knows
+    plain (says.ExtendedChangeoverOrder slc number) point n e knows = (let no : management_says (says.ExtendedChangeoverOrder slc number) ≡ Other = e.says in absurd cc)
+    plain (says.EmergencyChangeoverOrder slc) point n e knows = (let no : management_says (says.EmergencyChangeoverOrder slc) ≡ Other = e.says in absurd cc)
+    plain (says.ExtendedChangeoverAcknowledgement slc number) point n e knows = (let no : management_says (says.ExtendedChangeoverAcknowledgement slc number) ≡ Other = e.says in absurd cc)
+    plain (says.EmergencyChangeoverAcknowledgement slc) point n e knows = (let no : management_says (says.EmergencyChangeoverAcknowledgement slc) ≡ Other = e.says in absurd cc)
+    plain (says.ChangebackDeclaration slc code) point n e knows = (let no : management_says (says.ChangebackDeclaration slc code) ≡ Other = e.says in absurd cc)
+    plain (says.ChangebackAcknowledgement slc code) point n e knows = (let no : management_says (says.ChangebackAcknowledgement slc code) ≡ Other = e.says in absurd cc)
+    plain (says.TransferProhibited about) point n e knows =
+        on_route_status-passes c z j w arrived [] Prohibited (route_about (set_place c point) (destination_place c about)) n knows (untold-plain point about e.untold)
+    plain (says.TransferRestricted about) point n e knows =
+        on_route_status-passes c z j w arrived [] Restricted (route_about (set_place c point) (destination_place c about)) n knows (untold-plain point about e.untold)
+    plain (says.TransferAllowed about) point n e knows =
+        on_route_status-passes c z j w arrived [] Allowed (route_about (set_place c point) (destination_place c about)) n knows (untold-plain point about e.untold)
     plain (says.RouteSetTestProhibited about) point n e knows = on_route_test-passes c z j w arrived [] tests.Prohibited (route_about (set_place c point) (destination_place c about)) n
     plain (says.RouteSetTestRestricted about) point n e knows = on_route_test-passes c z j w arrived [] tests.Restricted (route_about (set_place c point) (destination_place c about)) n
 
     -- ---- all management that passes by
 
-    managed : (r : Result Management MgmtFault) (point : ℕ) (n : Node WholeQueues) → point < 2 ^ 14 → IsCoded r → (point ≡ z.own → read_says r ≡ Other) → KnowsPoints c n
+    managed : (r : Result Management MgmtFault) (point : ℕ) (n : Node WholeQueues) → point < 2 ^ 14 → IsCoded r → (point ≡ z.own → IsPlain c z j r) → KnowsPoints c n
         → Pass n (do_management whole c r point n).left
     managed (Err fault) point n fits coded says knows = none n
     managed (Ok word) point n fits coded says knows =
@@ -253,7 +273,7 @@ module _ (c z : Configuration) (j : Joint c z) where
 
     -- whatever comes, where management in the name of the other says nothing between the two
     pub manage-passes : (link : ℕ) (m : Message) (n : Node WholeQueues) → in_service n.parts link ≡ true → is_management m ≡ true → length m.sif ≤ SIF_OCTETS
-        → (opc_of m ≡ z.own → service_indicator m ≡ 0 → read_says (read_management m.sif) ≡ Other) → KnowsPoints c n → Pass n (manage whole c link m n).left
+        → (opc_of m ≡ z.own → service_indicator m ≡ 0 → IsPlain c z j (read_management m.sif)) → KnowsPoints c n → Pass n (manage whole c link m n).left
     manage-passes link m n serves management short says knows = by (is_adjacent c (opc_of m)) (nat_eq (service_indicator m) testing) refl refl
       where
         fits : opc_of m < 2 ^ 14

@@ -18,8 +18,8 @@ use Rattle.pair_rules.proofs.World.{World}
 use Rattle.pair_rules.proofs.Good.{IsSilent, Each, each-behind}
 use Rattle.pair_rules.proofs.Going.{goes-one, goes-lost}
 use Rattle.neighbour_rules.proofs.Counted.{IsBase, base-lost, beyond-lost, counts_of, with_loss}
-use Rattle.neighbour_rules.proofs.World.{code_of, holds_at, is_between, is_for_either, management_says, procedure_of, read_says, route_of, says_by, says_of, shown}
-use Rattle.neighbour_rules.proofs.Good.{Good, IsSent, Joint, Passes, accepted, at, made, passes-both, passes-none, passes_by, set}
+use Rattle.neighbour_rules.proofs.World.{code_of, holds_at, is_between, management_says, procedure_of, read_says, reading, route_of, says_by, says_of, shown}
+use Rattle.neighbour_rules.proofs.Good.{Good, IsMade, IsSent, Joint, Passes, accepted, at, made, passes-both, passes-none, passes_by, set}
 use Rattle.neighbour_rules.proofs.Placing.{leaving, other-leaves, placing}
 
 -- ---- what messages say
@@ -48,8 +48,8 @@ by-kind m true true either e = (let no : true ≡ false = sym e ∙ word-says (r
 by-kind m true false either e = absurd cc
 by-kind m false between either e = refl
 
-pub says-user : (one two : ℕ) (m : Message) → is_user_message (says_of one two m) ≡ true → is_management m ≡ false
-says-user one two m e = by-kind m (is_management m) (is_between one two m) (is_for_either one two m) e
+pub says-user : (one two point : ℕ) (m : Message) → is_user_message (says_of one two point m) ≡ true → is_management m ≡ false
+says-user one two point m e = by-kind m (is_management m) (is_between one two m) (nat_eq (dpc_of m) point) e
 
 -- ---- a flow that nothing holds
 
@@ -68,25 +68,25 @@ flow_with point sls = record { point = point; sls = sls }
 
 module _ (c z : Configuration) (j : Joint c z) where
   abbrev read : Message → Saying
-  read = says_of c.own z.own
+  read = says_of c.own z.own j.base.there
 
   -- ---- the link of a message for the other
 
-  -- a flow to the other that has a link has one of the set
-  pub of-set : (n : Node WholeQueues) (m : Message) (link : ℕ) → slice_index_or n.parts.routes j.destination [] ≡ first_route (set c z j) ∷ [] → dpc_of m ≡ z.own → link_of c n.parts (flow_of m) ≡ Some link
-      → set_of c link ≡ set c z j
-  of-set n m link route to e =
-      lone-chosen c n.parts (set c z j) j.destination (flow_of m).sls link route
-      (ap (option_and_then (λ (place : ℕ). chosen_link (facts c n.parts) place (flow_of m).sls)) (sym (ap (destination_place c) to ∙ j.place)) ∙ e)
+  -- a flow that has a link has one of the set, where that alone leads to its point
+  pub of-set : (n : Node WholeQueues) (m : Message) (link point destination : ℕ) → destination_place c point ≡ Some destination → slice_index_or n.parts.routes destination [] ≡ first_route (set c z j) ∷ []
+      → dpc_of m ≡ point → link_of c n.parts (flow_of m) ≡ Some link → set_of c link ≡ set c z j
+  of-set n m link point destination place route to e =
+      lone-chosen c n.parts (set c z j) destination (flow_of m).sls link route
+      (ap (option_and_then (λ (place : ℕ). chosen_link (facts c n.parts) place (flow_of m).sls)) (sym (ap (destination_place c) to ∙ place)) ∙ e)
 
-  pub flow-routed : (n : Node WholeQueues) (m : Message) (link : ℕ) → dpc_of m ≡ z.own → link_of c n.parts (flow_of m) ≡ Some link → route_of c z (set c z j) n.parts (flow_of m) ≡ Some (code_of c link)
+  pub flow-routed : (n : Node WholeQueues) (m : Message) (link : ℕ) → dpc_of m ≡ j.base.there → link_of c n.parts (flow_of m) ≡ Some link → route_of c j.base.there (set c z j) n.parts (flow_of m) ≡ Some (code_of c link)
   flow-routed n m link to e =
-      ap (λ (b : Bool). if b && nat_lt (flow_of m).sls SELECTIONS then option_map (code_of c) (link_of c n.parts (flow_of m)) else None) (eq-eqb (dpc_of m) z.own to)
+      ap (λ (b : Bool). if b && nat_lt (flow_of m).sls SELECTIONS then option_map (code_of c) (link_of c n.parts (flow_of m)) else None) (eq-eqb (dpc_of m) j.base.there to)
       ∙ ap (λ (b : Bool). if b then option_map (code_of c) (link_of c n.parts (flow_of m)) else None) (small-selection (label_number m.sif))
       ∙ ap (option_map (code_of c)) e
 
   -- whether its flow is held
-  held-there : (h : HoldSet) (f : Flow) → f.point ≡ z.own → is_held_at h (destination_place c f.point) f.sls ≡ is_held h j.destination f.sls
+  held-there : (h : HoldSet) (f : Flow) → f.point ≡ j.base.there → is_held_at h (destination_place c f.point) f.sls ≡ is_held h j.destination f.sls
   held-there h f e = ap (λ (o : Option ℕ). is_held_at h o f.sls) (ap (destination_place c) e ∙ j.place)
 
   -- a message of Held of the same flow would wait for the same hold
@@ -110,25 +110,25 @@ module _ (c z : Configuration) (j : Joint c z) where
       by : (b : Bool) → is_of_flow read (flow_of m) held ≡ b → filter (is_of_flow read (flow_of m)) ms ≡ []
           → (if b then held ∷ filter (is_of_flow read (flow_of m)) ms else filter (is_of_flow read (flow_of m)) ms) ≡ []
       by true f rest =
-          let user : is_management held ≡ false = says-user c.own z.own held (left-true (is_user_message (read held)) (is_same_flow (flow_of held) (flow_of m)) f) in
+          let user : is_management held ≡ false = says-user c.own z.own j.base.there held (left-true (is_user_message (read held)) (is_same_flow (flow_of held) (flow_of m)) f) in
           let same : flow_of held ≡ flow_of m = same-parts (flow_of held) (flow_of m) (right-true (is_user_message (read held)) (is_same_flow (flow_of held) (flow_of m)) f) in
           let no : false ≡ true = sym (waits-same h m held user same e) ∙ left-true (waits c h held) (all_wait c h ms) w in
           absurd cc
       by false f rest = rest
 
-  pub may-go : (n : Node WholeQueues) (loose arrived : List Message) (w : World) (m : Message) (link : ℕ) → dpc_of m ≡ z.own → is_flow_held c n.parts.holds m ≡ false
+  pub may-go : (n : Node WholeQueues) (loose arrived : List Message) (w : World) (m : Message) (link : ℕ) → dpc_of m ≡ j.base.there → is_flow_held c n.parts.holds m ≡ false
       → all_wait c n.parts.holds n.queues.held ≡ true → link_of c n.parts (flow_of m) ≡ Some link
       → MayGo read (shown c z (set c z j) j.shares.far_set j.base (at c z j w n arrived loose)).near (flow_of m) (code_of c link)
   may-go n loose arrived w m link to free wait e = record {
     routed = flow-routed n m link to e;
-    unheld = λ procedure. free-false _ _ (unheld-at (destination_place c z.own) j.place procedure);
+    unheld = λ procedure. free-false _ _ (unheld-at (destination_place c j.base.there) j.place procedure);
     none_held = none-of-flow n.parts.holds m n.queues.held free wait;
   }
     where
-      unheld-at : (o : Option ℕ) → o ≡ Some j.destination → (procedure : ends.Procedure) → holds_at c z (set c z j) o n.parts procedure (flow_of m).sls ≡ false
+      unheld-at : (o : Option ℕ) → o ≡ Some j.destination → (procedure : ends.Procedure) → holds_at c j.base.there (set c z j) o n.parts procedure (flow_of m).sls ≡ false
       unheld-at o f procedure =
-          ap (λ (x : Option ℕ). holds_at c z (set c z j) x n.parts procedure (flow_of m).sls) f
-          ∙ none-holds n.parts.holds j.destination (flow_of m).sls (procedure_of c z (set c z j) procedure) (sym (held-there n.parts.holds (flow_of m) to) ∙ free)
+          ap (λ (x : Option ℕ). holds_at c j.base.there (set c z j) x n.parts procedure (flow_of m).sls) f
+          ∙ none-holds n.parts.holds j.destination (flow_of m).sls (procedure_of c j.base.there (set c z j) procedure) (sym (held-there n.parts.holds (flow_of m) to) ∙ free)
 
   -- ---- a message goes onto the link of its flow
 
@@ -136,7 +136,7 @@ module _ (c z : Configuration) (j : Joint c z) where
   pub onto : (w : World) (n : Node WholeQueues) (arrived : List Message) (link : ℕ) (m : Message) (rest : List Message) → link_of c n.parts (flow_of m) ≡ Some link
       → (Good c z j (at c z j w n arrived (m ∷ rest)) → is_user_message (read m) ≡ true → is_flow_held c n.parts.holds m ≡ false)
       → (is_user_message (read m) ≡ true → all_wait c n.parts.holds n.queues.held ≡ true)
-      → (Good c z j (at c z j w n arrived (m ∷ rest)) → IsSent c z (set c z j) m)
+      → (Good c z j (at c z j w n arrived (m ∷ rest)) → IsSent c z j.base.there (set c z j) m)
       → Passes c z j (at c z j w n arrived (m ∷ rest)) (at c z j w (queue_on whole c link m n) arrived rest)
   onto w n arrived link m rest e free wait sent = record { goes = λ g. (passes g).goes g; good = λ g. (passes g).good g }
     where
@@ -146,10 +146,15 @@ module _ (c z : Configuration) (j : Joint c z) where
       stay : StaysFit c n (queue_on whole c link m n)
       stay = (fit-steps c).routed link m n e
 
-      between : Good c z j (at c z j w n arrived (m ∷ rest)) → dpc_of m ≡ z.own → Passes c z j (at c z j w n arrived (m ∷ rest)) (at c z j w (queue_on whole c link m n) arrived rest)
-      between g to =
-          placing c z j w n arrived link m rest serves (of-set n m link g.route to e) stay
+      bound : Good c z j (at c z j w n arrived (m ∷ rest)) → dpc_of m ≡ j.base.there → Passes c z j (at c z j w n arrived (m ∷ rest)) (at c z j w (queue_on whole c link m n) arrived rest)
+      bound g to =
+          placing c z j w n arrived link m rest serves (of-set n m link j.base.there j.destination j.place g.route.beyond to e) stay
           (λ h user. may-go n (m ∷ rest) arrived w m link to (free h user) (wait user) e)
+
+      between : Good c z j (at c z j w n arrived (m ∷ rest)) → IsMade c z (set c z j) m → Passes c z j (at c z j w n arrived (m ∷ rest)) (at c z j w (queue_on whole c link m n) arrived rest)
+      between g is =
+          placing c z j w n arrived link m rest serves (of-set n m link z.own j.adjacent j.adjacent_place g.route.between is.to e) stay
+          (λ h user. let no : true ≡ false = sym is.management ∙ says-user c.own z.own j.base.there m user in absurd cc)
 
       -- one that passes by takes whichever link it takes
       past : read m ≡ Other → Passes c z j (at c z j w n arrived (m ∷ rest)) (at c z j w (queue_on whole c link m n) arrived rest)
@@ -164,9 +169,9 @@ module _ (c z : Configuration) (j : Joint c z) where
       passes : Good c z j (at c z j w n arrived (m ∷ rest)) → Passes c z j (at c z j w n arrived (m ∷ rest)) (at c z j w (queue_on whole c link m n) arrived rest)
       passes g = by (sent g)
         where
-          by : IsSent c z (set c z j) m → Passes c z j (at c z j w n arrived (m ∷ rest)) (at c z j w (queue_on whole c link m n) arrived rest)
-          by (made is) = between g is.to
-          by (accepted is) = between g is.to
+          by : IsSent c z j.base.there (set c z j) m → Passes c z j (at c z j w n arrived (m ∷ rest)) (at c z j w (queue_on whole c link m n) arrived rest)
+          by (made is) = between g is
+          by (accepted is) = bound g is.to
           by (passes_by says short) = past says
 
   -- ---- messages of Held go on
@@ -177,7 +182,7 @@ module _ (c z : Configuration) (j : Joint c z) where
   pub keeping : (w : World) (n : Node WholeQueues) (arrived : List Message) (m : Message) (rest : List Message) → waits c n.parts.holds m ≡ true
       → Passes c z j (at c z j w n arrived (m ∷ rest)) (at c z j w (holding.hold whole m n) arrived rest)
   keeping w n arrived m rest e = record {
-    goes = λ g. goes-one read _ _ (moves.keeps (record { message = m; rest = rest; first = refl; after = refl }));
+    goes = λ g. goes-one (reading c.own z.own j.base) _ _ (moves.keeps (record { message = m; rest = rest; first = refl; after = refl }));
     good = λ g. record {
       fits = ((fit-steps c).held m n e).stay g.fits;
       route = g.route;
@@ -185,7 +190,7 @@ module _ (c z : Configuration) (j : Joint c z) where
       silent = g.silent;
       queued = g.queued;
       elsewhere = g.elsewhere;
-      held = each-behind (IsSent c z (set c z j)) n.queues.held (m ∷ []) g.held (g.loose.0, tt);
+      held = each-behind (IsSent c z j.base.there (set c z j)) n.queues.held (m ∷ []) g.held (g.loose.0, tt);
       loose = g.loose.1;
       arrived = g.arrived;
       coming = g.coming;
@@ -198,17 +203,20 @@ module _ (c z : Configuration) (j : Joint c z) where
       → o.parts.routes ≡ n.parts.routes → o.parts.links ≡ n.parts.links → o.parts.changeovers ≡ n.parts.changeovers
       → Passes c z j (at c z j w n arrived (m ∷ rest)) (at c z j w o arrived rest)
   dropping w n o arrived m rest lost stay queues routes links changeovers = record {
-    goes = λ g. goes-lost read _ _ (beyond-lost j.base.near (counts_of n.parts) (counts_of o.parts) j.grows lost g.counted);
+    goes = λ g. goes-lost (reading c.own z.own j.base) _ _ (beyond-lost j.base.near (counts_of n.parts) (counts_of o.parts) j.grows lost g.counted);
     good = λ g. record {
       fits = stay.stay g.fits;
-      route = ap (λ (rs : List (List Route)). slice_index_or rs j.destination []) routes ∙ g.route;
+      route = record {
+        beyond = ap (λ (rs : List (List Route)). slice_index_or rs j.destination []) routes ∙ g.route.beyond;
+        between = ap (λ (rs : List (List Route)). slice_index_or rs j.adjacent []) routes ∙ g.route.between;
+      };
       unawaited = λ link up.
           ap (λ (xs : List Standing). (standing_at xs link).awaited) changeovers
           ∙ g.unawaited link (ap (λ (xs : List Link). is_down (link_in xs link).alignment) (sym links) ∙ up);
       silent = subst (λ (xs : List Link). (link : ℕ) → IsSilent (link_in xs link)) (sym links) g.silent;
-      queued = subst (λ (qs : WholeQueues). (link : ℕ) → Each (IsSent c z (set c z j)) (queue_at qs link).all) (sym queues) g.queued;
+      queued = subst (λ (qs : WholeQueues). (link : ℕ) → Each (IsSent c z j.base.there (set c z j)) (queue_at qs link).all) (sym queues) g.queued;
       elsewhere = subst (λ (qs : WholeQueues). (link : ℕ) → set_of c link ≢ set c z j → Each (λ x. read x ≡ Other) (queue_at qs link).all) (sym queues) g.elsewhere;
-      held = subst (λ (qs : WholeQueues). Each (IsSent c z (set c z j)) qs.held) (sym queues) g.held;
+      held = subst (λ (qs : WholeQueues). Each (IsSent c z j.base.there (set c z j)) qs.held) (sym queues) g.held;
       loose = g.loose.1;
       arrived = g.arrived;
       coming = g.coming;
@@ -222,7 +230,7 @@ module _ (c z : Configuration) (j : Joint c z) where
   go_by-passes false w n arrived m rest e wait = by (link_of c n.parts (flow_of m)) refl
     where
       by : (link : Option ℕ) → link_of c n.parts (flow_of m) ≡ link → Passes c z j (at c z j w n arrived (m ∷ rest)) (at c z j w (go_on whole c link m n) arrived rest)
-      by (Some link) f = onto w n arrived link m rest f (λ g user. free-user n.parts.holds m (says-user c.own z.own m user) e) (λ user. wait) (λ g. g.loose.0)
+      by (Some link) f = onto w n arrived link m rest f (λ g user. free-user n.parts.holds m (says-user c.own z.own j.base.there m user) e) (λ user. wait) (λ g. g.loose.0)
       by None f =
           dropping w n (go_on whole c None m n) arrived m rest refl (subst (λ (link : Option ℕ). StaysFit c n (go_on whole c link m n)) f (go_by-steps (rules-of (fit-steps c)) false m n e)) refl refl refl refl
 
@@ -238,7 +246,7 @@ module _ (c z : Configuration) (j : Joint c z) where
   taking_out : (w : World) (n : Node WholeQueues) (arrived : List Message)
       → Passes c z j (at c z j w n arrived []) (at c z j w (record n { queues = whole.without_held n.queues }) arrived (n.queues.held ++ []))
   taking_out w n arrived = record {
-    goes = λ g. goes-one read _ _ (moves.takes_out (record { after = refl }));
+    goes = λ g. goes-one (reading c.own z.own j.base) _ _ (moves.takes_out (record { after = refl }));
     good = λ g. record {
       fits = ((fit-steps c).taken_out n).stay g.fits;
       route = g.route;
@@ -247,7 +255,7 @@ module _ (c z : Configuration) (j : Joint c z) where
       queued = g.queued;
       elsewhere = g.elsewhere;
       held = tt;
-      loose = each-behind (IsSent c z (set c z j)) n.queues.held [] g.held tt;
+      loose = each-behind (IsSent c z j.base.there (set c z j)) n.queues.held [] g.held tt;
       arrived = g.arrived;
       coming = g.coming;
       counted = g.counted;
@@ -262,7 +270,7 @@ module _ (c z : Configuration) (j : Joint c z) where
   -- ---- management that is nowhere goes out on the link of its flow
 
   none-user : (m : Message) {A : Type 0} → is_management m ≡ true → is_user_message (read m) ≡ true → A
-  none-user m e f = (let no : true ≡ false = sym e ∙ says-user c.own z.own m f in absurd cc)
+  none-user m e f = (let no : true ≡ false = sym e ∙ says-user c.own z.own j.base.there m f in absurd cc)
 
   pub send-passes : (room : Option Cause) (link : Option ℕ) (w : World) (n : Node WholeQueues) (arrived : List Message) (m : Message) (rest : List Message) → is_management m ≡ true
       → link_of c n.parts (flow_of m) ≡ link → Passes c z j (at c z j w n arrived (m ∷ rest)) (at c z j w (send whole c room link m n) arrived rest)
@@ -287,7 +295,7 @@ module _ (c z : Configuration) (j : Joint c z) where
       → Passes c z j (at c z j w n arrived rest) (at c z j w n arrived (m ∷ rest))
   making w n arrived m rest says short = record {
     goes = λ g.
-        goes-one read _ _
+        goes-one (reading c.own z.own j.base) _ _
         (moves.mixes_others (record {
           held = n.queues.held;
           loose = m ∷ rest;

@@ -1,6 +1,6 @@
 -- A link opens at one end, between the two nodes by one move, or elsewhere by none.
 use Rattle.pair_rules.proofs.Basics.{◌≡◌, ◌≢◌, ◌<◌, arith, nat_tests, ◌&&◌, ℕ, Bool, true, false, List, [], length, map, Option, None, refl, ap, sym, subst, ◌∙◌, nat_eq, nat_lt, if◌then◌else◌, option_and_then, option_map, ⊎_elim, cases_eq}
-use Rattle.pair_rules.proofs.Definitions.{SELECTIONS, Message, Flow, Configuration, FrameValue, Queue, first_queue, destination_place, set_of, Standing, may_restart, Link, down_link, is_down, opened, Facts, chosen_link, Node, link_at, WholeQueues, queue_at, whole, Handled, answer, refuse, is_link, may_open, association_up, changeover_of, open_link, Fits, fit-steps, each-set, LinkEnd, Line, MayOpen}
+use Rattle.pair_rules.proofs.Definitions.{period_of, SELECTIONS, Message, Flow, Configuration, FrameValue, Queue, first_queue, destination_place, set_of, Standing, may_restart, Link, down_link, is_down, opened, Facts, chosen_link, Node, link_at, WholeQueues, queue_at, whole, Handled, answer, refuse, is_link, may_open, association_up, changeover_of, open_link, Fits, fit-steps, each-set, LinkEnd, Line, MayOpen}
 use Rattle.signalling_types.specs.declared.cause.Cause.TheVariants as causes
 use Rattle.exchange_rules.specs.Opening.{begun}
 use Rattle.pair_moves.specs.Ends as ends
@@ -12,7 +12,7 @@ use Rattle.pair_rules.proofs.Good.{Each, IsSilent}
 use Rattle.pair_rules.proofs.Going.{Goes, goes-one, goes-same}
 use Rattle.pair_rules.proofs.Lines.{link-other, queue-here, queue-other}
 use Rattle.pair_rules.proofs.Opening.{MayComeUp, listed, may_open-end, opened-here, opened-known, opened-other, opened_near}
-use Rattle.neighbour_rules.proofs.World.{code_of, holds_of, line_of, link_at_code, route_of, says_of, shown}
+use Rattle.neighbour_rules.proofs.World.{code_of, holds_of, line_of, link_at_code, reading, route_of, says_of, shown}
 use Rattle.neighbour_rules.proofs.Good.{AreFlying, Good, IsSent, Joint, Passes, at, passes-both, passes-none, set}
 use Rattle.neighbour_rules.proofs.Falling.{holds-by}
 use Rattle.neighbour_rules.proofs.FarEnds.{IsLine, far-own, line-becomes, line_at, near-own}
@@ -44,24 +44,24 @@ module _ (c z : Configuration) (j : Joint c z) (w : World) (link : ℕ) (m : May
   -- flows take the lines that they took
   abbrev route_by : Facts → Flow → Option ℕ
   route_by f flow =
-      if nat_eq flow.point z.own && nat_lt flow.sls SELECTIONS
+      if nat_eq flow.point j.base.there && nat_lt flow.sls SELECTIONS
       then option_map (code_of c) (option_and_then (λ (d : ℕ). chosen_link f d flow.sls) (destination_place c flow.point))
       else None
 
-  route-same : route_of c z (set c z j) o.parts ≡ route_of c z (set c z j) n.parts
+  route-same : route_of c j.base.there (set c z j) o.parts ≡ route_of c j.base.there (set c z j) n.parts
   route-same = ap (λ (f : Facts). route_by f) (opened-known c z n link m)
 
-  holds-same : (procedure : ends.Procedure) (flow : Flow) → holds_of c z (set c z j) o.parts procedure flow ≡ holds_of c z (set c z j) n.parts procedure flow
+  holds-same : (procedure : ends.Procedure) (flow : Flow) → holds_of c j.base.there (set c z j) o.parts procedure flow ≡ holds_of c j.base.there (set c z j) n.parts procedure flow
   holds-same procedure flow = holds-by c z j o.parts procedure flow ∙ sym (holds-by c z j n.parts procedure flow)
 
-  elsewhere-still : Good c z j w → (other : ℕ) → set_of c other ≢ set c z j → Each (λ (x : Message). says_of c.own z.own x ≡ Other) (queue_at o.queues other).all
+  elsewhere-still : Good c z j w → (other : ℕ) → set_of c other ≢ set c z j → Each (λ (x : Message). says_of c.own z.own j.base.there x ≡ Other) (queue_at o.queues other).all
   elsewhere-still h other apart =
       ⊎_elim
       (λ (same : other ≡ link).
-      subst (λ (k : ℕ). Each (λ (x : Message). says_of c.own z.own x ≡ Other) (queue_at o.queues k).all) (sym same)
-      (subst (λ (q : Queue). Each (λ (x : Message). says_of c.own z.own x ≡ Other) q.all) (sym (queue-here c z n link first_queue h.fits (listed c z n link m h.fits))) tt))
+      subst (λ (k : ℕ). Each (λ (x : Message). says_of c.own z.own j.base.there x ≡ Other) (queue_at o.queues k).all) (sym same)
+      (subst (λ (q : Queue). Each (λ (x : Message). says_of c.own z.own j.base.there x ≡ Other) q.all) (sym (queue-here c z n link first_queue h.fits (listed c z n link m h.fits))) tt))
       (λ (d : other ≢ link).
-      subst (λ (q : Queue). Each (λ (x : Message). says_of c.own z.own x ≡ Other) q.all) (sym (queue-other c z n.queues link other first_queue d)) (h.elsewhere other apart))
+      subst (λ (q : Queue). Each (λ (x : Message). says_of c.own z.own j.base.there x ≡ Other) q.all) (sym (queue-other c z n.queues link other first_queue d)) (h.elsewhere other apart))
       (cases_eq other link)
 
   -- the node is good in any world
@@ -69,7 +69,7 @@ module _ (c z : Configuration) (j : Joint c z) (w : World) (link : ℕ) (m : May
     abbrev pub after_opening : World
     after_opening = opened_near c w link near_may far_may g f
 
-    pub opened-good : AreFlying z c j.shares.far_set g → Good c z j w → Good c z j after_opening
+    pub opened-good : AreFlying z c j.base.back j.shares.far_set g → Good c z j w → Good c z j after_opening
     opened-good coming h = record {
       fits = ((fit-steps c).opened link n tt m.there m.opens (complete (changeover_of n.parts link) m.restarts)).stay h.fits;
       route = h.route;
@@ -77,11 +77,11 @@ module _ (c z : Configuration) (j : Joint c z) (w : World) (link : ℕ) (m : May
           ⊎_elim
           (λ (same : other ≡ link). subst (λ (k : ℕ). (changeover_of n.parts k).awaited ≡ false) (sym same) (unawaited (changeover_of n.parts link) m.restarts))
           (λ (d : other ≢ link).
-          h.unawaited other (ap (λ (x : Link). is_down x.alignment) (sym (link-other c z n.parts link other (opened (link_at n.parts link)) d)) ∙ up))
+          h.unawaited other (ap (λ (x : Link). is_down x.alignment) (sym (link-other c z n.parts link other (opened (period_of c link n.parts) (link_at n.parts link)) d)) ∙ up))
           (cases_eq other link);
-      silent = λ other. each-set (λ (x : Link). IsSilent x) n.parts.links link other (opened (link_at n.parts link)) down_link h.silent
+      silent = λ other. each-set (λ (x : Link). IsSilent x) n.parts.links link other (opened (period_of c link n.parts) (link_at n.parts link)) down_link h.silent
           (λ gone. (let no : true ≡ false = sym gone in absurd cc));
-      queued = λ other. each-set (λ (q : Queue). Each (IsSent c z (set c z j)) q.all) n.queues.links link other first_queue first_queue h.queued tt;
+      queued = λ other. each-set (λ (q : Queue). Each (IsSent c z j.base.there (set c z j)) q.all) n.queues.links link other first_queue first_queue h.queued tt;
       elsewhere = elsewhere-still h;
       held = h.held;
       loose = h.loose;
@@ -140,15 +140,15 @@ module _ (c z : Configuration) (j : Joint c z) (w : World) (link : ℕ) (m : May
           seven (opened-other c z n link m k d) (s.to_far i t) (s.to_near k d) (s.told_far i t) (s.told_near k d) (s.near_follows k d) (s.far_follows i t)
 
       pub first-goes : IsFirst → AreOthers → MayOpen (end_of w.far.node other) → Good c z j w
-          → Goes (says_of c.own z.own) (shown c z (set c z j) j.shares.far_set j.base w) (shown c z (set c z j) j.shares.far_set j.base after_opening)
+          → Goes (reading c.own z.own j.base) (shown c z (set c z j) j.shares.far_set j.base w) (shown c z (set c z j) j.shares.far_set j.base after_opening)
       first-goes i s far h =
-          goes-one (says_of c.own z.own) (shown c z (set c z j) j.shares.far_set j.base w) (shown c z (set c z j) j.shares.far_set j.base after_opening)
+          goes-one (reading c.own z.own j.base) (shown c z (set c z j) j.shares.far_set j.base w) (shown c z (set c z j) j.shares.far_set j.base after_opening)
           (moves.opens_first (record {
             link = code_of c link;
             near_may = near-may;
             far_may = subst (λ (k : ℕ). MayOpen (end_of w.far.node k)) (sym (far-own c z j link other e)) far;
             lines = line_of c z (set c z j) j.shares.far_set after_opening;
-            set = line-becomes c z j after_opening w (route_of c z (set c z j) n.parts) link other opened_first e
+            set = line-becomes c z j after_opening w (route_of c j.base.there (set c z j) n.parts) link other opened_first e
                 (seven (opened-here c z n link m h.fits) i.far_here i.near_here i.far_told i.near_told i.near_follows i.far_follows) (others-still s);
             after = routed;
           }))
@@ -164,15 +164,15 @@ module _ (c z : Configuration) (j : Joint c z) (w : World) (link : ℕ) (m : May
         pub far_follows : far_may other ≡ w.far_may other
 
       pub second-goes : IsSecond → AreOthers → Good c z j w
-          → Goes (says_of c.own z.own) (shown c z (set c z j) j.shares.far_set j.base w) (shown c z (set c z j) j.shares.far_set j.base after_opening)
+          → Goes (reading c.own z.own j.base) (shown c z (set c z j) j.shares.far_set j.base w) (shown c z (set c z j) j.shares.far_set j.base after_opening)
       second-goes i s h =
-          goes-one (says_of c.own z.own) (shown c z (set c z j) j.shares.far_set j.base w) (shown c z (set c z j) j.shares.far_set j.base after_opening)
+          goes-one (reading c.own z.own j.base) (shown c z (set c z j) j.shares.far_set j.base w) (shown c z (set c z j) j.shares.far_set j.base after_opening)
           (moves.opens_second (record {
             link = code_of c link;
             follows = ap w.near_may (near-own c z j link other e) ∙ i.followed;
             near_may = near-may;
             lines = line_of c z (set c z j) j.shares.far_set after_opening;
-            set = line-becomes c z j after_opening w (route_of c z (set c z j) n.parts) link other opened_second e
+            set = line-becomes c z j after_opening w (route_of c j.base.there (set c z j) n.parts) link other opened_second e
                 (seven (opened-here c z n link m h.fits) i.far_here i.near_here i.far_told i.near_told i.near_follows i.far_follows) (others-still s);
             after = routed;
           }))
@@ -181,7 +181,7 @@ module _ (c z : Configuration) (j : Joint c z) (w : World) (link : ℕ) (m : May
 
 module _ (c z : Configuration) (j : Joint c z) (w : World) (n : Node WholeQueues) (link : ℕ) (apart : set_of c link ≢ set c z j) where
   abbrev x : Link
-  x = opened (link_at n.parts link)
+  x = opened (period_of c link n.parts) (link_at n.parts link)
 
   -- it begins to align, and then its queue is a new one
   abbrev aligning : Node WholeQueues
@@ -237,7 +237,7 @@ module _ (c z : Configuration) (j : Joint c z) (w : World) (n : Node WholeQueues
     queue-begins : link < length c.links → Fits c n → Passes c z j (at c z j w aligning [] []) (at c z j w anew [] [])
     queue-begins l f = record {
       goes = λ g.
-          goes-same (says_of c.own z.own) _ _
+          goes-same (reading c.own z.own j.base) _ _
           (sym (ap (λ (lines : ℕ → Line). record (shown c z (set c z j) j.shares.far_set j.base (at c z j w aligning [] [])) { line = lines })
           (none-becomes c z j (at c z j w aligning [] []) anew [] [] link l apart
           (λ other d. ap (λ (q : Queue). record (end_of aligning other) { queue = q }) (queue-other c z n.queues link other first_queue d)))));
@@ -246,8 +246,8 @@ module _ (c z : Configuration) (j : Joint c z) (w : World) (n : Node WholeQueues
         route = g.route;
         unawaited = g.unawaited;
         silent = g.silent;
-        queued = λ other. queue-anew (IsSent c z (set c z j)) f l other (g.queued other);
-        elsewhere = λ other d. queue-anew (λ (y : Message). says_of c.own z.own y ≡ Other) f l other (g.elsewhere other d);
+        queued = λ other. queue-anew (IsSent c z j.base.there (set c z j)) f l other (g.queued other);
+        elsewhere = λ other d. queue-anew (λ (y : Message). says_of c.own z.own j.base.there y ≡ Other) f l other (g.elsewhere other d);
         held = g.held;
         loose = tt;
         arrived = tt;

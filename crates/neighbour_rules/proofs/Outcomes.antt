@@ -1,9 +1,11 @@
 -- What a frame that is handed in leads to tells what it brought, and what was accepted of that.
 use Rattle.pair_rules.proofs.Basics.{◌&&◌, ◌≡◌, ◌≢◌, inl, inr, ℕ, Bool, true, false, List, [], ◌∷◌, ◌++◌, length, Option, Some, None, Ok, refl, ap, sym, subst, ◌∙◌, nat_eq, not, ◌⊎◌, if◌then◌else◌, drop, option_to_list, slice_get, ◌||◌, eq-eqb, is_some, nat_lt, Result, Err}
-use Rattle.pair_rules.proofs.Definitions.{Label, Message, dpc_of, opc_of, flow_of, SIF_OCTETS, network_indicator, read_management, is_management, service_indicator, Cause, Outcome, Handled, Ignored, Local, Refused, Queued, Held, Configuration, TitleEntry, FrameValue, read_frame, Discrimination, Management, is_outstanding, set_place, Node, Done, answer, refuse, FrameCame, WholeQueues, whole, changeover_of, on_changeback_acknowledgement, accept_text, answered_in, brought_by, brought_here, brought_in, brought_to, taken_in, unitdata_in, distribute, do_order, do_acknowledgement, is_user, local, manage, on_management, sccp, deliver, deliver_to, whither_goes, on_unitdata, is_idle, new_message, outcome_of, receive, users_of, PairState, Streams, Delivers, DeliversStatus, after_steps, deliver_frame, first_pair, in_flight, turned, without_data, without_status}
+use Rattle.pair_rules.proofs.Definitions.{with_parts, Label, Message, dpc_of, opc_of, flow_of, SIF_OCTETS, network_indicator, read_management, is_management, service_indicator, Cause, Outcome, Handled, Ignored, Local, Refused, Queued, Held, Configuration, TitleEntry, FrameValue, read_frame, Discrimination, Management, is_outstanding, set_place, Node, Done, answer, refuse, FrameCame, WholeQueues, whole, changeover_of, on_changeback_acknowledgement, accept_text, answered_in, brought_by, brought_here, brought_in, brought_to, taken_in, unitdata_in, distribute, do_order, do_acknowledgement, is_user, local, manage, on_management, sccp, deliver, deliver_to, whither_goes, on_unitdata, is_idle, new_message, outcome_of, receive, users_of, PairState, Streams, Delivers, DeliversStatus, after_steps, deliver_frame, first_pair, in_flight, turned, without_data, without_status}
 use Rattle.signalling_types.specs.declared.cause.Cause.TheVariants as causes
 use Rattle.sccp_relay.specs.Relay as relays
-use Rattle.sccp_relay.specs.Relay.{returned}
+use Rattle.sccp_relay.specs.Points.{OwnValue}
+use Rattle.sccp_relay.specs.Statuses.{TitlesValue}
+use Rattle.sccp_relay.specs.Returning.{returned}
 use Rattle.exchange_rules.specs.Messages.{transfer, in_place_of, own_of, relay_by}
 use Rattle.exchange_rules.specs.Conserving.{relayed_in, returned_in}
 use Rattle.exchange_rules.specs.Exchange.{after}
@@ -27,7 +29,8 @@ use Rattle.routes.specs.declared.route.RouteStatus.{RouteStatus}
 use Rattle.exchange_rules.specs.Routing.{facts, link_of, route_about, waits}
 use Rattle.exchange_rules.specs.Rerouting.{apply_route_status, on_route_status}
 use Rattle.exchange_rules.specs.Telling.{on_route_test, answer_no_user_part}
-use Rattle.exchange_rules.specs.Messages.{cause_of, do_kind, do_management, do_test, is_adjacent, is_destination, no_room_for, offer, testing, from_afar, says_unavailable}
+use Rattle.exchange_rules.specs.Messages.{cause_of, do_kind, do_management, do_test, is_adjacent, is_destination, no_room_for, offer, from_afar, says_unavailable}
+use Rattle.exchange_rules.specs.LinkTests.{passes_test, test_passed, testing}
 use Rattle.settings.specs.Readings.{destination_place}
 use Rattle.mtp3_codec.specs.declared.discrimination.Discrimination.TheVariants as whither
 use Rattle.mtp3_codec.specs.declared.fault.MgmtFault.{MgmtFault}
@@ -41,13 +44,13 @@ use Rattle.pair_rules.proofs.Flights.{IsFirst, first-frame, tells-back}
 use Rattle.pair_rules.proofs.CarriedTexts.{tells-none}
 use Rattle.pair_rules.proofs.Steps.{outcome-same}
 use Rattle.pair_rules.specs.Promises.{AreJoined}
-use Rattle.neighbour_rules.proofs.World.{is_between, is_for_either, says_by}
+use Rattle.neighbour_rules.proofs.World.{is_between, says_by}
 use Rattle.neighbour_rules.proofs.Bound.{IsBound}
 use Rattle.neighbour_rules.proofs.Good as good
-use Rattle.neighbour_rules.proofs.Good.{IsFlying, IsSent}
+use Rattle.neighbour_rules.proofs.Good.{ComesHere, IsFlying, IsSent}
 use Rattle.neighbour_rules.proofs.Lone.{HasOnly, has-only, its-point, not-own}
-use Rattle.neighbour_rules.proofs.Sharing.{AreFacing, facing_back}
-use Rattle.neighbour_rules.proofs.Special.{facing, joined-back, stands-alone}
+use Rattle.neighbour_rules.proofs.Sharing.{AreFacing, facing_back, AreOwn}
+use Rattle.neighbour_rules.proofs.Special.{facing, joined-back, stands-alone, sharing-own}
 use Rattle.neighbour_rules.proofs.Standing.{Stands}
 use Rattle.neighbour_rules.proofs.Steps.{flies-back}
 use Rattle.neighbour_rules.proofs.AllSteps.{stands-turned}
@@ -165,7 +168,11 @@ module _ (c : Configuration) (link : ℕ) where
 
   kind-quiet : (kind : TestKind) (point : ℕ) (test : LinkTestValue) (n : Node WholeQueues) → Quiet (do_kind whole c kind link point test n).outcome
   kind-quiet kinds.Test point test n = handled
-  kind-quiet kinds.Acknowledgement point test n = ignored
+  kind-quiet kinds.Acknowledgement point test n = by (passes_test c link point test n.parts)
+    where
+      by : (passes : Bool) → Quiet (if passes then answer Handled (with_parts n (test_passed c link n.parts)) else answer Ignored n).outcome
+      by true = handled
+      by false = ignored
 
   link_test-quiet : (r : Result LinkTestValue MgmtFault) (point : ℕ) (n : Node WholeQueues) → Quiet (do_test whole c r link point n).outcome
   link_test-quiet (Ok test) point n = kind-quiet test.kind point test n
@@ -190,7 +197,7 @@ module _ (c : Configuration) (link : ℕ) where
   absent m n = answer_no_user_part whole c (Some link) (destination_place c (opc_of m)) m n
 
   module _ (m : Message) (n : Node WholeQueues) where
-    abbrev rows : List TitleEntry
+    abbrev rows : TitlesValue
     rows = n.parts.titles
 
     taken-at-most : (o : Outcome) (m : Message) → (taken_in o m ≡ []) ⊎ (taken_in o m ≡ m ∷ [])
@@ -205,7 +212,7 @@ module _ (c : Configuration) (link : ℕ) where
     returned-at-most (Some sif) = taken-at-most (transfer whole c None (in_place_of m sif) n).outcome (in_place_of m sif)
     returned-at-most None = refl
 
-    abbrev own : relays.OwnValue
+    abbrev own : OwnValue
     own = own_of c n.parts
 
     refused-for : (cause : Cause) → is_other cause ≡ true → IsRefused own rows cause m (answered_in (Refused cause) c m n)
@@ -223,6 +230,7 @@ module _ (c : Configuration) (link : ℕ) where
         → IsRelayed v own rows m (relay_by whole c v m n).outcome (relayed_in v (relay_by whole c v m n).outcome m ++ answered_in (relay_by whole c v m n).outcome c m n)
     is-relayed relays.Delivered e = (refl, refl)
     is-relayed (relays.Onward sif) e = goes-on sif (transfer whole c None (in_place_of m sif) n).outcome (transfer-other c (in_place_of m sif) n)
+    is-relayed (relays.Heard news) e = (refl, refl)
     is-relayed (relays.Refused cause) e = (refl, refused-for cause e)
 
     comes-of : (is_sccp : Bool)
@@ -236,11 +244,11 @@ module _ (c : Configuration) (link : ℕ) where
     user-tells true e f = absurd cc
     user-tells false e f = comes-of (nat_eq (service_indicator m) sccp)
 
-    none-tells-of : (x : relays.OwnValue) → is_management m ≡ true → (o : Outcome) (ms : List Message) → Quiet o → ms ≡ [] → ComesTo x c rows (users_of (m ∷ [])) ms o
+    none-tells-of : (x : OwnValue) → is_management m ≡ true → (o : Outcome) (ms : List Message) → Quiet o → ms ≡ [] → ComesTo x c rows (users_of (m ∷ [])) ms o
     none-tells-of x e o ms q k = subst (λ (xs : List Message). ComesTo x c rows xs ms o) (sym (ap (λ (b : Bool). if not b then m ∷ [] else []) e)) (accepts-nothing o ms q k)
 
     -- management here is quiet, and brings nothing
-    here-tells : (x : relays.OwnValue) → is_management m ≡ true → ComesTo x c rows (users_of (m ∷ [])) (brought_here (distribute whole c link m n).outcome c m n) (distribute whole c link m n).outcome
+    here-tells : (x : OwnValue) → is_management m ≡ true → ComesTo x c rows (users_of (m ∷ [])) (brought_here (distribute whole c link m n).outcome c m n) (distribute whole c link m n).outcome
     here-tells x e =
         let ks : brought_here (distribute whole c link m n).outcome c m n ≡ [] =
         ap (λ (b : Bool). if b then unitdata_in (distribute whole c link m n).outcome c m n else []) (is-no-sccp m e) in
@@ -259,7 +267,7 @@ module _ (c : Configuration) (link : ℕ) where
       by false false true true e = absurd cc
       by false false true false e = absurd cc
 
-  transfer-tells : (x : relays.OwnValue) (m : Message) (n : Node WholeQueues) → is_management m ≡ true → is_destination c (dpc_of m) ≡ false
+  transfer-tells : (x : OwnValue) (m : Message) (n : Node WholeQueues) → is_management m ≡ true → is_destination c (dpc_of m) ≡ false
       → ComesTo x c n.parts.titles (users_of (m ∷ [])) (taken_in (transfer whole c (Some link) m n).outcome m) (transfer whole c (Some link) m n).outcome
   transfer-tells x m n e away =
       let into : Done WholeQueues = offer whole c (no_room_for whole c m n) (waits c n.parts.holds m) (link_of c n.parts (flow_of m)) (Some link) m n in
@@ -268,13 +276,13 @@ module _ (c : Configuration) (link : ℕ) where
       subst (λ (o : Outcome). ComesTo x c n.parts.titles (users_of (m ∷ [])) (taken_in o m) o) (sym gone)
       (none-tells-of m n x e (Refused causes.UnknownDestination) [] refused-destination refl)
 
-  managed-tells : (x : relays.OwnValue) (d : Discrimination) (m : Message) (n : Node WholeQueues) → whither_goes c m ≡ d → is_management m ≡ true → is_destination c (dpc_of m) ≡ false
+  managed-tells : (x : OwnValue) (d : Discrimination) (m : Message) (n : Node WholeQueues) → whither_goes c m ≡ d → is_management m ≡ true → is_destination c (dpc_of m) ≡ false
       → ComesTo x c n.parts.titles (users_of (m ∷ [])) (brought_to d (deliver_to whole c d link m n).outcome c m n) (deliver_to whole c d link m n).outcome
   managed-tells x (whither.Refused cause) m n f e away = none-tells-of m n x e (Refused cause) [] (refused-other cause (whither-other m cause f)) refl
   managed-tells x (whither.Here label) m n f e away = here-tells m n x e
   managed-tells x (whither.Transfer label) m n f e away = transfer-tells x m n e away
 
-module _ (c z : Configuration) (g : AreJoined c z) (f : AreFacing c z) (link : ℕ) where
+module _ (c z : Configuration) (g : AreJoined c z) (f : AreFacing c z) (own : f.base.back ≡ c.own) (link : ℕ) where
   only : HasOnly c z.own
   only = has-only c z.own g.facing.near_leads
 
@@ -283,22 +291,17 @@ module _ (c z : Configuration) (g : AreJoined c z) (f : AreFacing c z) (link : �
 
   -- a user message of the far end is for this one, and comes here
   pub record Has (m : Message) : Type 0 where
-    pub sent : IsSent z c f.far_set m
+    pub sent : IsSent z c f.base.back f.far_set m
     pub bound : IsBound z m
 
-  user-here : (m : Message) → is_management m ≡ false → dpc_of m ≡ c.own → IsSent z c f.far_set m → (label : Label) × (whither_goes c m ≡ whither.Here label)
+  user-here : (m : Message) → is_management m ≡ false → dpc_of m ≡ c.own → IsSent z c f.base.back f.far_set m → ComesHere c m
   user-here m user to (good.made is) = (let no : true ≡ false = sym is.management ∙ user in absurd cc)
-  user-here m user to (good.accepted is) = (is.label, is.here)
+  user-here m user to (good.accepted is) = is.here own
   user-here m user to (good.passes_by says short) =
       (let no : UserMessage ≡ Other =
-      sym (ap (λ (b : Bool). says_by b (is_between z.own c.own m) (is_for_either z.own c.own m) m) user
-      ∙ ap (λ (b : Bool). says_by false (is_between z.own c.own m) (nat_eq (dpc_of m) z.own || b) m) (eq-eqb (dpc_of m) c.own to)
-      ∙ ap (λ (b : Bool). says_by false (is_between z.own c.own m) b m) (or-true (nat_eq (dpc_of m) z.own))) ∙ says in
+      sym (ap (λ (b : Bool). says_by b (is_between z.own c.own m) (nat_eq (dpc_of m) f.base.back) m) user
+      ∙ ap (λ (b : Bool). says_by false (is_between z.own c.own m) b m) (eq-eqb (dpc_of m) f.base.back (to ∙ sym own))) ∙ says in
       absurd cc)
-    where
-      or-true : (b : Bool) → (b || true) ≡ true
-      or-true true = refl
-      or-true false = refl
 
   apart : (m : Message) → IsBound z m → is_destination c (dpc_of m) ≡ false
   apart m b = by (destination_place c (dpc_of m)) refl
@@ -320,19 +323,19 @@ module _ (c z : Configuration) (g : AreJoined c z) (f : AreFacing c z) (link : �
           → ComesTo (own_of c left.parts) c n.parts.titles (users_of (m ∷ [])) (brought_to (whither_goes c m) (deliver whole c link m n).outcome c m n) (deliver whole c link m n).outcome
       by true e = managed-tells c link (own_of c left.parts) (whither_goes c m) m n refl e (apart m b.bound)
       by false e =
-          let here = user-here m e (its-point z c.own far-only m b.bound.known e) b.sent in
-          let same : own_of c left.parts ≡ own_of c n.parts = own-same c left n (deliver-facts c link m here.0 n e here.1) in
-          subst (λ (x : relays.OwnValue).
+          let here : ComesHere c m = user-here m e (its-point z c.own far-only m b.bound.known e) b.sent in
+          let same : own_of c left.parts ≡ own_of c n.parts = own-same c left n (deliver-facts c link m here.label n e here.here) in
+          subst (λ (x : OwnValue).
           ComesTo x c n.parts.titles (users_of (m ∷ [])) (brought_to (whither_goes c m) (deliver whole c link m n).outcome c m n) (deliver whole c link m n).outcome)
           (sym same)
           (subst (λ (x : Discrimination).
           ComesTo (own_of c n.parts) c n.parts.titles (users_of (m ∷ [])) (brought_to x (deliver_to whole c x link m n).outcome c m n) (deliver_to whole c x link m n).outcome)
-          (sym here.1)
+          (sym here.here)
           (subst (λ (xs : List Message). ComesTo (own_of c n.parts) c n.parts.titles xs (brought_here (distribute whole c link m n).outcome c m n) (distribute whole c link m n).outcome)
           (ap (λ (x : Bool). if not x then m ∷ [] else []) refl) (user-tells c link m n (is_management m) refl e)))
 
   -- it is the message in the frame
-  same-carried : (frame : FrameValue) (m : Message) → IsFlying z c f.far_set frame → carried_message (Ok frame) ≡ Some m → Has m
+  same-carried : (frame : FrameValue) (m : Message) → IsFlying z c f.base.back f.far_set frame → carried_message (Ok frame) ≡ Some m → Has m
   same-carried _ m (good.empty bsn fsn s) e = absurd cc
   same-carried _ m (good.carrying bsn fsn sio sif s b bound) e =
       subst Has (let same : record { sio = sio; sif = sif } ≡ m = cc in same) (record { sent = b; bound = bound })
@@ -343,7 +346,7 @@ module _ (c z : Configuration) (g : AreJoined c z) (f : AreFacing c z) (link : �
     abbrev there : Abstract
     there = record { settings = c; node = n }
 
-    pub came-between : (frame : FrameValue) (m : Message) → read_frame text ≡ Ok frame → IsFlying z c f.far_set frame → new_message link text there ≡ Some m → Has m
+    pub came-between : (frame : FrameValue) (m : Message) → read_frame text ≡ Ok frame → IsFlying z c f.base.back f.far_set frame → new_message link text there ≡ Some m → Has m
     came-between frame m reads flying e = same-carried frame m flying (ap carried_message (sym reads) ∙ new-carried link text there m e)
 
     -- a link status brings none
@@ -360,16 +363,16 @@ module _ (c z : Configuration) (g : AreJoined c z) (f : AreFacing c z) (link : �
     none-came : new_message link text there ≡ None → Came None
     none-came e = accepts-nothing (outcome_of whole (FrameCame link text) there) [] (idle-quiet (outcome_of whole (FrameCame link text) there) (nothing-delivered there link text e)) refl
 
-    data-came : (frame : FrameValue) → read_frame text ≡ Ok frame → IsFlying z c f.far_set frame → (o : Option Message) → new_message link text there ≡ o → Came o
+    data-came : (frame : FrameValue) → read_frame text ≡ Ok frame → IsFlying z c f.base.back f.far_set frame → (o : Option Message) → new_message link text there ≡ o → Came o
     data-came frame reads flying None e = none-came e
     data-came frame reads flying (Some m) e =
         let left : Node WholeQueues = accept_text link (read_frame text) there in
         let d : Done WholeQueues = receive whole c link text n in
         let out : Node WholeQueues = (after whole (FrameCame link text) there).node in
-        subst (λ (x : relays.OwnValue). ComesTo x c n.parts.titles (users_of (m ∷ [])) (brought_by (Some m) (outcome_of whole (FrameCame link text) there) c left) (outcome_of whole (FrameCame link text) there))
+        subst (λ (x : OwnValue). ComesTo x c n.parts.titles (users_of (m ∷ [])) (brought_by (Some m) (outcome_of whole (FrameCame link text) there) c left) (outcome_of whole (FrameCame link text) there))
         (sym (own-same c out d.left (after-facts c (FrameCame link text) n)))
         (subst (λ (o : Outcome). ComesTo (own_of c d.left.parts) c n.parts.titles (users_of (m ∷ [])) (brought_by (Some m) o c left) o) (sym (outcome-same c (FrameCame link text) n))
-        (subst (λ (rows : List TitleEntry). ComesTo (own_of c d.left.parts) c rows (users_of (m ∷ [])) (brought_by (Some m) d.outcome c left) d.outcome)
+        (subst (λ (rows : TitlesValue). ComesTo (own_of c d.left.parts) c rows (users_of (m ∷ [])) (brought_by (Some m) d.outcome c left) d.outcome)
         (accepted-titles c link (read_frame text) n)
         (received-as c link m (λ d x. ComesTo (own_of c d.left.parts) c x.parts.titles (users_of (m ∷ [])) (brought_to (whither_goes c m) d.outcome c m x) d.outcome)
         (deliver-tells m (came-between frame m reads flying e)) text n e)))
@@ -388,16 +391,16 @@ drop-all : (xs : List Message) → drop (length xs) xs ≡ []
 drop-all [] = refl
 drop-all (x ∷ xs) = drop-all xs
 
-module _ (c z : Configuration) (g : AreJoined c z) (f : AreFacing c z) (p : PairState) (s : Stands c z f p) (link : ℕ) where
+module _ (c z : Configuration) (g : AreJoined c z) (f : AreFacing c z) (its_own : f.base.back ≡ c.own) (p : PairState) (s : Stands c z f p) (link : ℕ) where
   abbrev a : Abstract
   a = p.near.exchange
 
   -- what was received and accepted by something that came to this
-  abbrev TellsAt : relays.OwnValue → Configuration → (received accepted : List Message) → Outcome → Type 0
+  abbrev TellsAt : OwnValue → Configuration → (received accepted : List Message) → Outcome → Type 0
   TellsAt own x received accepted outcome = ComesTo own x a.node.parts.titles (drop (length p.near.received) received) (drop (length p.near.accepted) accepted) outcome
 
   -- whichever frame comes, and what it leaves in flight
-  came-tells : (text : List ℕ) → Came c z g f link a.node text (new_message link text (record { settings = c; node = a.node }))
+  came-tells : (text : List ℕ) → Came c z g f its_own link a.node text (new_message link text (record { settings = c; node = a.node }))
       → TellsAt (own_of a.settings (after whole (FrameCame link text) a).node.parts) a.settings (p.near.received ++ users_of (option_to_list (new_message link text a))) (p.near.accepted ++ brought_in (FrameCame link text) a) (outcome_of whole (FrameCame link text) a)
   came-tells text h =
       subst (λ (x : Configuration).
@@ -406,12 +409,12 @@ module _ (c z : Configuration) (g : AreJoined c z) (f : AreFacing c z) (p : Pair
       (sym s.near_settings)
       (let b : Abstract = record { settings = c; node = a.node } in
       let ms : List Message = users_of (option_to_list (new_message link text b)) in
-      let own : relays.OwnValue = own_of c (after whole (FrameCame link text) b).node.parts in
+      let own : OwnValue = own_of c (after whole (FrameCame link text) b).node.parts in
       let ks : List Message = brought_in (FrameCame link text) b in
       subst (λ (xs : List Message). ComesTo own c a.node.parts.titles xs (drop (length p.near.accepted) (p.near.accepted ++ ks)) (outcome_of whole (FrameCame link text) b)) (sym (drop-before p.near.received ms))
       (subst (λ (xs : List Message). ComesTo own c a.node.parts.titles ms xs (outcome_of whole (FrameCame link text) b)) (sym (drop-before p.near.accepted ks)) h))
 
-  none-tells : (own : relays.OwnValue) → TellsAt own a.settings p.near.received p.near.accepted Ignored
+  none-tells : (own : OwnValue) → TellsAt own a.settings p.near.received p.near.accepted Ignored
   none-tells own =
       subst (λ (xs : List Message). ComesTo own a.settings a.node.parts.titles xs (drop (length p.near.accepted) p.near.accepted) Ignored) (sym (drop-all p.near.received))
       (accepts-nothing Ignored (drop (length p.near.accepted) p.near.accepted) ignored (drop-all p.near.accepted))
@@ -428,8 +431,8 @@ module _ (c z : Configuration) (g : AreJoined c z) (f : AreFacing c z) (p : Pair
       by (Some text) e =
           let frames : List FrameValue = s.to_near.user_data link in
           let first : IsFirst frames (in_flight p.near.incoming.user_data link) text = first-frame frames (in_flight p.near.incoming.user_data link) text (s.near_texts.user_data.each link) e in
-          let flying : IsFlying z c f.far_set first.frame = (subst (Each (IsFlying z c f.far_set)) first.first (s.near_good.coming.user_data link)).0 in
-          came-tells text (data-came c z g f link a.node text first.frame (ap read_frame first.spells ∙ flies-back z c f.far_set first.frame flying) flying (new_message link text (record { settings = c; node = a.node })) refl)
+          let flying : IsFlying z c f.base.back f.far_set first.frame = (subst (Each (IsFlying z c f.base.back f.far_set)) first.first (s.near_good.coming.user_data link)).0 in
+          came-tells text (data-came c z g f its_own link a.node text first.frame (ap read_frame first.spells ∙ flies-back z c f.base.back f.far_set first.frame flying) flying (new_message link text (record { settings = c; node = a.node })) refl)
 
   pub status_delivery-tells : Tells (DeliversStatus link) p
   status_delivery-tells = by (slice_get (in_flight p.near.incoming.statuses link) 0) refl
@@ -444,7 +447,7 @@ module _ (c z : Configuration) (g : AreJoined c z) (f : AreFacing c z) (p : Pair
           let frames : List FrameValue = s.to_near.statuses link in
           let first : IsFirst frames (in_flight p.near.incoming.statuses link) text = first-frame frames (in_flight p.near.incoming.statuses link) text (s.near_texts.statuses.each link) e in
           let telling : IsTelling first.frame = (subst (Each IsTelling) first.first (s.near_good.coming.statuses link)).0 in
-          came-tells text (status-came c z g f link a.node text first.frame (ap read_frame first.spells ∙ tells-back first.frame telling) telling (new_message link text (record { settings = c; node = a.node })) refl)
+          came-tells text (status-came c z g f its_own link a.node text first.frame (ap read_frame first.spells ∙ tells-back first.frame telling) telling (new_message link text (record { settings = c; node = a.node })) refl)
 
 pub tells : deliveries_tell
 tells near far steps g =
@@ -453,10 +456,11 @@ tells near far steps g =
     let s : Stands near far f p = stands-alone near far g steps in
     let b : Stands far near (facing_back near far f) (turned p) = stands-turned near far f p s in
     let h : AreJoined far near = joined-back near far g in
+    let own : AreOwn near far f = sharing-own near far g in
     record {
-      there = record { user_data = λ link. delivery-tells near far g f p s link; status = λ link. status_delivery-tells near far g f p s link };
+      there = record { user_data = λ link. delivery-tells near far g f own.back p s link; status = λ link. status_delivery-tells near far g f own.back p s link };
       back = record {
-        user_data = λ link. delivery-tells far near h (facing_back near far f) (turned p) b link;
-        status = λ link. status_delivery-tells far near h (facing_back near far f) (turned p) b link;
+        user_data = λ link. delivery-tells far near h (facing_back near far f) own.there (turned p) b link;
+        status = λ link. status_delivery-tells far near h (facing_back near far f) own.there (turned p) b link;
       };
     }

@@ -8,7 +8,7 @@ use Rattle.pair_rules.proofs.World.{World, end_of}
 use Rattle.pair_rules.proofs.Good.{Each, each-behind}
 use Rattle.pair_rules.proofs.Going.{goes-one}
 use Rattle.pair_rules.proofs.Lines.{queue-here, queue-other, served-listed}
-use Rattle.neighbour_rules.proofs.World.{code_of, line_of, link_at_code, route_of, says_of, shown}
+use Rattle.neighbour_rules.proofs.World.{code_of, line_of, link_at_code, reading, route_of, says_of, shown}
 use Rattle.neighbour_rules.proofs.Good.{Good, IsSent, Joint, Passes, at, set}
 use Rattle.neighbour_rules.proofs.Lines.{becomes, none-becomes, own-line}
 
@@ -18,7 +18,7 @@ other-leaves read m ms e = ap (λ (s : Saying). if not (is_other s) then m ∷ w
 
 module _ (c z : Configuration) (j : Joint c z) where
   abbrev read : Message → Saying
-  read = says_of c.own z.own
+  read = says_of c.own z.own j.base.there
 
   -- a queue that isn't the link's is as it was
   apart-still : (P : Message → Type 0) (n : Node WholeQueues) (link other : ℕ) (m : Message) → other ≢ link → Each P (queue_at n.queues other).all
@@ -56,7 +56,7 @@ module _ (c z : Configuration) (j : Joint c z) where
         let l : link < length c.links = served-listed c z n link g.fits serves in
         let k : ℕ = link_at_code c (set c z j) (code_of c link) in
         let own : k ≡ link = own-line c j.near_well (set c z j) link l its in
-        goes-one read _ _
+        goes-one (reading c.own z.own j.base) _ _
         (moves.places (record {
           link = code_of c link;
           message = m;
@@ -65,7 +65,7 @@ module _ (c z : Configuration) (j : Joint c z) where
           serving = ap (λ (x : ℕ). in_service n.parts x) own ∙ serves;
           may_go = may g;
           lines = line_of c z (set c z j) j.shares.far_set (at c z j w (queue_on whole c link m n) arrived rest);
-          set = becomes c z j (at c z j w n arrived (m ∷ rest)) (queue_on whole c link m n) arrived rest (route_of c z (set c z j) n.parts) link
+          set = becomes c z j (at c z j w n arrived (m ∷ rest)) (queue_on whole c link m n) arrived rest (route_of c j.base.there (set c z j) n.parts) link
               (record (end_of n k) { queue = appended (queue_at n.queues k) m }) l its
               (ap (λ (q : Queue). record (end_of n link) { queue = q }) (queue-here c z n link (appended (queue_at n.queues link) m) g.fits l)
               ∙ ap (λ (x : ℕ). record (end_of n x) { queue = appended (queue_at n.queues x) m }) (sym own))
@@ -79,7 +79,7 @@ module _ (c z : Configuration) (j : Joint c z) where
           route = g.route;
           unawaited = g.unawaited;
           silent = g.silent;
-          queued = λ other. one-still (IsSent c z (set c z j)) n link other m g.fits l g.loose.0 (g.queued other);
+          queued = λ other. one-still (IsSent c z j.base.there (set c z j)) n link other m g.fits l g.loose.0 (g.queued other);
           elsewhere = λ other apart. apart-still (λ x. read x ≡ Other) n link other m (λ e. apart (ap (set_of c) e ∙ its)) (g.elsewhere other apart);
           held = g.held;
           loose = g.loose.1;
@@ -96,7 +96,7 @@ module _ (c z : Configuration) (j : Joint c z) where
   leaving w n arrived link m rest serves apart says stay = record {
     goes = λ g.
         let l : link < length c.links = served-listed c z n link g.fits serves in
-        goes-one read _ _
+        goes-one (reading c.own z.own j.base) _ _
         (moves.mixes_others (record {
           held = n.queues.held;
           loose = rest;
@@ -114,7 +114,7 @@ module _ (c z : Configuration) (j : Joint c z) where
           route = g.route;
           unawaited = g.unawaited;
           silent = g.silent;
-          queued = λ other. one-still (IsSent c z (set c z j)) n link other m g.fits l g.loose.0 (g.queued other);
+          queued = λ other. one-still (IsSent c z j.base.there (set c z j)) n link other m g.fits l g.loose.0 (g.queued other);
           elsewhere = λ other d. one-still (λ x. read x ≡ Other) n link other m g.fits l says (g.elsewhere other d);
           held = g.held;
           loose = g.loose.1;

@@ -3,7 +3,7 @@ use Rattle.pair_rules.proofs.Basics.{◌≡◌, ◌≢◌, ◌<◌, ◌≤◌, �
 use Rattle.std.proofs.Common.{append_assoc}
 use Rattle.std.proofs.lemmas.List.{length-replicate}
 use Rattle.std.proofs.lemmas.List.Elements.{filter-append}
-use Rattle.pair_rules.proofs.Definitions.{Message, Flow, flow_of, dpc_of, is_management, read_management, Configuration, Queue, first_queue, Saying, is_user_message, Pair, PairState, first_pair, turned, LostNothing, queue_of, set_of, each-replicate}
+use Rattle.pair_rules.proofs.Definitions.{Message, Flow, flow_of, dpc_of, is_management, read_management, Configuration, Queue, first_queue, Reading, Saying, is_user_message, Pair, PairState, first_pair, turned, LostNothing, queue_of, set_of, each-replicate}
 use Rattle.exchange_rules.proofs.Basics.{eqb-true}
 use Rattle.exchange_rules.specs.LoneRoutes.{is_user_to}
 use Rattle.pair_moves.specs.Sayings as sayings
@@ -29,15 +29,16 @@ use Rattle.pair_rules.proofs.Standing.{AreTexts, world_of}
 use Rattle.neighbour_rules.specs.Neighbours.{Step, after_steps, end_there, users_to}
 use Rattle.neighbour_rules.specs.Promises.{Always, AreBooked, EachOnce, InOrder, accepted_there, each_flow_in_order, each_message_once, waiting, waiting_by, waiting_on}
 use Rattle.neighbour_rules.specs.Laws.{unreceived_at}
-use Rattle.neighbour_rules.proofs.Counted.{base-same, beyond-none, no_counts}
-use Rattle.neighbour_rules.proofs.World.{code_of, codes, is_between, line_of, link_at_code, says_by, says_of, shown}
+use Rattle.neighbour_rules.proofs.Counted.{base-same, beyond-none, no_base, no_counts, none-grow}
+use Rattle.neighbour_rules.proofs.Untold.{placed-there}
+use Rattle.neighbour_rules.proofs.World.{code_of, codes, is_between, line_of, link_at_code, reading, says_by, says_of, shown}
 use Rattle.neighbour_rules.proofs.Messages.{word-says}
 use Rattle.neighbour_rules.proofs.Good.{Joint}
 use Rattle.neighbour_rules.proofs.Lines.{at-line}
 use Rattle.neighbour_rules.proofs.Made.{not-same}
 use Rattle.neighbour_rules.proofs.Lone.{all-to}
 use Rattle.neighbour_rules.proofs.Staying.{books-stay, with_settings, written}
-use Rattle.neighbour_rules.proofs.Sharing.{AreFacing, are-facing, facing_back, far_joint, from_first, near_joint}
+use Rattle.neighbour_rules.proofs.Sharing.{AreFacing, AreOwn, are-facing, facing-own, facing_back, far_joint, from_first, near_joint}
 use Rattle.neighbour_rules.proofs.FarEnds.{IsLine, far-own, is-line, line-known, of-no-set}
 use Rattle.neighbour_rules.proofs.First.{first-good, first-shown}
 use Rattle.neighbour_rules.proofs.Adjacents.{first-knows}
@@ -46,10 +47,6 @@ use Rattle.neighbour_rules.proofs.Standing.{Since, Stands, since-first}
 use Rattle.neighbour_rules.proofs.AllSteps.{stands-turned, steps-stand}
 
 -- ---- the messages of a list that are for a point
-
-same-flag : (b d t : Bool) → ((not b && d) && (not b && t)) ≡ ((not b && d) && t)
-same-flag true d t = refl
-same-flag false d t = refl
 
 count-to : (point : ℕ) (test : Message → Bool) (ms : List Message) → count_by (user test) (users_to point ms) ≡ count_by (λ (m : Message). is_user_to point m && test m) ms
 count-to point test [] = refl
@@ -72,42 +69,44 @@ filter-both p q (m ∷ ms) = by (q m) (filter-both p q ms)
     by true rest = ap (λ (xs : List Message). if p m then m ∷ xs else xs) rest
     by false rest = rest
 
--- a user message for the far point says that it is one
-user-to : (one two : ℕ) (m : Message) (t : Bool) → (is_user_message (says_of one two m) && (nat_eq (dpc_of m) two && t)) ≡ (is_user_to two m && t)
-user-to one two m t = by (is_management m) (is_between one two m) (nat_eq (dpc_of m) one) (nat_eq (dpc_of m) two)
+-- a user message for the point says that it is one
+user-to : (one two point : ℕ) (m : Message) (t : Bool) → (is_user_message (says_of one two point m) && (nat_eq (dpc_of m) point && t)) ≡ (is_user_to point m && t)
+user-to one two point m t = by (is_management m) (is_between one two m) (nat_eq (dpc_of m) point)
   where
-    by : (b between back to : Bool) → (is_user_message (says_by b between (back || to) m) && (to && t)) ≡ ((not b && to) && t)
-    by true true back to = ap (λ (x : Bool). x && (to && t)) (word-says (read_management m.sif))
-    by true false back to = refl
-    by false between true true = refl
-    by false between false true = refl
-    by false between true false = refl
-    by false between false false = refl
+    by : (b between to : Bool) → (is_user_message (says_by b between to m) && (to && t)) ≡ ((not b && to) && t)
+    by true true to = ap (λ (x : Bool). x && (to && t)) (word-says (read_management m.sif))
+    by true false to = refl
+    by false between true = refl
+    by false between false = refl
 
-user-same : (one two : ℕ) (test : Message → Bool) → once.user (says_of one two) (λ (m : Message). nat_eq (dpc_of m) two && test m) ≡ (λ (m : Message). is_user_to two m && test m)
-user-same one two test = λ i. λ m. user-to one two m (test m) i
+user-same : (one two point : ℕ) (test : Message → Bool) → once.user (says_of one two point) (λ (m : Message). nat_eq (dpc_of m) point && test m) ≡ (λ (m : Message). is_user_to point m && test m)
+user-same one two point test = λ i. λ m. user-to one two point m (test m) i
 
 -- of a flow to it
 abbrev flow_to : (point sls : ℕ) → Flow
 flow_to point sls = record { point = point; sls = sls }
 
-flow-same : (one two sls : ℕ) → (λ (m : Message). is_user_to two m && is_of_flow (flow_to two sls) m) ≡ sayings.is_of_flow (says_of one two) (flow_to two sls)
-flow-same one two sls = λ i. λ m. each m i
+flow-alike : (one two point sls : ℕ) → is_of_flow (flow_to point sls) ≡ sayings.is_of_flow (says_of one two point) (flow_to point sls)
+flow-alike one two point sls = λ i. λ m. each m i
   where
-    each : (m : Message) → (is_user_to two m && is_of_flow (flow_to two sls) m) ≡ sayings.is_of_flow (says_of one two) (flow_to two sls) m
-    each m =
-        same-flag (is_management m) (nat_eq (dpc_of m) two) (nat_eq (dpc_of m) two && nat_eq (flow_of m).sls sls)
-        ∙ twice (is_management m) (nat_eq (dpc_of m) two) (nat_eq (flow_of m).sls sls)
-        ∙ sym (user-to one two m (nat_eq (flow_of m).sls sls))
+    each : (m : Message) → is_of_flow (flow_to point sls) m ≡ sayings.is_of_flow (says_of one two point) (flow_to point sls) m
+    each m = flat (is_management m) (nat_eq (dpc_of m) point) (nat_eq (flow_of m).sls sls) ∙ sym (user-to one two point m (nat_eq (flow_of m).sls sls))
       where
-        twice : (b d t : Bool) → ((not b && d) && (d && t)) ≡ ((not b && d) && t)
+        flat : (b d t : Bool) → (not b && (d && t)) ≡ ((not b && d) && t)
+        flat true d t = refl
+        flat false d t = refl
+
+-- the user messages of a flow are for its point
+flow-to : (point sls : ℕ) (ms : List Message) → of_flow (flow_to point sls) (users_to point ms) ≡ of_flow (flow_to point sls) ms
+flow-to point sls ms = filter-both (is_of_flow (flow_to point sls)) (is_user_to point) ms ∙ ap (λ (test : Message → Bool). filter test ms) (λ i. λ m. each m i)
+  where
+    each : (m : Message) → (is_user_to point m && is_of_flow (flow_to point sls) m) ≡ is_of_flow (flow_to point sls) m
+    each m = twice (is_management m) (nat_eq (dpc_of m) point) (nat_eq (flow_of m).sls sls)
+      where
+        twice : (b d t : Bool) → ((not b && d) && (not b && (d && t))) ≡ (not b && (d && t))
         twice true d t = refl
         twice false true t = refl
         twice false false t = refl
-
-flow-users : (one two sls : ℕ) (ms : List Message) → of_flow (flow_to two sls) (users_to two ms) ≡ filter (sayings.is_of_flow (says_of one two) (flow_to two sls)) ms
-flow-users one two sls ms =
-    filter-both (is_of_flow (flow_to two sls)) (is_user_to two) ms ∙ ap (λ (test : Message → Bool). filter test ms) (flow-same one two sls)
 
 flow-join : (flow : Flow) (f : ℕ → List Message) (n : ℕ) → of_flow flow (join_to f n) ≡ join_to (λ k. of_flow flow (f k)) n
 flow-join flow f zero = refl
@@ -146,7 +145,7 @@ module _ (c z : Configuration) (a : AreFacing c z) (q : PairState) (s : Stands c
   w = world_of p s.to_near s.to_far
 
   abbrev read : Message → Saying
-  read = says_of c.own z.own
+  read = says_of c.own z.own j.base.there
 
   abbrev view : Pair
   view = shown c z a.near_set a.far_set a.base w
@@ -161,11 +160,11 @@ module _ (c z : Configuration) (a : AreFacing c z) (q : PairState) (s : Stands c
   line code = line_of c z a.near_set a.far_set w code
 
   -- a law of the moves, of the pair as it is shown
-  pub of-shown : (Statement : (Message → Saying) → Pair → Type 0) → theorems.Always Statement → theorems.BothWays (Statement read) view
+  pub of-shown : (Statement : Reading → Pair → Type 0) → theorems.Always Statement → theorems.BothWays Statement (reading c.own z.own a.base) view
   of-shown Statement law =
       let shows : last_of a.start s.goes.through ≡ view = s.goes.ends in
-      subst (theorems.BothWays (Statement read)) shows
-      (law read a.start s.goes.through kept.quiet s.goes.moves (ap (λ (x : Pair). x.near.lost) shows ∙ kept.near) (ap (λ (x : Pair). x.far.lost) shows ∙ kept.far))
+      subst (theorems.BothWays Statement (reading c.own z.own a.base)) shows
+      (law (reading c.own z.own a.base) a.start s.goes.through kept.quiet s.goes.moves (ap (λ (x : Pair). x.near.lost) shows ∙ kept.near) (ap (λ (x : Pair). x.far.lost) shows ∙ kept.far))
 
   -- ---- what the far end lacks, by links and by codes
 
@@ -232,110 +231,150 @@ module _ (c z : Configuration) (a : AreFacing c z) (q : PairState) (s : Stands c
       sum-alike (λ code. count_by test (lacks (own code))) (λ code. count_by test (unreceived (line code))) codes (λ code l. ap (count_by test) (lacked-by code))
       ∙ sum-lines own has (code_of c) codes links (are-own c a.near_well a.near_set) (λ link. count_by test (lacks link)) (λ link l. ap (count_by test) (none-past link l))
 
-  -- ---- "Exactly once"
-
-  module _ (test : Message → Bool) where
-    abbrev wanted : Message → Bool
-    wanted m = is_user_to z.own m && test m
-
-    its-count : (link : ℕ) → link < links → count_by (user test) (waiting_by p link (far_of link)) ≡ (if has link then count_by wanted (lacks link) else 0)
-    its-count =
-        by-link (λ link o b. count_by (user test) (waiting_by p link o) ≡ (if b then count_by wanted (lacks link) else 0))
-        (λ link other e. count-to z.own test (drop (accepted_there p link other) (queue_of p.near link).all) ∙ ap (count_by wanted) (waits-so link other e))
-        (λ link l d. refl)
-
-    count-waiting : count_by (user test) (waiting p) ≡ sum_to (λ code. count_by wanted (unreceived (line code))) codes + count_by wanted p.near.exchange.node.queues.held
-    count-waiting =
-        let both : count_by (user test) (waiting p) ≡ count_by (user test) (join_to (waiting_on p) links) + count_by (user test) (users_to z.own p.near.exchange.node.queues.held) =
-        count-append (user test) (join_to (waiting_on p) links) (users_to z.own p.near.exchange.node.queues.held) in
-        let joined : count_by (user test) (join_to (waiting_on p) links) ≡ sum_to (λ link. count_by (user test) (waiting_on p link)) links = count-join (user test) (waiting_on p) links in
-        let summed : sum_to (λ link. count_by (user test) (waiting_on p link)) links ≡ sum_to (λ link. if has link then count_by wanted (lacks link) else 0) links =
-        sum-alike (λ link. if has link then count_by wanted (lacks link) else 0) (λ link. count_by (user test) (waiting_on p link)) links its-count in
-        omega (arith, both, joined, summed, summed-lines wanted, count-to z.own test p.near.exchange.node.queues.held)
-
-    booked : (ms : List Message) → All (IsUserMessageTo z.own) ms → count_by (user test) ms ≡ count_by wanted ms
-    booked ms h = ap (count_by (user test)) (sym (all-to z.own ms h)) ∙ count-to z.own test ms
-
-    once-so : All (IsUserMessageTo z.own) p.near.accepted → All (IsUserMessageTo z.own) p.far.received → count_by (user test) p.near.accepted ≡ count_by (user test) p.far.received + count_by (user test) (waiting p)
-    once-so accepted received =
-        let moved : count_by wanted p.near.accepted ≡ count_by wanted p.far.received + under_way wanted view =
-        subst (λ (of : Message → Bool). count_by of p.near.accepted ≡ count_by of p.far.received + under_way of view) (user-same c.own z.own test)
-        ((of-shown once.EachOnce each_message_once-always).there (λ m. nat_eq (dpc_of m) z.own && test m)) in
-        omega (arith, moved, count-waiting, booked p.near.accepted accepted, booked p.far.received received)
-
-  pub once-there : AreBooked p → AreBooked (turned p) → EachOnce p
-  once-there near far test = once-so test near.accepted far.received
-
-  -- ---- "Order"
+  -- ---- "Order", for whichever point
 
   in-a-row : (r x h : List Message) → r ++ [] ++ x ++ h ++ [] ≡ r ++ (x ++ h)
   in-a-row r x h = append-nil (r ++ [] ++ x ++ h) ∙ ap (λ (ms : List Message). ms ++ x ++ h) (append-nil r) ∙ append_assoc r x h
 
+  -- what waits on a link, whomever it is for, if it leads to the far end
+  abbrev pub waits_by : (link : ℕ) → (other : Option ℕ) → List Message
+  waits_by link (Some other) = drop (accepted_there p link other) (queue_of p.near link).all
+  waits_by link None = []
+
   module _ (sls : ℕ) where
     abbrev flow : Flow
-    flow = flow_to z.own sls
+    flow = flow_to a.base.there sls
 
     abbrev its : List Message → List Message
     its ms = filter (sayings.is_of_flow read flow) ms
 
-    its-row : (link : ℕ) → link < links → of_flow flow (waiting_by p link (far_of link)) ≡ (if has link then its (lacks link) else [])
+    of-its : (ms : List Message) → of_flow flow ms ≡ its ms
+    of-its ms = ap (λ (test : Message → Bool). filter test ms) (flow-alike c.own z.own a.base.there sls)
+
+    its-row : (link : ℕ) → link < links → of_flow flow (waits_by link (far_of link)) ≡ (if has link then its (lacks link) else [])
     its-row =
-        by-link (λ link o b. of_flow flow (waiting_by p link o) ≡ (if b then its (lacks link) else []))
-        (λ link other e. flow-users c.own z.own sls (drop (accepted_there p link other) (queue_of p.near link).all) ∙ ap its (waits-so link other e))
+        by-link (λ link o b. of_flow flow (waits_by link o) ≡ (if b then its (lacks link) else []))
+        (λ link other e. of-its (drop (accepted_there p link other) (queue_of p.near link).all) ∙ ap its (waits-so link other e))
         (λ link l d. refl)
 
     single-so : order.IsInOrder read flow view → (k i : ℕ) → k < codes → i < codes → its (lacks (own k)) ≢ [] → its (lacks (own i)) ≢ [] → k ≡ i
     single-so o k i l m d e = o.single k i l m (λ none. d (ap its (sym (lacked-by k)) ∙ none)) (λ none. e (ap its (sym (lacked-by i)) ∙ none))
 
-    waiting-flow : order.IsInOrder read flow view → of_flow flow (waiting p) ≡ join_to (λ code. its (unreceived (line code))) codes ++ its p.near.exchange.node.queues.held
+    abbrev waits_in_all : List Message
+    waits_in_all = join_to (λ link. waits_by link (far_of link)) links ++ p.near.exchange.node.queues.held
+
+    waiting-flow : order.IsInOrder read flow view → of_flow flow waits_in_all ≡ join_to (λ code. its (unreceived (line code))) codes ++ its p.near.exchange.node.queues.held
     waiting-flow o =
-        filter-append (is_of_flow flow) (join_to (waiting_on p) links) (users_to z.own p.near.exchange.node.queues.held)
-        ∙ ap (λ (ms : List Message). ms ++ of_flow flow (users_to z.own p.near.exchange.node.queues.held))
-        (flow-join flow (waiting_on p) links
-        ∙ join-alike (λ link. if has link then its (lacks link) else []) (λ link. of_flow flow (waiting_on p link)) links its-row
+        filter-append (is_of_flow flow) (join_to (λ link. waits_by link (far_of link)) links) p.near.exchange.node.queues.held
+        ∙ ap (λ (ms : List Message). ms ++ of_flow flow p.near.exchange.node.queues.held)
+        (flow-join flow (λ link. waits_by link (far_of link)) links
+        ∙ join-alike (λ link. if has link then its (lacks link) else []) (λ link. of_flow flow (waits_by link (far_of link))) links its-row
         ∙ sym (join-lines own has (code_of c) codes links (are-own c a.near_well a.near_set) (λ link. its (lacks link)) (single-so o) (λ link l. ap its (none-past link l)))
         ∙ join-alike (λ code. its (unreceived (line code))) (λ code. its (lacks (own code))) codes (λ code l. ap its (sym (lacked-by code))))
-        ∙ ap (λ (ms : List Message). join_to (λ code. its (unreceived (line code))) codes ++ ms) (flow-users c.own z.own sls p.near.exchange.node.queues.held)
+        ∙ ap (λ (ms : List Message). join_to (λ code. its (unreceived (line code))) codes ++ ms) (of-its p.near.exchange.node.queues.held)
 
-    kept-flow : (ms : List Message) → All (IsUserMessageTo z.own) ms → of_flow flow ms ≡ its ms
-    kept-flow ms h = ap (of_flow flow) (sym (all-to z.own ms h)) ∙ flow-users c.own z.own sls ms
-
-    order-so : nat_lt a.base.near.late p.near.exchange.node.parts.times_late ≡ false → All (IsUserMessageTo z.own) p.near.accepted → All (IsUserMessageTo z.own) p.far.received
-        → of_flow flow p.near.accepted ≡ of_flow flow p.far.received ++ of_flow flow (waiting p)
-    order-so punctual accepted received =
-        let o : order.IsInOrder read flow view = (of-shown (λ read x. x.near.late ≡ false → (f : Flow) → order.IsInOrder read f x) each_flow_in_order-always).there punctual flow in
-        kept-flow p.near.accepted accepted
+    pub order-beyond : nat_lt a.base.near.late p.near.exchange.node.parts.times_late ≡ false
+        → of_flow flow p.near.accepted ≡ of_flow flow p.far.received ++ of_flow flow (join_to (λ link. waits_by link (far_of link)) links ++ p.near.exchange.node.queues.held)
+    order-beyond punctual =
+        let o : order.IsInOrder read flow view = (of-shown (λ reads x. x.near.late ≡ false → (f : Flow) → order.IsInOrder reads.there f x) each_flow_in_order-always).there punctual flow in
+        of-its p.near.accepted
         ∙ o.sequence
         ∙ in-a-row (its p.far.received) (join_to (λ code. its (unreceived (line code))) codes) (its p.near.exchange.node.queues.held)
         ∙ ap (λ (ms : List Message). its p.far.received ++ ms) (sym (waiting-flow o))
-        ∙ ap (λ (ms : List Message). ms ++ of_flow flow (waiting p)) (sym (kept-flow p.far.received received))
+        ∙ ap (λ (ms : List Message). ms ++ of_flow flow waits_in_all) (sym (of-its p.far.received))
 
-  -- no message is of a flow to another point
-  none-away : (flow : Flow) → flow.point ≢ z.own → (ms : List Message) → All (IsUserMessageTo z.own) ms → of_flow flow ms ≡ []
-  none-away flow d ms h = ap (of_flow flow) (sym (all-to z.own ms h)) ∙ none-of-flow flow z.own ms d
+  -- ---- where the messages are for the two themselves
 
-  none-waits : (flow : Flow) → flow.point ≢ z.own → of_flow flow (waiting p) ≡ []
-  none-waits flow d =
-      filter-append (is_of_flow flow) (join_to (waiting_on p) links) (users_to z.own p.near.exchange.node.queues.held)
-      ∙ ap (λ (ms : List Message). ms ++ of_flow flow (users_to z.own p.near.exchange.node.queues.held))
-      (flow-join flow (waiting_on p) links ∙ join-none (λ link. of_flow flow (waiting_on p link)) links (λ link l. by link (far_of link)))
-      ∙ none-of-flow flow z.own p.near.exchange.node.queues.held d
-    where
-      by : (link : ℕ) (o : Option ℕ) → of_flow flow (waiting_by p link o) ≡ []
-      by link (Some other) = none-of-flow flow z.own (drop (accepted_there p link other) (queue_of p.near link).all) d
-      by link None = refl
+  module _ (for_far : a.base.there ≡ z.own) where
+    -- ---- "Exactly once"
 
-  pub order-there : AreBooked p → AreBooked (turned p) → nat_lt a.base.near.late p.near.exchange.node.parts.times_late ≡ false → InOrder p
-  order-there near far punctual flow =
-      ⊎_elim
-      (λ (to : flow.point ≡ z.own).
-      subst (λ (point : ℕ). of_flow (flow_to point flow.sls) p.near.accepted ≡ of_flow (flow_to point flow.sls) p.far.received ++ of_flow (flow_to point flow.sls) (waiting p)) (sym to)
-      (order-so flow.sls punctual near.accepted far.received))
-      (λ (d : flow.point ≢ z.own).
-      none-away flow d p.near.accepted near.accepted
-      ∙ sym (none-waits flow d)
-      ∙ ap (λ (ms : List Message). ms ++ of_flow flow (waiting p)) (sym (none-away flow d p.far.received far.received)))
-      (cases_eq flow.point z.own)
+    module _ (test : Message → Bool) where
+      abbrev wanted : Message → Bool
+      wanted m = is_user_to z.own m && test m
+
+      its-count : (link : ℕ) → link < links → count_by (user test) (waiting_by p link (far_of link)) ≡ (if has link then count_by wanted (lacks link) else 0)
+      its-count =
+          by-link (λ link o b. count_by (user test) (waiting_by p link o) ≡ (if b then count_by wanted (lacks link) else 0))
+          (λ link other e. count-to z.own test (drop (accepted_there p link other) (queue_of p.near link).all) ∙ ap (count_by wanted) (waits-so link other e))
+          (λ link l d. refl)
+
+      count-waiting : count_by (user test) (waiting p) ≡ sum_to (λ code. count_by wanted (unreceived (line code))) codes + count_by wanted p.near.exchange.node.queues.held
+      count-waiting =
+          let both : count_by (user test) (waiting p) ≡ count_by (user test) (join_to (waiting_on p) links) + count_by (user test) (users_to z.own p.near.exchange.node.queues.held) =
+          count-append (user test) (join_to (waiting_on p) links) (users_to z.own p.near.exchange.node.queues.held) in
+          let joined : count_by (user test) (join_to (waiting_on p) links) ≡ sum_to (λ link. count_by (user test) (waiting_on p link)) links = count-join (user test) (waiting_on p) links in
+          let summed : sum_to (λ link. count_by (user test) (waiting_on p link)) links ≡ sum_to (λ link. if has link then count_by wanted (lacks link) else 0) links =
+          sum-alike (λ link. if has link then count_by wanted (lacks link) else 0) (λ link. count_by (user test) (waiting_on p link)) links its-count in
+          omega (arith, both, joined, summed, summed-lines wanted, count-to z.own test p.near.exchange.node.queues.held)
+
+      booked : (ms : List Message) → All (IsUserMessageTo z.own) ms → count_by (user test) ms ≡ count_by wanted ms
+      booked ms h = ap (count_by (user test)) (sym (all-to z.own ms h)) ∙ count-to z.own test ms
+
+      moved : count_by wanted p.near.accepted ≡ count_by wanted p.far.received + under_way wanted view
+      moved =
+          subst (λ (point : ℕ). count_by (λ (m : Message). is_user_to point m && test m) p.near.accepted
+          ≡ count_by (λ (m : Message). is_user_to point m && test m) p.far.received + under_way (λ (m : Message). is_user_to point m && test m) view) for_far
+          (subst (λ (of : Message → Bool). count_by of p.near.accepted ≡ count_by of p.far.received + under_way of view) (user-same c.own z.own a.base.there test)
+          ((of-shown (λ reads. once.EachOnce reads.there) each_message_once-always).there (λ m. nat_eq (dpc_of m) a.base.there && test m)))
+
+      once-so : All (IsUserMessageTo z.own) p.near.accepted → All (IsUserMessageTo z.own) p.far.received → count_by (user test) p.near.accepted ≡ count_by (user test) p.far.received + count_by (user test) (waiting p)
+      once-so accepted received = omega (arith, moved, count-waiting, booked p.near.accepted accepted, booked p.far.received received)
+
+    pub once-there : AreBooked p → AreBooked (turned p) → EachOnce p
+    once-there near far test = once-so test near.accepted far.received
+
+    -- ---- "Order"
+
+    -- those of a flow to the far point are all that wait of it
+    for-flow : (sls : ℕ) → of_flow (flow_to z.own sls) (waiting p) ≡ of_flow (flow_to z.own sls) (join_to (λ link. waits_by link (far_of link)) links ++ p.near.exchange.node.queues.held)
+    for-flow sls =
+        let to : Flow = flow_to z.own sls in
+        filter-append (is_of_flow to) (join_to (waiting_on p) links) (users_to z.own p.near.exchange.node.queues.held)
+        ∙ ap (λ (ms : List Message). ms ++ of_flow to (users_to z.own p.near.exchange.node.queues.held))
+        (flow-join to (waiting_on p) links
+        ∙ join-alike (λ link. of_flow to (waits_by link (far_of link))) (λ link. of_flow to (waiting_on p link)) links (λ link l. by link (far_of link))
+        ∙ sym (flow-join to (λ link. waits_by link (far_of link)) links))
+        ∙ ap (λ (ms : List Message). of_flow to (join_to (λ link. waits_by link (far_of link)) links) ++ ms) (flow-to z.own sls p.near.exchange.node.queues.held)
+        ∙ sym (filter-append (is_of_flow to) (join_to (λ link. waits_by link (far_of link)) links) p.near.exchange.node.queues.held)
+      where
+        by : (link : ℕ) (o : Option ℕ) → of_flow (flow_to z.own sls) (waiting_by p link o) ≡ of_flow (flow_to z.own sls) (waits_by link o)
+        by link (Some other) = flow-to z.own sls (drop (accepted_there p link other) (queue_of p.near link).all)
+        by link None = refl
+
+    order-so : (sls : ℕ) → nat_lt a.base.near.late p.near.exchange.node.parts.times_late ≡ false
+        → of_flow (flow_to z.own sls) p.near.accepted ≡ of_flow (flow_to z.own sls) p.far.received ++ of_flow (flow_to z.own sls) (waiting p)
+    order-so sls punctual =
+        subst (λ (point : ℕ). of_flow (flow_to point sls) p.near.accepted
+        ≡ of_flow (flow_to point sls) p.far.received ++ of_flow (flow_to point sls) (join_to (λ link. waits_by link (far_of link)) links ++ p.near.exchange.node.queues.held)) for_far
+        (order-beyond sls punctual)
+        ∙ ap (λ (ms : List Message). of_flow (flow_to z.own sls) p.far.received ++ ms) (sym (for-flow sls))
+
+    -- no message is of a flow to another point
+    none-away : (flow : Flow) → flow.point ≢ z.own → (ms : List Message) → All (IsUserMessageTo z.own) ms → of_flow flow ms ≡ []
+    none-away flow d ms h = ap (of_flow flow) (sym (all-to z.own ms h)) ∙ none-of-flow flow z.own ms d
+
+    none-waits : (flow : Flow) → flow.point ≢ z.own → of_flow flow (waiting p) ≡ []
+    none-waits flow d =
+        filter-append (is_of_flow flow) (join_to (waiting_on p) links) (users_to z.own p.near.exchange.node.queues.held)
+        ∙ ap (λ (ms : List Message). ms ++ of_flow flow (users_to z.own p.near.exchange.node.queues.held))
+        (flow-join flow (waiting_on p) links ∙ join-none (λ link. of_flow flow (waiting_on p link)) links (λ link l. by link (far_of link)))
+        ∙ none-of-flow flow z.own p.near.exchange.node.queues.held d
+      where
+        by : (link : ℕ) (o : Option ℕ) → of_flow flow (waiting_by p link o) ≡ []
+        by link (Some other) = none-of-flow flow z.own (drop (accepted_there p link other) (queue_of p.near link).all) d
+        by link None = refl
+
+    pub order-there : AreBooked p → AreBooked (turned p) → nat_lt a.base.near.late p.near.exchange.node.parts.times_late ≡ false → InOrder p
+    order-there near far punctual flow =
+        ⊎_elim
+        (λ (to : flow.point ≡ z.own).
+        subst (λ (point : ℕ). of_flow (flow_to point flow.sls) p.near.accepted ≡ of_flow (flow_to point flow.sls) p.far.received ++ of_flow (flow_to point flow.sls) (waiting p)) (sym to)
+        (order-so flow.sls punctual))
+        (λ (d : flow.point ≢ z.own).
+        none-away flow d p.near.accepted near.accepted
+        ∙ sym (none-waits flow d)
+        ∙ ap (λ (ms : List Message). ms ++ of_flow flow (waiting p)) (sym (none-away flow d p.far.received far.received)))
+        (cases_eq flow.point z.own)
 
 -- ---- always
 
@@ -362,35 +401,55 @@ first-stands near far a = record {
   far_alone = λ link away. each-replicate (λ (b : Bool). b ≡ false) (length far.links) link false refl;
   near_good = first-good near far (near_joint near far (from_first near far a)) (base-same no_counts);
   far_good = first-good far near (far_joint near far (from_first near far a)) (base-same no_counts);
-  goes = goes-same (says_of near.own far.own) _ _ (sym (first-shown near far a.near_set a.far_set));
+  goes = goes-same (reading near.own far.own a.base) _ _ (sym (first-shown near far a.near_set a.far_set a.base.there a.base.back));
 }
 
-pub all-stand : (near far : Configuration) (steps : List Step) (a : AreFacing near far) → Stands near far (from_first near far a) (after_steps steps (first_pair near far))
-all-stand near far steps a = steps-stand near far (from_first near far a) steps (first_pair near far) (first-stands near far a)
+own-stand : (near far : Configuration) (steps : List Step) (a : AreFacing near far) → AreOwn near far a → Stands near far (from_first near far a) (after_steps steps (first_pair near far))
+own-stand near far steps a own = steps-stand near far (from_first near far a) (record { there = own.there; back = own.back }) steps (first_pair near far) (first-stands near far a)
+
+-- whatever their messages were for, they are for each other
+abbrev pub for_each_other : (near far : Configuration) → AreFacing near far → AreFacing near far
+for_each_other near far a = record a {
+  base = no_base far.own near.own;
+  destination = a.adjacent;
+  place = a.adjacent_place;
+  there = placed-there near far.own a.adjacent a.adjacent_place;
+  only = a.near_leads.only;
+  back_destination = a.back_adjacent;
+  back_place = a.back_adjacent_place;
+  back_there = placed-there far near.own a.back_adjacent a.back_adjacent_place;
+  back_only = a.far_leads.only;
+  near_grows = none-grow;
+  far_grows = none-grow;
+  start = ends.first_pair codes;
+}
+
+pub all-stand : (near far : Configuration) (steps : List Step) (a : AreFacing near far) → Stands near far (from_first near far (for_each_other near far a)) (after_steps steps (first_pair near far))
+all-stand near far steps a = own-stand near far steps (for_each_other near far a) (record { there = refl; back = refl })
 
 -- a statement about one direction, that follows from what is there and from the books
 pub always : (Statement : PairState → Type 0)
-    → ((c z : Configuration) (a : AreFacing c z) (q : PairState) → Stands c z (from_first c z a) (with_settings c z q) → Since c z (from_first c z a) (with_settings c z q) → AreBooked (with_settings c z q) → AreBooked (turned (with_settings c z q)) → Statement (with_settings c z q))
+    → ((c z : Configuration) (a : AreFacing c z) (q : PairState) → a.base.there ≡ z.own → Stands c z (from_first c z a) (with_settings c z q) → Since c z (from_first c z a) (with_settings c z q) → AreBooked (with_settings c z q) → AreBooked (turned (with_settings c z q)) → Statement (with_settings c z q))
     → Always (λ p. LostNothing p → BothWays Statement p)
 always Statement holds near far steps g kept =
     let p : PairState = after_steps steps (first_pair near far) in
     let a : AreFacing near far = are-facing near far g in
-    let s : Stands near far (from_first near far a) p = all-stand near far steps a in
+    let s : Stands near far (from_first near far a) p = own-stand near far steps a (facing-own near far g) in
     let b : BothWays AreBooked p = books-stay near far steps g in
     record {
-      there = one near far a p s kept b.there b.back;
-      back = one far near (facing_back near far a) (turned p) (stands-turned near far (from_first near far a) p s) (record { near = kept.far; far = kept.near }) b.back b.there;
+      there = one near far a p (facing-own near far g).there s kept b.there b.back;
+      back = one far near (facing_back near far a) (turned p) (facing-own near far g).back (stands-turned near far (from_first near far a) p s) (record { near = kept.far; far = kept.near }) b.back b.there;
     }
   where
-    one : (c z : Configuration) (a : AreFacing c z) (q : PairState) → Stands c z (from_first c z a) q → LostNothing q → AreBooked q → AreBooked (turned q) → Statement q
-    one c z a q s kept near far =
+    one : (c z : Configuration) (a : AreFacing c z) (q : PairState) → a.base.there ≡ z.own → Stands c z (from_first c z a) q → LostNothing q → AreBooked q → AreBooked (turned q) → Statement q
+    one c z a q own s kept near far =
         let e : q ≡ with_settings c z q = written c z q s.near_settings s.far_settings in
         subst Statement (sym e)
-        (holds c z a q (subst (Stands c z (from_first c z a)) e s) (since-first c z a (with_settings c z q) (subst LostNothing e kept)) (subst AreBooked e near) (subst (λ (x : PairState). AreBooked (turned x)) e far))
+        (holds c z a q own (subst (Stands c z (from_first c z a)) e s) (since-first c z a (with_settings c z q) (subst LostNothing e kept)) (subst AreBooked e near) (subst (λ (x : PairState). AreBooked (turned x)) e far))
 
 pub each-once : each_message_once
-each-once = always EachOnce (λ c z a q s kept near far. once-there c z (from_first c z a) q s kept near far)
+each-once = always EachOnce (λ c z a q own s kept near far. once-there c z (from_first c z a) q s kept own near far)
 
 pub each-in-order : each_flow_in_order
-each-in-order = always (λ p. IsPunctual p → InOrder p) (λ c z a q s kept near far punctual.
-    order-there c z (from_first c z a) q s kept near far (beyond-none (with_settings c z q).near.exchange.node.parts.times_late ∙ punctual))
+each-in-order = always (λ p. IsPunctual p → InOrder p) (λ c z a q own s kept near far punctual.
+    order-there c z (from_first c z a) q s kept own near far (beyond-none (with_settings c z q).near.exchange.node.parts.times_late ∙ punctual))

@@ -1,5 +1,5 @@
 -- What the machine of moves shows of a quiet pair is quiet.
-use Rattle.pair_rules.proofs.Basics.{◌≡◌, ◌<◌, ◌≤◌, ◌&&◌, ◌||◌, ℕ, Bool, true, false, not, List, [], ◌∷◌, length, nat_eq, if◌then◌else◌, refl, ap, sym, subst, ◌∙◌, arith, ⊎_elim, cases_lt, get_or_past, and_parts}
+use Rattle.pair_rules.proofs.Basics.{◌⊎◌, inl, inr, ◌≡◌, ◌<◌, ◌≤◌, ◌&&◌, ◌||◌, ℕ, Bool, true, false, not, List, [], ◌∷◌, length, nat_eq, if◌then◌else◌, refl, ap, sym, subst, ◌∙◌, arith, ⊎_elim, cases_lt, get_or_past, and_parts}
 use Rattle.pair_rules.proofs.Definitions.{WINDOW, Message, dpc_of, is_management, Saying, is_outstanding, Configuration, Queue, IsQueue, Standing, no_changeover, may_restart, Link, down_link, is_down, Node, Fits, WholeQueues, queue_at, down, link_at, changeover_of, MayOpen, PairState, may_follow, may_open_at, turned}
 use Rattle.std.specs.List.{list_any}
 use Rattle.pair_moves.specs.Passing.{without_others}
@@ -12,7 +12,7 @@ use Rattle.pair_rules.proofs.Standing.{rests, world_of}
 use Rattle.neighbour_rules.specs.Anew.{IsQuietEnd, IsQuietPair, begun_anew, is_between}
 use Rattle.neighbour_rules.specs.Neighbours.{is_management_between}
 use Rattle.neighbour_rules.proofs.Counted.{Base, Counts}
-use Rattle.neighbour_rules.proofs.World.{link_at_code, route_of, says-alike, says_by, says_of, shown, side_by}
+use Rattle.neighbour_rules.proofs.World.{link_at_code, reading, route_of, says-alike, says_by, says_of, shown, side_by}
 use Rattle.neighbour_rules.proofs.Lines.{at-line}
 use Rattle.neighbour_rules.proofs.Asked.{IsAsked}
 use Rattle.neighbour_rules.proofs.Staying.{with_settings}
@@ -28,25 +28,35 @@ widest : (w : ℕ) (q : Queue) → IsQueue w q → IsQueue WINDOW q
 widest w q h = record { confirmed = h.confirmed; sent = h.sent; window = omega (arith, h.window, h.limit); limit = omega arith }
 
 -- what isn't between the two says nothing to either
-says-nothing : (b to_one to_two there back : Bool) (m : Message) → ((not b && to_one) || (not b && to_two) || there || back) ≡ false
-    → says_by b (there || back) (to_one || to_two) m ≡ Other
-says-nothing true to_one to_two true back m e = absurd cc
-says-nothing true to_one to_two false true m e = absurd cc
-says-nothing true to_one to_two false false m e = refl
-says-nothing false true to_two there back m e = absurd cc
-says-nothing false false true there back m e = absurd cc
-says-nothing false false false there back m e = refl
+says-nothing : (b to_one to_two to there back : Bool) (m : Message) → (to ≡ true → (to_one || to_two) ≡ true) → ((not b && to_one) || (not b && to_two) || there || back) ≡ false
+    → says_by b (there || back) to m ≡ Other
+says-nothing true to_one to_two to true back m its e = absurd cc
+says-nothing true to_one to_two to false true m its e = absurd cc
+says-nothing true to_one to_two to false false m its e = refl
+says-nothing false true to_two to there back m its e = absurd cc
+says-nothing false false true to there back m its e = absurd cc
+says-nothing false false false false there back m its e = refl
+says-nothing false false false true there back m its e = (let no : false ≡ true = its refl in absurd cc)
 
-none-between : (one two : ℕ) (ms : List Message) → list_any (is_between one two) ms ≡ false → without_others (says_of one two) ms ≡ []
-none-between one two [] e = refl
-none-between one two (m ∷ ms) e = by (is_between one two m) refl e (none-between one two ms)
+either-of : (one two point k : ℕ) → (point ≡ one) ⊎ (point ≡ two) → nat_eq k point ≡ true → (nat_eq k one || nat_eq k two) ≡ true
+either-of one two point k (inl same) e = ap (λ (b : Bool). b || nat_eq k two) (ap (nat_eq k) (sym same) ∙ e)
+either-of one two point k (inr same) e = ap (λ (b : Bool). nat_eq k one || b) (ap (nat_eq k) (sym same) ∙ e) ∙ or-true (nat_eq k one)
   where
-    by : (b : Bool) → is_between one two m ≡ b → (b || list_any (is_between one two) ms) ≡ false → (list_any (is_between one two) ms ≡ false → without_others (says_of one two) ms ≡ [])
-        → (if not (is_other (says_of one two m)) then m ∷ without_others (says_of one two) ms else without_others (says_of one two) ms) ≡ []
+    or-true : (b : Bool) → (b || true) ≡ true
+    or-true true = refl
+    or-true false = refl
+
+none-between : (one two point : ℕ) → (point ≡ one) ⊎ (point ≡ two) → (ms : List Message) → list_any (is_between one two) ms ≡ false → without_others (says_of one two point) ms ≡ []
+none-between one two point its [] e = refl
+none-between one two point its (m ∷ ms) e = by (is_between one two m) refl e (none-between one two point its ms)
+  where
+    by : (b : Bool) → is_between one two m ≡ b → (b || list_any (is_between one two) ms) ≡ false → (list_any (is_between one two) ms ≡ false → without_others (says_of one two point) ms ≡ [])
+        → (if not (is_other (says_of one two point m)) then m ∷ without_others (says_of one two point) ms else without_others (says_of one two point) ms) ≡ []
     by true f g rest = absurd cc
     by false f g rest =
-        ap (λ (s : Saying). if not (is_other s) then m ∷ without_others (says_of one two) ms else without_others (says_of one two) ms)
-        (says-nothing (is_management m) (nat_eq (dpc_of m) one) (nat_eq (dpc_of m) two) (is_management_between one two m) (is_management_between two one m) m f)
+        ap (λ (s : Saying). if not (is_other s) then m ∷ without_others (says_of one two point) ms else without_others (says_of one two point) ms)
+        (says-nothing (is_management m) (nat_eq (dpc_of m) one) (nat_eq (dpc_of m) two) (nat_eq (dpc_of m) point) (is_management_between one two m) (is_management_between two one m) m
+        (either-of one two point (dpc_of m) its) f)
         ∙ rest g
 
 module _ (c z : Configuration) (a : AreFacing c z) (q : PairState) (fits : Fits c q.near.exchange.node)
@@ -102,13 +112,13 @@ module _ (c z : Configuration) (a : AreFacing c z) (q : PairState) (fits : Fits 
 
   -- ---- its lists are empty
 
-  pub idle : (counts : Counts) (given_up : ℕ → Bool) → ((code : ℕ) → is_outstanding n.parts.codes a.near_set code ≡ given_up code)
-      → IsIdle (says_of c.own z.own) (side_by c z a.near_set counts given_up (route_of c z a.near_set n.parts) (rests (begun_anew p).near))
-  idle counts given_up given = record {
+  pub idle : (there : ℕ) → there ≡ z.own → (counts : Counts) (given_up : ℕ → Bool) → ((code : ℕ) → is_outstanding n.parts.codes a.near_set code ≡ given_up code)
+      → IsIdle (says_of c.own z.own there) (side_by c there a.near_set counts given_up (route_of c there a.near_set n.parts) (rests (begun_anew p).near))
+  idle there own counts given_up given = record {
     accepted = refl;
     received = refl;
     arrived = refl;
-    held = none-between c.own z.own n.queues.held quiet.held;
+    held = none-between c.own z.own there (inr own) n.queues.held quiet.held;
     loose = refl;
     codes = given;
   }
@@ -117,9 +127,9 @@ module _ (c z : Configuration) (a : AreFacing c z) (q : PairState) (fits : Fits 
 
 pub quiet-shown : (c z : Configuration) (a : AreFacing c z) (q : PairState) → Fits c q.near.exchange.node → Fits z q.far.exchange.node
     → IsAsked c (with_settings c z q).near.exchange → IsAsked z (with_settings c z q).far.exchange → length q.near.following ≡ length c.links → length q.far.following ≡ length z.links
-    → IsQuietPair (with_settings c z q) → (base : Base) → ((code : ℕ) → is_outstanding q.near.exchange.node.parts.codes a.near_set code ≡ base.near_given_up code)
-    → ((code : ℕ) → is_outstanding q.far.exchange.node.parts.codes a.far_set code ≡ base.far_given_up code) → (f g : Flying) → IsQuiet (says_of c.own z.own) (shown c z a.near_set a.far_set base (world_of (begun_anew (with_settings c z q)) f g))
-quiet-shown c z a q fits far_fits asked far_asked flags far_flags quiet base given far_given f g =
+    → IsQuietPair (with_settings c z q) → (base : Base) → base.there ≡ z.own → base.back ≡ c.own → ((code : ℕ) → is_outstanding q.near.exchange.node.parts.codes a.near_set code ≡ base.near_given_up code)
+    → ((code : ℕ) → is_outstanding q.far.exchange.node.parts.codes a.far_set code ≡ base.far_given_up code) → (f g : Flying) → IsQuiet (reading c.own z.own base) (shown c z a.near_set a.far_set base (world_of (begun_anew (with_settings c z q)) f g))
+quiet-shown c z a q fits far_fits asked far_asked flags far_flags quiet base there_own back_own given far_given f g =
     let back : AreFacing z c = facing_back c z a in
     record {
       lines = λ code. record {
@@ -128,8 +138,8 @@ quiet-shown c z a q fits far_fits asked far_asked flags far_flags quiet base giv
         near_alone = follows-not c z a q fits asked flags quiet.there code;
         far_alone = follows-not z c back (turned q) far_fits far_asked far_flags quiet.back code;
       };
-      near = idle c z a q fits asked flags quiet.there base.near base.near_given_up given;
+      near = idle c z a q fits asked flags quiet.there base.there there_own base.near base.near_given_up given;
       far =
-          subst (λ (read : Message → Saying). IsIdle read (side_by z c a.far_set base.far base.far_given_up (route_of z c a.far_set q.far.exchange.node.parts) (rests (begun_anew (with_settings c z q)).far)))
-          (says-alike z.own c.own) (idle z c back (turned q) far_fits far_asked far_flags quiet.back base.far base.far_given_up far_given);
+          subst (λ (read : Message → Saying). IsIdle read (side_by z base.back a.far_set base.far base.far_given_up (route_of z base.back a.far_set q.far.exchange.node.parts) (rests (begun_anew (with_settings c z q)).far)))
+          (says-alike z.own c.own base.back) (idle z c back (turned q) far_fits far_asked far_flags quiet.back base.back back_own base.far base.far_given_up far_given);
     }

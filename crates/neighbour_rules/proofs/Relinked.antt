@@ -2,6 +2,7 @@
 -- the same pair is shown.
 use Rattle.pair_rules.proofs.Basics.{◌≡◌, ℕ, List, [], refl, ap, sym, ◌∙◌, slice_set}
 use Rattle.pair_rules.proofs.Definitions.{Message, Outcome, Handled, Held, Ignored, Local, Queued, Refused, Configuration, TitleEntry, Alignment, Running, Link, down_link, is_down, Node, Noted, with_parts, link_at, WholeQueues, note_outcome, with_titles, StaysFit, fit-steps, alike-at, each-set}
+use Rattle.sccp_relay.specs.Statuses.{TitlesValue}
 use Rattle.signalling_types.specs.declared.notice.Notice.TheVariants as notices
 use Rattle.pair_rules.proofs.World.{World}
 use Rattle.pair_rules.proofs.Good.{IsSilent}
@@ -43,7 +44,7 @@ module _ (c z : Configuration) (j : Joint c z) where
       → Passes c z j (at c z j w n arrived loose) (at c z j w (with_parts n (record n.parts { notices = notices })) arrived loose)
   noted-passes w n arrived loose notices stay = aside-passes c z j w n arrived loose (record n.parts { notices = notices }) stay refl refl refl refl refl refl (λ e. e)
 
-  pub titled-passes : (w : World) (n : Node WholeQueues) (titles : List TitleEntry) → Passes c z j (at c z j w n [] []) (at c z j w (with_parts n (with_titles titles n.parts)) [] [])
+  pub titled-passes : (w : World) (n : Node WholeQueues) (titles : TitlesValue) → Passes c z j (at c z j w n [] []) (at c z j w (with_parts n (with_titles titles n.parts)) [] [])
   titled-passes w n titles = aside-passes c z j w n [] [] (with_titles titles n.parts) ((fit-steps c).titled titles n) refl refl refl refl refl refl (λ e. e)
 
   -- a refusal that is noted

@@ -12,12 +12,12 @@ use Rattle.pair_rules.proofs.Standing.{rests, world_of}
 use Rattle.neighbour_rules.specs.Anew.{Change, Steps, NearRestarts, FarRestarts, NearGivesUp, FarGivesUp, after_all, after_change, begun_anew, given_up, restarted}
 use Rattle.neighbour_rules.specs.Neighbours.{Step, after_steps}
 use Rattle.neighbour_rules.proofs.Counted.{base-same, no_base, no_counts}
-use Rattle.neighbour_rules.proofs.World.{says_of, shown}
+use Rattle.neighbour_rules.proofs.World.{reading, says_of, shown}
 use Rattle.neighbour_rules.proofs.Good.{Good}
 use Rattle.neighbour_rules.proofs.Adjacents.{first-knows}
 use Rattle.neighbour_rules.proofs.Asked.{AreEnds, IsAsked, aside, ends-turned, step-ends}
 use Rattle.neighbour_rules.proofs.Staying.{with_settings, written}
-use Rattle.neighbour_rules.proofs.Sharing.{AreFacing, facing_back, far_joint, from_first, near_joint}
+use Rattle.neighbour_rules.proofs.Sharing.{AreFacing, AreOwn, facing_back, far_joint, from_first, near_joint}
 use Rattle.neighbour_rules.proofs.First.{first-good}
 use Rattle.neighbour_rules.proofs.Standing.{Stands, regood}
 use Rattle.neighbour_rules.proofs.AllSteps.{stands-turned, steps-stand, turn-stands}
@@ -29,10 +29,11 @@ begun c z start a = record (from_first c z a) { start = start }
 
 pub record Works (c z : Configuration) (a : AreFacing c z) (p : PairState) : Type 0 where
   pub start : Pair
+  pub own : AreOwn c z a
   pub stands : Stands c z (begun c z start a) p
 
 works-turned : (c z : Configuration) (a : AreFacing c z) (p : PairState) → Works c z a p → Works z c (facing_back c z a) (turned p)
-works-turned c z a p w = record { start = ends.turned w.start; stands = stands-turned c z (begun c z w.start a) p w.stands }
+works-turned c z a p w = record { start = ends.turned w.start; own = record { there = w.own.back; back = w.own.there }; stands = stands-turned c z (begun c z w.start a) p w.stands }
 
 -- ---- what is done at the near end
 
@@ -73,7 +74,8 @@ module _ (c z : Configuration) (a : AreFacing c z) (q : PairState) (w : Works c 
 
   new-works : Works c z a (restarted p)
   new-works = record {
-    start = shown c z a.near_set a.far_set no_base new-world;
+    own = w.own;
+    start = shown c z a.near_set a.far_set (no_base a.base.there a.base.back) new-world;
     stands = record {
       near_settings = refl;
       far_settings = refl;
@@ -93,7 +95,7 @@ module _ (c z : Configuration) (a : AreFacing c z) (q : PairState) (w : Works c 
       far_alone = s.far_alone;
       near_good = new-good;
       far_good = regood z c (far_joint c z (from_first c z a)) (rests p.far) (rests p.near) _ s.to_far s.to_near _ _ _ _ _ s.far_good;
-      goes = goes-none (says_of c.own z.own) _;
+      goes = goes-none (reading c.own z.own a.base) _;
     };
   }
 
@@ -104,7 +106,8 @@ module _ (c z : Configuration) (a : AreFacing c z) (q : PairState) (w : Works c 
 
     left-works : Works c z a (given_up link p)
     left-works = record {
-      start = shown c z a.near_set a.far_set no_base (world_of (given_up link p) s.to_near s.to_far);
+      own = w.own;
+      start = shown c z a.near_set a.far_set (no_base a.base.there a.base.back) (world_of (given_up link p) s.to_near s.to_far);
       stands = record {
         near_settings = refl;
         far_settings = refl;
@@ -124,7 +127,7 @@ module _ (c z : Configuration) (a : AreFacing c z) (q : PairState) (w : Works c 
         far_alone = s.far_alone;
         near_good = regood c z (near_joint c z (from_first c z a)) (rests p.near) (rests p.far) _ s.to_near s.to_far _ _ _ _ _ s.near_good;
         far_good = regood z c (far_joint c z (from_first c z a)) (rests p.far) (rests p.near) _ s.to_far s.to_near _ _ _ _ _ s.far_good;
-        goes = goes-none (says_of c.own z.own) _;
+        goes = goes-none (reading c.own z.own a.base) _;
       };
     }
 
@@ -153,7 +156,8 @@ module _ (c z : Configuration) (a : AreFacing c z) (q : PairState) (w : Works c 
   begun-works =
       let s : Stands c z (begun c z w.start a) one = w.stands in
       record {
-        start = shown c z a.near_set a.far_set no_base (world_of (begun_anew one) s.to_near s.to_far);
+        own = w.own;
+        start = shown c z a.near_set a.far_set (no_base a.base.there a.base.back) (world_of (begun_anew one) s.to_near s.to_far);
         stands = record {
           near_settings = refl;
           far_settings = refl;
@@ -173,7 +177,7 @@ module _ (c z : Configuration) (a : AreFacing c z) (q : PairState) (w : Works c 
           far_alone = s.far_alone;
           near_good = anew-good c z a q s.to_near s.to_far s.near_good;
           far_good = anew-good z c (facing_back c z a) (turned q) s.to_far s.to_near s.far_good;
-          goes = goes-none (says_of c.own z.own) _;
+          goes = goes-none (reading c.own z.own a.base) _;
         };
       }
 
@@ -194,7 +198,7 @@ module _ (c z : Configuration) (a : AreFacing c z) (p : PairState) (w : Works c 
   anew-works = subst (λ (x : PairState). Works c z a (begun_anew x)) (sym is-written) (begun-works c z a p (subst (Works c z a) is-written w))
 
 pub change-works : (c z : Configuration) (a : AreFacing c z) (change : Change) (p : PairState) → Works c z a p → Works c z a (after_change change p)
-change-works c z a (Steps step) p w = record { start = w.start; stands = turn-stands c z (begun c z w.start a) step p w.stands }
+change-works c z a (Steps step) p w = record { start = w.start; own = w.own; stands = turn-stands c z (begun c z w.start a) (record { there = w.own.there; back = w.own.back }) step p w.stands }
 change-works c z a NearRestarts p w = restarted-works c z a p w
 change-works c z a FarRestarts p w =
     works-turned z c (facing_back c z a) (restarted (turned p)) (restarted-works z c (facing_back c z a) (turned p) (works-turned c z a p w))
@@ -206,15 +210,14 @@ pub all-changes-work : (c z : Configuration) (a : AreFacing c z) (changes : List
 all-changes-work c z a [] p w = w
 all-changes-work c z a (change ∷ changes) p w = all-changes-work c z a changes (after_change change p) (change-works c z a change p w)
 
-pub first-works : (c z : Configuration) (a : AreFacing c z) → Works c z a (first_pair c z)
-first-works c z a = record { start = (from_first c z a).start; stands = first-stands c z a }
+pub first-works : (c z : Configuration) (a : AreFacing c z) → AreOwn c z a → Works c z a (first_pair c z)
+first-works c z a own = record { start = (from_first c z a).start; own = own; stands = first-stands c z a }
 
-pub all-work : (c z : Configuration) (a : AreFacing c z) (changes : List Change) → Works c z a (after_all changes (first_pair c z))
-all-work c z a changes =
-    all-changes-work c z a changes (first_pair c z) (first-works c z a)
+pub all-work : (c z : Configuration) (a : AreFacing c z) → AreOwn c z a → (changes : List Change) → Works c z a (after_all changes (first_pair c z))
+all-work c z a own changes = all-changes-work c z a changes (first_pair c z) (first-works c z a own)
 
 pub steps-work : (c z : Configuration) (a : AreFacing c z) (steps : List Step) (p : PairState) → Works c z a p → Works c z a (after_steps steps p)
-steps-work c z a steps p w = record { start = w.start; stands = steps-stand c z (begun c z w.start a) steps p w.stands }
+steps-work c z a steps p w = record { start = w.start; own = w.own; stands = steps-stand c z (begun c z w.start a) (record { there = w.own.there; back = w.own.back }) steps p w.stands }
 
 -- ---- what the ends were asked
 

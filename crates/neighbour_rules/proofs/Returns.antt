@@ -1,11 +1,12 @@
 -- A link takes a step of its alignment, and if it enters service it takes its flows back from one link after another:
 -- by moves if it is one of the two, and unseen if it leads elsewhere.
 use Rattle.pair_rules.proofs.Basics.{◌≡◌, ◌≢◌, ◌⊎◌, inl, inr, ◌<◌, ◌&&◌, ℕ, zero, suc, Bool, true, false, not, List, [], length, Option, refl, ap, sym, subst, ◌∙◌, nat_lt, nat_eq, if◌then◌else◌, option_map, ⊎_elim, fun_ext, and_parts, cases_eq, None}
-use Rattle.pair_rules.proofs.Definitions.{SELECTIONS, Message, Flow, Configuration, destination_place, Input, action_at, Link, down_link, is_down, is_in_service, stepped, FrameValue, each-set, facts_alike, chosen_link, Route, Running, Standing, ToldTable, Facts, Node, Parts, with_parts, down, in_service, link_at, WholeQueues, whole, has_other, facts, network_of, set_of, change_back, loses_flows, take_back_each, advance, begun_anew_if, enters, return_if, step_on, changeover_of, StaysFit, fit-steps, each-step, anew-steps, stepped-at, stepped-other, stepping-there, IsAlike, take_back_each-alike, LinkEnd, Pair, Saying}
+use Rattle.pair_rules.proofs.Definitions.{SELECTIONS, Message, Flow, Configuration, destination_place, Input, acts_on, Link, down_link, is_down, is_in_service, stepped, FrameValue, each-set, facts_alike, chosen_link, Route, Running, Standing, ToldTable, Facts, Node, Parts, with_parts, down, in_service, link_at, WholeQueues, whole, has_other, facts, network_of, set_of, change_back, loses_flows, take_back_each, advance, begun_anew_if, enters, return_if, step_on, changeover_of, StaysFit, fit-steps, each-step, anew-steps, stepped-at, stepped-other, stepping-there, IsAlike, take_back_each-alike, LinkEnd, Pair, Saying}
 use Rattle.std.proofs.Common.{option_and_then}
 use Rattle.link.specs.declared.action.Action.TheVariants.{Go}
 use Rattle.link.specs.declared.action.Transition.{Transition}
 use Rattle.exchange_rules.proofs.Entering.{known_links}
+use Rattle.exchange_rules.specs.Frames.{take_step, test_if}
 use Rattle.exchange_rules.proofs.Rules.{rules-of}
 use Rattle.pair_moves.specs.Ends as ends
 use Rattle.pair_moves.specs.Moves as moves
@@ -13,14 +14,15 @@ use Rattle.pair_rules.proofs.World.{World, heard, is_heard, end_of}
 use Rattle.pair_rules.proofs.Good.{IsSilent}
 use Rattle.pair_rules.proofs.Going.{Goes, goes-both, goes-none, goes-one, goes-same}
 use Rattle.neighbour_rules.proofs.Counted.{IsBase, counts_of}
-use Rattle.neighbour_rules.proofs.World.{code_of, line_of, route_of, says_of, shown, shown_by}
-use Rattle.neighbour_rules.proofs.Good.{Good, Joint, Passes, at, passes-both, passes-good, passes-none, set}
+use Rattle.neighbour_rules.proofs.World.{code_of, line_of, reading, route_of, says_of, shown, shown_by}
+use Rattle.neighbour_rules.proofs.Good.{Good, IsOpen, Joint, Passes, at, passes-both, passes-good, passes-none, set}
 use Rattle.neighbour_rules.proofs.Lines.{at-line, becomes, own-line}
 use Rattle.neighbour_rules.proofs.Entries.{IsComing, all-ways, anew-open, end_with, enters-heard, leads-heard, leads-up, not-so, starts-up}
+use Rattle.neighbour_rules.proofs.Testing.{begin_test-passes}
 use Rattle.neighbour_rules.proofs.Turns.{IsEntry, PassesBy, by-both, first-route, last-route, route, route_at}
 use Rattle.neighbour_rules.proofs.Declaring.{take-turn, take-turn-elsewhere}
 use Rattle.neighbour_rules.proofs.Falling.{holds-alike}
-use Rattle.neighbour_rules.proofs.Unseen.{IsOpen, own, unseen-passes}
+use Rattle.neighbour_rules.proofs.Unseen.{own, unseen-passes}
 
 same-service : (a b : Bool) → (a && not b) ≡ false → (b ≡ true → a ≡ true) → a ≡ b
 same-service true true e f = refl
@@ -61,7 +63,7 @@ module _ (c : Configuration) (link : ℕ) (p : Parts) (first : Node WholeQueues)
 
 module _ (c z : Configuration) (j : Joint c z) where
   abbrev read : Message → Saying
-  read = says_of c.own z.own
+  read = says_of c.own z.own j.base.there
 
   abbrev pub shown_at : World → Pair
   shown_at w = shown c z (set c z j) j.shares.far_set j.base w
@@ -72,7 +74,7 @@ module _ (c z : Configuration) (j : Joint c z) where
   -- the lines of flows by what is known of routes
   abbrev pub route_by : Facts → Flow → Option ℕ
   route_by f flow =
-      if nat_eq flow.point z.own && nat_lt flow.sls SELECTIONS
+      if nat_eq flow.point j.base.there && nat_lt flow.sls SELECTIONS
       then option_map (code_of c) (option_and_then (λ place. chosen_link f place flow.sls) (destination_place c flow.point)) else None
 
   abbrev with_holds : Pair → (ends.Procedure → Flow → Bool) → Pair
@@ -89,23 +91,23 @@ module _ (c z : Configuration) (j : Joint c z) where
 
     turns : (many : ℕ) → PassesBy c z j (by_turn 0) (by_turn many) (mid first) (mid (back c link p first many))
     unfolding take_back_each
-    turns zero = record { goes = λ g. goes-none read (shown_with (by_turn 0) (mid first)); good = λ g. g }
+    turns zero = record { goes = λ g. goes-none (reading c.own z.own j.base) (shown_with (by_turn 0) (mid first)); good = λ g. g }
     turns (suc other) =
         by-both c z j (by_turn 0) (by_turn other) (by_turn (suc other)) (mid first) (mid (back c link p first other)) (mid (back c link p first (suc other))) (turns other)
         (take-turn c z j w arrived link p first i its other (back c link p first other) (loses_flows c (facts c p) (facts c first.parts) other link) (back-alike c link p first other) refl)
 
     in-the-end : shown_with (by_turn (length c.links)) (mid (back c link p first (length c.links))) ≡ shown_at (mid (back c link p first (length c.links)))
     in-the-end =
-        let same : by_turn (length c.links) ≡ route_of c z (set c z j) (back c link p first (length c.links)).parts =
+        let same : by_turn (length c.links) ≡ route_of c j.base.there (set c z j) (back c link p first (length c.links)).parts =
         fun_ext (λ (flow : Flow). last-route c z j p first.parts flow ∙ sym (ap (λ (f : Facts). route_by f flow) (facts-after c link p first (length c.links)))) in
         ap (λ (r : Flow → Option ℕ). shown_with r (mid (back c link p first (length c.links)))) same
 
     -- all of them
-    all-turn : PassesBy c z j (by_turn 0) (route_of c z (set c z j) (back c link p first (length c.links)).parts) (mid first) (mid (back c link p first (length c.links)))
+    all-turn : PassesBy c z j (by_turn 0) (route_of c j.base.there (set c z j) (back c link p first (length c.links)).parts) (mid first) (mid (back c link p first (length c.links)))
     all-turn = record {
       goes = λ g.
-          goes-both read (shown_with (by_turn 0) (mid first)) (shown_with (by_turn (length c.links)) (mid (back c link p first (length c.links)))) (shown_at (mid (back c link p first (length c.links))))
-          ((turns (length c.links)).goes g) (goes-same read _ _ in-the-end);
+          goes-both (reading c.own z.own j.base) (shown_with (by_turn 0) (mid first)) (shown_with (by_turn (length c.links)) (mid (back c link p first (length c.links)))) (shown_at (mid (back c link p first (length c.links))))
+          ((turns (length c.links)).goes g) (goes-same (reading c.own z.own j.base) _ _ in-the-end);
       good = λ g. (turns (length c.links)).good g;
     }
 
@@ -129,11 +131,11 @@ module _ (c z : Configuration) (j : Joint c z) where
     then_at o = at c z j w o arrived []
 
     -- the flows that had no link may take it at once
-    entering-goes : IsEntry c link n.parts moved.parts → set_of c link ≡ set c z j → Goes read (shown_at (then_at n)) (shown_with (route_at c z j n.parts moved.parts 0) (then_at moved))
+    entering-goes : IsEntry c link n.parts moved.parts → set_of c link ≡ set c z j → Goes (reading c.own z.own j.base) (shown_at (then_at n)) (shown_with (route_at c z j n.parts moved.parts 0) (then_at moved))
     entering-goes i its =
         let k : ℕ = own c z j (code_of c link) in
         let mine : k ≡ link = own-line c j.near_well (set c z j) link i.there its in
-        goes-one read _ _
+        goes-one (reading c.own z.own j.base) _ _
         (moves.enters (record {
           link = code_of c link;
           up = ap (λ (l : ℕ). not (down n.parts l)) mine ∙ ap not i.up;
@@ -141,7 +143,7 @@ module _ (c z : Configuration) (j : Joint c z) where
           route = route_at c z j n.parts moved.parts 0;
           kept = λ flow former e. first-route c z j n.parts moved.parts flow former e;
           lines = line_of c z (set c z j) j.shares.far_set (then_at moved);
-          set = becomes c z j (then_at n) moved arrived [] (route_of c z (set c z j) n.parts) link (record (end_of n k) { up = true; serving = true }) i.there its
+          set = becomes c z j (then_at n) moved arrived [] (route_of c j.base.there (set c z j) n.parts) link (record (end_of n k) { up = true; serving = true }) i.there its
               (all-ways n link (down moved.parts link) false (in_service moved.parts link) true (heard moved.parts link) (heard n.parts link) i.still_up i.serves (i.still ∙ sym i.before)
               ∙ ap (λ (l : ℕ). record (end_of n l) { up = true; serving = true }) (sym mine))
               (λ other d. ap (λ (l : Link). end_with n other (is_down l.alignment) (is_in_service l.alignment) (is_heard l.alignment)) (i.others other d));
@@ -151,7 +153,7 @@ module _ (c z : Configuration) (j : Joint c z) where
     entering-passes : IsEntry c link n.parts moved.parts → set_of c link ≡ set c z j → (Good c z j (then_at n) → Good c z j (then_at moved))
         → Passes c z j (then_at n) (then_at (change_back whole c link (facts c n.parts) moved))
     entering-passes i its good = record {
-      goes = λ g. goes-both read _ _ _ (entering-goes i its) ((all-turn w arrived link n.parts moved i its).goes (good g));
+      goes = λ g. goes-both (reading c.own z.own j.base) _ _ _ (entering-goes i its) ((all-turn w arrived link n.parts moved i its).goes (good g));
       good = λ g. (all-turn w arrived link n.parts moved i its).good (good g);
     }
 
@@ -175,7 +177,7 @@ module _ (c z : Configuration) (j : Joint c z) where
 
   -- ---- a step of the alignment
 
-  module _ (w : World) (n : Node WholeQueues) (arrived : List Message) (link : ℕ) (input : Input) (step : Transition) (e : action_at (link_at n.parts link).alignment input ≡ Go step) where
+  module _ (w : World) (n : Node WholeQueues) (arrived : List Message) (link : ℕ) (input : Input) (step : Transition) (e : acts_on (link_at n.parts link) input ≡ Go step) where
     abbrev once : Parts
     once = step_on c link step n.parts
 
@@ -186,20 +188,26 @@ module _ (c z : Configuration) (j : Joint c z) where
     inside = stepping-there n.parts link input step e
 
     heard-then : heard once link ≡ true
-    heard-then = ap (λ (l : Link). is_heard l.alignment) (stepped-at c link step n.parts inside) ∙ leads-heard (link_at n.parts link).alignment input step e
+    heard-then = ap (λ (l : Link). is_heard l.alignment) (stepped-at c link step n.parts inside) ∙ leads-heard (link_at n.parts link).period (link_at n.parts link).alignment input step e
 
     step-down : (other : ℕ) → down once other ≡ down n.parts other
     step-down other =
         ⊎_elim
         (λ (same : other ≡ link).
         subst (λ (k : ℕ). down once k ≡ down n.parts k) (sym same)
-        (ap (λ (l : Link). is_down l.alignment) (stepped-at c link step n.parts inside) ∙ leads-up (link_at n.parts link).alignment input step e ∙ sym (starts-up (link_at n.parts link).alignment input step e)))
+        (ap (λ (l : Link). is_down l.alignment) (stepped-at c link step n.parts inside) ∙ leads-up (link_at n.parts link).period (link_at n.parts link).alignment input step e ∙ sym (starts-up (link_at n.parts link).period (link_at n.parts link).alignment input step e)))
         (λ (d : other ≢ link). ap (λ (l : Link). is_down l.alignment) (stepped-other c link other step n.parts d))
         (cases_eq other link)
 
     -- whether or not what is known over its set is reset
     anew-fits : (again : Bool) → StaysFit c n (with_parts n (anew again c link step n.parts))
     anew-fits again = (fit-steps c).both _ _ _ ((fit-steps c).stepped link input step n tt e) (anew-steps (rules-of (fit-steps c)) again link (with_parts n once) tt)
+
+    still-open : (again : Bool) → IsOpen c z j n → IsOpen c z j (with_parts n (anew again c link step n.parts))
+    still-open again o = record {
+      beyond = anew-open again c link (set c z j) j.destination once o.beyond;
+      between = anew-open again c link (set c z j) j.adjacent once o.between;
+    }
 
     anew-down : (again : Bool) (other : ℕ) → down (anew again c link step n.parts) other ≡ down n.parts other
     anew-down again other = ap (λ (l : Link). is_down l.alignment) (anew-link again c link other once) ∙ step-down other
@@ -208,7 +216,7 @@ module _ (c z : Configuration) (j : Joint c z) where
     anew-silent again h other =
         subst (λ (l : Link). IsSilent l) (sym (anew-link again c link other once))
         (each-set (λ (l : Link). IsSilent l) n.parts.links link other (stepped step (link_at n.parts link)) down_link h
-        (λ gone. (let no : true ≡ false = sym gone ∙ leads-up (link_at n.parts link).alignment input step e in absurd cc)))
+        (λ gone. (let no : true ≡ false = sym gone ∙ leads-up (link_at n.parts link).period (link_at n.parts link).alignment input step e in absurd cc)))
 
     anew-standing : (again : Bool) (other : ℕ) → changeover_of (anew again c link step n.parts) other ≡ changeover_of n.parts other
     anew-standing true other = refl
@@ -221,7 +229,7 @@ module _ (c z : Configuration) (j : Joint c z) where
     anew-good : (again : Bool) → Good c z j (now n) → Good c z j (now (with_parts n (anew again c link step n.parts)))
     anew-good again g = record {
       fits = (anew-fits again).stay g.fits;
-      route = anew-open again c link (set c z j) j.destination once g.route;
+      route = still-open again g.route;
       unawaited = λ other up. ap (λ (s : Standing). s.awaited) (anew-standing again other) ∙ g.unawaited other (sym (anew-down again other) ∙ up);
       silent = anew-silent again g.silent;
       queued = g.queued;
@@ -267,18 +275,18 @@ module _ (c z : Configuration) (j : Joint c z) where
           ∙ ap (λ (nears : ℕ → LinkEnd). record (shown_at (now n)) { line = λ code. record (line_of c z (set c z j) j.shares.far_set w code) { near = nears (own c z j code) } }) same
 
       -- a link status that comes is heard
-      hearing-goes : IsComing w link → link < length c.links → Goes read (shown_at (now n)) (shown_at (now (with_parts n once)))
+      hearing-goes : IsComing w link → link < length c.links → Goes (reading c.own z.own j.base) (shown_at (now n)) (shown_at (now (with_parts n once)))
       hearing-goes coming there =
           let k : ℕ = own c z j (code_of c link) in
           let mine : k ≡ link = own-line c j.near_well (set c z j) link there its in
-          goes-one read _ _
+          goes-one (reading c.own z.own j.base) _ _
           (moves.hears_status (record {
             link = code_of c link;
-            up = ap (λ (l : ℕ). not (down n.parts l)) mine ∙ ap not (starts-up (link_at n.parts link).alignment input step e);
+            up = ap (λ (l : ℕ). not (down n.parts l)) mine ∙ ap not (starts-up (link_at n.parts link).period (link_at n.parts link).alignment input step e);
             rest = length coming.rest;
             some = ap (λ (l : ℕ). length (w.to_near.statuses l)) mine ∙ ap (λ (fs : List FrameValue). length fs) coming.first;
             lines = line_of c z (set c z j) j.shares.far_set (now (with_parts n once));
-            set = becomes c z j (now n) (with_parts n once) arrived [] (route_of c z (set c z j) n.parts) link (record (end_of n k) { heard = true }) there its
+            set = becomes c z j (now n) (with_parts n once) arrived [] (route_of c j.base.there (set c z j) n.parts) link (record (end_of n k) { heard = true }) there its
                 (all-ways n link (down once link) (down n.parts link) (in_service once link) (in_service n.parts link) (heard once link) true (step-down link) (step-service link) heard-then
                 ∙ ap (λ (l : ℕ). record (end_of n l) { heard = true }) (sym mine))
                 (λ other d. ap (λ (l : Link). end_with n other (is_down l.alignment) (is_in_service l.alignment) (is_heard l.alignment)) (stepped-other c link other step n.parts d));
@@ -286,8 +294,8 @@ module _ (c z : Configuration) (j : Joint c z) where
                 ∙ ap (with_holds (shown_with (route_by (facts c n.parts)) (now (with_parts n once)))) (holds-alike c z j n.parts once refl);
           }))
 
-      staying-goes : (heard n.parts link ≡ true) ⊎ IsComing w link → link < length c.links → Goes read (shown_at (now n)) (shown_at (now (with_parts n once)))
-      staying-goes (inl before) there = goes-same read _ _ (sym (same-shown before))
+      staying-goes : (heard n.parts link ≡ true) ⊎ IsComing w link → link < length c.links → Goes (reading c.own z.own j.base) (shown_at (now n)) (shown_at (now (with_parts n once)))
+      staying-goes (inl before) there = goes-same (reading c.own z.own j.base) _ _ (sym (same-shown before))
       staying-goes (inr coming) there = hearing-goes coming there
 
       staying-passes : (heard n.parts link ≡ true) ⊎ IsComing w link → Passes c z j (now n) (now (with_parts n once))
@@ -304,10 +312,10 @@ module _ (c z : Configuration) (j : Joint c z) where
     stepping-aside : (again : Bool) → link < length c.links → set_of c link ≢ set c z j → Passes c z j (now n) (now (with_parts n (anew again c link step n.parts)))
     stepping-aside true =
         moving-aside w n arrived link (anew true c link step n.parts).links (anew true c link step n.parts).routes (anew true c link step n.parts).told (anew true c link step n.parts).timers
-        (anew-fits true) (anew-other true) (anew-down true) (anew-open true c link (set c z j) j.destination once) (anew-silent true)
+        (anew-fits true) (anew-other true) (anew-down true) (still-open true) (anew-silent true)
     stepping-aside false =
         moving-aside w n arrived link once.links once.routes once.told once.timers
-        (anew-fits false) (anew-other false) (anew-down false) (anew-open false c link (set c z j) j.destination once) (anew-silent false)
+        (anew-fits false) (anew-other false) (anew-down false) (still-open false) (anew-silent false)
 
     -- ---- if it enters, what is known over its set may be reset
 
@@ -319,12 +327,12 @@ module _ (c z : Configuration) (j : Joint c z) where
       entry again alone there = record {
         known = record { known = λ destination sls. known_links c link step n.parts again unserved alone destination sls };
         there = there;
-        up = starts-up (link_at n.parts link).alignment input step e;
-        still_up = ap (λ (l : Link). is_down l.alignment) (anew-link again c link link once ∙ stepped-at c link step n.parts inside) ∙ leads-up (link_at n.parts link).alignment input step e;
+        up = starts-up (link_at n.parts link).period (link_at n.parts link).alignment input step e;
+        still_up = ap (λ (l : Link). is_down l.alignment) (anew-link again c link link once ∙ stepped-at c link step n.parts inside) ∙ leads-up (link_at n.parts link).period (link_at n.parts link).alignment input step e;
         unserved = unserved;
         serves = ap (λ (l : Link). is_in_service l.alignment) (anew-link again c link link once ∙ stepped-at c link step n.parts inside)
             ∙ (and_parts (is_in_service step.state) (not (in_service n.parts link)) entered).0;
-        before = enters-heard (link_at n.parts link).alignment input step e (and_parts (is_in_service step.state) (not (in_service n.parts link)) entered).0;
+        before = enters-heard (link_at n.parts link).period (link_at n.parts link).alignment input step e (and_parts (is_in_service step.state) (not (in_service n.parts link)) entered).0;
         still = ap (λ (l : Link). is_heard l.alignment) (anew-link again c link link once) ∙ heard-then;
         others = anew-other again;
       }
@@ -359,19 +367,26 @@ module _ (c z : Configuration) (j : Joint c z) where
     advance-by false f there came =
         ⊎_elim
         (λ (its : set_of c link ≡ set c z j).
-        staying-passes (same-service (is_in_service step.state) (in_service n.parts link) f (each-step (link_at n.parts link).alignment input step e).stays) its (came its))
+        staying-passes (same-service (is_in_service step.state) (in_service n.parts link) f (each-step (link_at n.parts link).period (link_at n.parts link).alignment input step e).stays) its (came its))
         (λ (d : set_of c link ≢ set c z j). stepping-aside false there d)
         (cases_eq (set_of c link) (set c z j))
 
+    testing : (entered : Bool) (m : Node WholeQueues) → Passes c z j (now m) (now (test_if whole c entered link m))
+    testing true m = begin_test-passes c z j w arrived link m
+    testing false m = passes-none c z j (now m)
+
     advancing : (set_of c link ≡ set c z j → (heard n.parts link ≡ true) ⊎ IsComing w link) → Passes c z j (now n) (now (advance whole c link step n))
-    advancing came = passes-good c z j _ _ (λ g. advance-by (enters link step n.parts) refl (subst (λ (k : ℕ). link < k) g.fits.places.parts.links inside) came)
+    advancing came =
+        passes-both c z j _ _ _
+        (passes-good c z j _ _ (λ g. advance-by (enters link step n.parts) refl (subst (λ (k : ℕ). link < k) g.fits.places.parts.links inside) came))
+        (testing (enters link step n.parts) (take_step whole c link step n))
 
   -- a link that heard the other end, or that a status comes to
-  pub advance-passes : (w : World) (n : Node WholeQueues) (arrived : List Message) (link : ℕ) (input : Input) (step : Transition) → action_at (link_at n.parts link).alignment input ≡ Go step
+  pub advance-passes : (w : World) (n : Node WholeQueues) (arrived : List Message) (link : ℕ) (input : Input) (step : Transition) → acts_on (link_at n.parts link) input ≡ Go step
       → (heard n.parts link ≡ true) ⊎ IsComing w link → Passes c z j (at c z j w n arrived []) (at c z j w (advance whole c link step n) arrived [])
   advance-passes w n arrived link input step e came = advancing w n arrived link input step e (λ its. came)
 
   -- any that leads elsewhere
-  pub advance-elsewhere : (w : World) (n : Node WholeQueues) (arrived : List Message) (link : ℕ) (input : Input) (step : Transition) → action_at (link_at n.parts link).alignment input ≡ Go step
+  pub advance-elsewhere : (w : World) (n : Node WholeQueues) (arrived : List Message) (link : ℕ) (input : Input) (step : Transition) → acts_on (link_at n.parts link) input ≡ Go step
       → set_of c link ≢ set c z j → Passes c z j (at c z j w n arrived []) (at c z j w (advance whole c link step n) arrived [])
   advance-elsewhere w n arrived link input step e d = advancing w n arrived link input step e (λ its. absurd (d its))

@@ -33,19 +33,19 @@ module _ (c z : Configuration) (j : Joint c z) where
   -- a flow that takes a line is one to the other, by the link of that line
   pub record IsRouted (p : Parts) (flow : Flow) (code : ℕ) : Type 0 where
     pub selection : nat_lt flow.sls SELECTIONS ≡ true
-    pub point : flow.point ≡ z.own
+    pub point : flow.point ≡ j.base.there
     pub link : ℕ
     pub chosen : chosen_link (facts c p) j.destination flow.sls ≡ Some link
     pub coded : code_of c link ≡ code
 
-  pub is-routed : (p : Parts) (flow : Flow) (code : ℕ) → route_of c z (set c z j) p flow ≡ Some code → IsRouted p flow code
+  pub is-routed : (p : Parts) (flow : Flow) (code : ℕ) → route_of c j.base.there (set c z j) p flow ≡ Some code → IsRouted p flow code
   is-routed p flow code e =
-      let test : (nat_eq flow.point z.own && nat_lt flow.sls SELECTIONS) ≡ true = if-test (nat_eq flow.point z.own && nat_lt flow.sls SELECTIONS) (option_map (code_of c) (link_of c p flow)) code e in
+      let test : (nat_eq flow.point j.base.there && nat_lt flow.sls SELECTIONS) ≡ true = if-test (nat_eq flow.point j.base.there && nat_lt flow.sls SELECTIONS) (option_map (code_of c) (link_of c p flow)) code e in
       let its : HasCode (code_of c) (link_of c p flow) code =
-      has-code (code_of c) (link_of c p flow) code (if-value (nat_eq flow.point z.own && nat_lt flow.sls SELECTIONS) (option_map (code_of c) (link_of c p flow)) code e) in
-      let to : flow.point ≡ z.own = eqb-true flow.point z.own (left-true (nat_eq flow.point z.own) (nat_lt flow.sls SELECTIONS) test) in
+      has-code (code_of c) (link_of c p flow) code (if-value (nat_eq flow.point j.base.there && nat_lt flow.sls SELECTIONS) (option_map (code_of c) (link_of c p flow)) code e) in
+      let to : flow.point ≡ j.base.there = eqb-true flow.point j.base.there (left-true (nat_eq flow.point j.base.there) (nat_lt flow.sls SELECTIONS) test) in
       record {
-        selection = right-true (nat_eq flow.point z.own) (nat_lt flow.sls SELECTIONS) test;
+        selection = right-true (nat_eq flow.point j.base.there) (nat_lt flow.sls SELECTIONS) test;
         point = to;
         link = its.link;
         chosen = sym (ap (option_and_then (λ (d : ℕ). chosen_link (facts c p) d flow.sls)) (ap (destination_place c) to ∙ j.place)) ∙ its.is;
@@ -53,11 +53,11 @@ module _ (c z : Configuration) (j : Joint c z) where
       }
 
   -- and the other way round
-  pub routed-by : (p : Parts) (flow : Flow) (link : ℕ) → flow.point ≡ z.own → nat_lt flow.sls SELECTIONS ≡ true → chosen_link (facts c p) j.destination flow.sls ≡ Some link
-      → route_of c z (set c z j) p flow ≡ Some (code_of c link)
+  pub routed-by : (p : Parts) (flow : Flow) (link : ℕ) → flow.point ≡ j.base.there → nat_lt flow.sls SELECTIONS ≡ true → chosen_link (facts c p) j.destination flow.sls ≡ Some link
+      → route_of c j.base.there (set c z j) p flow ≡ Some (code_of c link)
   routed-by p flow link to selection e =
-      ap (λ (k : ℕ). if nat_eq k z.own && nat_lt flow.sls SELECTIONS then option_map (code_of c) (link_of c p flow) else None) to
-      ∙ ap (λ (b : Bool). if b && nat_lt flow.sls SELECTIONS then option_map (code_of c) (link_of c p flow) else None) (self z.own)
+      ap (λ (k : ℕ). if nat_eq k j.base.there && nat_lt flow.sls SELECTIONS then option_map (code_of c) (link_of c p flow) else None) to
+      ∙ ap (λ (b : Bool). if b && nat_lt flow.sls SELECTIONS then option_map (code_of c) (link_of c p flow) else None) (self j.base.there)
       ∙ ap (λ (b : Bool). if b then option_map (code_of c) (link_of c p flow) else None) selection
       ∙ ap (option_map (code_of c)) (ap (option_and_then (λ (d : ℕ). chosen_link (facts c p) d flow.sls)) (ap (destination_place c) to ∙ j.place) ∙ e)
     where
@@ -72,8 +72,8 @@ module _ (c z : Configuration) (j : Joint c z) where
       (lone-chosen c p (set c z j) j.destination flow.sls r.link route r.chosen)
 
   -- once a link is down, a flow on another line stays there
-  pub route-stays : (p q : Parts) (link other : ℕ) (flow : Flow) → facts c q ≡ with_link link false (facts c p) → other ≢ code_of c link → route_of c z (set c z j) p flow ≡ Some other
-      → route_of c z (set c z j) q flow ≡ Some other
+  pub route-stays : (p q : Parts) (link other : ℕ) (flow : Flow) → facts c q ≡ with_link link false (facts c p) → other ≢ code_of c link → route_of c j.base.there (set c z j) p flow ≡ Some other
+      → route_of c j.base.there (set c z j) q flow ≡ Some other
   route-stays p q link other flow e d h =
       let r : IsRouted p flow other = is-routed p flow other h in
       ⊎_elim

@@ -17,7 +17,7 @@ use Rattle.pair_rules.proofs.Good.{Each}
 use Rattle.neighbour_rules.specs.Neighbours.{is_management_between}
 use Rattle.neighbour_rules.specs.Awaiting.{says_to}
 use Rattle.neighbour_rules.specs.Laws.{word_from}
-use Rattle.neighbour_rules.proofs.World.{code_of, is_between, is_for_either, link_at_code, management_says, read_says, says_by, says_of}
+use Rattle.neighbour_rules.proofs.World.{code_of, is_between, link_at_code, management_says, read_says, says_by, says_of}
 use Rattle.neighbour_rules.proofs.Good.{IsMade, IsSent, IsWord, Joint, accepted, made, passes_by, set}
 use Rattle.neighbour_rules.proofs.Good as good
 use Rattle.neighbour_rules.proofs.Lines.{IsAtCode}
@@ -57,18 +57,18 @@ not-between m from to user = by (is_management_between from to m) refl
     by false e = refl
 
 -- it says what is read
-between-says : (one two : ℕ) (m : Message) → is_management_between one two m ≡ true → says_of one two m ≡ read_says (read_management m.sif)
-between-says one two m e =
-    ap (λ (b : Bool). says_by b (is_between one two m) (is_for_either one two m) m) (managed m one two e)
-    ∙ ap (λ (b : Bool). says_by true (b || is_management_between two one m) (is_for_either one two m) m) e
+between-says : (one two point : ℕ) (m : Message) → is_management_between one two m ≡ true → says_of one two point m ≡ read_says (read_management m.sif)
+between-says one two point m e =
+    ap (λ (b : Bool). says_by b (is_between one two m) (nat_eq (dpc_of m) point) m) (managed m one two e)
+    ∙ ap (λ (b : Bool). says_by true (b || is_management_between two one m) (nat_eq (dpc_of m) point) m) e
 
 -- ---- words
 
 -- a message says this about a link of the far node, by its code
-pub record Says (c z : Configuration) (m : Message) (word : Word) : Type 0 where
+pub record Says (c z : Configuration) (point : ℕ) (m : Message) (word : Word) : Type 0 where
   pub slc : ℕ
   pub there : link_with_code z c.own slc ≡ Some word.link
-  pub said : (says_of c.own z.own m ≡ Order slc word.number) ⊎ (says_of c.own z.own m ≡ Answer slc word.number)
+  pub said : (says_of c.own z.own point m ≡ Order slc word.number) ⊎ (says_of c.own z.own point m ≡ Answer slc word.number)
 
 -- the word that one makes of a link that was found
 record IsFound (o : Option ℕ) (number : ℕ) (word : Word) : Type 0 where
@@ -81,14 +81,14 @@ is-found (Some k) number word e =
     record { link = ap (λ (w : Word). Some w.link) same; its = ap (λ (w : Word). w.number) same }
 is-found None number word e = absurd cc
 
-module _ (c z : Configuration) (m : Message) (word : Word) (e : is_management_between c.own z.own m ≡ true) where
-  by-read : (r : Result Management MgmtFault) → read_management m.sif ≡ r → word_read z c.own r ≡ Some word → Says c z m word
+module _ (c z : Configuration) (there : ℕ) (m : Message) (word : Word) (e : is_management_between c.own z.own m ≡ true) where
+  by-read : (r : Result Management MgmtFault) → read_management m.sif ≡ r → word_read z c.own r ≡ Some word → Says c z there m word
   by-read (Ok (says.ExtendedChangeoverOrder slc number)) f h =
       let i : IsFound (link_with_code z c.own slc) number word = is-found (link_with_code z c.own slc) number word h in
-      record { slc = slc; there = i.link; said = inl (between-says c.own z.own m e ∙ ap read_says f ∙ ap (Order slc) i.its) }
+      record { slc = slc; there = i.link; said = inl (between-says c.own z.own there m e ∙ ap read_says f ∙ ap (Order slc) i.its) }
   by-read (Ok (says.ExtendedChangeoverAcknowledgement slc number)) f h =
       let i : IsFound (link_with_code z c.own slc) number word = is-found (link_with_code z c.own slc) number word h in
-      record { slc = slc; there = i.link; said = inr (between-says c.own z.own m e ∙ ap read_says f ∙ ap (Answer slc) i.its) }
+      record { slc = slc; there = i.link; said = inr (between-says c.own z.own there m e ∙ ap read_says f ∙ ap (Answer slc) i.its) }
   by-read (Ok (says.ChangebackDeclaration slc code)) f h = absurd cc
   by-read (Ok (says.ChangebackAcknowledgement slc code)) f h = absurd cc
   by-read (Ok says.TrafficRestartAllowed) f h = absurd cc
@@ -102,12 +102,12 @@ module _ (c z : Configuration) (m : Message) (word : Word) (e : is_management_be
   by-read (Ok (says.RouteSetTestRestricted point)) f h = absurd cc
   by-read (Err fault) f h = absurd cc
 
-pub word-says : (c z : Configuration) (m : Message) (word : Word) → word_from c.own z m ≡ Some word → Says c z m word
-word-says c z m word e = by (is_management_between c.own z.own m) refl e
+pub word-says : (c z : Configuration) (there : ℕ) (m : Message) (word : Word) → word_from c.own z m ≡ Some word → Says c z there m word
+word-says c z there m word e = by (is_management_between c.own z.own m) refl e
   where
-    by : (b : Bool) → is_management_between c.own z.own m ≡ b → (if b then word_read z (opc_of m) (read_management m.sif) else None) ≡ Some word → Says c z m word
+    by : (b : Bool) → is_management_between c.own z.own m ≡ b → (if b then word_read z (opc_of m) (read_management m.sif) else None) ≡ Some word → Says c z there m word
     by true f h =
-        by-read c z m word f (read_management m.sif) refl
+        by-read c z there m word f (read_management m.sif) refl
         (sym (ap (λ (point : ℕ). word_read z point (read_management m.sif)) (its-opc m c.own z.own f)) ∙ h)
     by false f h = absurd cc
 
@@ -132,17 +132,17 @@ module _ (c z : Configuration) (j : Joint c z) where
 
 -- ---- what a message of this node says to the far one, it says in the machine of moves
 
-pub record SaysAlike (c z : Configuration) (link other : ℕ) (m : Message) : Type 0 where
-  pub orders : says_to ordered c.own z other m ≡ is_order (code_of c link) (says_of c.own z.own m)
-  pub answers : says_to acknowledged c.own z other m ≡ is_answer (code_of c link) (says_of c.own z.own m)
+pub record SaysAlike (c z : Configuration) (there link other : ℕ) (m : Message) : Type 0 where
+  pub orders : says_to ordered c.own z other m ≡ is_order (code_of c link) (says_of c.own z.own there m)
+  pub answers : says_to acknowledged c.own z other m ≡ is_answer (code_of c link) (says_of c.own z.own there m)
 
-pub record CodesAlike (c z : Configuration) (m : Message) : Type 0 where
-  pub declarations : (code : ℕ) → says_to declared c.own z code m ≡ is_declaration code (says_of c.own z.own m)
-  pub confirmations : (code : ℕ) → says_to confirmed c.own z code m ≡ is_confirmation code (says_of c.own z.own m)
+pub record CodesAlike (c z : Configuration) (there : ℕ) (m : Message) : Type 0 where
+  pub declarations : (code : ℕ) → says_to declared c.own z code m ≡ is_declaration code (says_of c.own z.own there m)
+  pub confirmations : (code : ℕ) → says_to confirmed c.own z code m ≡ is_confirmation code (says_of c.own z.own there m)
 
 module _ (c z : Configuration) (j : Joint c z) (m : Message) where
   abbrev read : Message → Saying
-  read = says_of c.own z.own
+  read = says_of c.own z.own j.base.there
 
   -- what isn't management between the two says neither
   unsaid : (of : Kind) (named : ℕ) → is_management_between c.own z.own m ≡ false → says_to of c.own z named m ≡ false
@@ -158,7 +158,7 @@ module _ (c z : Configuration) (j : Joint c z) (m : Message) where
   -- ---- a user message
 
   user-none : (test : Saying → Bool) → test (says_by false true true m) ≡ false → test Other ≡ false → is_management m ≡ false → test (read m) ≡ false
-  user-none test a b user = ap (λ (k : Bool). test (says_by k (is_between c.own z.own m) (is_for_either c.own z.own m) m)) user ∙ by (is_between c.own z.own m) (is_for_either c.own z.own m)
+  user-none test a b user = ap (λ (k : Bool). test (says_by k (is_between c.own z.own m) (nat_eq (dpc_of m) j.base.there) m)) user ∙ by (is_between c.own z.own m) (nat_eq (dpc_of m) j.base.there)
     where
       by : (between either : Bool) → test (says_by false between either m) ≡ false
       by true true = a
@@ -174,7 +174,7 @@ module _ (c z : Configuration) (j : Joint c z) (m : Message) where
       by : (b : Bool) → is_management_between c.own z.own m ≡ b → says_to of c.own z named m ≡ false
       by true e =
           told of named (read_management m.sif) e refl
-          ∙ ap (λ (o : Option ℕ). option_eq nat_eq o (Some named)) (none (read_management m.sif) (sym (between-says c.own z.own m e) ∙ past))
+          ∙ ap (λ (o : Option ℕ). option_eq nat_eq o (Some named)) (none (read_management m.sif) (sym (between-says c.own z.own j.base.there m e) ∙ past))
       by false e = unsaid of named e
 
 -- management of other kinds names nothing
@@ -252,8 +252,8 @@ module _ (c z : Configuration) (j : Joint c z) where
       by true false t e f g = absurd cc
       by false y t e f g = absurd cc
 
-  made-reads : (m : Message) (is : IsMade c z (set c z j) m) → says_of c.own z.own m ≡ management_says is.word
-  made-reads m is = between-says c.own z.own m (made-between m is) ∙ ap read_says is.reads
+  made-reads : (m : Message) (is : IsMade c z (set c z j) m) → says_of c.own z.own j.base.there m ≡ management_says is.word
+  made-reads m is = between-says c.own z.own j.base.there m (made-between m is) ∙ ap read_says is.reads
 
   -- two links have one code where they are one
   same-codes : (link other k i : ℕ) → IsLine c z j link other → IsLine c z j k i → nat_eq i other ≡ nat_eq (code_of c k) (code_of c link)
@@ -280,7 +280,7 @@ module _ (c z : Configuration) (j : Joint c z) where
     word-alike _ (good.declares slc code a b) = (refl, refl)
     word-alike _ (good.confirms slc code) = (refl, refl)
 
-    pub says-alike : IsSent c z (set c z j) m → SaysAlike c z link other m
+    pub says-alike : IsSent c z j.base.there (set c z j) m → SaysAlike c z j.base.there link other m
     says-alike (made is) =
         let both : (option_eq nat_eq (ordered z c.own is.word) (Some other) ≡ is_order (code_of c link) (management_says is.word))
         × (option_eq nat_eq (acknowledged z c.own is.word) (Some other) ≡ is_answer (code_of c link) (management_says is.word)) = word-alike is.word is.is in
@@ -306,7 +306,7 @@ module _ (c z : Configuration) (j : Joint c z) where
   codes-said _ (good.declares slc its a b) code = (refl, refl)
   codes-said _ (good.confirms slc its) code = (refl, refl)
 
-  pub codes-alike : (m : Message) → IsSent c z (set c z j) m → CodesAlike c z m
+  pub codes-alike : (m : Message) → IsSent c z j.base.there (set c z j) m → CodesAlike c z j.base.there m
   codes-alike m (made is) = record {
     declarations = λ code. told c z j m declared code (Ok is.word) (made-between m is) is.reads ∙ (codes-said is.word is.is code).0 ∙ sym (ap (is_declaration code) (made-reads m is));
     confirmations = λ code. told c z j m confirmed code (Ok is.word) (made-between m is) is.reads ∙ (codes-said is.word is.is code).1 ∙ sym (ap (is_confirmation code) (made-reads m is));

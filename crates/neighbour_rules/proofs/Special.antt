@@ -31,7 +31,7 @@ use Rattle.neighbour_rules.proofs.Good as good
 use Rattle.neighbour_rules.proofs.Good.{IsFlying}
 use Rattle.neighbour_rules.proofs.Lone.{HasOnly, all-to, has-only, heard, its-point, not-own, submitted}
 use Rattle.neighbour_rules.proofs.Promised.{each-in-order, each-once, first-stands}
-use Rattle.neighbour_rules.proofs.Sharing.{AreFacing, are-facing, facing_back, from_first}
+use Rattle.neighbour_rules.proofs.Sharing.{AreOwn, facing-own, AreFacing, are-facing, facing_back, from_first}
 use Rattle.neighbour_rules.proofs.Standing.{Stands}
 use Rattle.neighbour_rules.proofs.Steps.{flies-back}
 use Rattle.pair_rules.proofs.Steps.{taken-there}
@@ -121,6 +121,10 @@ sharing near far g = record {
 abbrev pub facing : (near far : Configuration) → AreJoined near far → AreFacing near far
 facing near far g = from_first near far (are-facing near far (sharing near far g))
 
+-- their messages are for each other
+pub sharing-own : (near far : Configuration) (g : AreJoined near far) → AreOwn near far (facing near far g)
+sharing-own near far g = (let own : AreOwn near far (are-facing near far (sharing near far g)) = facing-own near far (sharing near far g) in record { there = own.there; back = own.back })
+
 -- ---- what is done at the near end
 
 module _ (c z : Configuration) (g : AreJoined c z) (n m : Node WholeQueues) (ni fi : Streams) (nv fv : List Bool) (na nr fa fr : List Message) where
@@ -168,11 +172,11 @@ module _ (c z : Configuration) (g : AreJoined c z) (n m : Node WholeQueues) (ni 
         (new-to c.own (new_message link text a) (λ message e. its-point z c.own far-only message (bound message e).known))
 
     -- the message that a frame newly carries is the one that it carries
-    carried-bound : (link : ℕ) (text : List ℕ) (frame : FrameValue) → IsFlying z c f.far_set frame → read_frame text ≡ Ok frame → (message : Message) → new_message link text a ≡ Some message
+    carried-bound : (link : ℕ) (text : List ℕ) (frame : FrameValue) → IsFlying z c f.base.back f.far_set frame → read_frame text ≡ Ok frame → (message : Message) → new_message link text a ≡ Some message
         → IsBound z message
     carried-bound link text frame flying reads message e = by frame flying (ap carried_message (sym reads) ∙ new-carried link text a message e)
       where
-        by : (x : FrameValue) → IsFlying z c f.far_set x → carried_message (Ok x) ≡ Some message → IsBound z message
+        by : (x : FrameValue) → IsFlying z c f.base.back f.far_set x → carried_message (Ok x) ≡ Some message → IsBound z message
         by _ (good.empty bsn fsn sayable) h = absurd cc
         by _ (good.carrying bsn fsn sio sif sayable sent bound) h = subst (IsBound z) (let same : record { sio = sio; sif = sif } ≡ message = cc in same) bound
 
@@ -184,9 +188,9 @@ module _ (c z : Configuration) (g : AreJoined c z) (n m : Node WholeQueues) (ni 
         by (Some text) e =
             let frames : List FrameValue = s.to_near.user_data link in
             let first : IsFirst frames (in_flight ni.user_data link) text = first-frame frames (in_flight ni.user_data link) text (s.near_texts.user_data.each link) e in
-            let flying : IsFlying z c f.far_set first.frame = (subst (Each (IsFlying z c f.far_set)) first.first (s.near_good.coming.user_data link)).0 in
+            let flying : IsFlying z c f.base.back f.far_set first.frame = (subst (Each (IsFlying z c f.base.back f.far_set)) first.first (s.near_good.coming.user_data link)).0 in
             came-same link text left
-            (carried-bound link text first.frame flying (ap read_frame first.spells ∙ flies-back z c f.far_set first.frame flying))
+            (carried-bound link text first.frame flying (ap read_frame first.spells ∙ flies-back z c f.base.back f.far_set first.frame flying))
 
     status-same : (link : ℕ) (left : Streams) → deliver_frame (slice_get (in_flight ni.statuses link) 0) link left p ≡ pairs.deliver_frame (slice_get (in_flight ni.statuses link) 0) link left p
     status-same link left = by (slice_get (in_flight ni.statuses link) 0) refl
@@ -283,7 +287,7 @@ turn-same c z g (pairs.AtFar what) p s =
 steps-same : (c z : Configuration) (g : AreJoined c z) (steps : List Step) (p : PairState) → Stands c z (facing c z g) p → after_steps (map lifted steps) p ≡ pairs.after_steps steps p
 steps-same c z g [] p s = refl
 steps-same c z g (step ∷ steps) p s =
-    steps-same c z g steps (turn (lifted step) p).left (turn-stands c z (facing c z g) (lifted step) p s)
+    steps-same c z g steps (turn (lifted step) p).left (turn-stands c z (facing c z g) (sharing-own c z g) (lifted step) p s)
     ∙ ap (λ (t : Turn). pairs.after_steps steps t.left) (turn-same c z g step p s)
 
 -- what waits is the same
@@ -304,7 +308,7 @@ pub stands-alone : (near far : Configuration) (g : AreJoined near far) (steps : 
 stands-alone near far g steps =
     let first : PairState = first_pair near far in
     let f : AreFacing near far = facing near far g in
-    subst (Stands near far f) (steps-same near far g steps first (first-stands near far f)) (steps-stand near far f (map lifted steps) first (first-stands near far f))
+    subst (Stands near far f) (steps-same near far g steps first (first-stands near far f)) (steps-stand near far f (sharing-own near far g) (map lifted steps) first (first-stands near far f))
 
 pub is-special : alone_is_special
 is-special near far steps g =

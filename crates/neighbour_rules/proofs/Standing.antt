@@ -1,6 +1,6 @@
 -- Two exchanges after some steps, as the machine of moves shows them; and what each step at the near end does to that.
 use Rattle.pair_rules.proofs.Basics.{◌≡◌, ℕ, Bool, false, List, [], length, nat_lt, None, refl, slice_get, subst, ◌∙◌}
-use Rattle.pair_rules.proofs.Definitions.{Message, Configuration, Saying, Node, Happening, WholeQueues, whole, apply, handle_event, done-waits, PairState, LostNothing, Streams, happens, may_follow, turned}
+use Rattle.pair_rules.proofs.Definitions.{Message, Configuration, Reading, Node, Happening, WholeQueues, whole, apply, handle_event, done-waits, PairState, LostNothing, Streams, happens, may_follow, turned}
 use Rattle.pair_moves.specs.Ends as ends
 use Rattle.pair_moves.specs.Quiet as moves
 use Rattle.pair_moves.proofs.First.{quiet-first, quiet-turned}
@@ -9,7 +9,7 @@ use Rattle.pair_rules.proofs.Going.{Goes, goes-both}
 use Rattle.pair_rules.proofs.Standing.{AreStreams, Waits, end_with, rests, world_of}
 use Rattle.neighbour_rules.specs.Neighbours.{end_there}
 use Rattle.neighbour_rules.proofs.Counted.{beyond-none}
-use Rattle.neighbour_rules.proofs.World.{codes, says-alike, says_of, shown}
+use Rattle.neighbour_rules.proofs.World.{codes, reading, reads-alike, shown}
 use Rattle.neighbour_rules.proofs.Good.{Good, Joint, Passes, at}
 use Rattle.neighbour_rules.proofs.Sharing.{AreFacing, facing_back, far_joint, from_first, near_joint}
 use Rattle.neighbour_rules.proofs.Events.{event-passes}
@@ -43,17 +43,17 @@ pub record Stands (c z : Configuration) (a : AreFacing c z) (p : PairState) : Ty
   pub far_alone : (link : ℕ) → IsAway z c link → may_follow p.far link ≡ false
   pub near_good : Good c z (near_joint c z a) (world_of p to_near to_far)
   pub far_good : Good z c (far_joint c z a) (turned_world (world_of p to_near to_far))
-  pub goes : Goes (says_of c.own z.own) a.start (shown c z a.near_set a.far_set a.base (world_of p to_near to_far))
+  pub goes : Goes (reading c.own z.own a.base) a.start (shown c z a.near_set a.far_set a.base (world_of p to_near to_far))
 
 -- the moves began with a quiet pair, and since then neither node has counted a loss
 pub record Since (c z : Configuration) (a : AreFacing c z) (p : PairState) : Type 0 where
-  pub quiet : moves.IsQuiet (says_of c.own z.own) a.start
+  pub quiet : moves.IsQuiet (reading c.own z.own a.base) a.start
   pub near : nat_lt a.base.near.lost p.near.exchange.node.parts.times_lost ≡ false
   pub far : nat_lt a.base.far.lost p.far.exchange.node.parts.times_lost ≡ false
 
 pub since-back : (c z : Configuration) (a : AreFacing c z) (p : PairState) → Since c z a p → Since z c (facing_back c z a) (turned p)
 since-back c z a p h = record {
-  quiet = subst (λ (read : Message → Saying). moves.IsQuiet read (ends.turned a.start)) (says-alike c.own z.own) (quiet-turned (says_of c.own z.own) a.start h.quiet);
+  quiet = subst (λ (read : Reading). moves.IsQuiet read (ends.turned a.start)) (reads-alike c.own z.own a.base) (quiet-turned (reading c.own z.own a.base) a.start h.quiet);
   near = h.far;
   far = h.near;
 }
@@ -61,7 +61,7 @@ since-back c z a p h = record {
 -- so it is since both were booted, while no flag is raised
 pub since-first : (c z : Configuration) (a : AreFacing c z) (p : PairState) → LostNothing p → Since c z (from_first c z a) p
 since-first c z a p kept = record {
-  quiet = quiet-first (says_of c.own z.own) codes;
+  quiet = quiet-first (reading c.own z.own a.base) codes;
   near = beyond-none p.near.exchange.node.parts.times_lost ∙ kept.near;
   far = beyond-none p.far.exchange.node.parts.times_lost ∙ kept.far;
 }
@@ -114,7 +114,7 @@ module _ (c z : Configuration) (a : AreFacing c z) (n m : Node WholeQueues) (ni 
     far_alone = s.far_alone;
     near_good = passes.good s.near_good;
     far_good = regood z c (far_joint c z a) (rests p.far) (rests p.near) _ s.to_far s.to_near f _ _ _ _ s.far_good;
-    goes = goes-both (says_of c.own z.own) _ _ _ s.goes (passes.goes s.near_good);
+    goes = goes-both (reading c.own z.own a.base) _ _ _ s.goes (passes.goes s.near_good);
   }
 
   -- nothing comes from the far end, and nothing is booked

@@ -1,6 +1,7 @@
 -- Link statuses that come, timers that run out, and what the operator and the association do to a link: by moves.
 use Rattle.pair_rules.proofs.Basics.{◌≤◌, inl, inr, ◌≡◌, ◌≢◌, ◌&&◌, ℕ, Bool, true, false, List, [], length, zero, suc, Option, Some, None, refl, ◌∙◌, nat_lt, if◌then◌else◌}
-use Rattle.pair_rules.proofs.Definitions.{SIF_OCTETS, Message, is_management, set_of, FailureReason, Handled, Ignored, Cause, add_title, add_title_unless, remove_title, title_refusal, with_titles, Configuration, TitleEntry, FrameValue, StatusFrame, LinkStatus, Action, Status, Expiry, action_at, RouteStatus, ticked, due_name, after_due, due_count, Node, Done, answer, refuse, with_parts, down, is_link, link_at, WholeQueues, whole, fail, activate, association_down, deactivate, end_association, fail_if_up, set_active, ask_by, facts, act_by_status, act_by_timer, advance, on_link_status, run_out, serve_status, in_service, with_busy, without_busy, serves-in, advance-serves, failed_if_up-down, set_active-steps, StaysFit, fit-steps, handed-fit, ticked-fit}
+use Rattle.pair_rules.proofs.Definitions.{SIF_OCTETS, Message, is_management, set_of, FailureReason, Handled, Ignored, Cause, add_title, add_title_unless, remove_title, title_refusal, with_titles, Configuration, TitleEntry, FrameValue, StatusFrame, LinkStatus, Action, Status, Expiry, acts_on, RouteStatus, ticked, due_name, after_due, due_count, Node, Done, answer, refuse, with_parts, down, is_link, link_at, WholeQueues, whole, fail, activate, association_down, deactivate, end_association, fail_if_up, set_active, ask_by, facts, act_by_status, act_by_timer, advance, on_link_status, run_out, serve_status, in_service, with_busy, without_busy, serves-in, advance-serves, failed_if_up-down, set_active-steps, StaysFit, fit-steps, handed-fit, ticked-fit}
+use Rattle.sccp_relay.specs.Statuses.{TitlesValue}
 use Rattle.exchange_rules.proofs.Rules.{rules-of}
 use Rattle.signalling_types.specs.declared.notice.FailureReason.TheVariants as reasons
 use Rattle.signalling_types.specs.declared.notice.ChangeoverTimer.TheVariants as timer
@@ -17,7 +18,9 @@ use Rattle.routes.specs.Routes.{status_of}
 use Rattle.timers.specs.declared.name.TimerName.{TimerName}
 use Rattle.timers.specs.declared.name.TimerName.TheVariants as name
 use Rattle.exchange_rules.specs.Exchange.{run_due, run_next, run_timer, run_times, tick, with_timers}
-use Rattle.exchange_rules.specs.Timing.{timed_busy, timed_busy_ended}
+use Rattle.exchange_rules.specs.Frames.{end_busy, end_outage, hear_outage, tells_outage, tells_recovery}
+use Rattle.exchange_rules.proofs.Outages.{outage-serves, recovery-out}
+use Rattle.neighbour_rules.proofs.Outages.{begins-passes, begun-busy, ended-busy, ends-passes}
 use Rattle.mtp3_codec.specs.declared.management.Management.TheVariants.{RouteSetTestProhibited, RouteSetTestRestricted}
 use Rattle.pair_moves.specs.Sayings.{Other}
 use Rattle.exchange_rules.specs.Rerouting.{ask, prohibited_test, restricted_test, with_next_test}
@@ -31,6 +34,7 @@ use Rattle.neighbour_rules.proofs.Good.{Joint, Passes, at, passes-both, passes-n
 use Rattle.neighbour_rules.proofs.Made.{made-brief, adjacent-fits, plain-other, point-fits}
 use Rattle.neighbour_rules.proofs.Messages.{making, send_routed-passes}
 use Rattle.neighbour_rules.proofs.Relinked.{relinked-passes, timed-passes, titled-passes}
+use Rattle.neighbour_rules.proofs.Testing.{begin_test-passes, test_unanswered-passes}
 use Rattle.neighbour_rules.proofs.Failures.{fail-passes}
 use Rattle.neighbour_rules.proofs.Frames.{Retells, bringing, none-brought, retold, status-taken}
 use Rattle.neighbour_rules.proofs.Expiries.{changeover_timer-passes}
@@ -46,23 +50,14 @@ module _ (c z : Configuration) (j : Joint c z) where
 
   -- ---- a status of a peer in service
 
-  begun-busy : (b : Bool) (w : World) (n : Node WholeQueues) (link : ℕ) → in_service n.parts link ≡ true → (link_at n.parts link).peer_busy ≡ b
-      → Passes c z j (at c z j w n [] []) (at c z j w (with_parts n (if b then n.parts else with_busy c link n.parts)) [] [])
-  begun-busy true w n link serves e = passes-none c z j (at c z j w n [] [])
-  begun-busy false w n link serves e =
-      relinked-passes c z j w n [] [] link (record (link_at n.parts link) { peer_busy = true }) (timed_busy c link n.parts.timers) refl (λ h. h) ((fit-steps c).busied link n tt serves e)
-
-  ended-busy : (b : Bool) (w : World) (n : Node WholeQueues) (link : ℕ) → in_service n.parts link ≡ true → (link_at n.parts link).peer_busy ≡ b
-      → Passes c z j (at c z j w n [] []) (at c z j w (with_parts n (if b then without_busy c link (whole.outstanding n.queues link) n.parts else n.parts)) [] [])
-  ended-busy true w n link serves e =
-      relinked-passes c z j w n [] [] link (record (link_at n.parts link) { peer_busy = false }) (timed_busy_ended c link (whole.outstanding n.queues link) n.parts.timers) refl (λ h. h)
-      ((fit-steps c).resumed link n tt serves e)
-  ended-busy false w n link serves e = passes-none c z j (at c z j w n [] [])
-
   serving-passes : (w : World) (n : Node WholeQueues) (link : ℕ) (status : LinkStatus) → in_service n.parts link ≡ true
       → Passes c z j (at c z j w n [] []) (at c z j w (serve_status whole c link status n) [] [])
-  serving-passes w n link says.Busy e = begun-busy (link_at n.parts link).peer_busy w n link e refl
-  serving-passes w n link says.BusyEnded e = ended-busy (link_at n.parts link).peer_busy w n link e refl
+  serving-passes w n link says.Busy e = begun-busy c z j (link_at n.parts link).peer_busy w n link e refl
+  serving-passes w n link says.BusyEnded e = by (link_at n.parts link).peer_outage
+    where
+      by : (out : Bool) → Passes c z j (at c z j w n [] []) (at c z j w (with_parts n (if out then n.parts else end_busy c link (whole.outstanding n.queues link) n.parts)) [] [])
+      by true = passes-none c z j (at c z j w n [] [])
+      by false = ended-busy c z j (link_at n.parts link).peer_busy w n link e refl
   serving-passes w n link says.Alignment e = passes-none c z j (at c z j w n [] [])
   serving-passes w n link says.ProvingNormal e = passes-none c z j (at c z j w n [] [])
   serving-passes w n link says.ProvingEmergency e = passes-none c z j (at c z j w n [] [])
@@ -81,37 +76,53 @@ module _ (c z : Configuration) (j : Joint c z) where
     acted_by a = (act_by_status whole c a link status n).left
 
     -- a link goes on by a step
-    stepped-on : (step : Transition) → action_at (link_at n.parts link).alignment (Status status) ≡ act.Go step
+    stepped-on : (step : Transition) → acts_on (link_at n.parts link) (Status status) ≡ act.Go step
         → Passes c z j (at c z j w n [] []) (at c z j w (advance whole c link step n) [] []) → Passes c z j (at c z j w n [] []) (at c z j w (acted_by (act.Go step)) [] [])
     stepped-on step e p =
         passes-both c z j _ _ _ p
         (serving-acted step.serve w (advance whole c link step n) link status
-        (λ h. advance-serves c link (Status status) step n e ∙ serves-in (link_at n.parts link).alignment (Status status) step e h))
+        (λ h. advance-serves c link (Status status) step n e ∙ serves-in (link_at n.parts link).period (link_at n.parts link).alignment (Status status) step e h))
 
-    pub status-acted : (a : Action) → action_at (link_at n.parts link).alignment (Status status) ≡ a → IsComing w link → Passes c z j (at c z j w n [] []) (at c z j w (acted_by a) [] [])
+    status-acted : (a : Action) → acts_on (link_at n.parts link) (Status status) ≡ a → IsComing w link → Passes c z j (at c z j w n [] []) (at c z j w (acted_by a) [] [])
     status-acted act.Ignored e coming = passes-none c z j (at c z j w n [] [])
-    status-acted act.Fail e coming = fail-passes c z j w n [] link reasons.Status (fails-up (link_at n.parts link).alignment (Status status) e)
+    status-acted act.Fail e coming = fail-passes c z j w n [] link reasons.Status (fails-up (link_at n.parts link).period (link_at n.parts link).alignment (Status status) e)
     status-acted (act.Go step) e coming = stepped-on step e (advance-passes c z j w n [] link (Status status) step e (inr coming))
 
-    acted-elsewhere : (a : Action) → action_at (link_at n.parts link).alignment (Status status) ≡ a → set_of c link ≢ set c z j → Passes c z j (at c z j w n [] []) (at c z j w (acted_by a) [] [])
+    acted-elsewhere : (a : Action) → acts_on (link_at n.parts link) (Status status) ≡ a → set_of c link ≢ set c z j → Passes c z j (at c z j w n [] []) (at c z j w (acted_by a) [] [])
     acted-elsewhere act.Ignored e d = passes-none c z j (at c z j w n [] [])
-    acted-elsewhere act.Fail e d = fail-passes c z j w n [] link reasons.Status (fails-up (link_at n.parts link).alignment (Status status) e)
+    acted-elsewhere act.Fail e d = fail-passes c z j w n [] link reasons.Status (fails-up (link_at n.parts link).period (link_at n.parts link).alignment (Status status) e)
     acted-elsewhere (act.Go step) e d = stepped-on step e (advance-elsewhere c z j w n [] link (Status status) step e d)
+
+    -- that the peer's processor is out, or back
+    told : (out back : Bool) → tells_outage c link status n.parts ≡ out → tells_recovery link status n.parts ≡ back
+        → Passes c z j (at c z j w n [] []) (at c z j w (acted_by (acts_on (link_at n.parts link) (Status status))) [] [])
+        → Passes c z j (at c z j w n [] [])
+        (at c z j w (if out then answer Handled (hear_outage whole c link n) else if back then answer Handled (end_outage whole c link n)
+        else act_by_status whole c (acts_on (link_at n.parts link) (Status status)) link status n).left [] [])
+    told true back e f act = begins-passes c z j (link_at n.parts link).peer_outage w n link (outage-serves c link status n.parts e)
+    told false true e f act = ends-passes c z j w n link (recovery-out link status n.parts f)
+    told false false e f act = act
+
+    -- one that comes by a link between the two
+    pub status-told : IsComing w link → Passes c z j (at c z j w n [] []) (at c z j w (on_link_status whole c link status n).left [] [])
+    status-told coming =
+        told (tells_outage c link status n.parts) (tells_recovery link status n.parts) refl refl (status-acted (acts_on (link_at n.parts link) (Status status)) refl coming)
 
     -- one that comes by a link that leads elsewhere
     pub status-elsewhere : set_of c link ≢ set c z j → Passes c z j (at c z j w n [] []) (at c z j w (on_link_status whole c link status n).left [] [])
-    status-elsewhere d = acted-elsewhere (action_at (link_at n.parts link).alignment (Status status)) refl d
+    status-elsewhere d =
+        told (tells_outage c link status n.parts) (tells_recovery link status n.parts) refl refl (acted-elsewhere (acts_on (link_at n.parts link) (Status status)) refl d)
 
   -- ---- timers of a link
 
-  timer-acted : (a : Action) (w : World) (n : Node WholeQueues) (link : ℕ) (t : LinkTimer) → action_at (link_at n.parts link).alignment (Expiry t) ≡ a
+  timer-acted : (a : Action) (w : World) (n : Node WholeQueues) (link : ℕ) (t : LinkTimer) → acts_on (link_at n.parts link) (Expiry t) ≡ a
       → Passes c z j (at c z j w n [] []) (at c z j w (act_by_timer whole c a link n) [] [])
   timer-acted act.Ignored w n link t e = passes-none c z j (at c z j w n [] [])
-  timer-acted act.Fail w n link t e = fail-passes c z j w n [] link reasons.Timer (fails-up (link_at n.parts link).alignment (Expiry t) e)
-  timer-acted (act.Go step) w n link t e = advance-passes c z j w n [] link (Expiry t) step e (inl (expiry-heard (link_at n.parts link).alignment t step e))
+  timer-acted act.Fail w n link t e = fail-passes c z j w n [] link reasons.Timer (fails-up (link_at n.parts link).period (link_at n.parts link).alignment (Expiry t) e)
+  timer-acted (act.Go step) w n link t e = advance-passes c z j w n [] link (Expiry t) step e (inl (expiry-heard (link_at n.parts link).period (link_at n.parts link).alignment t step e))
 
   pub run_out-passes : (w : World) (n : Node WholeQueues) (link : ℕ) (t : LinkTimer) → Passes c z j (at c z j w n [] []) (at c z j w (run_out whole c link t n) [] [])
-  run_out-passes w n link t = timer-acted (action_at (link_at n.parts link).alignment (Expiry t)) w n link t refl
+  run_out-passes w n link t = timer-acted (acts_on (link_at n.parts link) (Expiry t)) w n link t refl
 
   -- ---- the status of a frame in flight
 
@@ -121,13 +132,13 @@ module _ (c z : Configuration) (j : Joint c z) where
   status-passes w n link bsn fsn status rest f r =
       let acted : Node WholeQueues = (on_link_status whole c link status n).left in
       none-brought c z j (at c z j w n [] []) (retold c z j w f) acted [] []
-      (passes-both c z j _ _ _ (status-acted w n link status (action_at (link_at n.parts link).alignment (Status status)) refl (record { frame = StatusFrame bsn fsn status; rest = rest; first = r.first }))
+      (passes-both c z j _ _ _ (status-told w n link status (record { frame = StatusFrame bsn fsn status; rest = rest; first = r.first }))
       (status-taken c z j w link (StatusFrame bsn fsn status) rest f r acted))
 
   -- ---- a route set test of our own is due
 
   -- it tells nothing between the two
-  asking : (w : World) (n : Node WholeQueues) (m : Message) (its_set destination : ℕ) → is_management m ≡ true → says_of c.own z.own m ≡ Other → length m.sif ≤ SIF_OCTETS
+  asking : (w : World) (n : Node WholeQueues) (m : Message) (its_set destination : ℕ) → is_management m ≡ true → says_of c.own z.own j.base.there m ≡ Other → length m.sif ≤ SIF_OCTETS
       → Passes c z j (at c z j w n [] []) (at c z j w (ask whole c m its_set destination n) [] [])
   asking w n m its_set destination managed says short =
       passes-both c z j _ _ _
@@ -168,6 +179,9 @@ module _ (c z : Configuration) (j : Joint c z) where
   run_timer-passes (name.T6 destination) w n = rerouting_ended-passes c z j w n [] [] destination
   run_timer-passes (name.T8 its_set destination) w n = passes-none c z j (at c z j w n [] [])
   run_timer-passes (name.T10 its_set destination) w n = asked-passes (nat_lt its_set (length c.sets) && nat_lt destination (length c.destinations)) w n its_set destination
+  run_timer-passes (name.Slt1 link) w n = test_unanswered-passes c z j w [] link n
+  run_timer-passes (name.Slt2 link) w n = begin_test-passes c z j w [] link n
+  run_timer-passes name.Sst w n = passes-none c z j (at c z j w n [] [])
 
   run_due-passes : (o : Option TimerName) (w : World) (n : Node WholeQueues) → Passes c z j (at c z j w n [] []) (at c z j w (run_due whole c o n) [] [])
   run_due-passes None w n = passes-none c z j (at c z j w n [] [])
@@ -218,15 +232,15 @@ module _ (c z : Configuration) (j : Joint c z) where
 
   add_by-passes : (refusal : Option Cause) (row : TitleEntry) (w : World) (n : Node WholeQueues) → Passes c z j (at c z j w n [] []) (at c z j w (add_title_unless refusal row n).left [] [])
   add_by-passes (Some cause) row w n = passes-none c z j (at c z j w n [] [])
-  add_by-passes None row w n = titled-passes c z j w n (with_row row n.parts.titles)
+  add_by-passes None row w n = titled-passes c z j w n (record n.parts.titles { rows = with_row row n.parts.titles.rows })
 
   pub add_title-passes : (row : TitleEntry) (is_memory_refused : Bool) (w : World) (n : Node WholeQueues) → Passes c z j (at c z j w n [] []) (at c z j w (add_title row is_memory_refused n).left [] [])
-  add_title-passes row is_memory_refused w n = add_by-passes (title_refusal n.parts.titles row is_memory_refused) row w n
+  add_title-passes row is_memory_refused w n = add_by-passes (title_refusal n.parts.titles.rows row is_memory_refused) row w n
 
   pub remove_title-passes : (key : TitleKey) (digits : List ℕ) (w : World) (n : Node WholeQueues) → Passes c z j (at c z j w n [] []) (at c z j w (remove_title key digits n).left [] [])
   remove_title-passes key digits w n =
-      let left : List TitleEntry = without_row (place_of key digits) n.parts.titles in
-      either_done-passes (has_row n.parts.titles (place_of key digits)) w n (answer Handled (with_parts n (with_titles left n.parts))) (refuse NoSuchName n)
+      let left : TitlesValue = record n.parts.titles { rows = without_row (place_of key digits) n.parts.titles.rows } in
+      either_done-passes (has_row n.parts.titles.rows (place_of key digits)) w n (answer Handled (with_parts n (with_titles left n.parts))) (refuse NoSuchName n)
       (titled-passes c z j w n left) (passes-none c z j (at c z j w n [] []))
 
   -- ---- the operator's word

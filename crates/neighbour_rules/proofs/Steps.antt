@@ -11,8 +11,8 @@ use Rattle.pair_rules.proofs.Standing.{AreStreams, AreTexts, end_with, rests, wo
 use Rattle.pair_rules.proofs.Flights.{IsFirst, changed-here, changed-other, changed_at, first-frame, map-behind, tells-back, texts-changed}
 use Rattle.pair_rules.proofs.Steps.{taken-there}
 use Rattle.m2pa_codec.proofs.FrameTexts.{read_frame-spelled}
-use Rattle.neighbour_rules.specs.Neighbours.{deliver_frame, end_there, far_end, take_frame, takes_in, users_to}
-use Rattle.neighbour_rules.proofs.World.{says_of}
+use Rattle.neighbour_rules.specs.Neighbours.{deliver_frame_for, end_there, far_end, take_frame, takes_in_for, users_to}
+use Rattle.neighbour_rules.proofs.World.{reading, says_of}
 use Rattle.neighbour_rules.proofs.Good.{AreFlying, Good, IsFlying, Joint, Passes, at, set}
 use Rattle.neighbour_rules.proofs.Good as good
 use Rattle.neighbour_rules.proofs.Bringing.{accepting}
@@ -22,6 +22,8 @@ use Rattle.neighbour_rules.proofs.Sharing.{AreFacing, far_joint, near_joint}
 use Rattle.neighbour_rules.proofs.FarEnds.{HasEnd, IsLine, has-end, is-line, its-far, none-there, of-no-set}
 use Rattle.neighbour_rules.proofs.FarEnds as ends
 use Rattle.neighbour_rules.proofs.Taking.{Adds, AddsStatus, Fetches, FetchesStatus, away-takes, take-passes}
+use Rattle.exchange_rules.specs.Laws.{carried_message}
+use Rattle.neighbour_rules.proofs.Untold.{IsUntoldBy}
 use Rattle.neighbour_rules.proofs.Arriving.{IsNext, data-comes, status-comes, status-lost, status-twice}
 use Rattle.neighbour_rules.proofs.Standing.{IsAway, IsQuiet, Stands, near-stands}
 
@@ -32,9 +34,9 @@ unfolding apply
 outcome-same c what n = refl
 
 -- a frame that flies reads back
-pub flies-back : (c z : Configuration) (its : ℕ) (frame : FrameValue) → IsFlying c z its frame → read_frame (spelled frame) ≡ Ok frame
-flies-back c z its _ (good.empty bsn fsn s) = read_frame-spelled (EmptyFrame bsn fsn) s
-flies-back c z its _ (good.carrying bsn fsn sio sif s b bound) = read_frame-spelled (MessageFrame bsn fsn sio sif) s
+pub flies-back : (c z : Configuration) (there its : ℕ) (frame : FrameValue) → IsFlying c z there its frame → read_frame (spelled frame) ≡ Ok frame
+flies-back c z there its _ (good.empty bsn fsn s) = read_frame-spelled (EmptyFrame bsn fsn) s
+flies-back c z there its _ (good.carrying bsn fsn sio sif s b bound) = read_frame-spelled (MessageFrame bsn fsn sio sif) s
 
 -- ---- a link with frames in flight is one between the two
 
@@ -78,12 +80,12 @@ module _ (c z : Configuration) (a : AreFacing c z) where
     p = record { near = end_with c n ni nv na nr; far = end_with z m fi fv fa fr }
 
     -- a user part hands a message over
-    pub submit-stands : (message : Message) → Stands c z a p → Stands c z a (takes_in (Submitted message) p).left
+    pub submit-stands : (message : Message) → Stands c z a p → Stands c z a (takes_in_for a.base.there (Submitted message) p).left
     submit-stands message s =
         let w : World = world_of p s.to_near s.to_far in
         let known : brought_to (whither_goes c message) (handle_event whole c (Submitted message) n).outcome c message n ≡ brought_in (Submitted message) p.near.exchange =
         ap (λ (o : Outcome). brought_to (whither_goes c message) o c message n) (sym (outcome-same c (Submitted message) n)) in
-        near-stands c z a n m ni fi nv fv na nr fa fr s (apply whole c (Submitted message) n).left ni (na ++ users_to z.own (brought_in (Submitted message) p.near.exchange)) nr s.to_near
+        near-stands c z a n m ni fi nv fv na nr fa fr s (apply whole c (Submitted message) n).left ni (na ++ users_to a.base.there (brought_in (Submitted message) p.near.exchange)) nr s.to_near
         (done-waits (Submitted message) (record { settings = c; node = n })) (event-knows c (Submitted message) n s.near_knows) s.near_texts s.near_quiet
         (subst (λ (ms : List Message). Passes c z j (at c z j w n [] []) (at c z j (accepting c z j w ms) (apply whole c (Submitted message) n).left [] [])) known
         (submitting-passes c z j message w n s.near_waits))
@@ -101,7 +103,7 @@ module _ (c z : Configuration) (a : AreFacing c z) where
       far_may = λ other. may_follow p.near other;
     }
 
-    far-good : (f g h : Flying) (o : Node WholeQueues) → Good z c k (turned_world (world_of p h g)) → AreFlying c z a.near_set f → Good z c k (seen_there h f o)
+    far-good : (f g h : Flying) (o : Node WholeQueues) → Good z c k (turned_world (world_of p h g)) → AreFlying c z a.base.there a.near_set f → Good z c k (seen_there h f o)
     far-good f g h o d flying = record {
       fits = d.fits;
       route = d.route;
@@ -176,8 +178,8 @@ module _ (c z : Configuration) (a : AreFacing c z) where
             far_alone = s.far_alone;
             near_good = x.passes.good s.near_good;
             far_good = far-good f s.to_far s.to_near (after_take whole c link n) s.far_good
-                (record { statuses = s.far_good.coming.statuses; user_data = one-more (IsFlying c z a.near_set) other g frame s.far_good.coming.user_data (x.flies s.near_good s.near_knows.bound) });
-            goes = goes-both (says_of c.own z.own) _ _ _ s.goes (x.passes.goes s.near_good);
+                (record { statuses = s.far_good.coming.statuses; user_data = one-more (IsFlying c z a.base.there a.near_set) other g frame s.far_good.coming.user_data (x.flies s.near_good s.near_knows.bound) });
+            goes = goes-both (reading c.own z.own a.base) _ _ _ s.goes (x.passes.goes s.near_good);
           }
 
       status-fetched : (frame : FrameValue) (s : Stands c z a p) → FetchesStatus c z j (world_of p s.to_near s.to_far) link other line (put other frame s.to_far.statuses) frame n (after_take whole c link n)
@@ -208,7 +210,7 @@ module _ (c z : Configuration) (a : AreFacing c z) where
             near_good = x.passes.good s.near_good;
             far_good = far-good f s.to_far s.to_near (after_take whole c link n) s.far_good
                 (record { statuses = one-more IsTelling other g frame s.far_good.coming.statuses x.tells; user_data = s.far_good.coming.user_data });
-            goes = goes-both (says_of c.own z.own) _ _ _ s.goes (x.passes.goes s.near_good);
+            goes = goes-both (reading c.own z.own a.base) _ _ _ s.goes (x.passes.goes s.near_good);
           }
 
       adds : (frame : FrameValue) (s : Stands c z a p) → Adds c z j (world_of p s.to_near s.to_far) link other line frame (put other frame s.to_far.user_data)
@@ -260,17 +262,17 @@ module _ (c z : Configuration) (a : AreFacing c z) where
       its = h.line.of_set;
     }
 
-    pub deliver-stands : (link : ℕ) → Stands c z a p → Stands c z a (deliver_frame (slice_get (in_flight ni.user_data link) 0) link (pairs.without_data link ni) p).left
-    deliver-stands link s = by (slice_get (in_flight ni.user_data link) 0) refl
+    pub deliver-stands : (link : ℕ) → ((text : List ℕ) → slice_get (in_flight ni.user_data link) 0 ≡ Some text → (m : Message) → carried_message (read_frame text) ≡ Some m → IsUntoldBy c z j m) → Stands c z a p → Stands c z a (deliver_frame_for a.base.there a.base.back (slice_get (in_flight ni.user_data link) 0) link (pairs.without_data link ni) p).left
+    deliver-stands link untold s = by (slice_get (in_flight ni.user_data link) 0) refl
       where
-        by : (o : Option (List ℕ)) → slice_get (in_flight ni.user_data link) 0 ≡ o → Stands c z a (deliver_frame o link (pairs.without_data link ni) p).left
+        by : (o : Option (List ℕ)) → slice_get (in_flight ni.user_data link) 0 ≡ o → Stands c z a (deliver_frame_for a.base.there a.base.back o link (pairs.without_data link ni) p).left
         by None e = s
         by (Some text) e =
             let g : ℕ → List FrameValue = s.to_near.user_data in
             let first : IsFirst (g link) (in_flight ni.user_data link) text = first-frame (g link) (in_flight ni.user_data link) text (s.near_texts.user_data.each link) e in
             let h : HasLine link = has-line link (g link) first.frame first.rest first.first (λ away. (s.near_quiet link away).user_data) in
             let f : ℕ → List FrameValue = changed_at link first.rest g in
-            let flying : IsFlying z c a.far_set first.frame = (subst (Each (IsFlying z c a.far_set)) first.first (s.near_good.coming.user_data link)).0 in
+            let flying : IsFlying z c a.base.back a.far_set first.frame = (subst (Each (IsFlying z c a.base.back a.far_set)) first.first (s.near_good.coming.user_data link)).0 in
             near-stands c z a n m ni fi nv fv na nr fa fr s (apply whole c (FrameCame link text) n).left (pairs.without_data link ni) _ _ (record s.to_near { user_data = f })
             (done-waits (FrameCame link text) (record { settings = c; node = n })) (event-knows c (FrameCame link text) n s.near_knows)
             (record {
@@ -279,7 +281,7 @@ module _ (c z : Configuration) (a : AreFacing c z) where
             })
             (still-quiet s.to_near (record s.to_near { user_data = f }) link h.other h.is s.near_quiet (changed-other link first.rest g) (λ i d. refl))
             (data-comes c z j (world_of p s.to_near s.to_far) n link text s.near_waits s.near_knows f first.frame (first-of g link (in_flight ni.user_data link) text first h)
-            (ap read_frame first.spells ∙ flies-back z c a.far_set first.frame flying))
+            (ap read_frame first.spells ∙ flies-back z c a.base.back a.far_set first.frame flying) (untold text e))
 
     -- ---- link statuses
 
@@ -310,10 +312,10 @@ module _ (c z : Configuration) (a : AreFacing c z) where
     retold-quiet s link next h =
         still-quiet s.to_near (record s.to_near { statuses = changed_at link next s.to_near.statuses }) link h.other h.is s.near_quiet (λ i d. refl) (changed-other link next s.to_near.statuses)
 
-    pub deliver_status-stands : (link : ℕ) → Stands c z a p → Stands c z a (deliver_frame (slice_get (in_flight ni.statuses link) 0) link (pairs.without_status link ni) p).left
+    pub deliver_status-stands : (link : ℕ) → Stands c z a p → Stands c z a (deliver_frame_for a.base.there a.base.back (slice_get (in_flight ni.statuses link) 0) link (pairs.without_status link ni) p).left
     deliver_status-stands link s = by (slice_get (in_flight ni.statuses link) 0) refl
       where
-        by : (o : Option (List ℕ)) → slice_get (in_flight ni.statuses link) 0 ≡ o → Stands c z a (deliver_frame o link (pairs.without_status link ni) p).left
+        by : (o : Option (List ℕ)) → slice_get (in_flight ni.statuses link) 0 ≡ o → Stands c z a (deliver_frame_for a.base.there a.base.back o link (pairs.without_status link ni) p).left
         by None e = s
         by (Some text) e =
             let i : FirstStatus s link text = first-status s link text e in

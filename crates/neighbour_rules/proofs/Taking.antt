@@ -18,7 +18,7 @@ use Rattle.pair_rules.proofs.Good as good
 use Rattle.pair_rules.proofs.Going.{goes-one, goes-same}
 use Rattle.pair_rules.proofs.Lines.{queue-here, queue-other, served-listed}
 use Rattle.pair_rules.proofs.Silences.{IsNext, by-up, is-next, message-is-next, next-sends, next-serves, owed-out, status-out}
-use Rattle.neighbour_rules.proofs.World.{code_of, line_of, link_at_code, route_of, says_of, shown}
+use Rattle.neighbour_rules.proofs.World.{code_of, line_of, link_at_code, reading, route_of, says_of, shown}
 use Rattle.neighbour_rules.proofs.Bound.{AreBound, IsBound}
 use Rattle.neighbour_rules.proofs.Good.{AreFlying, Good, IsFlying, IsSent, Joint, Passes, accepted, at, carrying, empty, made, passes-both, passes-none, passes_by, set}
 use Rattle.neighbour_rules.proofs.FarEnds.{IsLine, line-becomes, line_at, near-own}
@@ -55,8 +55,8 @@ module _ (c z : Configuration) (j : Joint c z) (w : World) (link : ℕ) where
   sent-other : (n : Node WholeQueues) (other : ℕ) → other ≢ link → end_of (sent_from n) other ≡ end_of n other
   sent-other n other d = ap (λ (x : Queue). record (end_of n other) { queue = x }) (queue-other c z n.queues link other (sent_one (queue_at n.queues link) c.window) d)
 
-  sent-elsewhere : (n : Node WholeQueues) → ((other : ℕ) → set_of c other ≢ set c z j → Each (λ (x : Message). says_of c.own z.own x ≡ Other) (queue_at n.queues other).all)
-      → Fits c n → link < length c.links → (other : ℕ) → set_of c other ≢ set c z j → Each (λ (x : Message). says_of c.own z.own x ≡ Other) (queue_at (sent_from n).queues other).all
+  sent-elsewhere : (n : Node WholeQueues) → ((other : ℕ) → set_of c other ≢ set c z j → Each (λ (x : Message). says_of c.own z.own j.base.there x ≡ Other) (queue_at n.queues other).all)
+      → Fits c n → link < length c.links → (other : ℕ) → set_of c other ≢ set c z j → Each (λ (x : Message). says_of c.own z.own j.base.there x ≡ Other) (queue_at (sent_from n).queues other).all
   sent-elsewhere n h fits l other apart =
       ⊎_elim
       (λ (same : other ≡ link).
@@ -67,17 +67,17 @@ module _ (c z : Configuration) (j : Joint c z) (w : World) (link : ℕ) where
       (cases_eq other link)
     where
       Past : Message → Type 0
-      Past x = says_of c.own z.own x ≡ Other
+      Past x = says_of c.own z.own j.base.there x ≡ Other
 
   -- it is good in any world
-  sent-good : (v : World) (n : Node WholeQueues) → AreFlying z c j.shares.far_set v.to_near → link < length c.links → Good c z j (at c z j w n [] []) → Good c z j (at c z j (record v { near = w.near }) (sent_from n) [] [])
+  sent-good : (v : World) (n : Node WholeQueues) → AreFlying z c j.base.back j.shares.far_set v.to_near → link < length c.links → Good c z j (at c z j w n [] []) → Good c z j (at c z j (record v { near = w.near }) (sent_from n) [] [])
   sent-good v n coming l g = record {
     fits = (sent-stays n).stay g.fits;
     route = g.route;
     unawaited = g.unawaited;
     silent = g.silent;
-    queued = λ other. each-set (λ (x : Queue). Each (IsSent c z (set c z j)) x.all) n.queues.links link other (sent_one (queue_at n.queues link) c.window) first_queue g.queued
-        (sent-all (IsSent c z (set c z j)) (queue_at n.queues link) (to_send (queue_at n.queues link) c.window) (g.queued link));
+    queued = λ other. each-set (λ (x : Queue). Each (IsSent c z j.base.there (set c z j)) x.all) n.queues.links link other (sent_one (queue_at n.queues link) c.window) first_queue g.queued
+        (sent-all (IsSent c z j.base.there (set c z j)) (queue_at n.queues link) (to_send (queue_at n.queues link) c.window) (g.queued link));
     elsewhere = sent-elsewhere n g.elsewhere g.fits l;
     held = g.held;
     loose = tt;
@@ -132,7 +132,7 @@ module _ (c z : Configuration) (j : Joint c z) (w : World) (link : ℕ) where
   away-sent : (n : Node WholeQueues) → set_of c link ≢ set c z j → in_service n.parts link ≡ true → Passes c z j (at c z j w n [] []) (at c z j w (sent_from n) [] [])
   away-sent n apart serves = record {
     goes = λ g.
-        goes-same (says_of c.own z.own) _ _
+        goes-same (reading c.own z.own j.base) _ _
         (sym (ap (λ (lines : ℕ → Line). record (shown c z (set c z j) j.shares.far_set j.base (at c z j w n [] [])) { line = lines })
         (none-becomes c z j (at c z j w n [] []) (sent_from n) [] [] link (served-listed c z n link g.fits serves) apart (λ other d. sent-other n other d))));
     good = λ g. sent-good w n g.coming (served-listed c z n link g.fits serves) g;
@@ -185,7 +185,7 @@ module _ (c z : Configuration) (j : Joint c z) (w : World) (link : ℕ) where
       held = g.held;
       loose = tt;
       arrived = tt;
-      coming = subst (AreFlying z c j.shares.far_set) (sym e) g.coming;
+      coming = subst (AreFlying z c j.base.back j.shares.far_set) (sym e) g.coming;
       counted = g.counted;
     }
 
@@ -196,12 +196,12 @@ module _ (c z : Configuration) (j : Joint c z) (w : World) (link : ℕ) where
         → Passes c z j (at c z j w n [] []) (at c z j (launched_status f) n [] [])
     status-sent frame f a n up = record {
       goes = λ g.
-          goes-one (says_of c.own z.own) _ _
+          goes-one (reading c.own z.own j.base) _ _
           (moves.sends_status (record {
             link = code_of c link;
             up = not-down n up;
             lines = Lines (at c z j (launched_status f) n [] []);
-            set = line-becomes c z j (at c z j (launched_status f) n [] []) (at c z j w n [] []) (route_of c z (set c z j) n.parts) link other with_status line
+            set = line-becomes c z j (at c z j (launched_status f) n [] []) (at c z j w n [] []) (route_of c j.base.there (set c z j) n.parts) link other with_status line
                 (ap (λ (fs : List FrameValue). record (line_at (at c z j w n [] []) link other) { told_far = length fs }) a.here
                 ∙ ap (λ (k : ℕ). record (line_at (at c z j w n [] []) link other) { told_far = k }) (one-longer (w.to_far.statuses other) frame))
                 (λ k i d t. ap (λ (fs : List FrameValue). record (line_at (at c z j w n [] []) k i) { told_far = length fs }) (a.others i t));
@@ -214,12 +214,12 @@ module _ (c z : Configuration) (j : Joint c z) (w : World) (link : ℕ) where
         → Passes c z j (at c z j w n [] []) (at c z j (launched f) n [] [])
     empty-sent f n up a = record {
       goes = λ g.
-          goes-one (says_of c.own z.own) _ _
+          goes-one (reading c.own z.own j.base) _ _
           (moves.sends_empty (record {
             link = code_of c link;
             up = not-down n up;
             lines = Lines (at c z j (launched f) n [] []);
-            set = line-becomes c z j (at c z j (launched f) n [] []) (at c z j w n [] []) (route_of c z (set c z j) n.parts) link other (λ l. with_frame l (acknowledgement l.near.queue)) line
+            set = line-becomes c z j (at c z j (launched f) n [] []) (at c z j w n [] []) (route_of c j.base.there (set c z j) n.parts) link other (λ l. with_frame l (acknowledgement l.near.queue)) line
                 (ap (λ (fs : List FrameValue). record (line_at (at c z j w n [] []) link other) { to_far = map frame_of fs }) a.here
                 ∙ ap (λ (fs : List Frame). record (line_at (at c z j w n [] []) link other) { to_far = fs }) (map-behind (w.to_far.user_data other) _))
                 (λ k i d t. ap (λ (fs : List FrameValue). record (line_at (at c z j w n [] []) k i) { to_far = map frame_of fs }) (a.others i t));
@@ -247,9 +247,9 @@ module _ (c z : Configuration) (j : Joint c z) (w : World) (link : ℕ) where
         by true e f = absurd cc
         by false e f = grind (arith, nat_tests, e)
 
-    short-enough : (m : Message) → IsSent c z (set c z j) m → length m.sif ≤ SIF_OCTETS
+    short-enough : (m : Message) → IsSent c z j.base.there (set c z j) m → length m.sif ≤ SIF_OCTETS
     short-enough m (made is) = here-short m is.label is.here
-    short-enough m (accepted is) = here-short m is.label is.here
+    short-enough m (accepted is) = is.short
     short-enough m (passes_by says short) = short
 
     number-fits : (q : Queue) (k : ℕ) → forward_number q k < 2 ^ 24
@@ -267,7 +267,7 @@ module _ (c z : Configuration) (j : Joint c z) (w : World) (link : ℕ) where
       message-sent : c.window ≤ WINDOW → Passes c z j (at c z j w n [] []) (at c z j (launched f) (sent_from n) [] [])
       message-sent window = record {
         goes = λ g.
-            goes-one (says_of c.own z.own) _ _
+            goes-one (reading c.own z.own j.base) _ _
             (moves.sends_message (record {
               link = code_of c link;
               serving = ap (λ (k : ℕ). in_service n.parts k) (near-own c z j link other line) ∙ goes.serves;
@@ -276,7 +276,7 @@ module _ (c z : Configuration) (j : Joint c z) (w : World) (link : ℕ) where
               sending = next;
               next = ap (λ (k : ℕ). to_send (queue_at n.queues k) c.window) (near-own c z j link other line) ∙ goes.sends;
               lines = Lines (at c z j (launched f) (sent_from n) [] []);
-              set = line-becomes c z j (at c z j (launched f) (sent_from n) [] []) (at c z j w n [] []) (route_of c z (set c z j) n.parts) link other (λ l. with_sent l next) line
+              set = line-becomes c z j (at c z j (launched f) (sent_from n) [] []) (at c z j w n [] []) (route_of c j.base.there (set c z j) n.parts) link other (λ l. with_sent l next) line
                   (ap (λ (x : LinkEnd). record (line_at (at c z j w n [] []) link other) { near = x; to_far = map frame_of (f other) }) (sent-here g.fits)
                   ∙ ap (λ (fs : List FrameValue). record (line_at (at c z j w n [] []) link other) { near = record (end_of n link) { queue = queue.after_sending (queue_at n.queues link) (Some next) }; to_far = map frame_of fs }) a.here
                   ∙ ap (λ (fs : List Frame). record (line_at (at c z j w n [] []) link other) { near = record (end_of n link) { queue = queue.after_sending (queue_at n.queues link) (Some next) }; to_far = fs }) (map-behind (w.to_far.user_data other) (carrier n next)))
@@ -289,11 +289,11 @@ module _ (c z : Configuration) (j : Joint c z) (w : World) (link : ℕ) where
       }
 
       -- and the frame is one that flies
-      message-flies : Each (IsSent c z (set c z j)) (queue_at n.queues link).all → Each (IsBound c) (queue_at n.queues link).all → IsFlying c z (set c z j) (carrier n next)
+      message-flies : Each (IsSent c z j.base.there (set c z j)) (queue_at n.queues link).all → Each (IsBound c) (queue_at n.queues link).all → IsFlying c z j.base.there (set c z j) (carrier n next)
       message-flies each bound =
           let q : Queue = queue_at n.queues link in
           let s : IsNext q c.window next = is-next q c.window next goes.sends in
-          let b : IsSent c z (set c z j) next.message = each-get (IsSent c z (set c z j)) q.all q.sent next.message each s.stands in
+          let b : IsSent c z j.base.there (set c z j) next.message = each-get (IsSent c z j.base.there (set c z j)) q.all q.sent next.message each s.stands in
           carrying (last_accepted q) next.number next.message.sio next.message.sif
           (sayable-message (last_accepted q) next.number next.message (previous-fits q.received) (subst (λ (k : ℕ). k < 2 ^ 24) (sym s.number) (number-fits q q.sent)) (short-enough next.message b)) b
           (each-get (IsBound c) q.all q.sent next.message bound s.stands)
@@ -303,13 +303,13 @@ module _ (c z : Configuration) (j : Joint c z) (w : World) (link : ℕ) where
     status-flies : (bsn fsn : ℕ) (status : LinkStatus) → bsn < 2 ^ 24 → fsn < 2 ^ 24 → IsTelling (StatusFrame bsn fsn status)
     status-flies bsn fsn status e f = good.telling bsn fsn status (record { bsn_fits = e; fsn_fits = f; length_fits = omega arith })
 
-    empty-flies : (bsn fsn : ℕ) → bsn < 2 ^ 24 → fsn < 2 ^ 24 → IsFlying c z (set c z j) (EmptyFrame bsn fsn)
+    empty-flies : (bsn fsn : ℕ) → bsn < 2 ^ 24 → fsn < 2 ^ 24 → IsFlying c z j.base.there (set c z j) (EmptyFrame bsn fsn)
     empty-flies bsn fsn e f = empty bsn fsn (record { bsn_fits = e; fsn_fits = f; length_fits = omega arith })
 
     -- a frame is fetched, and the node is left as it is after that; the frame is one that flies on its stream
     pub record Fetches (f : ℕ → List FrameValue) (frame : FrameValue) (n o : Node WholeQueues) : Type 0 where
       pub passes : Passes c z j (at c z j w n [] []) (at c z j (launched f) o [] [])
-      pub flies : Good c z j (at c z j w n [] []) → AreBound c n → IsFlying c z (set c z j) frame
+      pub flies : Good c z j (at c z j w n [] []) → AreBound c n → IsFlying c z j.base.there (set c z j) frame
 
     pub record FetchesStatus (f : ℕ → List FrameValue) (frame : FrameValue) (n o : Node WholeQueues) : Type 0 where
       pub passes : Passes c z j (at c z j w n [] []) (at c z j (launched_status f) o [] [])

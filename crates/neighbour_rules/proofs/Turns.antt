@@ -15,7 +15,7 @@ use Rattle.pair_rules.proofs.World.{heard, World}
 use Rattle.pair_rules.proofs.Going.{Goes, goes-both}
 use Rattle.pair_rules.proofs.Routes.{and-more, and-true, eq-self, lt-true}
 use Rattle.pair_rules.proofs.Turns.{turned_route}
-use Rattle.neighbour_rules.proofs.World.{code_of, holds_of, procedure_of, route_of, says_of, shown_by}
+use Rattle.neighbour_rules.proofs.World.{code_of, holds_of, procedure_of, reading, route_of, says_of, shown_by}
 use Rattle.neighbour_rules.proofs.Good.{Good, Joint, set}
 use Rattle.neighbour_rules.proofs.Lines.{at-line}
 use Rattle.neighbour_rules.proofs.Entries.{IsKnown, keeps-or-takes, link-there}
@@ -67,7 +67,7 @@ module _ (c : Configuration) (link : ℕ) (p : Parts) (first : Node WholeQueues)
 
 module _ (c z : Configuration) (j : Joint c z) where
   -- no other procedure that is shown is the time of a link of the two
-  pub apart-time : (link : ℕ) (one : ends.Procedure) → link < length c.links → one ≢ ends.Time (code_of c link) → procedure_of c z (set c z j) one ≢ held_by.Time link
+  pub apart-time : (link : ℕ) (one : ends.Procedure) → link < length c.links → one ≢ ends.Time (code_of c link) → procedure_of c j.base.there (set c z j) one ≢ held_by.Time link
   apart-time link (ends.Changeover k) l apart e = absurd cc
   apart-time link (ends.Code code) l apart e = absurd cc
   apart-time link (ends.Time k) l apart e =
@@ -77,14 +77,14 @@ module _ (c z : Configuration) (j : Joint c z) where
   -- a flow leaves a link for the one that entered
   pub record Leaves (p q : Parts) (link other : ℕ) (flow : Flow) : Type 0 where
     pub selection : nat_lt flow.sls SELECTIONS ≡ true
-    pub point : flow.point ≡ z.own
+    pub point : flow.point ≡ j.base.there
     pub was : chosen_link (facts c p) j.destination flow.sls ≡ Some other
     pub takes : chosen_link (facts c q) j.destination flow.sls ≡ Some link
 
   -- the line that a flow to the other takes when n links have given their flows back
   abbrev pub route_at : (p q : Parts) → (many : ℕ) → Flow → Option ℕ
   route_at p q many flow =
-      if nat_eq flow.point z.own && nat_lt flow.sls SELECTIONS then option_map (code_of c) (turned_route (link_of c p flow) (link_of c q flow) many) else None
+      if nat_eq flow.point j.base.there && nat_lt flow.sls SELECTIONS then option_map (code_of c) (turned_route (link_of c p flow) (link_of c q flow) many) else None
 
   abbrev line_if : (test : Bool) → Option ℕ → Option ℕ
   line_if test link = if test then option_map (code_of c) link else None
@@ -97,9 +97,9 @@ module _ (c z : Configuration) (j : Joint c z) where
     later_link = chosen_link (facts c q) j.destination flow.sls
 
     -- for flows to the other
-    module _ (few : nat_lt flow.sls SELECTIONS ≡ true) (to : flow.point ≡ z.own) where
-      passes-test : (nat_eq flow.point z.own && nat_lt flow.sls SELECTIONS) ≡ true
-      passes-test = and-true (nat_eq flow.point z.own) (nat_lt flow.sls SELECTIONS) (ap (λ (k : ℕ). nat_eq k z.own) to ∙ eq-self z.own) few
+    module _ (few : nat_lt flow.sls SELECTIONS ≡ true) (to : flow.point ≡ j.base.there) where
+      passes-test : (nat_eq flow.point j.base.there && nat_lt flow.sls SELECTIONS) ≡ true
+      passes-test = and-true (nat_eq flow.point j.base.there) (nat_lt flow.sls SELECTIONS) (ap (λ (k : ℕ). nat_eq k j.base.there) to ∙ eq-self j.base.there) few
 
       at-turn : (many : ℕ) (o : Option ℕ) → former_link ≡ o → route_at p q many flow ≡ option_map (code_of c) (turned_route o later_link many)
       at-turn many o e =
@@ -112,9 +112,9 @@ module _ (c z : Configuration) (j : Joint c z) where
 
   -- a link's turn comes: of each flow the line stays, or it leaves that link
   pub turn-of : (p q : Parts) (link other : ℕ) (flow : Flow) → IsKnown c link p q → (route_at p q (suc other) flow ≡ route_at p q other flow) ⊎ Leaves p q link other flow
-  turn-of p q link other flow i = by (nat_eq flow.point z.own && nat_lt flow.sls SELECTIONS) refl
+  turn-of p q link other flow i = by (nat_eq flow.point j.base.there && nat_lt flow.sls SELECTIONS) refl
     where
-      at : (few : nat_lt flow.sls SELECTIONS ≡ true) (to : flow.point ≡ z.own) (o : Option ℕ) → former_link p q flow ≡ o → (route_at p q (suc other) flow ≡ route_at p q other flow) ⊎ Leaves p q link other flow
+      at : (few : nat_lt flow.sls SELECTIONS ≡ true) (to : flow.point ≡ j.base.there) (o : Option ℕ) → former_link p q flow ≡ o → (route_at p q (suc other) flow ≡ route_at p q other flow) ⊎ Leaves p q link other flow
       at few to None e = inl (same-turn p q flow few to (suc other) other None e refl)
       at few to (Some former) e =
           ⊎_elim
@@ -133,16 +133,16 @@ module _ (c z : Configuration) (j : Joint c z) where
           apart)))
           (cases_order former other)
 
-      by : (b : Bool) → (nat_eq flow.point z.own && nat_lt flow.sls SELECTIONS) ≡ b → (route_at p q (suc other) flow ≡ route_at p q other flow) ⊎ Leaves p q link other flow
+      by : (b : Bool) → (nat_eq flow.point j.base.there && nat_lt flow.sls SELECTIONS) ≡ b → (route_at p q (suc other) flow ≡ route_at p q other flow) ⊎ Leaves p q link other flow
       by true e =
-          at (right-true (nat_eq flow.point z.own) (nat_lt flow.sls SELECTIONS) e)
-          (eqb-true flow.point z.own (left-true (nat_eq flow.point z.own) (nat_lt flow.sls SELECTIONS) e)) (former_link p q flow) refl
+          at (right-true (nat_eq flow.point j.base.there) (nat_lt flow.sls SELECTIONS) e)
+          (eqb-true flow.point j.base.there (left-true (nat_eq flow.point j.base.there) (nat_lt flow.sls SELECTIONS) e)) (former_link p q flow) refl
       by false e =
           inl (ap (λ (b : Bool). line_if b (turned_route (link_of c p flow) (link_of c q flow) (suc other))) e
           ∙ sym (ap (λ (b : Bool). line_if b (turned_route (link_of c p flow) (link_of c q flow) other)) e))
 
   -- at first each flow has its line still
-  pub first-route : (p q : Parts) (flow : Flow) (former : ℕ) → route_of c z (set c z j) p flow ≡ Some former → route_at p q 0 flow ≡ Some former
+  pub first-route : (p q : Parts) (flow : Flow) (former : ℕ) → route_of c j.base.there (set c z j) p flow ≡ Some former → route_at p q 0 flow ≡ Some former
   first-route p q flow former e =
       let r : IsRouted c z j p flow former = is-routed c z j p flow former e in
       at-turn p q flow r.selection r.point 0 (Some r.link) r.chosen
@@ -150,17 +150,17 @@ module _ (c z : Configuration) (j : Joint c z) where
       ∙ ap (λ (k : ℕ). Some k) r.coded
 
   -- in the end each has the one that it takes now
-  pub last-route : (p q : Parts) (flow : Flow) → route_at p q (length c.links) flow ≡ route_of c z (set c z j) q flow
-  last-route p q flow = by (nat_eq flow.point z.own && nat_lt flow.sls SELECTIONS) refl
+  pub last-route : (p q : Parts) (flow : Flow) → route_at p q (length c.links) flow ≡ route_of c j.base.there (set c z j) q flow
+  last-route p q flow = by (nat_eq flow.point j.base.there && nat_lt flow.sls SELECTIONS) refl
     where
       turned : (o : Option ℕ) → former_link p q flow ≡ o → turned_route o (later_link p q flow) (length c.links) ≡ later_link p q flow
       turned None e = refl
       turned (Some former) e = turned-past former (length c.links) (later_link p q flow) (chosen_listed c p j.destination flow.sls former e).there
 
-      by : (b : Bool) → (nat_eq flow.point z.own && nat_lt flow.sls SELECTIONS) ≡ b → route_at p q (length c.links) flow ≡ route_of c z (set c z j) q flow
+      by : (b : Bool) → (nat_eq flow.point j.base.there && nat_lt flow.sls SELECTIONS) ≡ b → route_at p q (length c.links) flow ≡ route_of c j.base.there (set c z j) q flow
       by true e =
-          let few : nat_lt flow.sls SELECTIONS ≡ true = right-true (nat_eq flow.point z.own) (nat_lt flow.sls SELECTIONS) e in
-          let to : flow.point ≡ z.own = eqb-true flow.point z.own (left-true (nat_eq flow.point z.own) (nat_lt flow.sls SELECTIONS) e) in
+          let few : nat_lt flow.sls SELECTIONS ≡ true = right-true (nat_eq flow.point j.base.there) (nat_lt flow.sls SELECTIONS) e in
+          let to : flow.point ≡ j.base.there = eqb-true flow.point j.base.there (left-true (nat_eq flow.point j.base.there) (nat_lt flow.sls SELECTIONS) e) in
           at-turn p q flow few to (length c.links) (former_link p q flow) refl
           ∙ ap (option_map (code_of c)) (turned (former_link p q flow) refl ∙ sym (link-there c z j q flow to))
           ∙ sym (ap (λ (b : Bool). line_if b (link_of c q flow)) e)
@@ -171,13 +171,13 @@ module _ (c z : Configuration) (j : Joint c z) where
   -- ---- by moves, as flows change their lines
 
   pub record PassesBy (one two : Flow → Option ℕ) (v u : World) : Type 0 where
-    pub goes : Good c z j v → Goes (says_of c.own z.own) (shown_by c z (set c z j) j.shares.far_set j.base one v) (shown_by c z (set c z j) j.shares.far_set j.base two u)
+    pub goes : Good c z j v → Goes (reading c.own z.own j.base) (shown_by c z (set c z j) j.shares.far_set j.base one v) (shown_by c z (set c z j) j.shares.far_set j.base two u)
     pub good : Good c z j v → Good c z j u
 
   pub by-both : (one two three : Flow → Option ℕ) (u v w : World) → PassesBy one two u v → PassesBy two three v w → PassesBy one three u w
   by-both one two three u v w p q = record {
     goes = λ g.
-        goes-both (says_of c.own z.own) (shown_by c z (set c z j) j.shares.far_set j.base one u) (shown_by c z (set c z j) j.shares.far_set j.base two v) (shown_by c z (set c z j) j.shares.far_set j.base three w)
+        goes-both (reading c.own z.own j.base) (shown_by c z (set c z j) j.shares.far_set j.base one u) (shown_by c z (set c z j) j.shares.far_set j.base two v) (shown_by c z (set c z j) j.shares.far_set j.base three w)
         (p.goes g) (q.goes (p.good g));
     good = λ g. q.good (p.good g);
   }
@@ -188,32 +188,32 @@ module _ (c z : Configuration) (j : Joint c z) where
 
     -- a hold begins
     pub adds : (old new : Parts) (procedure : Procedure) (its : ends.Procedure) (other : ℕ) → new.holds ≡ with_flows old.holds procedure (test c link p first i other)
-        → ((one : ends.Procedure) → one ≢ its → procedure_of c z (set c z j) one ≢ procedure) → AddsOnly (holds_of c z (set c z j) old) its (holds_of c z (set c z j) new)
+        → ((one : ends.Procedure) → one ≢ its → procedure_of c j.base.there (set c z j) one ≢ procedure) → AddsOnly (holds_of c j.base.there (set c z j) old) its (holds_of c j.base.there (set c z j) new)
     adds old new procedure its other e apart = record {
       kept = λ one flow f.
           holds-by c z j new one flow
-          ∙ ap (λ (h : HoldSet). nat_eq flow.point z.own && hold_by c z j h one flow.sls) e
-          ∙ and-more (nat_eq flow.point z.own) (hold_by c z j old.holds one flow.sls) (hold_by c z j (with_flows old.holds procedure (test c link p first i other)) one flow.sls)
-          (flows_keep old.holds procedure (procedure_of c z (set c z j) one) (test c link p first i other) j.destination flow.sls)
+          ∙ ap (λ (h : HoldSet). nat_eq flow.point j.base.there && hold_by c z j h one flow.sls) e
+          ∙ and-more (nat_eq flow.point j.base.there) (hold_by c z j old.holds one flow.sls) (hold_by c z j (with_flows old.holds procedure (test c link p first i other)) one flow.sls)
+          (flows_keep old.holds procedure (procedure_of c j.base.there (set c z j) one) (test c link p first i other) j.destination flow.sls)
           (sym (holds-by c z j old one flow) ∙ f);
       same = λ one flow d.
           holds-by c z j new one flow
-          ∙ ap (λ (h : HoldSet). nat_eq flow.point z.own && hold_by c z j h one flow.sls) e
-          ∙ ap (λ (b : Bool). nat_eq flow.point z.own && b)
-          (flows_leave old.holds procedure (procedure_of c z (set c z j) one) (test c link p first i other) j.destination flow.sls (apart one d))
+          ∙ ap (λ (h : HoldSet). nat_eq flow.point j.base.there && hold_by c z j h one flow.sls) e
+          ∙ ap (λ (b : Bool). nat_eq flow.point j.base.there && b)
+          (flows_leave old.holds procedure (procedure_of c j.base.there (set c z j) one) (test c link p first i other) j.destination flow.sls (apart one d))
           ∙ sym (holds-by c z j old one flow);
     }
 
     -- of each flow that leaves
     pub leaver-held : (old new : Parts) (procedure : Procedure) (its : ends.Procedure) (other : ℕ) (flow : Flow) → new.holds ≡ with_flows old.holds procedure (test c link p first i other)
-        → procedure_of c z (set c z j) its ≡ procedure → Leaves p first.parts link other flow → hold.may_hold_to old.holds procedure j.destination ≡ true → nat_lt j.destination old.holds.destinations ≡ true
-        → holds_of c z (set c z j) new its flow ≡ true
+        → procedure_of c j.base.there (set c z j) its ≡ procedure → Leaves p first.parts link other flow → hold.may_hold_to old.holds procedure j.destination ≡ true → nat_lt j.destination old.holds.destinations ≡ true
+        → holds_of c j.base.there (set c z j) new its flow ≡ true
     leaver-held old new procedure its other flow e named l to there =
         holds-by c z j new its flow
-        ∙ ap (λ (h : HoldSet). nat_eq flow.point z.own && hold_by c z j h its flow.sls) e
-        ∙ ap (λ (one : Procedure). nat_eq flow.point z.own && hold.holds (with_flows old.holds procedure (test c link p first i other)) one j.destination flow.sls) named
-        ∙ and-true (nat_eq flow.point z.own) (hold.holds (with_flows old.holds procedure (test c link p first i other)) procedure j.destination flow.sls)
-        (ap (λ (k : ℕ). nat_eq k z.own) l.point ∙ eq-self z.own)
+        ∙ ap (λ (h : HoldSet). nat_eq flow.point j.base.there && hold_by c z j h its flow.sls) e
+        ∙ ap (λ (one : Procedure). nat_eq flow.point j.base.there && hold.holds (with_flows old.holds procedure (test c link p first i other)) one j.destination flow.sls) named
+        ∙ and-true (nat_eq flow.point j.base.there) (hold.holds (with_flows old.holds procedure (test c link p first i other)) procedure j.destination flow.sls)
+        (ap (λ (k : ℕ). nat_eq k j.base.there) l.point ∙ eq-self j.base.there)
         (flows_has old.holds procedure (test c link p first i other) j.destination flow.sls
         (and-true (hold.may_hold_to old.holds procedure j.destination) (nat_lt j.destination old.holds.destinations && nat_lt flow.sls SELECTIONS) to
         (and-true (nat_lt j.destination old.holds.destinations) (nat_lt flow.sls SELECTIONS) there l.selection))

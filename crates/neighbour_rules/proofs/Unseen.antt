@@ -11,8 +11,8 @@ use Rattle.pair_rules.proofs.World.{World, end_of, is_heard}
 use Rattle.pair_rules.proofs.Good.{Each, IsSilent}
 use Rattle.pair_rules.proofs.Going.{goes-same}
 use Rattle.neighbour_rules.proofs.Counted.{base-alike, counts_of}
-use Rattle.neighbour_rules.proofs.World.{code_of, holds_at, holds_of, link_at_code, procedure_of, route_of, says_of, shown}
-use Rattle.neighbour_rules.proofs.Good.{Good, IsSent, Joint, Passes, at, set}
+use Rattle.neighbour_rules.proofs.World.{code_of, holds_at, holds_of, link_at_code, procedure_of, reading, route_of, says_of, shown}
+use Rattle.neighbour_rules.proofs.Good.{Good, IsOpen, IsSent, Joint, Passes, at, set}
 use Rattle.neighbour_rules.proofs.Lines.{own-line}
 
 module _ (c z : Configuration) (j : Joint c z) where
@@ -20,21 +20,17 @@ module _ (c z : Configuration) (j : Joint c z) where
   abbrev pub own : ℕ → ℕ
   own code = link_at_code c (set c z j) code
 
-  -- the only route to the other is allowed
-  abbrev pub IsOpen : Node WholeQueues → Type 0
-  IsOpen n = slice_index_or n.parts.routes j.destination [] ≡ first_route (set c z j) ∷ []
-
   -- from one node to another nothing changes that is shown
   pub record IsUnseen (n o : Node WholeQueues) : Type 0 where
     pub fits : StaysFit c n o
     pub queues : o.queues ≡ n.queues
     pub alignments : (code : ℕ) → (link_at o.parts (own code)).alignment ≡ (link_at n.parts (own code)).alignment
     pub standings : (code : ℕ) → changeover_of o.parts (own code) ≡ changeover_of n.parts (own code)
-    pub holds : (procedure : ends.Procedure) (sls : ℕ) → holds_at c z (set c z j) (Some j.destination) o.parts procedure sls ≡ holds_at c z (set c z j) (Some j.destination) n.parts procedure sls
+    pub holds : (procedure : ends.Procedure) (sls : ℕ) → holds_at c j.base.there (set c z j) (Some j.destination) o.parts procedure sls ≡ holds_at c j.base.there (set c z j) (Some j.destination) n.parts procedure sls
     pub codes : (code : ℕ) → is_outstanding o.parts.codes (set c z j) code ≡ is_outstanding n.parts.codes (set c z j) code
     pub lost : o.parts.times_lost ≡ n.parts.times_lost
     pub late : o.parts.times_late ≡ n.parts.times_late
-    pub route : IsOpen n → IsOpen o
+    pub route : IsOpen c z j n → IsOpen c z j o
     pub unawaited : ((link : ℕ) → down n.parts link ≡ false → (changeover_of n.parts link).awaited ≡ false) → (link : ℕ) → down o.parts link ≡ false → (changeover_of o.parts link).awaited ≡ false
     pub silent : ((link : ℕ) → IsSilent (link_at n.parts link)) → (link : ℕ) → IsSilent (link_at o.parts link)
 
@@ -67,29 +63,29 @@ module _ (c z : Configuration) (j : Joint c z) where
         ∙ sym (past-serves n.parts link (subst (λ (k : ℕ). k ≤ link) (sym f.places.parts.links) l)))
         (cases_lt link (length c.links))
 
-    chosen-same : Fits c n → IsOpen n → (sls : ℕ) → chosen_link (facts c o.parts) j.destination sls ≡ chosen_link (facts c n.parts) j.destination sls
-    chosen-same f e sls = set-decides c o.parts n.parts (set c z j) j.destination sls (u.route e) e (serves-same f)
+    chosen-same : Fits c n → IsOpen c z j n → (sls : ℕ) → chosen_link (facts c o.parts) j.destination sls ≡ chosen_link (facts c n.parts) j.destination sls
+    chosen-same f e sls = set-decides c o.parts n.parts (set c z j) j.destination sls (u.route e).beyond e.beyond (serves-same f)
 
-    route-same : Fits c n → IsOpen n → (flow : Flow) → route_of c z (set c z j) o.parts flow ≡ route_of c z (set c z j) n.parts flow
-    route-same f e flow = by (nat_eq flow.point z.own) refl
+    route-same : Fits c n → IsOpen c z j n → (flow : Flow) → route_of c j.base.there (set c z j) o.parts flow ≡ route_of c j.base.there (set c z j) n.parts flow
+    route-same f e flow = by (nat_eq flow.point j.base.there) refl
       where
-        to : flow.point ≡ z.own → link_of c o.parts flow ≡ link_of c n.parts flow
+        to : flow.point ≡ j.base.there → link_of c o.parts flow ≡ link_of c n.parts flow
         to same =
             let place : destination_place c flow.point ≡ Some j.destination = ap (destination_place c) same ∙ j.place in
             ap (option_and_then (λ (d : ℕ). chosen_link (facts c o.parts) d flow.sls)) place
             ∙ chosen-same f e flow.sls
             ∙ sym (ap (option_and_then (λ (d : ℕ). chosen_link (facts c n.parts) d flow.sls)) place)
 
-        by : (b : Bool) → nat_eq flow.point z.own ≡ b
+        by : (b : Bool) → nat_eq flow.point j.base.there ≡ b
             → (if b && nat_lt flow.sls SELECTIONS then option_map (code_of c) (link_of c o.parts flow) else None) ≡ (if b && nat_lt flow.sls SELECTIONS then option_map (code_of c) (link_of c n.parts flow) else None)
-        by true h = ap (λ (x : Option ℕ). if nat_lt flow.sls SELECTIONS then option_map (code_of c) x else None) (to (eqb-true flow.point z.own h))
+        by true h = ap (λ (x : Option ℕ). if nat_lt flow.sls SELECTIONS then option_map (code_of c) x else None) (to (eqb-true flow.point j.base.there h))
         by false h = refl
 
-    holds-same : (procedure : ends.Procedure) (flow : Flow) → holds_of c z (set c z j) o.parts procedure flow ≡ holds_of c z (set c z j) n.parts procedure flow
+    holds-same : (procedure : ends.Procedure) (flow : Flow) → holds_of c j.base.there (set c z j) o.parts procedure flow ≡ holds_of c j.base.there (set c z j) n.parts procedure flow
     holds-same procedure flow =
-        ap (λ (d : Option ℕ). nat_eq flow.point z.own && holds_at c z (set c z j) d o.parts procedure flow.sls) j.place
-        ∙ ap (λ (b : Bool). nat_eq flow.point z.own && b) (u.holds procedure flow.sls)
-        ∙ sym (ap (λ (d : Option ℕ). nat_eq flow.point z.own && holds_at c z (set c z j) d n.parts procedure flow.sls) j.place)
+        ap (λ (d : Option ℕ). nat_eq flow.point j.base.there && holds_at c j.base.there (set c z j) d o.parts procedure flow.sls) j.place
+        ∙ ap (λ (b : Bool). nat_eq flow.point j.base.there && b) (u.holds procedure flow.sls)
+        ∙ sym (ap (λ (d : Option ℕ). nat_eq flow.point j.base.there && holds_at c j.base.there (set c z j) d n.parts procedure flow.sls) j.place)
 
     module _ (w : World) (arrived loose : List Message) where
       abbrev before : Pair
@@ -110,15 +106,15 @@ module _ (c z : Configuration) (j : Joint c z) where
 
       pub unseen-passes : Passes c z j (at c z j w n arrived loose) (at c z j w o arrived loose)
       unseen-passes = record {
-        goes = λ g. goes-same (says_of c.own z.own) _ _ (sym (shown-same g));
+        goes = λ g. goes-same (reading c.own z.own j.base) _ _ (sym (shown-same g));
         good = λ g. record {
           fits = u.fits.stay g.fits;
           route = u.route g.route;
           unawaited = u.unawaited g.unawaited;
           silent = u.silent g.silent;
-          queued = subst (λ (qs : WholeQueues). (link : ℕ) → Each (IsSent c z (set c z j)) (queue_at qs link).all) (sym u.queues) g.queued;
-          elsewhere = subst (λ (qs : WholeQueues). (link : ℕ) → set_of c link ≢ set c z j → Each (λ (x : Message). says_of c.own z.own x ≡ Other) (queue_at qs link).all) (sym u.queues) g.elsewhere;
-          held = subst (λ (qs : WholeQueues). Each (IsSent c z (set c z j)) qs.held) (sym u.queues) g.held;
+          queued = subst (λ (qs : WholeQueues). (link : ℕ) → Each (IsSent c z j.base.there (set c z j)) (queue_at qs link).all) (sym u.queues) g.queued;
+          elsewhere = subst (λ (qs : WholeQueues). (link : ℕ) → set_of c link ≢ set c z j → Each (λ (x : Message). says_of c.own z.own j.base.there x ≡ Other) (queue_at qs link).all) (sym u.queues) g.elsewhere;
+          held = subst (λ (qs : WholeQueues). Each (IsSent c z j.base.there (set c z j)) qs.held) (sym u.queues) g.held;
           loose = g.loose;
           arrived = g.arrived;
           coming = g.coming;
@@ -133,13 +129,13 @@ module _ (c z : Configuration) (j : Joint c z) where
     left = record n { parts = p }
 
     pub aside-passes : StaysFit c n left → p.links ≡ n.parts.links → p.changeovers ≡ n.parts.changeovers → p.holds ≡ n.parts.holds → p.codes ≡ n.parts.codes
-        → p.times_lost ≡ n.parts.times_lost → p.times_late ≡ n.parts.times_late → (IsOpen n → IsOpen left) → Passes c z j (at c z j w n arrived loose) (at c z j w left arrived loose)
+        → p.times_lost ≡ n.parts.times_lost → p.times_late ≡ n.parts.times_late → (IsOpen c z j n → IsOpen c z j left) → Passes c z j (at c z j w n arrived loose) (at c z j w left arrived loose)
     aside-passes stay links changeovers holds codes lost late route = unseen-passes n left (record {
       fits = stay;
       queues = refl;
       alignments = λ code. ap (λ (xs : List Link). (link_in xs (own code)).alignment) links;
       standings = λ code. ap (λ (xs : List Standing). standing_at xs (own code)) changeovers;
-      holds = λ procedure sls. ap (λ (h : HoldSet). hold.holds h (procedure_of c z (set c z j) procedure) j.destination sls) holds;
+      holds = λ procedure sls. ap (λ (h : HoldSet). hold.holds h (procedure_of c j.base.there (set c z j) procedure) j.destination sls) holds;
       codes = λ code. ap (λ (x : Codes). is_outstanding x (set c z j) code) codes;
       lost = lost;
       late = late;

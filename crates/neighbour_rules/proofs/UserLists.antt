@@ -1,13 +1,14 @@
 -- The user messages and the management of a list, by their service indicator and by what they say: alike, except those
 -- that pass by.
-use Rattle.pair_rules.proofs.Basics.{◌≡◌, ◌⊎◌, inl, inr, ℕ, Bool, true, false, not, List, [], ◌∷◌, ◌++◌, refl, ap, sym, ◌∙◌, if◌then◌else◌}
-use Rattle.pair_rules.proofs.Definitions.{Message, is_management, read_management, users_of, managements_of, Pair, Saying, UserMessage, is_user_message}
+use Rattle.pair_rules.proofs.Basics.{nat_eq, ◌≡◌, ◌⊎◌, inl, inr, ℕ, Bool, true, false, not, List, [], ◌∷◌, ◌++◌, refl, ap, sym, ◌∙◌, if◌then◌else◌}
+use Rattle.pair_rules.proofs.Definitions.{Message, dpc_of, is_management, read_management, users_of, managements_of, Pair, Saying, UserMessage, is_user_message}
 use Rattle.pair_moves.specs.Failing as coarse
 use Rattle.pair_moves.specs.Moves as moves
 use Rattle.pair_moves.specs.Passing.{without_others}
 use Rattle.pair_moves.specs.Sayings.{Other, is_other}
 use Rattle.pair_rules.proofs.Going.{Goes, goes-one}
-use Rattle.neighbour_rules.proofs.World.{is_between, is_for_either, says_by, says_of}
+use Rattle.neighbour_rules.proofs.Counted.{Base}
+use Rattle.neighbour_rules.proofs.World.{is_between, reading, says_by, says_of}
 use Rattle.neighbour_rules.proofs.Messages.{word-says}
 
 -- ---- what kinds of messages there are
@@ -27,8 +28,8 @@ pub record IsPast (m : Message) (said : Saying) : Type 0 where
 abbrev pub IsOfKind : Message → Saying → Type 0
 IsOfKind m said = IsManaged m said ⊎ (IsUser m said ⊎ IsPast m said)
 
-pub kind-of : (one two : ℕ) (m : Message) → IsOfKind m (says_of one two m)
-kind-of one two m = by (is_management m) (is_between one two m) (is_for_either one two m) refl
+pub kind-of : (one two point : ℕ) (m : Message) → IsOfKind m (says_of one two point m)
+kind-of one two point m = by (is_management m) (is_between one two m) (nat_eq (dpc_of m) point) refl
   where
     by : (b between either : Bool) → is_management m ≡ b → IsOfKind m (says_by b between either m)
     by true true either e = inl (record { management = e; says = word-says (read_management m.sif) })
@@ -36,9 +37,9 @@ kind-of one two m = by (is_management m) (is_between one two m) (is_for_either o
     by false between true e = inr (inl (record { user = e; says = refl }))
     by false between false e = inr (inr (record { user = e; says = refl }))
 
-module _ (one two : ℕ) where
+module _ (one two : ℕ) (base : Base) where
   abbrev read : Message → Saying
-  read = says_of one two
+  read = says_of one two base.there
 
   abbrev stays : List Message → List Message
   stays ms = without_others read ms
@@ -89,16 +90,16 @@ module _ (one two : ℕ) where
 
   pub users-stay : (ms more : List Message) → stays (users_of ms ++ more) ≡ stays (coarse.users_of read ms ++ more)
   users-stay [] more = refl
-  users-stay (m ∷ ms) more = users-of m ms more (kind-of one two m) (users-stay ms more)
+  users-stay (m ∷ ms) more = users-of m ms more (kind-of one two base.there m) (users-stay ms more)
 
   pub managements-stay : (ms more : List Message) → stays (managements_of ms ++ more) ≡ stays (coarse.managements_of read ms ++ more)
   managements-stay [] more = refl
-  managements-stay (m ∷ ms) more = managements-of m ms more (kind-of one two m) (managements-stay ms more)
+  managements-stay (m ∷ ms) more = managements-of m ms more (kind-of one two base.there m) (managements-stay ms more)
 
   -- ---- those that pass by change places
 
   pub mixing : (p : Pair) (held loose : List Message) → stays held ≡ stays p.near.held → stays loose ≡ stays p.near.loose
-      → Goes read p (record p { near = record p.near { held = held; loose = loose } })
+      → Goes (reading one two base) p (record p { near = record p.near { held = held; loose = loose } })
   mixing p held loose e f =
-      goes-one read p _
+      goes-one (reading one two base) p _
       (moves.mixes_others (record { held = held; loose = loose; arrived = p.near.arrived; held_stay = e; loose_stay = f; arrived_stay = refl; after = refl }))

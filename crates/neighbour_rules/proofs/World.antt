@@ -4,13 +4,13 @@
 use Rattle.pair_rules.proofs.Basics.{◌≡◌, ℕ, Bool, true, false, ◌&&◌, ◌||◌, Option, Some, None, Result, Ok, Err, length, nat_eq, nat_lt, refl, ap, ◌∙◌, if◌then◌else◌, option_map}
 use Rattle.std.specs.List.{position_or_len}
 use Rattle.std.specs.Prelude.{map}
-use Rattle.pair_rules.proofs.Definitions.{SELECTIONS, Message, dpc_of, is_management, Flow, Configuration, read_management, MgmtFault, Management, Procedure, is_outstanding, Parts, destination_place, entry_of, link_of, Saying, UserMessage, Order, Answer, Declaration, Confirmation, LinkEnd, Line, Side, Pair}
+use Rattle.pair_rules.proofs.Definitions.{SELECTIONS, Message, dpc_of, is_management, Flow, Configuration, read_management, MgmtFault, Management, Procedure, is_outstanding, Parts, destination_place, entry_of, link_of, Reading, Saying, UserMessage, Order, Answer, Declaration, Confirmation, LinkEnd, Line, Side, Pair}
 use Rattle.settings.specs.Sharing.{is_link_of}
 use Rattle.mtp3_codec.specs.declared.management.Management.TheVariants as says
 use Rattle.flow_hold.specs.Holds as hold
 use Rattle.flow_hold.specs.declared.procedure.Procedure.TheVariants as held_by
 use Rattle.pair_moves.specs.Ends as ends
-use Rattle.pair_moves.specs.Sayings.{Other}
+use Rattle.pair_moves.specs.Sayings.{Other, turned_reading}
 use Rattle.pair_rules.proofs.World.{Mid, World, end_of, frame_of, turned_world}
 use Rattle.neighbour_rules.specs.Neighbours.{is_management_between}
 use Rattle.neighbour_rules.proofs.Counted.{Base, Counts, turned_base}
@@ -34,21 +34,22 @@ abbrev pub read_says : Result Management MgmtFault → Saying
 read_says (Ok m) = management_says m
 read_says (Err fault) = Other
 
--- management from either to the other, and user messages for either
+-- management from either to the other, and user messages for one point, be it the other or another beyond it
 abbrev pub is_between : (one two : ℕ) → Message → Bool
 is_between one two m = is_management_between one two m || is_management_between two one m
 
-abbrev pub is_for_either : (one two : ℕ) → Message → Bool
-is_for_either one two m = nat_eq (dpc_of m) one || nat_eq (dpc_of m) two
-
-abbrev pub says_by : (management between for_either : Bool) → Message → Saying
-says_by true true for_either m = read_says (read_management m.sif)
-says_by true false for_either m = Other
+abbrev pub says_by : (management between for_point : Bool) → Message → Saying
+says_by true true for_point m = read_says (read_management m.sif)
+says_by true false for_point m = Other
 says_by false between true m = UserMessage
 says_by false between false m = Other
 
-abbrev pub says_of : (one two : ℕ) → Message → Saying
-says_of one two m = says_by (is_management m) (is_between one two m) (is_for_either one two m) m
+abbrev pub says_of : (one two point : ℕ) → Message → Saying
+says_of one two point m = says_by (is_management m) (is_between one two m) (nat_eq (dpc_of m) point) m
+
+-- what goes from the one to the other, and what comes back
+abbrev pub reading : (one two : ℕ) → Base → Reading
+reading one two base = record { there = says_of one two base.there; back = says_of one two base.back }
 
 -- it is the same by either
 or-swapped : (a b : Bool) → (a || b) ≡ (b || a)
@@ -57,13 +58,15 @@ or-swapped true false = refl
 or-swapped false true = refl
 or-swapped false false = refl
 
-each-alike : (one two : ℕ) (m : Message) → says_of one two m ≡ says_of two one m
-each-alike one two m =
-    ap (λ (b : Bool). says_by (is_management m) b (is_for_either one two m) m) (or-swapped (is_management_between one two m) (is_management_between two one m))
-    ∙ ap (λ (b : Bool). says_by (is_management m) (is_between two one m) b m) (or-swapped (nat_eq (dpc_of m) one) (nat_eq (dpc_of m) two))
+each-alike : (one two point : ℕ) (m : Message) → says_of one two point m ≡ says_of two one point m
+each-alike one two point m =
+    ap (λ (b : Bool). says_by (is_management m) b (nat_eq (dpc_of m) point) m) (or-swapped (is_management_between one two m) (is_management_between two one m))
 
-pub says-alike : (one two : ℕ) → says_of one two ≡ says_of two one
-says-alike one two = λ i. λ m. each-alike one two m i
+pub says-alike : (one two point : ℕ) → says_of one two point ≡ says_of two one point
+says-alike one two point = λ i. λ m. each-alike one two point m i
+
+pub reads-alike : (one two : ℕ) (base : Base) → turned_reading (reading one two base) ≡ reading two one (turned_base base)
+reads-alike one two base = λ i. record { there = says-alike one two base.back i; back = says-alike one two base.there i }
 
 -- ---- lines
 
@@ -80,8 +83,8 @@ code_of c link = (entry_of c link).slc
 
 -- ---- what is shown of a node
 
--- of one with a set that leads to the other
-module _ (c z : Configuration) (set : ℕ) where
+-- of one with a set that leads to the other, and to the point for which its messages are
+module _ (c : Configuration) (to set : ℕ) where
   abbrev pub procedure_of : ends.Procedure → Procedure
   procedure_of (ends.Changeover code) = held_by.Changeover (link_at_code c set code)
   procedure_of (ends.Code code) = held_by.Code set code
@@ -91,12 +94,12 @@ module _ (c z : Configuration) (set : ℕ) where
   holds_at (Some destination) p procedure sls = hold.holds p.holds (procedure_of procedure) destination sls
   holds_at None p procedure sls = false
 
-  -- of the flows to the other alone
+  -- of the flows to that point alone
   abbrev pub holds_of : Parts → ends.Procedure → Flow → Bool
-  holds_of p procedure flow = nat_eq flow.point z.own && holds_at (destination_place c z.own) p procedure flow.sls
+  holds_of p procedure flow = nat_eq flow.point to && holds_at (destination_place c to) p procedure flow.sls
 
   abbrev pub route_of : Parts → Flow → Option ℕ
-  route_of p flow = if nat_eq flow.point z.own && nat_lt flow.sls SELECTIONS then option_map (code_of c) (link_of c p flow) else None
+  route_of p flow = if nat_eq flow.point to && nat_lt flow.sls SELECTIONS then option_map (code_of c) (link_of c p flow) else None
 
   -- what it lost, and what went late, counts from a base on
   abbrev pub side_by : Counts → (given_up : ℕ → Bool) → (Flow → Option ℕ) → Mid → Side
@@ -140,12 +143,12 @@ module _ (c z : Configuration) (near_set far_set : ℕ) where
   shown_by base route w = record {
     links = codes;
     line = line_of w;
-    near = side_by c z near_set base.near base.near_given_up route w.near;
-    far = side_by z c far_set base.far base.far_given_up (route_of z c far_set w.far.node.parts) w.far;
+    near = side_by c base.there near_set base.near base.near_given_up route w.near;
+    far = side_by z base.back far_set base.far base.far_given_up (route_of z base.back far_set w.far.node.parts) w.far;
   }
 
   abbrev pub shown : Base → World → Pair
-  shown base w = shown_by base (route_of c z near_set w.near.node.parts) w
+  shown base w = shown_by base (route_of c base.there near_set w.near.node.parts) w
 
 -- what is shown, as the far node sees it
 pub shown-turned : (c z : Configuration) (near_set far_set : ℕ) (base : Base) (w : World) → shown z c far_set near_set (turned_base base) (turned_world w) ≡ ends.turned (shown c z near_set far_set base w)

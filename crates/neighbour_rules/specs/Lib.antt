@@ -6,3 +6,4 @@ pub mod Alone
 pub mod Anew
 pub mod ThirdNode
 pub mod AfterRestart
+pub mod Beyond

@@ -68,15 +68,15 @@ pub data Step : Type 0 where
   AtNear : (what : Doing) → Step
   AtFar : (what : Doing) → Step
 
--- what the near end's exchange does about what happens, and what it accepts of it: the user messages for the far point
--- that this brings in
-abbrev pub takes_in : Happening → PairState → Turn
-takes_in what p = record {
+-- what the near end's exchange does about what happens, and what it accepts of it: the user messages for a point that
+-- this brings in
+abbrev pub takes_in_for : (point : ℕ) → Happening → PairState → Turn
+takes_in_for point what p = record {
   outcome = outcome_of whole what p.near.exchange;
   left = record p {
     near = record p.near {
       exchange = after whole what p.near.exchange;
-      accepted = p.near.accepted ++ users_to p.far.exchange.settings.own (brought_in what p.near.exchange);
+      accepted = p.near.accepted ++ users_to point (brought_in what p.near.exchange);
     };
   };
 }
@@ -97,10 +97,10 @@ take_frame (Some frame) link None p = record {
 }
 
 -- a frame that was in flight on a link comes, and with it the message that it newly carries, which is received if it is
--- a user message for this point
-abbrev pub deliver_frame : Option (List ℕ) → (link : ℕ) → (left : Streams) → PairState → Turn
-deliver_frame None link left p = ignored p
-deliver_frame (Some text) link left p = record {
+-- a user message for the point for which the far end's are
+abbrev pub deliver_frame_for : (there back : ℕ) → Option (List ℕ) → (link : ℕ) → (left : Streams) → PairState → Turn
+deliver_frame_for there back None link left p = ignored p
+deliver_frame_for there back (Some text) link left p = record {
   outcome = outcome_of whole (FrameCame link text) p.near.exchange;
   left = record p {
     near = record p.near {
@@ -108,10 +108,8 @@ deliver_frame (Some text) link left p = record {
       incoming = left;
       accepted =
           p.near.accepted
-          ++ users_to p.far.exchange.settings.own (brought_in (FrameCame link text) p.near.exchange);
-      received =
-          p.near.received
-          ++ users_to p.near.exchange.settings.own (option_to_list (new_message link text p.near.exchange));
+          ++ users_to there (brought_in (FrameCame link text) p.near.exchange);
+      received = p.near.received ++ users_to back (option_to_list (new_message link text p.near.exchange));
     };
   };
 }
@@ -154,39 +152,69 @@ abbrev pub speaks_for_either : PairState → (text : List ℕ) → Bool
 speaks_for_either p text = speaks_for p.near.exchange.settings.own p.far.exchange.settings.own text
 
 -- anything may happen on a link that leads elsewhere, except that a frame speaks for either
-abbrev pub takes_elsewhere : (elsewhere speaks : Bool) → Happening → PairState → Turn
-takes_elsewhere true false what p = takes_in what p
-takes_elsewhere elsewhere speaks what p = ignored p
+abbrev pub takes_elsewhere_for : (point : ℕ) → (elsewhere speaks : Bool) → Happening → PairState → Turn
+takes_elsewhere_for point true false what p = takes_in_for point what p
+takes_elsewhere_for point elsewhere speaks what p = ignored p
 
--- ---- what each does
+-- ---- what each does, where the user messages that the near end accepts are for one point, and those that come back for
+-- another
 
-abbrev pub did_between : pairs.Doing → PairState → Turn
-did_between (pairs.Submits m) p = takes_in (Submitted m) p
-did_between (pairs.Takes link) p = take_frame (frame_to_take whole p.near.exchange link) link (far_end p link) p
-did_between (pairs.Delivers link) p =
-    deliver_frame (slice_get (in_flight p.near.incoming.user_data link) 0) link (without_data link p.near.incoming) p
-did_between (pairs.DeliversStatus link) p =
-    deliver_frame (slice_get (in_flight p.near.incoming.statuses link) 0) link (without_status link p.near.incoming) p
-did_between (pairs.LosesStatus link) p =
+abbrev pub did_between_for : (there back : ℕ) → pairs.Doing → PairState → Turn
+did_between_for there back (pairs.Submits m) p = takes_in_for there (Submitted m) p
+did_between_for there back (pairs.Takes link) p = take_frame (frame_to_take whole p.near.exchange link) link (far_end p link) p
+did_between_for there back (pairs.Delivers link) p =
+    deliver_frame_for there back (slice_get (in_flight p.near.incoming.user_data link) 0) link (without_data link p.near.incoming) p
+did_between_for there back (pairs.DeliversStatus link) p =
+    deliver_frame_for there back (slice_get (in_flight p.near.incoming.statuses link) 0) link (without_status link p.near.incoming) p
+did_between_for there back (pairs.LosesStatus link) p =
     change_statuses (slice_get (in_flight p.near.incoming.statuses link) 0) (without_status link p.near.incoming) p
-did_between (pairs.DoublesStatus link) p =
+did_between_for there back (pairs.DoublesStatus link) p =
     change_statuses (slice_get (in_flight p.near.incoming.statuses link) 0) (with_status_twice link p.near.incoming) p
-did_between (pairs.Loses link) p = happens (WentDown link) p
-did_between pairs.Ticks p = happens Ticked p
-did_between (pairs.Activates link) p = happens (Activated link) p
-did_between (pairs.Deactivates link) p = happens (Deactivated link) p
-did_between (pairs.AddsTitle row is_memory_refused) p = happens (TitleAdded row is_memory_refused) p
-did_between (pairs.RemovesTitle key digits) p = happens (TitleRemoved key digits) p
-did_between (pairs.OpensFirst link) p =
+did_between_for there back (pairs.Loses link) p = happens (WentDown link) p
+did_between_for there back pairs.Ticks p = happens Ticked p
+did_between_for there back (pairs.Activates link) p = happens (Activated link) p
+did_between_for there back (pairs.Deactivates link) p = happens (Deactivated link) p
+did_between_for there back (pairs.AddsTitle row is_memory_refused) p = happens (TitleAdded row is_memory_refused) p
+did_between_for there back (pairs.RemovesTitle key digits) p = happens (TitleRemoved key digits) p
+did_between_for there back (pairs.OpensFirst link) p =
     opens_first (wants_of p.near.exchange link) (far_end p link) (far_may_open p (far_end p link)) link p
-did_between (pairs.OpensSecond link) p =
+did_between_for there back (pairs.OpensSecond link) p =
     pairs.opens_second (wants_of p.near.exchange link) (may_follow p.near link) link p
 
+abbrev pub did_for : (there back : ℕ) → Doing → PairState → Turn
+did_for there back (Does what) p = did_between_for there back what p
+did_for there back (OpensElsewhere link) p = takes_elsewhere_for there (leads_elsewhere p link) false (CameUp link) p
+did_for there back (HearsElsewhere link text) p =
+    takes_elsewhere_for there (leads_elsewhere p link) (speaks_for_either p text) (FrameCame link text) p
+
+abbrev pub turn_for : (there back : ℕ) → Step → PairState → Turn
+turn_for there back (AtNear what) p = did_for there back what p
+turn_for there back (AtFar what) p = record {
+  outcome = (did_for back there what (turned p)).outcome;
+  left = turned (did_for back there what (turned p)).left;
+}
+
+abbrev pub after_steps_for : (there back : ℕ) → List Step → PairState → PairState
+after_steps_for there back [] p = p
+after_steps_for there back (step ∷ steps) p = after_steps_for there back steps (turn_for there back step p).left
+
+-- ---- the same, where they are for the two themselves
+
+abbrev pub takes_in : Happening → PairState → Turn
+takes_in what p = takes_in_for p.far.exchange.settings.own what p
+
+abbrev pub deliver_frame : Option (List ℕ) → (link : ℕ) → (left : Streams) → PairState → Turn
+deliver_frame text link left p =
+    deliver_frame_for p.far.exchange.settings.own p.near.exchange.settings.own text link left p
+
+abbrev pub takes_elsewhere : (elsewhere speaks : Bool) → Happening → PairState → Turn
+takes_elsewhere elsewhere speaks what p = takes_elsewhere_for p.far.exchange.settings.own elsewhere speaks what p
+
+abbrev pub did_between : pairs.Doing → PairState → Turn
+did_between what p = did_between_for p.far.exchange.settings.own p.near.exchange.settings.own what p
+
 abbrev pub did : Doing → PairState → Turn
-did (Does what) p = did_between what p
-did (OpensElsewhere link) p = takes_elsewhere (leads_elsewhere p link) false (CameUp link) p
-did (HearsElsewhere link text) p =
-    takes_elsewhere (leads_elsewhere p link) (speaks_for_either p text) (FrameCame link text) p
+did what p = did_for p.far.exchange.settings.own p.near.exchange.settings.own what p
 
 -- what becomes of a step
 abbrev pub turn : Step → PairState → Turn

@@ -27,6 +27,7 @@ near_settings = record {
   extended_unitdata = false;
   subsystem_tests = false;
   user_part_unavailable = false;
+  processor_outage = false;
   timers = ticks;
   sets = record { name = 97 ∷ []; adjacent = 3 } ∷ record { name = 98 ∷ []; adjacent = 2 } ∷ [];
   links =

@@ -10,11 +10,11 @@ use Rattle.neighbour_rules.specs.Neighbours as neighbours
 use Rattle.neighbour_rules.proofs.Sharing.{AreFacing, are-facing}
 use Rattle.network_rules.specs.Networks.{NetworkNode, NetworkState, Place, Step, after_step, after_steps, change_statuses, changed, comes_up, deliver_frame, did, did_here, end_of, first_network, is_led, may_open_there, opens_first, opens_second, other_end, place_there, reaches, sends, take_frame}
 use Rattle.pair_rules.proofs.Definitions.{Streams}
-use Rattle.network_rules.specs.Pairs.{AreTheirPoints, ArePairsAlike, HearsNothingElsewhere, pair_between, pair_of}
+use Rattle.network_rules.specs.Pairs.{AreTheirPoints, ArePairsAlike, HearsNothingElsewhere, pair_of, pair_between_for, pair_of_for}
 use Rattle.network_rules.proofs.Alike.{away}
-use Rattle.network_rules.proofs.Nodes.{idle, led-away, reach-away}
+use Rattle.network_rules.proofs.Nodes.{TakesIn, Terms, idle, led-away, reach-away, turned_terms}
 use Rattle.network_rules.proofs.Places.{IsNamed, named-away, not-equal, place-named}
-use Rattle.network_rules.proofs.Runs.{NextOf, alike-turned, near-next, next-turned, past-far, past-near, still-next}
+use Rattle.network_rules.proofs.Runs.{NextOf, alike-turned_for, near-next, next-turned, past-far, past-near, still-next}
 
 -- ---- settings stay
 
@@ -104,9 +104,9 @@ still-points w v same h = record { own = λ point. ap (λ (c : Configuration). c
 
 -- ---- a third node does something
 
-module _ (near far : ℕ) (apart : near ≢ far) (w : NetworkState) (own : HasPoints w) (p : PairState) (h : ArePairsAlike (pair_of w near far) p) (point : ℕ) (d : near ≢ point) (e : far ≢ point) where
-  abbrev here : ArePairsAlike (pair_of w near far) p → NextOf near far apart w p
-  here i = idle (w.node near) (w.node far) p i
+module _ (t : Terms) (near far : ℕ) (apart : near ≢ far) (w : NetworkState) (own : HasPoints w) (p : PairState) (h : ArePairsAlike (pair_of_for t.to_far t.to_near w near far) p) (point : ℕ) (d : near ≢ point) (e : far ≢ point) where
+  abbrev here : ArePairsAlike (pair_of_for t.to_far t.to_near w near far) p → NextOf t near far apart w p
+  here i = idle t (w.node near) (w.node far) p i
 
   -- what it does reaches one of the two on a link that leads elsewhere
   module _ (change : NetworkNode → NetworkNode) (keeps : (x : NetworkNode) → (change x).exchange.settings ≡ x.exchange.settings) (link : ℕ) (there : Place)
@@ -130,44 +130,44 @@ module _ (near far : ℕ) (apart : near ≢ far) (w : NetworkState) (own : HasPo
         (not-equal c.own (w.node other).exchange.settings.own (λ g. f (sym (own.own other) ∙ sym g ∙ own.own point)))))
 
     past : (unseen : NetworkNode → NetworkNode)
-        → ((x y : NetworkNode) (q : PairState) → away x.exchange.settings y.exchange.settings there.link ≡ true → ArePairsAlike (pair_between x y) q → ArePairsAlike (pair_between (unseen x) y) q)
-        → NextOf near far apart (changed there.point unseen v) p
+        → ((u : Terms) (x y : NetworkNode) (q : PairState) → away x.exchange.settings y.exchange.settings there.link ≡ true → ArePairsAlike (pair_between_for u.to_far u.to_near x y) q → ArePairsAlike (pair_between_for u.to_far u.to_near (unseen x) y) q)
+        → NextOf t near far apart (changed there.point unseen v) p
     past unseen hides =
-        let before : NextOf near far apart v p = still-next near far apart w point change p d e (here h) in
+        let before : NextOf t near far apart v p = still-next t near far apart w point change p d e (here h) in
         ⊎_elim
         (λ (same : there.point ≡ near).
-        subst (λ (n : ℕ). NextOf near far apart (changed n unseen v) p) (sym same)
-        (past-near near far apart v unseen p (λ q. hides (v.node near) (v.node far) q (leads-away near far e same)) before))
+        subst (λ (n : ℕ). NextOf t near far apart (changed n unseen v) p) (sym same)
+        (past-near t near far apart v unseen p (λ q. hides t (v.node near) (v.node far) q (leads-away near far e same)) before))
         (λ (not_near : there.point ≢ near).
         ⊎_elim
         (λ (same : there.point ≡ far).
-        subst (λ (n : ℕ). NextOf near far apart (changed n unseen v) p) (sym same)
-        (past-far near far apart v unseen p
-        (λ q i. alike-turned (unseen (v.node far)) (v.node near) (turned q)
-        (hides (v.node far) (v.node near) (turned q) (leads-away far near d same) (alike-turned (v.node near) (v.node far) q i))) before))
-        (λ (not_far : there.point ≢ far). still-next near far apart v there.point unseen p (λ f. not_near (sym f)) (λ f. not_far (sym f)) before)
+        subst (λ (n : ℕ). NextOf t near far apart (changed n unseen v) p) (sym same)
+        (past-far t near far apart v unseen p
+        (λ q i. alike-turned_for (turned_terms t) (unseen (v.node far)) (v.node near) (turned q)
+        (hides (turned_terms t) (v.node far) (v.node near) (turned q) (leads-away far near d same) (alike-turned_for t (v.node near) (v.node far) q i))) before))
+        (λ (not_far : there.point ≢ far). still-next t near far apart v there.point unseen p (λ f. not_near (sym f)) (λ f. not_far (sym f)) before)
         (cases_eq there.point far))
         (cases_eq there.point near)
 
   abbrev entry_place : (link : ℕ) → Option Place
   entry_place link = other_end w point link
 
-  third-takes : (o : Option FrameValue) (link : ℕ) (there : Option Place) → entry_place link ≡ there → NextOf near far apart (take_frame o point link there w) p
+  third-takes : (o : Option FrameValue) (link : ℕ) (there : Option Place) → entry_place link ≡ there → NextOf t near far apart (take_frame o point link there w) p
   third-takes None link there f = here h
-  third-takes (Some frame) link None f = still-next near far apart w point (sends link) p d e (here h)
-  third-takes (Some frame) link (Some there) f = past (sends link) (λ x. refl) link there f (reaches frame there.link) (λ x y q g i. reach-away x y q i frame there.link g)
+  third-takes (Some frame) link None f = still-next t near far apart w point (sends link) p d e (here h)
+  third-takes (Some frame) link (Some there) f = past (sends link) (λ x. refl) link there f (reaches frame there.link) (λ u x y q g i. reach-away u x y q i frame there.link g)
 
-  third-opens : (wants : Wants) (may : Bool) (link : ℕ) (there : Option Place) → entry_place link ≡ there → NextOf near far apart (opens_first wants may point link there w) p
-  third-opens Open true link (Some there) f = past (comes_up link) (λ x. refl) link there f (is_led there.link) (λ x y q g i. led-away x y q i there.link g)
+  third-opens : (wants : Wants) (may : Bool) (link : ℕ) (there : Option Place) → entry_place link ≡ there → NextOf t near far apart (opens_first wants may point link there w) p
+  third-opens Open true link (Some there) f = past (comes_up link) (λ x. refl) link there f (is_led there.link) (λ u x y q g i. led-away u x y q i there.link g)
   third-opens Open true link None f = here h
   third-opens Open false link there f = here h
   third-opens Nothing may link there f = here h
   third-opens Close may link there f = here h
 
-  abbrev alone : (what : Doing) → NextOf near far apart (changed point (did_here what) w) p
-  alone what = still-next near far apart w point (did_here what) p d e (here h)
+  abbrev alone : (what : Doing) → NextOf t near far apart (changed point (did_here what) w) p
+  alone what = still-next t near far apart w point (did_here what) p d e (here h)
 
-  third-next : (what : Doing) → NextOf near far apart (did what point w) p
+  third-next : (what : Doing) → NextOf t near far apart (did what point w) p
   third-next (pairs.Submits m) = alone (pairs.Submits m)
   third-next (pairs.Takes link) = third-takes (frame_to_take whole (w.node point).exchange link) link (entry_place link) refl
   third-next (pairs.Delivers link) = alone (pairs.Delivers link)
@@ -186,30 +186,31 @@ module _ (near far : ℕ) (apart : near ≢ far) (w : NetworkState) (own : HasPo
 
 -- ---- any node does
 
-module _ (near far : ℕ) (apart : near ≢ far) where
-  pub step-next : (step : Step) (w : NetworkState) (p : PairState) → HasPoints w → ArePairsAlike (pair_of w near far) p → BothWays HearsNothingElsewhere (pair_of w near far)
-      → NextOf near far apart (after_step step w) p
-  step-next step w p own h silent =
+module _ (t : Terms) (near far : ℕ) (apart : near ≢ far) where
+  pub step-next : (step : Step) (w : NetworkState) (p : PairState) → HasPoints w → ArePairsAlike (pair_of_for t.to_far t.to_near w near far) p → BothWays HearsNothingElsewhere (pair_of w near far) → (step.point ≡ near → TakesIn t.near_is step.what (w.node near) (w.node far)) → (step.point ≡ far → TakesIn t.far_is step.what (w.node far) (w.node near))
+      → NextOf t near far apart (after_step step w) p
+  step-next step w p own h silent near_told far_told =
       ⊎_elim
-      (λ (e : step.point ≡ near). subst (λ (n : ℕ). NextOf near far apart (did step.what n w) p) (sym e) (near-next near far apart w own.own p h silent.there step.what))
+      (λ (e : step.point ≡ near). subst (λ (n : ℕ). NextOf t near far apart (did step.what n w) p) (sym e) (near-next t near far apart w own.own p h silent.there step.what (near_told e)))
       (λ (d : step.point ≢ near).
       ⊎_elim
       (λ (e : step.point ≡ far).
-      subst (λ (n : ℕ). NextOf near far apart (did step.what n w) p) (sym e)
-      (next-turned ((did step.what far w).node near) ((did step.what far w).node far) p
-      (near-next far near (λ f. apart (sym f)) w own.own (turned p) (alike-turned (w.node near) (w.node far) p h) silent.back step.what)))
-      (λ (e : step.point ≢ far). third-next near far apart w own p h step.point (λ f. d (sym f)) (λ f. e (sym f)) step.what)
+      subst (λ (n : ℕ). NextOf t near far apart (did step.what n w) p) (sym e)
+      (next-turned t ((did step.what far w).node near) ((did step.what far w).node far) p
+      (near-next (turned_terms t) far near (λ f. apart (sym f)) w own.own (turned p) (alike-turned_for t (w.node near) (w.node far) p h) silent.back step.what (far_told e))))
+      (λ (e : step.point ≢ far). third-next t near far apart w own p h step.point (λ f. d (sym f)) (λ f. e (sym f)) step.what)
       (cases_eq step.point far))
       (cases_eq step.point near)
 
-  pub steps-join : (one other : List neighbours.Step) (p : PairState) → neighbours.after_steps (one ++ other) p ≡ neighbours.after_steps other (neighbours.after_steps one p)
-  steps-join [] other p = refl
-  steps-join (step ∷ one) other p = steps-join one other (neighbours.turn step p).left
+-- two lists of steps of neighbours, one after the other
+pub neighbours-join : (one other : List neighbours.Step) (p : PairState) → neighbours.after_steps (one ++ other) p ≡ neighbours.after_steps other (neighbours.after_steps one p)
+neighbours-join [] other p = refl
+neighbours-join (step ∷ one) other p = neighbours-join one other (neighbours.turn step p).left
 
 -- ---- from the first on
 
-pub first-alike : (settings : (point : ℕ) → Configuration) (near far : ℕ) → ArePairsAlike (pair_of (first_network settings) near far) (first_pair (settings near) (settings far))
-first-alike settings near far = record {
+pub first-alike_for : (to_far to_near : ℕ) (settings : (point : ℕ) → Configuration) (near far : ℕ) → ArePairsAlike (pair_of_for to_far to_near (first_network settings) near far) (first_pair (settings near) (settings far))
+first-alike_for to_far to_near settings near far = record {
   near_alike = record {
     exchange = refl;
     accepted = refl;
@@ -227,6 +228,9 @@ first-alike settings near far = record {
     following_links = refl;
   };
 }
+
+pub first-alike : (settings : (point : ℕ) → Configuration) (near far : ℕ) → ArePairsAlike (pair_of (first_network settings) near far) (first_pair (settings near) (settings far))
+first-alike settings near far = first-alike_for (settings far).own (settings near).own settings near far
 
 pub are-apart : (settings : (point : ℕ) → Configuration) (near far : ℕ) → AreTheirPoints settings → AreSharing (settings near) (settings far) → near ≢ far
 are-apart settings near far points sharing =

@@ -1,5 +1,6 @@
--- Lists of steps of a network, and of other changes, as each two of its nodes that share a set see them; and nobody speaks for another meanwhile.
+-- Lists of moves of a network, and of other changes, as each two of its nodes that share a set see them; and nobody speaks for another meanwhile.
 use Rattle.pair_rules.proofs.Basics.{◌≡◌, ◌≢◌, ℕ, true, false, List, [], ◌∷◌, ◌++◌, refl, ap, sym, subst, ◌∙◌, length, map}
+use Rattle.std.specs.Prelude.{nat_lt}
 use Rattle.pair_rules.proofs.Definitions.{Message, Configuration, Queue, first_queue, queue_at, PairState, first_pair, turned, in_flight, each-replicate, read_frame}
 use Rattle.std.specs.Prelude.{All}
 use Rattle.std.specs.List.{list_all}
@@ -8,22 +9,27 @@ use Rattle.exchange_rules.specs.Laws.{carried_message}
 use Rattle.exchange_rules.specs.First.{Abstract, first_state}
 use Rattle.pair_moves.specs.Sayings.{Other}
 use Rattle.pair_rules.specs.Promises.{BothWays}
-use Rattle.pair_rules.specs.Pairs.{nothing_in_flight}
+use Rattle.pair_rules.specs.Pairs as doing
+use Rattle.pair_rules.specs.Pairs.{Doing, nothing_in_flight}
 use Rattle.pair_rules.proofs.Good.{Each, each-get}
 use Rattle.neighbour_rules.specs.Neighbours as neighbours
 use Rattle.neighbour_rules.specs.Neighbours.{leads_elsewhere, speaks_for_either}
 use Rattle.neighbour_rules.proofs.World.{says_of}
 use Rattle.neighbour_rules.specs.Anew as pairs
-use Rattle.neighbour_rules.proofs.Sharing.{AreFacing, are-facing, far_joint, near_joint}
-use Rattle.neighbour_rules.proofs.Restarted.{Works, all-changes-work, first-works, steps-work}
-use Rattle.network_rules.specs.Networks.{NetworkState, Step, after_step, after_steps, changed, first_network}
+use Rattle.neighbour_rules.proofs.Sharing.{AreFacing, are-facing, far_joint, near_joint, AreOwn, facing-own}
+use Rattle.neighbour_rules.proofs.Restarted.{Works, all-changes-work, first-works, steps-work, begun}
+use Rattle.network_rules.specs.Networks.{NetworkState, Step, after_step, after_steps, changed, first_network, NetworkNode}
+use Rattle.network_rules.specs.Outside.{HearsOutside, Move, OpensOutside, Within, after_move, after_moves, hears_outside, is_within, leads_out, opens_outside, speaks_within}
+use Rattle.neighbour_rules.proofs.AllSteps.{own-steps}
 use Rattle.network_rules.specs.Anew.{Change, GivesUp, IsStepOrThird, Restarts, Steps, after_all, after_change, given_up, restarted}
-use Rattle.network_rules.specs.Pairs.{Always, AreTheirPoints, AreWellOrAlone, ArePairsAlike, HearsNothingElsewhere, IsRunOfNeighbours, nobody_speaks_for_another, pair_of, runs_are_runs_of_neighbours}
+use Rattle.network_rules.specs.Pairs.{Always, AreTheirPoints, AreWellOrAlone, ArePairsAlike, HearsNothingElsewhere, IsRunOfNeighbours, nobody_speaks_for_another, pair_of, pair_of_for, runs_are_runs_of_neighbours}
 use Rattle.network_rules.proofs.Alike.{away}
 use Rattle.network_rules.proofs.Ends.{EndOk, first-ok, is_fine}
-use Rattle.network_rules.proofs.AllRuns.{HasPoints, first-alike, step-next, steps-join, steps-keep}
+use Rattle.network_rules.proofs.AllRuns.{HasPoints, first-alike, step-next, neighbours-join}
+use Rattle.network_rules.proofs.Nodes.{TakesIn, Terms}
 use Rattle.network_rules.proofs.Changes.{NextBy, changes-join, give_up-next, restart-next, stepped, third-alike}
 use Rattle.network_rules.proofs.Runs.{NextOf}
+use Rattle.network_rules.proofs.Outside.{AreWithin, has-sets, hears-quiet, hears-next, moves-keep, opens-next, opens-quiet}
 use Rattle.network_rules.proofs.Quiet.{IsQuiet, NodeOk, SayElsewhere, Watched, are-kept, did-quiet, fine, quiet-changed}
 use Rattle.network_rules.proofs.Elsewhere.{harmless-turned, speaks-none, speaks_between}
 use Rattle.network_rules.proofs.Texts.{IsHarmless}
@@ -33,7 +39,7 @@ pub record CarryHarmless (p : PairState) : Type 0 where
   pub near : (link : ℕ) → leads_elsewhere p link ≡ true → Each (IsHarmless (is_fine p.near.exchange.settings.own p.far.exchange.settings.own)) (in_flight p.near.incoming.user_data link)
   pub far : (link : ℕ) → leads_elsewhere (turned p) link ≡ true → Each (IsHarmless (is_fine p.near.exchange.settings.own p.far.exchange.settings.own)) (in_flight p.far.incoming.user_data link)
 
-module _ (settings : (point : ℕ) → Configuration) (near far : ℕ) (points : AreTheirPoints settings) (well : AreWellOrAlone settings) (a : AreFacing (settings near) (settings far)) where
+module _ (settings : (point : ℕ) → Configuration) (near far : ℕ) (points : AreTheirPoints settings) (well : AreWellOrAlone settings) (a : AreFacing (settings near) (settings far)) (own : AreOwn (settings near) (settings far) a) where
   abbrev c : Configuration
   c = settings near
 
@@ -63,7 +69,7 @@ module _ (settings : (point : ℕ) → Configuration) (near far : ℕ) (points :
     };
   }
 
-  first-calm : IsCalm (first_network settings)
+  pub first-calm : IsCalm (first_network settings)
   first-calm = record { each = first-node-ok }
 
   -- ---- what comes from elsewhere
@@ -132,18 +138,18 @@ module _ (settings : (point : ℕ) → Configuration) (near far : ℕ) (points :
       far = λ link e. all-harmless (in_flight (w.node far).incoming.user_data link) ((h.each far).flying.user_data link (far-watched link e));
     }
 
-    own-points : HasPoints w
+    pub own-points : HasPoints w
     own-points = record { own = λ point. ap (λ (s : Configuration). s.own) (are-kept settings near far points well a w h point) ∙ points point }
 
   -- ---- what the two say elsewhere
 
-  abbrev SaysOther : (one two : Configuration) → Message → Type 0
-  SaysOther one two m = says_of one.own two.own m ≡ Other
+  abbrev SaysOther : (one two : Configuration) (point : ℕ) → Message → Type 0
+  SaysOther one two point m = says_of one.own two.own point m ≡ Other
 
   elsewhere-of : (w : NetworkState) (p : PairState) → Works c z a p → ArePairsAlike (pair_of w near far) p → SayElsewhere settings near far points well a w
   elsewhere-of w p s h = record {
-    near_says = λ link d. subst (λ (e : Abstract). Each (SaysOther c z) (queue_at e.node.queues link).all) h.near_alike.exchange (s.stands.near_good.elsewhere link d);
-    far_says = λ link d. subst (λ (e : Abstract). Each (SaysOther z c) (queue_at e.node.queues link).all) h.far_alike.exchange (s.stands.far_good.elsewhere link d);
+    near_says = λ link d. subst (λ (e : Abstract). Each (SaysOther c z a.base.there) (queue_at e.node.queues link).all) h.near_alike.exchange (s.stands.near_good.elsewhere link d);
+    far_says = λ link d. subst (λ (e : Abstract). Each (SaysOther z c a.base.back) (queue_at e.node.queues link).all) h.far_alike.exchange (s.stands.far_good.elsewhere link d);
   }
 
   -- ---- steps
@@ -153,16 +159,57 @@ module _ (settings : (point : ℕ) → Configuration) (near far : ℕ) (points :
     pub pair : ArePairsAlike (pair_of w near far) (neighbours.after_steps steps p)
     pub calm : IsCalm w
 
-  one-goes : (step : Step) (w : NetworkState) (p : PairState) → IsCalm w → Works c z a p → ArePairsAlike (pair_of w near far) p → Goes (after_step step w) p
+  -- the messages are for the two themselves, and whatever is handed in
+  abbrev terms : Terms
+  terms = record { to_far = z.own; to_near = c.own; near_is = λ text. Unit {0}; far_is = λ text. Unit {0} }
+
+  pub takes-any : (what : Doing) (x y : NetworkNode) → TakesIn (λ text. Unit {0}) what x y
+  takes-any (doing.Delivers link) x y = λ between text e. tt
+  takes-any (doing.Submits message) x y = tt
+  takes-any (doing.Takes link) x y = tt
+  takes-any (doing.DeliversStatus link) x y = tt
+  takes-any (doing.LosesStatus link) x y = tt
+  takes-any (doing.DoublesStatus link) x y = tt
+  takes-any (doing.Loses link) x y = tt
+  takes-any doing.Ticks x y = tt
+  takes-any (doing.Activates link) x y = tt
+  takes-any (doing.Deactivates link) x y = tt
+  takes-any (doing.AddsTitle row is_memory_refused) x y = tt
+  takes-any (doing.RemovesTitle key digits) x y = tt
+  takes-any (doing.OpensFirst link) x y = tt
+  takes-any (doing.OpensSecond link) x y = tt
+
+  -- the two of a calm network are told these points
+  own-pair : (w : NetworkState) → IsCalm w → pair_of w near far ≡ pair_of_for z.own c.own w near far
+  own-pair w calm =
+      ap (λ (s : Configuration). pair_of_for s.own (w.node near).exchange.settings.own w near far) (far-kept w calm)
+      ∙ ap (λ (s : Configuration). pair_of_for z.own s.own w near far) (near-kept w calm)
+
+  -- the messages of the two themselves, before and after
+  own-next : (v : NetworkState) (p : PairState) → Works c z a p → (one : NextOf terms near far apart v p) → IsCalm v → Goes v p
+  own-next v p s one later = record {
+    steps = one.steps;
+    pair =
+        subst (λ (q : PairState). ArePairsAlike q (neighbours.after_steps one.steps p)) (sym (own-pair v later))
+        (subst (ArePairsAlike (pair_of_for z.own c.own v near far)) (sym (own-steps c z (begun c z s.start a) (record { there = s.own.there; back = s.own.back }) one.steps p s.stands)) one.pair);
+    calm = later;
+  }
+
+  own-alike : (w : NetworkState) (p : PairState) → IsCalm w → ArePairsAlike (pair_of w near far) p → ArePairsAlike (pair_of_for z.own c.own w near far) p
+  own-alike w p calm h = subst (λ (q : PairState). ArePairsAlike q p) (own-pair w calm) h
+
+  pub one-goes : (step : Step) (w : NetworkState) (p : PairState) → IsCalm w → Works c z a p → ArePairsAlike (pair_of w near far) p → Goes (after_step step w) p
   one-goes step w p calm s h =
-      let one : NextOf near far apart (after_step step w) p = step-next near far apart step w p (own-points w calm) h (nobody w calm) in
-      record { steps = one.steps; pair = one.pair; calm = did-quiet settings near far points well a step.what step.point w calm (elsewhere-of w p s h) }
+      own-next (after_step step w) p s
+      (step-next terms near far apart step w p (own-points w calm) (own-alike w p calm h) (nobody w calm)
+      (λ e. takes-any step.what (w.node near) (w.node far)) (λ e. takes-any step.what (w.node far) (w.node near)))
+      (did-quiet settings near far points well a step.what step.point w calm (elsewhere-of w p s h))
 
   -- steps upon steps
   goes-on : (v u : NetworkState) (p : PairState) (one : Goes v p) → Goes u (neighbours.after_steps one.steps p) → Goes u p
   goes-on v u p one others = record {
     steps = one.steps ++ others.steps;
-    pair = subst (ArePairsAlike (pair_of u near far)) (sym (steps-join near far apart one.steps others.steps p)) others.pair;
+    pair = subst (ArePairsAlike (pair_of u near far)) (sym (neighbours-join one.steps others.steps p)) others.pair;
     calm = others.calm;
   }
 
@@ -173,18 +220,46 @@ module _ (settings : (point : ℕ) → Configuration) (near far : ℕ) (points :
       let one : Goes v p = one-goes step w p calm s h in
       goes-on v (after_steps steps v) p one (goes steps v (neighbours.after_steps one.steps p) one.calm (steps-work c z a one.steps p s) one.pair)
 
-  all-goes : (steps : List Step) → Goes (after_steps steps (first_network settings)) (first_pair c z)
-  all-goes steps = goes steps (first_network settings) (first_pair c z) first-calm (first-works c z a) (first-alike settings near far)
+  -- ---- moves
 
-  run-of : (steps : List Step) → IsRunOfNeighbours (pair_of (after_steps steps (first_network settings)) near far)
-  run-of steps =
-      let w : NetworkState = after_steps steps (first_network settings) in
-      let g : Goes w (first_pair c z) = all-goes steps in
+  -- both are within
+  are-within : (w : NetworkState) → IsCalm w → AreWithin near far w
+  are-within w h = record {
+    near_within = ap (λ (s : Configuration). nat_lt 0 (length s.sets)) (near-kept w h) ∙ has-sets c z.own a.near_set a.near_leads;
+    far_within = ap (λ (s : Configuration). nat_lt 0 (length s.sets)) (far-kept w h) ∙ has-sets z c.own a.far_set a.far_leads;
+    own = own-points w h;
+  }
+
+  move-goes : (move : Move) (w : NetworkState) (p : PairState) → IsCalm w → Works c z a p → ArePairsAlike (pair_of w near far) p → Goes (after_move move w) p
+  move-goes (Within step) w p calm s h = one-goes step w p calm s h
+  move-goes (OpensOutside point link) w p calm s h =
+      own-next (after_move (OpensOutside point link) w) p s
+      (opens-next terms near far apart w (are-within w calm) p (own-alike w p calm h) (leads_out w point link) point link refl)
+      (opens-quiet settings near far points well a w calm (leads_out w point link) point link)
+  move-goes (HearsOutside point link text) w p calm s h =
+      own-next (after_move (HearsOutside point link text) w) p s
+      (hears-next terms near far apart w (are-within w calm) p (own-alike w p calm h) (leads_out w point link) (speaks_within w text) point link text refl refl)
+      (hears-quiet settings near far points well a w calm (are-within w calm) (leads_out w point link) (speaks_within w text) point link text refl)
+
+  moves-go : (moves : List Move) (w : NetworkState) (p : PairState) → IsCalm w → Works c z a p → ArePairsAlike (pair_of w near far) p → Goes (after_moves moves w) p
+  moves-go [] w p calm s h = record { steps = []; pair = h; calm = calm }
+  moves-go (move ∷ moves) w p calm s h =
+      let v : NetworkState = after_move move w in
+      let one : Goes v p = move-goes move w p calm s h in
+      goes-on v (after_moves moves v) p one (moves-go moves v (neighbours.after_steps one.steps p) one.calm (steps-work c z a one.steps p s) one.pair)
+
+  all-goes : (moves : List Move) → Goes (after_moves moves (first_network settings)) (first_pair c z)
+  all-goes moves = moves-go moves (first_network settings) (first_pair c z) first-calm (first-works c z a own) (first-alike settings near far)
+
+  run-of : (moves : List Move) → IsRunOfNeighbours (pair_of (after_moves moves (first_network settings)) near far)
+  run-of moves =
+      let w : NetworkState = after_moves moves (first_network settings) in
+      let g : Goes w (first_pair c z) = all-goes moves in
       record {
         steps = g.steps;
         is_alike =
-            subst (λ (s : Configuration). ArePairsAlike (pair_of w near far) (neighbours.after_steps g.steps (first_pair s (w.node far).exchange.settings))) (sym (steps-keep steps (first_network settings) near))
-            (subst (λ (s : Configuration). ArePairsAlike (pair_of w near far) (neighbours.after_steps g.steps (first_pair c s))) (sym (steps-keep steps (first_network settings) far)) g.pair);
+            subst (λ (s : Configuration). ArePairsAlike (pair_of w near far) (neighbours.after_steps g.steps (first_pair s (w.node far).exchange.settings))) (sym (moves-keep moves (first_network settings) near))
+            (subst (λ (s : Configuration). ArePairsAlike (pair_of w near far) (neighbours.after_steps g.steps (first_pair c s))) (sym (moves-keep moves (first_network settings) far)) g.pair);
       }
 
   -- ---- and other changes
@@ -243,17 +318,17 @@ module _ (settings : (point : ℕ) → Configuration) (near far : ℕ) (points :
       (goes-apart changes (All-tail (IsStepOrThird near far) change changes i) v (neighbours.after_steps one.steps p) one.calm (steps-work c z a one.steps p s) one.pair)
 
   pub all-go : (changes : List Change) → GoesBy (after_all changes (first_network settings)) (first_pair c z)
-  all-go changes = changes-go changes (first_network settings) (first_pair c z) first-calm (first-works c z a) (first-alike settings near far)
+  all-go changes = changes-go changes (first_network settings) (first_pair c z) first-calm (first-works c z a own) (first-alike settings near far)
 
 pub runs : runs_are_runs_of_neighbours
-runs settings steps near far points well sharing = run-of settings near far points well (are-facing (settings near) (settings far) sharing) steps
+runs settings moves near far points well sharing = run-of settings near far points well (are-facing (settings near) (settings far) sharing) (facing-own (settings near) (settings far) sharing) moves
 
 pub harmless-runs : Always CarryHarmless
-harmless-runs settings steps near far points well sharing =
+harmless-runs settings moves near far points well sharing =
     let a : AreFacing (settings near) (settings far) = are-facing (settings near) (settings far) sharing in
-    carry-harmless settings near far points well a (after_steps steps (first_network settings)) (all-goes settings near far points well a steps).calm
+    carry-harmless settings near far points well a (facing-own (settings near) (settings far) sharing) (after_moves moves (first_network settings)) (all-goes settings near far points well a (facing-own (settings near) (settings far) sharing) moves).calm
 
 pub silence : nobody_speaks_for_another
-silence settings steps near far points well sharing =
+silence settings moves near far points well sharing =
     let a : AreFacing (settings near) (settings far) = are-facing (settings near) (settings far) sharing in
-    nobody settings near far points well a (after_steps steps (first_network settings)) (all-goes settings near far points well a steps).calm
+    nobody settings near far points well a (facing-own (settings near) (settings far) sharing) (after_moves moves (first_network settings)) (all-goes settings near far points well a (facing-own (settings near) (settings far) sharing) moves).calm

@@ -11,7 +11,7 @@ use Rattle.neighbour_rules.specs.Anew as pairs
 use Rattle.neighbour_rules.specs.Anew.{IsQuietEnd, IsQuietPair, LostNothingSince, is_between}
 use Rattle.neighbour_rules.proofs.Anew.{begins-anew}
 use Rattle.neighbour_rules.proofs.Restarted.{Works, all-work, anew-works}
-use Rattle.neighbour_rules.proofs.Sharing.{AreFacing, are-facing}
+use Rattle.neighbour_rules.proofs.Sharing.{AreFacing, are-facing, AreOwn, facing-own}
 use Rattle.network_rules.specs.Networks.{NetworkNode, NetworkState, Step, after_steps, first_network}
 use Rattle.network_rules.specs.Pairs.{ArePairsAlike, AreTheirPoints, AreWellOrAlone, pair_between, pair_of}
 use Rattle.network_rules.specs.Totals.{is_listed}
@@ -117,30 +117,33 @@ module _ (settings : (point : ℕ) → Configuration) (changes : List Change) (n
   abbrev w : NetworkState
   w = after_all changes (first_network settings)
 
-  a : AreFacing c z
+  abbrev a : AreFacing c z
   a = are-facing c z sharing
 
-  go : GoesBy settings near far points well a w (first_pair c z)
-  go = all-go settings near far points well a changes
+  its_own : AreOwn c z a
+  its_own = facing-own c z sharing
+
+  go : GoesBy settings near far points well a its_own w (first_pair c z)
+  go = all-go settings near far points well a its_own changes
 
   -- the two neighbours that it shows
   abbrev q : PairState
   q = pairs.after_all go.changes (first_pair c z)
 
   works : Works c z a q
-  works = all-work c z a go.changes
+  works = all-work c z a its_own go.changes
 
-  anew-calm : IsCalm settings near far points well a (begun_anew w)
+  anew-calm : IsCalm settings near far points well a its_own (begun_anew w)
   anew-calm = record { each = λ point. go.calm.each point }
 
   abbrev Later : NetworkState → Type 0
-  Later v = Goes settings near far points well a v (pairs.begun_anew q)
+  Later v = Goes settings near far points well a its_own v (pairs.begun_anew q)
 
   on : (steps : List Step) → Later (after_steps steps (begun_anew w))
-  on steps = goes settings near far points well a steps (begun_anew w) (pairs.begun_anew q) anew-calm (anew-works c z a q works) (anew-alike (pair_of w near far) q go.pair)
+  on steps = goes settings near far points well a its_own steps (begun_anew w) (pairs.begun_anew q) anew-calm (anew-works c z a q works) (anew-alike (pair_of w near far) q go.pair)
 
   on-apart : (later : List Change) → All (IsStepOrThird near far) later → Later (after_all later (begun_anew w))
-  on-apart later i = goes-apart settings near far points well a later i (begun_anew w) (pairs.begun_anew q) anew-calm (anew-works c z a q works) (anew-alike (pair_of w near far) q go.pair)
+  on-apart later i = goes-apart settings near far points well a its_own later i (begun_anew w) (pairs.begun_anew q) anew-calm (anew-works c z a q works) (anew-alike (pair_of w near far) q go.pair)
 
   module _ (quiet : IsQuietPair (pair_of w near far)) (v : NetworkState) (g : Later v) (since : LostNothingSince (pair_of w near far) (pair_of v near far)) where
     abbrev later : PairState
@@ -172,7 +175,7 @@ module _ (settings : (point : ℕ) → Configuration) (changes : List Change) (n
       carried = law-of IsCarried (record { there = kept.there.carried; back = kept.back.carried });
       lacked = law-of MovesLacked (record { there = kept.there.moved; back = kept.back.moved });
       final = law-of AreFinal (record { there = kept.there.final; back = kept.back.final });
-      silent = nobody settings near far points well a v g.calm;
+      silent = nobody settings near far points well a its_own v g.calm;
     }
 
   pub has-laws : IsQuietPair (pair_of w near far) → (steps : List Step) → LostNothingSince (pair_of w near far) (pair_of (after_steps steps (begun_anew w)) near far) → HasLaws (pair_of (after_steps steps (begun_anew w)) near far)
@@ -185,4 +188,4 @@ neighbours-anew settings changes near far points well sharing quiet later i sinc
 
 pub never-spoken : nobody_ever_speaks_for_another
 never-spoken settings changes near far points well sharing =
-    nobody settings near far points well (a settings changes near far points well sharing) (after_all changes (first_network settings)) (go settings changes near far points well sharing).calm
+    nobody settings near far points well (a settings changes near far points well sharing) (its_own settings changes near far points well sharing) (after_all changes (first_network settings)) (go settings changes near far points well sharing).calm

@@ -56,7 +56,7 @@ module _ (settings : (point : ℕ) → Configuration) (points : List ℕ) (h : I
     -- the laws of links hold between the two
     pub laws : HasLaws (pair_of w x y)
     laws =
-        has-laws settings start.changes x y h.own well o.sharing
+        has-laws settings start.changes x y h.placed.own well o.sharing
         (quiet-between points (begun settings points h start) x y start.quiet listed other-listed) done (record { near = kept x listed; far = kept y other-listed })
 
     abbrev EndIs : (link other : ℕ) → Type 0
@@ -103,7 +103,7 @@ module _ (settings : (point : ℕ) → Configuration) (points : List ℕ) (h : I
   -- ---- a word that comes
 
   own-is : (point : ℕ) → (exchange_of point).settings.own ≡ point
-  own-is point = ap (λ (c : Configuration). c.own) (settings-kept settings points h start done point) ∙ h.own point
+  own-is point = ap (λ (c : Configuration). c.own) (settings-kept settings points h start done point) ∙ h.placed.own point
 
   kept-inside : (x link : ℕ) → link < length (exchange_of x).settings.links → link < length (settings x).links
   kept-inside x link less = subst (λ (c : Configuration). link < length c.links) (settings-kept settings points h start done x) less

@@ -56,7 +56,7 @@ module _ (settings : (point : ℕ) → Configuration) (near far : ℕ) (points :
 
   -- on its links that lead elsewhere the near node has nothing that the two say to each other
   abbrev pub SaysElsewhere : NetworkState → Type 0
-  SaysElsewhere w = (link : ℕ) → set_of c link ≢ set c z j → Each (λ (m : Message). says_of c.own z.own m ≡ Other) (queue_at (w.node near).exchange.node.queues link).all
+  SaysElsewhere w = (link : ℕ) → set_of c link ≢ set c z j → Each (λ (m : Message). says_of c.own z.own j.base.there m ≡ Other) (queue_at (w.node near).exchange.node.queues link).all
 
   module _ (w : NetworkState) (k : AreKept w) where
     abbrev cw : Configuration

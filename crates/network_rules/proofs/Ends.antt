@@ -84,27 +84,27 @@ fine-both one two m e g = rw (e, g) refl
 
 module _ (c z : Configuration) (j : Joint c z) where
   pub record EndOk (n : Node WholeQueues) : Type 0 where
-    pub lone : IsLone c j.shares.near_set z.own j.destination j.shares.near_leads j.place n
+    pub lone : IsLone c j.shares.near_set z.own j.adjacent j.shares.near_leads j.adjacent_place n
     pub onward : AreOnward c n.queues
 
   pub first-ok : EndOk (first_state c).node
-  first-ok = record { lone = lone-first c j.shares.near_set z.own j.destination j.shares.near_leads j.place; onward = first-onward c }
+  first-ok = record { lone = lone-first c j.shares.near_set z.own j.adjacent j.shares.near_leads j.adjacent_place; onward = first-onward c }
 
   pub event-ok : (what : Happening) (n : Node WholeQueues) → EndOk n → EndOk (apply whole c what n).left
   event-ok what n h = record {
-    lone = (event-all (lone-all c j.shares.near_set z.own j.destination j.shares.near_leads j.place) what n).stay h.lone;
+    lone = (event-all (lone-all c j.shares.near_set z.own j.adjacent j.shares.near_leads j.adjacent_place) what n).stay h.lone;
     onward = messages-stay (Happens what ∷ []) (record { settings = c; node = n }) j.near_well h.onward;
   }
 
   pub take-ok : (link : ℕ) (n : Node WholeQueues) → EndOk n → EndOk (after_take whole c link n)
   take-ok link n h = record {
-    lone = (take-steps (lone-all c j.shares.near_set z.own j.destination j.shares.near_leads j.place).rules link n tt).stay h.lone;
+    lone = (take-steps (lone-all c j.shares.near_set z.own j.adjacent j.shares.near_leads j.adjacent_place).rules link n tt).stay h.lone;
     onward = messages-stay (Takes link ∷ []) (record { settings = c; node = n }) j.near_well h.onward;
   }
 
   -- a message that stands on a link that leads elsewhere
   abbrev SaysOther : Message → Type 0
-  SaysOther m = says_of c.own z.own m ≡ Other
+  SaysOther m = says_of c.own z.own j.base.there m ≡ Other
 
   declares-word : (r : Result Management MgmtFault) → is_declaration r ≡ true → is_other (read_says r) ≡ false
   declares-word (Ok (kinds.ChangebackDeclaration slc code)) e = refl
@@ -133,9 +133,9 @@ module _ (c z : Configuration) (j : Joint c z) where
       by true false f g h = absurd cc
       by true true f g h =
           let kind : is_management m ≡ true = managed (service_indicator m) (nat_eq (opc_of m) c.own && nat_eq (dpc_of m) z.own) f in
-          let said : says_of c.own z.own m ≡ read_says (read_management m.sif) =
-          ap (λ (k : Bool). says_by k (is_between c.own z.own m) (nat_eq (dpc_of m) c.own || nat_eq (dpc_of m) z.own) m) kind
-          ∙ ap (λ (k : Bool). says_by true (k || is_management_between z.own c.own m) (nat_eq (dpc_of m) c.own || nat_eq (dpc_of m) z.own) m) f in
+          let said : says_of c.own z.own j.base.there m ≡ read_says (read_management m.sif) =
+          ap (λ (k : Bool). says_by k (is_between c.own z.own m) (nat_eq (dpc_of m) j.base.there) m) kind
+          ∙ ap (λ (k : Bool). says_by true (k || is_management_between z.own c.own m) (nat_eq (dpc_of m) j.base.there) m) f in
           let no : true ≡ false = sym (ap is_other other) ∙ ap is_other said ∙ declares-word (read_management m.sif) g in
           absurd cc
 

@@ -65,7 +65,7 @@ module _ (c : Configuration) where
   MayMake = (set : ℕ) → adjacent_of c set < 2 ^ 14
 
   pub any-fine : MayMake → IsFine c any_message
-  any-fine fits = record { adjacent = fits; made = λ point message less. refl; tested = λ point test. refl; users = λ m user. refl }
+  any-fine fits = record { adjacent = fits; made = λ point message less. refl; tested = λ point test. refl; probed = λ link. refl; users = λ m user. refl }
 
   pub growing : IsPassing c any_message Grows
   growing = record {

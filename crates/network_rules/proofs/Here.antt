@@ -113,7 +113,7 @@ module _ (of : Message → Bool) where
     steady = steady-node settings points h start done x listed
 
     fits : MayMake a.settings
-    fits = subst MayMake (sym (settings-kept settings points h start done x)) (adjacent-fits (settings x) (h.well x listed))
+    fits = subst MayMake (sym (settings-kept settings points h start done x)) (adjacent-fits (settings x) (h.placed.well x listed))
 
     -- what the node accepts
     abbrev pub more : Turn w v x → List Message

@@ -12,7 +12,7 @@ use Rattle.neighbour_rules.proofs.Sharing.{AreFacing, are-facing, far_joint, nea
 use Rattle.network_rules.specs.Networks.{NetworkState, Place, other_end}
 use Rattle.settings.specs.Well.{IsWell}
 use Rattle.network_rules.specs.Pairs.{AreWellOrAlone}
-use Rattle.network_rules.specs.Totals.{IsJoined, is_listed}
+use Rattle.network_rules.specs.Totals.{IsJoined, IsPlaced, is_listed}
 use Rattle.network_rules.proofs.Texts.{same-some}
 
 -- the other end of a link
@@ -35,6 +35,25 @@ ends-are settings w same point link =
         (same (adjacent_of (settings point) l.set))
     by None = refl
 
+no-link : (k n : ℕ) → k < n → n ≡ 0 → ⊥
+no-link k n e f = omega (arith, e, f)
+
+-- a point with a link is listed
+pub placed-listed : (settings : (point : ℕ) → Configuration) (points : List ℕ) → IsPlaced settings points → (point link : ℕ) → link < length (settings point).links → is_listed points point ≡ true
+placed-listed settings points h point link less = by (is_listed points point) refl
+  where
+    by : (b : Bool) → is_listed points point ≡ b → b ≡ true
+    by true e = refl
+    by false e = absurd (no-link link (length (settings point).links) less (ap length (h.others point e)))
+
+-- each node keeps every limit, or has no link
+pub placed-well : (settings : (point : ℕ) → Configuration) (points : List ℕ) → IsPlaced settings points → AreWellOrAlone settings
+placed-well settings points h point = by (is_listed points point) refl
+  where
+    by : (b : Bool) → is_listed points point ≡ b → IsWell (settings point) ⊎ ((settings point).links ≡ [])
+    by true e = inl (h.well point e)
+    by false e = inr (h.others point e)
+
 module _ (settings : (point : ℕ) → Configuration) (points : List ℕ) (h : IsJoined settings points) where
   -- as the two nodes say it
   pub from-end : (point link far k : ℕ) → end_there (settings point) (settings far) (slice_get (settings point).links link) ≡ Some k
@@ -45,7 +64,7 @@ module _ (settings : (point : ℕ) → Configuration) (points : List ℕ) (h : I
           → (if b then link_with_code (settings far) (settings point).own l.slc else None) ≡ Some k → place_of settings (settings point) (Some l) ≡ Some (record { point = far; link = k })
       found l false f e = absurd cc
       found l true f e =
-          let same : adjacent_of (settings point) l.set ≡ far = eqb-true (adjacent_of (settings point) l.set) (settings far).own f ∙ h.own far in
+          let same : adjacent_of (settings point) l.set ≡ far = eqb-true (adjacent_of (settings point) l.set) (settings far).own f ∙ h.placed.own far in
           ap (λ (n : ℕ). option_map (λ (other : ℕ). record { point = n; link = other }) (link_with_code (settings n) (settings point).own l.slc)) same
           ∙ ap (option_map (λ (other : ℕ). record { point = far; link = other })) e
 
@@ -66,7 +85,7 @@ module _ (settings : (point : ℕ) → Configuration) (points : List ℕ) (h : I
       let z : Configuration = settings peer in
       let sharing : AreSharing c z = h.shared point link less in
       let facing : AreFacing c z = are-facing c z sharing in
-      let own : z.own ≡ peer = h.own peer in
+      let own : z.own ≡ peer = h.placed.own peer in
       let mine : set_of c link ≡ facing.near_set =
       same-some (set_of c link) facing.near_set
       (sym (set-named c facing.near_well (set_of c link) (link-set c facing.near_well link)) ∙ ap (set_place c) (sym own) ∙ facing.near_leads.adjacent) in
@@ -97,23 +116,12 @@ module _ (settings : (point : ℕ) → Configuration) (points : List ℕ) (h : I
       is-line (settings point) (settings o.other.point) (near_joint (settings point) (settings o.other.point) facing) link o.other.link o.there in
       line.there
 
-  no-link : (k n : ℕ) → k < n → n ≡ 0 → ⊥
-  no-link k n e f = omega (arith, e, f)
-
   pub linked-listed : (point link : ℕ) → link < length (settings point).links → is_listed points point ≡ true
-  linked-listed point link less = by (is_listed points point) refl
-    where
-      by : (b : Bool) → is_listed points point ≡ b → b ≡ true
-      by true e = refl
-      by false e = absurd (no-link link (length (settings point).links) less (ap length (h.others point e)))
+  linked-listed = placed-listed settings points h.placed
 
   pub other-apart : (point link : ℕ) (o : HasOther point link) → o.other.point ≢ point
   other-apart point link o same =
       (are-facing (settings point) (settings o.other.point) o.sharing).apart (ap (λ (k : ℕ). (settings k).own) (sym same))
 
   pub well-or-alone : AreWellOrAlone settings
-  well-or-alone point = by (is_listed points point) refl
-    where
-      by : (b : Bool) → is_listed points point ≡ b → IsWell (settings point) ⊎ ((settings point).links ≡ [])
-      by true e = inl (h.well point e)
-      by false e = inr (h.others point e)
+  well-or-alone = placed-well settings points h.placed

@@ -2,7 +2,8 @@
 use Rattle.exchange_rules.proofs.Basics.{◌≡◌, ◌&&◌, ◌||◌, ℕ, Bool, true, false, not, length, nat_eq, nat_lt, Some, None, Result, refl, ap, ◌∙◌, arith, nat_tests, if◌then◌else◌, option_map}
 use Rattle.exchange_rules.proofs.Definitions.{Message, is_management, opc_of, dpc_of, service_indicator, network_indicator, Configuration, Management, MgmtFault, read_management, link_with_code, whither_goes}
 use Rattle.exchange_rules.specs.Conserving.{is_word}
-use Rattle.exchange_rules.specs.Messages.{is_adjacent, testing}
+use Rattle.exchange_rules.specs.Messages.{is_adjacent}
+use Rattle.exchange_rules.specs.LinkTests.{testing}
 use Rattle.exchange_rules.proofs.Settling.{left-true, right-true}
 use Rattle.signalling_types.specs.declared.limits.TheConstants.Limits.{SIF_OCTETS}
 use Rattle.signalling_types.specs.declared.cause.Cause.TheVariants.{NoLabel, TooLong, WrongNetwork}

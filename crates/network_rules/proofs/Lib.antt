@@ -20,10 +20,12 @@ pub mod Thirds
 pub mod Elsewhere
 pub mod Quiet
 pub mod Changes
+pub mod Outside
 pub mod Always
 pub mod Promised
 pub mod Links
 pub mod Joined
+pub mod NoneOut
 pub mod Staying
 pub mod Turns
 pub mod Reached
@@ -52,3 +54,4 @@ pub mod TwoFailures
 pub mod Crossed
 pub mod AfterRestart
 pub mod CameAfter
+pub mod Hops

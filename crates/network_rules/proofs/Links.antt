@@ -14,7 +14,8 @@ use Rattle.neighbour_rules.specs.Neighbours.{end_there, far_end, leads_elsewhere
 use Rattle.neighbour_rules.specs.Laws as neighbours_keep
 use Rattle.neighbour_rules.specs.Laws.{AreFinal, FramesCarry, IsCarried, IsFinal, IsInFlight, IsUnderWay, MovesLacked, NoneIsLeft, NoneIsLeftOf, OpenedAlone, is_in_use, word_there}
 use Rattle.neighbour_rules.proofs.FourLaws.{frames-carry, moves-lacked, none-left, words-final}
-use Rattle.network_rules.specs.Networks.{Step, after_steps, first_network}
+use Rattle.network_rules.specs.Networks.{first_network}
+use Rattle.network_rules.specs.Outside.{Move, after_moves}
 use Rattle.network_rules.specs.Pairs.{ArePairsAlike, AreTheirPoints, AreWellOrAlone, pair_of}
 use Rattle.network_rules.specs.Links.{IsCarriedBetween, frames_carry, moves_are_lacked, none_is_left, words_are_final}
 use Rattle.network_rules.proofs.Always.{CarryHarmless, harmless-runs}
@@ -216,39 +217,39 @@ module _ (p q : PairState) (h : ArePairsAlike p q) (there : SaysNoWord p) (back 
 
 -- ---- always
 
-module _ (settings : (point : ℕ) → Configuration) (steps : List Step) (near far : ℕ) (points : AreTheirPoints settings) (well : AreWellOrAlone settings)
+module _ (settings : (point : ℕ) → Configuration) (moves : List Move) (near far : ℕ) (points : AreTheirPoints settings) (well : AreWellOrAlone settings)
     (sharing : AreSharing (settings near) (settings far)) where
   abbrev p : PairState
-  p = pair_of (after_steps steps (first_network settings)) near far
+  p = pair_of (after_moves moves (first_network settings)) near far
 
   abbrev q : PairState
-  q = neighbours.after_steps (run settings steps near far points well sharing).steps (first_pair p.near.exchange.settings p.far.exchange.settings)
+  q = neighbours.after_steps (run settings moves near far points well sharing).steps (first_pair p.near.exchange.settings p.far.exchange.settings)
 
   abbrev alike : ArePairsAlike p q
-  alike = (run settings steps near far points well sharing).is_alike
+  alike = (run settings moves near far points well sharing).is_alike
 
   carries : CarryHarmless p
-  carries = harmless-runs settings steps near far points well sharing
+  carries = harmless-runs settings moves near far points well sharing
 
   both-ways : (From To : PairState → Type 0) → neighbours_keep.WhileNothingIsLost From
       → ((r s : PairState) → ArePairsAlike r s → SaysNoWord r → SaysNoWord (turned r) → From (written r s) → To r)
       → LostNothing p → BothWays To p
   both-ways From To law step lost =
-      let both : BothWays From (its settings steps near far points well sharing) =
-      holds-of settings steps near far points well sharing (λ (r : PairState). LostNothing r → BothWays From r) law (record { near = lost.near; far = lost.far }) in
+      let both : BothWays From (its settings moves near far points well sharing) =
+      holds-of settings moves near far points well sharing (λ (r : PairState). LostNothing r → BothWays From r) law (record { near = lost.near; far = lost.far }) in
       record {
         there = step p q alike (no-word-there p carries) (no-word-here p carries) both.there;
         back = step (turned p) (turned q) (alike-turned p q alike) (no-word-here p carries) (no-word-there p carries) both.back;
       }
 
 pub carry : frames_carry
-carry settings steps near far points well sharing = both-ways settings steps near far points well sharing IsCarried IsCarriedBetween frames-carry carried-of
+carry settings moves near far points well sharing = both-ways settings moves near far points well sharing IsCarried IsCarriedBetween frames-carry carried-of
 
 pub none-stays : none_is_left
-none-stays settings steps near far points well sharing = both-ways settings steps near far points well sharing NoneIsLeft NoneIsLeft none-left none-of
+none-stays settings moves near far points well sharing = both-ways settings moves near far points well sharing NoneIsLeft NoneIsLeft none-left none-of
 
 pub final : words_are_final
-final settings steps near far points well sharing = both-ways settings steps near far points well sharing AreFinal AreFinal words-final final-of
+final settings moves near far points well sharing = both-ways settings moves near far points well sharing AreFinal AreFinal words-final final-of
 
 pub lacked : moves_are_lacked
-lacked settings steps near far points well sharing = both-ways settings steps near far points well sharing MovesLacked MovesLacked moves-lacked lacked-of
+lacked settings moves near far points well sharing = both-ways settings moves near far points well sharing MovesLacked MovesLacked moves-lacked lacked-of

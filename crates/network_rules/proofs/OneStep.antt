@@ -185,7 +185,7 @@ module _ (of : Message → Bool) (settings : (point : ℕ) → Configuration) (p
         (λ (same : y ≡ x). subst (λ (n : ℕ). g n ≡ f n + (if nat_eq x n then d else 0)) (sym same) (here ∙ ap (λ (b : Bool). f x + (if b then d else 0)) (sym (same-here x))))
         (λ (far : y ≢ x). plus-so (g y) (f y) (if nat_eq x y then d else 0) (elsewhere y far) (ap (λ (b : Bool). if b then d else 0) (not-equal x y (λ e. far (sym e)))))
         (cases_eq y x))
-        ∙ sum-once f x d points (h.once x listed)
+        ∙ sum-once f x d points (h.placed.once x listed)
 
     waits-at-one : (turn : Turn w v x) (y : ℕ) → (if nat_eq (its_sender turn) x then users_that of (its_news turn) else 0) ≡ 0
         → old y + (if nat_eq x y then users_that of (its_more turn) else 0) ≡ new y + (if nat_eq (its_sender turn) y then users_that of (its_news turn) else 0)
@@ -203,17 +203,17 @@ module _ (of : Message → Bool) (settings : (point : ℕ) → Configuration) (p
 
     waits-sum : (turn : Turn w v x) → IsFrom turn → sum_by old points + users_that of (its_more turn) ≡ sum_by new points + users_that of (its_news turn)
     waits-sum turn (nobody none) =
-        sym (sum-once old x (users_that of (its_more turn)) points (h.once x listed))
+        sym (sum-once old x (users_that of (its_more turn)) points (h.placed.once x listed))
         ∙ sum-agree (λ y. old y + (if nat_eq x y then users_that of (its_more turn) else 0)) new points
         (λ y its.
         waits-at-one turn y (none-if (nat_eq (its_sender turn) x) (users_that of (its_news turn)) none)
         ∙ sym (plus-so (new y) (new y) (if nat_eq (its_sender turn) y then users_that of (its_news turn) else 0) refl (none-if (nat_eq (its_sender turn) y) (users_that of (its_news turn)) none)))
         ∙ plus-so (sum_by new points) (sum_by new points) (users_that of (its_news turn)) refl none
     waits-sum turn (someone its far) =
-        sym (sum-once old x (users_that of (its_more turn)) points (h.once x listed))
+        sym (sum-once old x (users_that of (its_more turn)) points (h.placed.once x listed))
         ∙ sum-agree (λ y. old y + (if nat_eq x y then users_that of (its_more turn) else 0)) (λ y. new y + (if nat_eq (its_sender turn) y then users_that of (its_news turn) else 0)) points
         (λ y on. waits-at-one turn y (ap (λ (b : Bool). if b then users_that of (its_news turn) else 0) (not-equal (its_sender turn) x far)))
-        ∙ sum-once new (its_sender turn) (users_that of (its_news turn)) points (h.once (its_sender turn) its)
+        ∙ sum-once new (its_sender turn) (users_that of (its_news turn)) points (h.placed.once (its_sender turn) its)
 
     step-sum : (acc acc' arr arr' wait wait' m n : ℕ) → acc ≡ arr + wait → acc' ≡ acc + m → arr' ≡ arr + n → wait + m ≡ wait' + n → acc' ≡ arr' + wait'
     step-sum acc acc' arr arr' wait wait' m n e f g i = omega (arith, e, f, g, i)

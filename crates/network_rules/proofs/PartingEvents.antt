@@ -1,6 +1,6 @@
 -- So it is with whole events: with frames, with ticks, with a link that opens, and with all others.
 use Rattle.exchange_rules.proofs.Basics.{◌≡◌, ◌<◌, ◌&&◌, ◌+◌, ℕ, zero, suc, Bool, true, false, not, List, [], ◌++◌, Option, Some, None, Result, Ok, Err, refl, ap, ◌∙◌, arith, if◌then◌else◌, take}
-use Rattle.exchange_rules.proofs.Definitions.{Message, Configuration, FrameFault, FrameValue, EmptyFrame, MessageFrame, StatusFrame, read_frame, SeqFault, Action, UserData, Status, Alignment, Standing, Link, is_down, is_in_service, may_restart, action_at, accept_answer, unconfirmed, count_confirmed, Node, with_parts, answer, refuse, WholeQueues, queue_at, whole, Carrying, carries, empty_data, message_data, numbers, accept, handle_by, act_by_data, receive_data, read, advance, is_link, link_at, down, may_open, open_link, association_up, changeover_of, title_refusal, with_timers, run_due, run_next, run_times, tick, with_expiry, complete_if, ChangeoverTimer, release, tell_owed, handle_event, apply, Happening, CameUp, WentDown, FrameCame, Ticked, Submitted, Activated, Deactivated, TitleAdded, TitleRemoved, whither_goes, AreLinksSteady, IsSteady, is_l7_running}
+use Rattle.exchange_rules.proofs.Definitions.{Message, Configuration, FrameFault, FrameValue, EmptyFrame, MessageFrame, StatusFrame, read_frame, SeqFault, Action, UserData, Status, Alignment, Standing, Link, is_down, is_in_service, may_restart, acts_on, accept_answer, unconfirmed, count_confirmed, Node, with_parts, answer, refuse, WholeQueues, queue_at, whole, Carrying, carries, empty_data, message_data, numbers, accept, handle_by, act_by_data, receive_data, read, advance, is_link, link_at, down, may_open, open_link, association_up, changeover_of, title_refusal, with_timers, run_due, run_next, run_times, tick, with_expiry, complete_if, ChangeoverTimer, release, tell_owed, handle_event, apply, Happening, CameUp, WentDown, FrameCame, Ticked, Submitted, Activated, Deactivated, TitleAdded, TitleRemoved, whither_goes, AreLinksSteady, IsSteady, is_l7_running}
 use Rattle.exchange_rules.proofs.Definitions.{Gone, nothing_gone, both_gone, gone_by_completion, gone_by_new, confirmed_by, confirmed_at, confirmed_in, confirmed_of, gone_by_timer, gone_by_timers, gone_by_tick, new_at, new_by, new_in, new_of, new_message, accept_data, accept_frame, accept_text}
 use Rattle.exchange_rules.specs.Conserving.{confirmed}
 use Rattle.link.specs.declared.action.Action.TheVariants as act
@@ -13,7 +13,7 @@ use Rattle.signalling_types.specs.declared.outcome.Outcome.TheVariants.{Handled,
 use Rattle.timers.specs.declared.name.TimerName.{TimerName}
 use Rattle.timers.specs.declared.name.TimerName.TheVariants as name
 use Rattle.timers.specs.Timers.{ticked, due_name, due_count, after_due}
-use Rattle.network_rules.proofs.Passing.{IsFine, IsPassing, fail-keeps, advance-keeps, by_status-keeps, run_out-keeps, ask-keeps}
+use Rattle.network_rules.proofs.Passing.{begin_test-keeps, test_unanswered-keeps, IsFine, IsPassing, fail-keeps, advance-keeps, run_out-keeps, ask-keeps, link_status-keeps}
 use Rattle.network_rules.proofs.PassingLinks.{submit_to-keeps, aside-keeps, down-keeps, activate-keeps, deactivate-keeps, added-keeps, removed-keeps, settles}
 use Rattle.network_rules.proofs.Growing.{AreGrown, Grows, MayMake, any_message, any-fine, grown-same, grown-then, growing, release-grows}
 use Rattle.network_rules.proofs.Parting.{Does, SaysWord, carry-does, does-then, doubted}
@@ -76,13 +76,13 @@ module _ (c : Configuration) (fits : MayMake c) where
 
   data-comes : (link : ℕ) (d : Carrying) (n : Node WholeQueues)
       → Comes c link (new_in (Some d) link c n) n.queues (receive_data whole c link d n).left (confirmed_in (Some d) link c n) (gone_by_new (new_in (Some d) link c n) c (accept_frame (Some d) link c n))
-  data-comes link d n = act-comes (action_at (link_at n.parts link).alignment UserData) link d n
+  data-comes link d n = act-comes (acts_on (link_at n.parts link) UserData) link d n
 
   frame-comes : (link : ℕ) (x : Result FrameValue FrameFault) (n : Node WholeQueues)
       → Comes c link (new_of x link c n) n.queues (read whole c link x n).left (confirmed_of x link c n) (gone_by_new (new_of x link c n) c (accept_text link x (record { settings = c; node = n })))
   frame-comes link (Ok (EmptyFrame bsn fsn)) n = data-comes link (empty_data bsn fsn) n
   frame-comes link (Ok (MessageFrame bsn fsn sio sif)) n = data-comes link (message_data bsn fsn sio sif) n
-  frame-comes link (Ok (StatusFrame bsn fsn status)) n = quiet (by_status-keeps c any_message f r (action_at (link_at n.parts link).alignment (Status status)) link status n).queues refl refl refl
+  frame-comes link (Ok (StatusFrame bsn fsn status)) n = quiet (link_status-keeps c any_message f r link status n).queues refl refl refl
   frame-comes link (Err fault) n = quiet (aside-keeps c any_message f r link fault n).queues refl refl refl
 
   receive-comes : (is_there is_down : Bool) (link : ℕ) (x : Result FrameValue FrameFault) (n : Node WholeQueues)
@@ -144,6 +144,9 @@ module _ (c : Configuration) (fits : MayMake c) where
   timer-ticks (Some (name.T6 destination)) n = runs (grown-same n.queues n.queues refl) refl refl
   timer-ticks (Some (name.T8 set destination)) n = idle n
   timer-ticks (Some (name.T10 set destination)) n = passing n _ (ask-keeps c any_message f r set destination n)
+  timer-ticks (Some (name.Slt1 link)) n = passing n _ (test_unanswered-keeps c any_message f r link n)
+  timer-ticks (Some (name.Slt2 link)) n = passing n _ (begin_test-keeps c any_message f r link n)
+  timer-ticks (Some name.Sst) n = idle n
 
   first-doubts : (k l : ℕ) → 0 < k → 0 < k + l
   first-doubts k l e = omega (arith, e)
@@ -229,7 +232,7 @@ module _ (c : Configuration) (fits : MayMake c) where
   handled-grows (Submitted message) n e = submit_to-keeps c any_message f r (whither_goes c message) message n
   handled-grows (Activated link) n e = activate-keeps c any_message f r link n
   handled-grows (Deactivated link) n e = deactivate-keeps c any_message f r link n
-  handled-grows (TitleAdded row is_memory_refused) n e = added-keeps c any_message f r (title_refusal n.parts.titles row is_memory_refused) row n
+  handled-grows (TitleAdded row is_memory_refused) n e = added-keeps c any_message f r (title_refusal n.parts.titles.rows row is_memory_refused) row n
   handled-grows (TitleRemoved key digits) n e = removed-keeps c any_message f r key digits n
 
   pub other-event : (what : Happening) (n : Node WholeQueues) → IsOther what → AreGrown n.queues (apply whole c what n).left.queues

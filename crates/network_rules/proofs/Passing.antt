@@ -5,7 +5,7 @@ use Rattle.std.proofs.lemmas.List.Folds.{list_all-append}
 use Rattle.exchange_rules.proofs.Definitions.{Message, is_management, dpc_of, flow_of, service_indicator, Configuration, Cause, Management, ExtendedChangeoverOrder, ChangebackDeclaration, RouteSetTestProhibited, RouteSetTestRestricted, LinkTestValue, RelayedValue, relay, returned, FailureReason, LinkStatus, LinkTimer, Transition, Expiry, Facts, RouteStatus, Allowed, Restricted, Prohibited, RouteTest, Heard, Owed, Node, Done, Parts, with_parts, answer, refuse, WholeQueues, whole, queue_on, hold, declaration, test_answer, link_of, no_room, no_room_for, waits, is_destination, destination_place, link_at, down, in_service, set_of, peer_of, point_of, adjacent_of, telling, entry_of, facts, owed}
 use Rattle.exchange_rules.proofs.Definitions.{send, send_routed, send_anew, send_each, transfer, offer, route_message, told_parts, tell, tell_if, tell_each, tell_owed, may_tell, inhibited, is_inhibited, prohibit, answer_no_route, answered_parts, send_route_status, on_route_test, on_route_status, apply_route_status, ask_by, ask_again, with_next_test, prohibited_test, restricted_test, status_of, management_to, own_of, in_place_of, send_udts, return_outcome, relay_by, on_unitdata, answer_no_user_part, is_unequipped_told, tell_unavailable, unavailable, unequipped_counted, UserPartUnavailable, Unequipped, opc_of}
 use Rattle.exchange_rules.proofs.Definitions.{is_user, sccp, local, make_unavailable, begin, change_over, fail, begin_by_peer, fail_by_peer, fail_by_order, changeover_order, changing, has_other}
-use Rattle.exchange_rules.proofs.Definitions.{hold_flows, code_in_use, code_for, take_back_each, loses_flows, advance, moved_on, return_if, enters, serve_status, act_by_status, act_by_timer, run_out, action_at}
+use Rattle.exchange_rules.proofs.Definitions.{hold_flows, code_in_use, code_for, take_back_each, loses_flows, advance, moved_on, return_if, enters, serve_status, act_by_status, act_by_timer, run_out, acts_on, link_test, awaiting_test, with_test_failed, tests_links, queue_if, send_test, begin_test, repeat_test, test_unanswered, take_step, test_if, on_link_status, begin_outage, hear_outage, end_outage, tells_outage, tells_recovery, Status}
 use Rattle.exchange_rules.proofs.Settling.{left-true, right-true}
 use Rattle.link.specs.declared.action.Action.{Action}
 use Rattle.link.specs.declared.action.Action.TheVariants as act
@@ -23,6 +23,7 @@ pub record IsFine (c : Configuration) (fine : Message → Bool) : Type 0 where
   pub adjacent : (set : ℕ) → adjacent_of c set < 2 ^ 14
   pub made : (point : ℕ) (message : Management) → point < 2 ^ 14 → fine (management_to c point message) ≡ true
   pub tested : (point : ℕ) (test : LinkTestValue) → fine (test_answer c point test) ≡ true
+  pub probed : (link : ℕ) → fine (link_test c link) ≡ true
   pub users : (m : Message) → is_management m ≡ false → fine m ≡ true
 
 -- R holds of what rules do that no changeover ends by and no frame: parts change, and a message that is fine goes to the end of a queue, or into Held
@@ -180,6 +181,7 @@ module _ (c : Configuration) (fine : Message → Bool) (f : IsFine c fine) {R : 
   relay-keeps : (becomes : RelayedValue) (m : Message) (n : Node WholeQueues) → is_management m ≡ false → R n (relay_by whole c becomes m n).left
   relay-keeps relays.Delivered m n e = stays n
   relay-keeps (relays.Onward sif) m n e = transfer-keeps None (in_place_of m sif) n (f.users (in_place_of m sif) e)
+  relay-keeps (relays.Heard news) m n e = r.same n _ refl
   relay-keeps (relays.Refused cause) m n e = stays n
 
   unitdata-keeps : (m : Message) (n : Node WholeQueues) → is_management m ≡ false → R n (on_unitdata whole c m n).left
@@ -246,10 +248,41 @@ module _ (c : Configuration) (fine : Message → Bool) (f : IsFine c fine) {R : 
   return_if-keeps true link before n = back_each-keeps before (facts c n.parts) link (length c.links) n
   return_if-keeps false link before n = stays n
 
+  -- ---- tests of links
+
+  queue_if-keeps : (room : Option Cause) (link : ℕ) (n : Node WholeQueues) → R n (queue_if whole c room link (link_test c link) n)
+  queue_if-keeps (Some cause) link n = stays n
+  queue_if-keeps None link n = r.queued link (link_test c link) n (f.probed link)
+
+  send_test-keeps : (link : ℕ) (n : Node WholeQueues) → R n (send_test whole c link n)
+  send_test-keeps link n =
+      let next : Node WholeQueues = with_parts n (awaiting_test c link n.parts) in
+      r.both n next _ (r.same n next refl) (queue_if-keeps (no_room whole c (link_test c link) n.queues) link next)
+
+  pub begin_test-keeps : (link : ℕ) (n : Node WholeQueues) → R n (begin_test whole c link n)
+  begin_test-keeps link n = either (tests_links c && in_service n.parts link) n (send_test whole c link n) n (send_test-keeps link n) (stays n)
+
+  repeat_test-keeps : (again : Bool) (link : ℕ) (n : Node WholeQueues) → R n (repeat_test whole c again link n)
+  repeat_test-keeps true link n = fail-keeps link reasons.Test n
+  repeat_test-keeps false link n =
+      let failed : Node WholeQueues = with_parts n (with_test_failed true link n.parts) in
+      r.both n failed _ (r.same n failed refl) (begin_test-keeps link failed)
+
+  pub test_unanswered-keeps : (link : ℕ) (n : Node WholeQueues) → R n (test_unanswered whole c link n)
+  test_unanswered-keeps link n =
+      let again : Bool = (link_at n.parts link).test_failed in
+      either (in_service n.parts link) n (repeat_test whole c again link n) n (repeat_test-keeps again link n) (stays n)
+
+  test_if-keeps : (entered : Bool) (link : ℕ) (n : Node WholeQueues) → R n (test_if whole c entered link n)
+  test_if-keeps true link n = begin_test-keeps link n
+  test_if-keeps false link n = stays n
+
   pub advance-keeps : (link : ℕ) (step : Transition) (n : Node WholeQueues) → R n (advance whole c link step n)
   advance-keeps link step n =
       let went : Node WholeQueues = with_parts n (moved_on c link step n.parts) in
-      r.both n went _ (r.same n went refl) (return_if-keeps (enters link step n.parts) link (facts c n.parts) went)
+      let took : Node WholeQueues = take_step whole c link step n in
+      r.both n took _ (r.both n went took (r.same n went refl) (return_if-keeps (enters link step n.parts) link (facts c n.parts) went))
+      (test_if-keeps (enters link step n.parts) link took)
 
   -- ---- frames, and the timers of a link
 
@@ -264,12 +297,26 @@ module _ (c : Configuration) (fine : Message → Bool) (f : IsFine c fine) {R : 
   serve-keeps link says.BusyEnded n = r.same n _ refl
   serve-keeps link says.OutOfService n = stays n
 
-  pub by_status-keeps : (a : Action) (link : ℕ) (status : LinkStatus) (n : Node WholeQueues) → R n (act_by_status whole c a link status n).left
+  by_status-keeps : (a : Action) (link : ℕ) (status : LinkStatus) (n : Node WholeQueues) → R n (act_by_status whole c a link status n).left
   by_status-keeps act.Ignored link status n = stays n
   by_status-keeps act.Fail link status n = fail-keeps link reasons.Status n
   by_status-keeps (act.Go step) link status n =
       let next : Node WholeQueues = advance whole c link step n in
       r.both n next _ (advance-keeps link step n) (either step.serve next (serve_status whole c link status next) next (serve-keeps link status next) (stays next))
+
+  hear_outage-keeps : (out : Bool) (link : ℕ) (n : Node WholeQueues) → R n (if out then n else begin_outage whole c link n)
+  hear_outage-keeps true link n = stays n
+  hear_outage-keeps false link n = r.same n _ refl
+
+  told-keeps : (out back : Bool) (link : ℕ) (status : LinkStatus) (n : Node WholeQueues)
+      → R n (if out then answer Handled (hear_outage whole c link n) else if back then answer Handled (end_outage whole c link n)
+      else act_by_status whole c (acts_on (link_at n.parts link) (Status status)) link status n).left
+  told-keeps true back link status n = hear_outage-keeps (link_at n.parts link).peer_outage link n
+  told-keeps false true link status n = r.same n _ refl
+  told-keeps false false link status n = by_status-keeps (acts_on (link_at n.parts link) (Status status)) link status n
+
+  pub link_status-keeps : (link : ℕ) (status : LinkStatus) (n : Node WholeQueues) → R n (on_link_status whole c link status n).left
+  link_status-keeps link status n = told-keeps (tells_outage c link status n.parts) (tells_recovery link status n.parts) link status n
 
   by_timer-keeps : (a : Action) (link : ℕ) (n : Node WholeQueues) → R n (act_by_timer whole c a link n)
   by_timer-keeps act.Ignored link n = stays n
@@ -277,4 +324,4 @@ module _ (c : Configuration) (fine : Message → Bool) (f : IsFine c fine) {R : 
   by_timer-keeps (act.Go step) link n = advance-keeps link step n
 
   pub run_out-keeps : (link : ℕ) (timer : LinkTimer) (n : Node WholeQueues) → R n (run_out whole c link timer n)
-  run_out-keeps link timer n = by_timer-keeps (action_at (link_at n.parts link).alignment (Expiry timer)) link n
+  run_out-keeps link timer n = by_timer-keeps (acts_on (link_at n.parts link) (Expiry timer)) link n

@@ -3,7 +3,7 @@ use Rattle.exchange_rules.proofs.Basics.{◌<◌, ◌^◌, ◌%◌, arith, ◌�
 use Rattle.exchange_rules.proofs.Definitions.{Message, is_management, opc_of, service_indicator, Configuration, NoSuchName, Management, TrafficRestartAllowed, ExtendedChangeoverOrder, ExtendedChangeoverAcknowledgement, EmergencyChangeoverOrder, EmergencyChangeoverAcknowledgement, ChangebackDeclaration, ChangebackAcknowledgement, TransferProhibited, TransferRestricted, TransferAllowed, RouteSetTestProhibited, RouteSetTestRestricted, MgmtFault, Discrimination, UserData, Status, Allowed, Restricted, Prohibited, Node, Done, answer, refuse, WholeQueues, queue_at, whole, Queue, first_queue, accept_answer, to_send, SeqFault, carries, destination_place, set_place, is_link, link_at, down, route_about, from_afar, UserPartUnavailable}
 use Rattle.exchange_rules.proofs.Definitions.{tell_owed, title_refusal}
 use Rattle.exchange_rules.proofs.Definitions.{is_adjacent, local, do_test, do_order, do_acknowledgement, do_management, link_with_code, manage, deliver_to, deliver, whither_goes, changeback_acknowledgement, changeover_of}
-use Rattle.exchange_rules.proofs.Definitions.{advance, action_at, Carrying, empty_data, message_data, numbers, accept, carry, handle_by, act_by_data, receive_frame, read, receive, FrameValue, EmptyFrame, MessageFrame, StatusFrame, read_frame, carried_message, may_open, open_link, may_restart, association_up}
+use Rattle.exchange_rules.proofs.Definitions.{advance, acts_on, Carrying, empty_data, message_data, numbers, accept, carry, handle_by, act_by_data, receive_frame, read, receive, FrameValue, EmptyFrame, MessageFrame, StatusFrame, read_frame, carried_message, may_open, open_link, may_restart, association_up}
 use Rattle.exchange_rules.proofs.Definitions.{release, with_timers, run_timer, run_due, run_times, tick, handle_event, apply, Happening, CameUp, WentDown, FrameCame, Ticked, Submitted, Activated, Deactivated, TitleAdded, TitleRemoved, after_sending, after_take, Outgoing, SendsStatus, SendsMessage, Acknowledges, SendsNothing, goes_out}
 use Rattle.exchange_rules.proofs.LastingMessages.{accepted-all, sent-all}
 use Rattle.link.specs.Queue as queue
@@ -21,7 +21,7 @@ use Rattle.mtp3_codec.specs.Management.{read_link_test, read_management}
 use Rattle.route_management.specs.declared.heard.RouteTest.TheVariants as tests
 use Rattle.link.specs.declared.action.LinkTimer.TheVariants as its
 use Rattle.signalling_types.specs.declared.notice.ChangeoverTimer.TheVariants as changeover
-use Rattle.network_rules.proofs.Passing.{IsFine, IsPassing, opc-fits, either_done, stays, routed, test-keeps, status-keeps, ask-keeps, transfer-keeps, local-keeps, fail-keeps, advance-keeps, by_status-keeps, run_out-keeps}
+use Rattle.network_rules.proofs.Passing.{begin_test-keeps, test_unanswered-keeps, IsFine, IsPassing, opc-fits, either_done, stays, routed, test-keeps, status-keeps, ask-keeps, transfer-keeps, local-keeps, fail-keeps, advance-keeps, run_out-keeps, link_status-keeps}
 use Rattle.network_rules.proofs.PassingLinks.{do_test-keeps, confirmed-keeps, submit_to-keeps, aside-keeps, down-keeps, activate-keeps, deactivate-keeps, added-keeps, removed-keeps, go_each-keeps, settles}
 use Rattle.network_rules.proofs.Fine.{Keeps, keeping, same, and-then, queue-keeps, order-keeps, acknowledged-keeps, expired-keeps}
 
@@ -113,9 +113,9 @@ module _ (c : Configuration) (fine : Message → Bool) (f : IsFine c fine) where
       and-then c fine f n next _ (advance-keeps c fine f r link step n) (handle-keeps (numbers whole c link d next) link d next e)
 
   frame-keeps : (link : ℕ) (frame : FrameValue) (n : Node WholeQueues) → IsFineOf (carried_message (Ok frame)) → K n (receive_frame whole c link frame n).left
-  frame-keeps link (EmptyFrame bsn fsn) n e = by_data-keeps (action_at (link_at n.parts link).alignment UserData) link (empty_data bsn fsn) n e
-  frame-keeps link (MessageFrame bsn fsn sio sif) n e = by_data-keeps (action_at (link_at n.parts link).alignment UserData) link (message_data bsn fsn sio sif) n e
-  frame-keeps link (StatusFrame bsn fsn status) n e = by_status-keeps c fine f r (action_at (link_at n.parts link).alignment (Status status)) link status n
+  frame-keeps link (EmptyFrame bsn fsn) n e = by_data-keeps (acts_on (link_at n.parts link) UserData) link (empty_data bsn fsn) n e
+  frame-keeps link (MessageFrame bsn fsn sio sif) n e = by_data-keeps (acts_on (link_at n.parts link) UserData) link (message_data bsn fsn sio sif) n e
+  frame-keeps link (StatusFrame bsn fsn status) n e = link_status-keeps c fine f r link status n
 
   read-keeps : (link : ℕ) (r : Result FrameValue FrameFault) (n : Node WholeQueues) → IsFineOf (carried_message r) → K n (read whole c link r n).left
   read-keeps link (Ok frame) n e = frame-keeps link frame n e
@@ -168,6 +168,9 @@ module _ (c : Configuration) (fine : Message → Bool) (f : IsFine c fine) where
   timer-keeps (name.T6 destination) n = to n _ refl
   timer-keeps (name.T8 set destination) n = stay n
   timer-keeps (name.T10 set destination) n = ask-keeps c fine f r set destination n
+  timer-keeps (name.Slt1 link) n = test_unanswered-keeps c fine f r link n
+  timer-keeps (name.Slt2 link) n = begin_test-keeps c fine f r link n
+  timer-keeps name.Sst n = stay n
 
   due-keeps : (timer : Option TimerName) (n : Node WholeQueues) → K n (run_due whole c timer n)
   due-keeps (Some timer) n = timer-keeps timer n
@@ -207,7 +210,7 @@ module _ (c : Configuration) (fine : Message → Bool) (f : IsFine c fine) where
   handled-keeps (Submitted message) n e = submit_to-keeps c fine f r (whither_goes c message) message n
   handled-keeps (Activated link) n e = activate-keeps c fine f r link n
   handled-keeps (Deactivated link) n e = deactivate-keeps c fine f r link n
-  handled-keeps (TitleAdded row is_memory_refused) n e = added-keeps c fine f r (title_refusal n.parts.titles row is_memory_refused) row n
+  handled-keeps (TitleAdded row is_memory_refused) n e = added-keeps c fine f r (title_refusal n.parts.titles.rows row is_memory_refused) row n
   handled-keeps (TitleRemoved key digits) n e = removed-keeps c fine f r key digits n
 
   pub event-keeps : (what : Happening) (n : Node WholeQueues) → IsFineAt what → K n (apply whole c what n).left

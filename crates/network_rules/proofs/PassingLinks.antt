@@ -1,10 +1,11 @@
 -- So it is with tests, submissions, links that fail, the operator's word, and what goes on at the end of an event.
 use Rattle.exchange_rules.proofs.Basics.{◌≡◌, ℕ, Bool, true, false, List, [], ◌∷◌, Option, Some, None, Result, Ok, Err, refl, sym, subst, if◌then◌else◌, list_all}
 use Rattle.exchange_rules.proofs.Definitions.{Message, is_management, flow_of, Configuration, TitleEntry, Cause, NoSuchName, MgmtFault, LinkTestValue, TestKind, Test, Acknowledgement, TitleKey, Discrimination, FailureReason, Node, Done, with_parts, answer, refuse, WholeQueues, whole, test_answer, link_of, no_room, waits, is_link, link_at, down}
-use Rattle.exchange_rules.proofs.Definitions.{send_on, transfer, tell_owed, add_title_unless, remove_title, place_of, has_row, without_row, with_titles}
+use Rattle.exchange_rules.proofs.Definitions.{send_on, transfer, tell_owed, add_title_unless, remove_title, place_of, has_row, without_row, with_rows}
 use Rattle.exchange_rules.proofs.Definitions.{local, do_kind, do_test, submit_to, fail, freed, is_outstanding, on_changeback_acknowledgement}
 use Rattle.exchange_rules.proofs.Definitions.{leave_aside, fail_if_up, end_association, association_down, set_active, activate, deactivate}
 use Rattle.exchange_rules.proofs.Definitions.{go_on, go_by, go, go_each, release}
+use Rattle.exchange_rules.proofs.Definitions.{passes_test, test_passed}
 use Rattle.exchange_rules.proofs.Settling.{left-true, right-true}
 use Rattle.mtp3_codec.specs.declared.discrimination.Discrimination.TheVariants as whither
 use Rattle.signalling_types.specs.declared.cause.Cause.TheVariants as causes
@@ -20,7 +21,8 @@ module _ (c : Configuration) (fine : Message → Bool) (f : IsFine c fine) {R : 
 
   kind-keeps : (kind : TestKind) (link point : ℕ) (test : LinkTestValue) (n : Node WholeQueues) → R n (do_kind whole c kind link point test n).left
   kind-keeps Test link point test n = send_on-keeps link (test_answer c point test) n (f.tested point test)
-  kind-keeps Acknowledgement link point test n = stays c fine f r n
+  kind-keeps Acknowledgement link point test n =
+      either_done c fine f r (passes_test c link point test n.parts) n (answer Handled (with_parts n (test_passed c link n.parts))) (answer Ignored n) (r.same n _ refl) (stays c fine f r n)
 
   pub do_test-keeps : (test : Result LinkTestValue MgmtFault) (link point : ℕ) (n : Node WholeQueues) → R n (do_test whole c test link point n).left
   do_test-keeps (Err fault) link point n = stays c fine f r n
@@ -76,8 +78,8 @@ module _ (c : Configuration) (fine : Message → Bool) (f : IsFine c fine) {R : 
 
   pub removed-keeps : (key : TitleKey) (digits : List ℕ) (n : Node WholeQueues) → R n (remove_title key digits n).left
   removed-keeps key digits n =
-      either_done c fine f r (has_row n.parts.titles (place_of key digits)) n
-      (answer Handled (with_parts n (with_titles (without_row (place_of key digits) n.parts.titles) n.parts))) (refuse causes.NoSuchName n) (r.same n _ refl) (stays c fine f r n)
+      either_done c fine f r (has_row n.parts.titles.rows (place_of key digits)) n
+      (answer Handled (with_parts n (with_rows (without_row (place_of key digits) n.parts.titles.rows) n.parts))) (refuse causes.NoSuchName n) (r.same n _ refl) (stays c fine f r n)
 
   go-keeps : (waiting : Bool) (link : Option ℕ) (m : Message) (n : Node WholeQueues) → link_of c n.parts (flow_of m) ≡ link → fine m ≡ true → R n (go_by whole c waiting m n)
   go-keeps true link m n e g = r.held m n g

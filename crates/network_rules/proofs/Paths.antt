@@ -6,7 +6,7 @@ use Rattle.changeover.specs.Changeover.{users_of}
 use Rattle.pair_moves.specs.Order.{join_to}
 use Rattle.pair_moves.proofs.Counts.{count-append}
 use Rattle.pair_moves.proofs.Joins.{join-alike}
-use Rattle.pair_rules.specs.Promises.{IsPunctual, is_of_flow, of_flow}
+use Rattle.pair_rules.specs.Promises.{BothWays, IsPunctual, is_of_flow, of_flow}
 use Rattle.pair_rules.specs.Sharing.{AreSharing}
 use Rattle.neighbour_rules.specs.Neighbours.{far_end, users_to}
 use Rattle.neighbour_rules.specs.Promises.{InOrder, accepted_there, waiting, waiting_by, waiting_on}
@@ -19,6 +19,7 @@ use Rattle.network_rules.proofs.AllRuns.{steps-keep}
 use Rattle.network_rules.proofs.Anew.{neighbours-anew}
 use Rattle.network_rules.proofs.Merged.{AreLeft, merged-alone, merged-append, merged-count, merged-filter, merged-one, merged-other, merged-split, merged-through}
 use Rattle.network_rules.proofs.PassedOn.{all-pass}
+use Rattle.network_rules.proofs.Outside.{at-steps}
 use Rattle.network_rules.proofs.Promised.{order}
 use Rattle.network_rules.proofs.Reached.{changes-keep}
 
@@ -119,7 +120,7 @@ module _ (point sls : ℕ) where
   its = record { point = point; sls = sls }
 
   -- they are user messages for the point
-  to-point : (ms : List Message) → of_flow its (users_to point ms) ≡ of_flow its ms
+  pub to-point : (ms : List Message) → of_flow its (users_to point ms) ≡ of_flow its ms
   to-point [] = refl
   to-point (m ∷ ms) = by (is_management m) (nat_eq (dpc_of m) point) refl refl (to-point ms)
     where
@@ -178,7 +179,7 @@ module _ (w : NetworkState) (near far sls : ℕ) (own : (w.node far).exchange.se
 pub last-hop : last_hops_keep_flows_in_order
 last-hop settings steps near far sls points well sharing kept punctual =
     hop (after_steps steps (first_network settings)) near far sls (ap (λ (c : Configuration). c.own) (steps-keep steps (first_network settings) far) ∙ points far)
-    ((order settings steps near far points well sharing kept).there punctual)
+    ((at-steps (λ (p : PairState). LostNothing p → BothWays (λ (q : PairState). IsPunctual q → InOrder q) p) order settings steps near far points well sharing kept).there punctual)
 
 pub last-anew : last_hops_begin_anew
 last-anew settings changes near far points well sharing quiet later sls apart since stays =

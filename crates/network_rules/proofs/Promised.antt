@@ -14,9 +14,10 @@ use Rattle.neighbour_rules.specs.Promises as neighbours_promise
 use Rattle.neighbour_rules.proofs.Promised.{each-in-order, each-once}
 use Rattle.neighbour_rules.proofs.Awaited.{nothing-in-vain}
 use Rattle.neighbour_rules.proofs.Staying.{books-stay, held-in-no-vain, stay-between}
-use Rattle.network_rules.specs.Networks.{Step, after_steps, first_network}
+use Rattle.network_rules.specs.Networks.{first_network}
+use Rattle.network_rules.specs.Outside.{Move, after_moves}
 use Rattle.network_rules.specs.Pairs.{AreAlike, ArePairsAlike, AreTheirPoints, AreWellOrAlone, IsRunOfNeighbours, books_are_of_the_two, each_flow_in_order, each_message_once, flows_stay_between, nothing_is_awaited_in_vain, nothing_is_held_in_vain, pair_of}
-use Rattle.network_rules.proofs.AllRuns.{steps-keep}
+use Rattle.network_rules.proofs.Outside.{moves-keep}
 use Rattle.network_rules.proofs.Always.{runs}
 
 -- ---- a pair that is alike, with its books and exchanges written out
@@ -40,21 +41,21 @@ is-written one other h =
 
 -- ---- what holds of the one, holds of the other
 
-module _ (settings : (point : ℕ) → Configuration) (steps : List Step) (near far : ℕ) (points : AreTheirPoints settings) (well : AreWellOrAlone settings)
+module _ (settings : (point : ℕ) → Configuration) (moves : List Move) (near far : ℕ) (points : AreTheirPoints settings) (well : AreWellOrAlone settings)
     (sharing : AreSharing (settings near) (settings far)) where
   abbrev p : PairState
-  p = pair_of (after_steps steps (first_network settings)) near far
+  p = pair_of (after_moves moves (first_network settings)) near far
 
   pub run : IsRunOfNeighbours p
-  run = runs settings steps near far points well sharing
+  run = runs settings moves near far points well sharing
 
   abbrev pub its : PairState
   its = written p (neighbours.after_steps run.steps (first_pair p.near.exchange.settings p.far.exchange.settings))
 
   still-sharing : AreSharing p.near.exchange.settings p.far.exchange.settings
   still-sharing =
-      subst (λ (c : Configuration). AreSharing c p.far.exchange.settings) (sym (steps-keep steps (first_network settings) near))
-      (subst (AreSharing (settings near)) (sym (steps-keep steps (first_network settings) far)) sharing)
+      subst (λ (c : Configuration). AreSharing c p.far.exchange.settings) (sym (moves-keep moves (first_network settings) near))
+      (subst (AreSharing (settings near)) (sym (moves-keep moves (first_network settings) far)) sharing)
 
   pub holds-of : (Statement : PairState → Type 0) → neighbours_promise.Always Statement → Statement its
   holds-of Statement always =
@@ -98,19 +99,19 @@ module _ (settings : (point : ℕ) → Configuration) (steps : List Step) (near 
       record { near = both.near; far = both.far }
 
 pub once : each_message_once
-once settings steps near far points well sharing = once-of settings steps near far points well sharing
+once settings moves near far points well sharing = once-of settings moves near far points well sharing
 
 pub order : each_flow_in_order
-order settings steps near far points well sharing = order-of settings steps near far points well sharing
+order settings moves near far points well sharing = order-of settings moves near far points well sharing
 
 pub books : books_are_of_the_two
-books settings steps near far points well sharing = books-of settings steps near far points well sharing
+books settings moves near far points well sharing = books-of settings moves near far points well sharing
 
 pub awaited : nothing_is_awaited_in_vain
-awaited settings steps near far points well sharing = awaited-of settings steps near far points well sharing
+awaited settings moves near far points well sharing = awaited-of settings moves near far points well sharing
 
 pub flows : flows_stay_between
-flows settings steps near far points well sharing = flows-of settings steps near far points well sharing
+flows settings moves near far points well sharing = flows-of settings moves near far points well sharing
 
 pub held : nothing_is_held_in_vain
-held settings steps near far points well sharing = held-of settings steps near far points well sharing
+held settings moves near far points well sharing = held-of settings moves near far points well sharing

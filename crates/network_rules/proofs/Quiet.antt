@@ -117,7 +117,7 @@ module _ (settings : (point : ℕ) → Configuration) (near far : ℕ) (points :
     with-streams : (t : Streams) → FliesOk point t → NodeOk point e t
     with-streams t g = record { kept = h.kept; third = h.third; near_end = h.near_end; far_end = h.far_end; flying = g }
 
-    happened : (what : Happening) → (near ≢ point → far ≢ point → (f : IsFine (settings point) fine) → IsFineAt (settings point) fine f what) → NodeOk point (after whole what e) s
+    pub happened : (what : Happening) → (near ≢ point → far ≢ point → (f : IsFine (settings point) fine) → IsFineAt (settings point) fine f what) → NodeOk point (after whole what e) s
     happened what g = record {
       kept = h.kept;
       third = λ d i f.
@@ -139,10 +139,10 @@ module _ (settings : (point : ℕ) → Configuration) (near far : ℕ) (points :
       flying = h.flying;
     }
 
-  abbrev IsOk : (point : ℕ) → NetworkNode → Type 0
+  abbrev pub IsOk : (point : ℕ) → NetworkNode → Type 0
   IsOk point x = NodeOk point x.exchange x.incoming
 
-  delivered : (point : ℕ) (o : Option (List ℕ)) (link : ℕ) (left : Streams) (x : NetworkNode) → IsOk point x → FliesOk point left → ((text : List ℕ) → o ≡ Some text → Watched point link → Harmless text)
+  pub delivered : (point : ℕ) (o : Option (List ℕ)) (link : ℕ) (left : Streams) (x : NetworkNode) → IsOk point x → FliesOk point left → ((text : List ℕ) → o ≡ Some text → Watched point link → Harmless text)
       → IsOk point (deliver_frame o link left x)
   delivered point None link left x h g i = h
   delivered point (Some text) link left x h g i =

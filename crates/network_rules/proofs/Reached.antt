@@ -136,7 +136,7 @@ module _ (settings : (point : ℕ) → Configuration) (points : List ℕ) (h : I
 
   pub begun-steady : (point : ℕ) → is_listed points point ≡ true → IsSteadyNode (begun.node point).exchange
   begun-steady point listed =
-      changes-steady start.changes (first_network settings) point (h.well point listed) (first-steady (settings point) (h.well point listed))
+      changes-steady start.changes (first_network settings) point (h.placed.well point listed) (first-steady (settings point) (h.placed.well point listed))
 
   module _ (done : List Step) where
     abbrev pub reached : NetworkState

@@ -268,9 +268,11 @@ shares-by false false false point link less = absurd (omega (arith, less))
 
 pub joined : IsJoined row (1 ∷ 2 ∷ 3 ∷ [])
 joined = record {
-  own = points;
-  once = of-three (λ point. count_by (nat_eq point) (1 ∷ 2 ∷ 3 ∷ []) ≡ 1) refl refl refl;
-  well = of-three (λ point. IsWell (row point)) middle-well second-well third-well;
-  others = λ point e. alone-by (nat_eq point 1) (nat_eq point 2) (nat_eq point 3) point e;
+  placed = record {
+    own = points;
+    once = of-three (λ point. count_by (nat_eq point) (1 ∷ 2 ∷ 3 ∷ []) ≡ 1) refl refl refl;
+    well = of-three (λ point. IsWell (row point)) middle-well second-well third-well;
+    others = λ point e. alone-by (nat_eq point 1) (nat_eq point 2) (nat_eq point 3) point e;
+  };
   shared = λ point link less. shares-by (nat_eq point 1) (nat_eq point 2) (nat_eq point 3) point link less;
 }

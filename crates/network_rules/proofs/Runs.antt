@@ -9,9 +9,9 @@ use Rattle.pair_rules.specs.Pairs.{Doing, may_open_at, with_status_twice, withou
 use Rattle.neighbour_rules.specs.Neighbours as neighbours
 use Rattle.neighbour_rules.specs.Neighbours.{AtFar, AtNear, Does}
 use Rattle.network_rules.specs.Networks.{NetworkNode, NetworkState, Place, changed, comes_up, did, did_here, end_of, is_led, may_open_there, opens_first, place_there, reaches, sends, take_frame}
-use Rattle.network_rules.specs.Pairs.{ArePairsAlike, HearsNothingElsewhere, pair_between, pair_of}
+use Rattle.network_rules.specs.Pairs.{ArePairsAlike, HearsNothingElsewhere, pair_between, pair_between_for, pair_of, pair_of_for}
 use Rattle.network_rules.proofs.Alike.{away, data-away, statuses-away, twice-alike, without_data-alike, without_status-alike}
-use Rattle.network_rules.proofs.Nodes.{Next, away-changed, away-first, away-heard, away-second, changed-pair, first-pair, happens-pair, heard-pair, idle, led-away, reach-away, second-pair, sent-nowhere, sent-there, submit-pair}
+use Rattle.network_rules.proofs.Nodes.{AllHandBy, HandsIn, Next, TakesIn, Terms, turned_terms, away-changed, away-first, away-heard, away-second, changed-pair, first-pair, happens-pair, heard-pair, idle, led-away, reach-away, second-pair, sent-nowhere, sent-there, submit-pair}
 use Rattle.network_rules.proofs.Places.{IsNamed, Leads, between, elsewhere, leads, named-away, node-other, node-same, not-equal, nowhere, place-named}
 
 -- ---- the same from the other end
@@ -20,30 +20,36 @@ abbrev flipped : neighbours.Step → neighbours.Step
 flipped (AtNear what) = AtFar what
 flipped (AtFar what) = AtNear what
 
-flips-turn : (step : neighbours.Step) (p : PairState) → (neighbours.turn (flipped step) p).left ≡ turned (neighbours.turn step (turned p)).left
-flips-turn (AtNear what) p = refl
-flips-turn (AtFar what) p = refl
+flips : (t : Terms) (steps : List neighbours.Step) (p : PairState) → neighbours.after_steps_for t.to_far t.to_near (map flipped steps) p ≡ turned (neighbours.after_steps_for t.to_near t.to_far steps (turned p))
+flips t [] p = refl
+flips t (AtNear what ∷ steps) p = flips t steps (neighbours.turn_for t.to_far t.to_near (AtFar what) p).left
+flips t (AtFar what ∷ steps) p = flips t steps (neighbours.turn_for t.to_far t.to_near (AtNear what) p).left
 
-flips : (steps : List neighbours.Step) (p : PairState) → neighbours.after_steps (map flipped steps) p ≡ turned (neighbours.after_steps steps (turned p))
-flips [] p = refl
-flips (step ∷ steps) p = ap (neighbours.after_steps (map flipped steps)) (flips-turn step p) ∙ flips steps (turned (neighbours.turn step (turned p)).left)
+flips-hand : (t : Terms) (steps : List neighbours.Step) (p : PairState) → AllHandBy (turned_terms t) steps (turned p) → AllHandBy t (map flipped steps) p
+flips-hand t [] p h = tt
+flips-hand t (AtNear what ∷ steps) p h = (h.0, flips-hand t steps (neighbours.turn_for t.to_far t.to_near (AtFar what) p).left h.1)
+flips-hand t (AtFar what ∷ steps) p h = (h.0, flips-hand t steps (neighbours.turn_for t.to_far t.to_near (AtNear what) p).left h.1)
+
+pub alike-turned_for : (t : Terms) (x y : NetworkNode) (p : PairState) → ArePairsAlike (pair_between_for t.to_far t.to_near x y) p → ArePairsAlike (pair_between_for t.to_near t.to_far y x) (turned p)
+alike-turned_for t x y p h = record { near_alike = h.far_alike; far_alike = h.near_alike }
 
 pub alike-turned : (x y : NetworkNode) (p : PairState) → ArePairsAlike (pair_between x y) p → ArePairsAlike (pair_between y x) (turned p)
 alike-turned x y p h = record { near_alike = h.far_alike; far_alike = h.near_alike }
 
-pub next-turned : (x y : NetworkNode) (p : PairState) → Next y x (turned p) → Next x y p
-next-turned x y p n = record {
+pub next-turned : (t : Terms) (x y : NetworkNode) (p : PairState) → Next (turned_terms t) y x (turned p) → Next t x y p
+next-turned t x y p n = record {
   steps = map flipped n.steps;
+  hand = flips-hand t n.steps p n.hand;
   pair =
-      subst (ArePairsAlike (pair_between x y)) (sym (flips n.steps p))
-      (alike-turned y x (neighbours.after_steps n.steps (turned p)) n.pair);
+      subst (ArePairsAlike (pair_between_for t.to_far t.to_near x y)) (sym (flips t n.steps p))
+      (alike-turned_for (turned_terms t) y x (neighbours.after_steps_for t.to_near t.to_far n.steps (turned p)) n.pair);
 }
 
 -- ---- two nodes of a network
 
-module _ (near far : ℕ) (apart : near ≢ far) where
+module _ (t : Terms) (near far : ℕ) (apart : near ≢ far) where
   abbrev pub NextOf : NetworkState → PairState → Type 0
-  NextOf w p = Next (w.node near) (w.node far) p
+  NextOf w p = Next t (w.node near) (w.node far) p
 
   back : far ≢ near
   back e = apart (sym e)
@@ -53,38 +59,38 @@ module _ (near far : ℕ) (apart : near ≢ far) where
   IsAway w link = away (w.node near).exchange.settings (w.node far).exchange.settings link ≡ true
 
   -- something is done at the near one
-  pub here-next : (w : NetworkState) (change : NetworkNode → NetworkNode) (p : PairState) → Next (change (w.node near)) (w.node far) p → NextOf (changed near change w) p
+  pub here-next : (w : NetworkState) (change : NetworkNode → NetworkNode) (p : PairState) → Next t (change (w.node near)) (w.node far) p → NextOf (changed near change w) p
   here-next w change p n =
-      subst (λ (x : NetworkNode). Next x ((changed near change w).node far) p) (sym (node-same near change w))
-      (subst (λ (y : NetworkNode). Next (change (w.node near)) y p) (sym (node-other near far change w back)) n)
+      subst (λ (x : NetworkNode). Next t x ((changed near change w).node far) p) (sym (node-same near change w))
+      (subst (λ (y : NetworkNode). Next t (change (w.node near)) y p) (sym (node-other near far change w back)) n)
 
   -- and then at the far one
-  both-next : (w : NetworkState) (change other : NetworkNode → NetworkNode) (p : PairState) → Next (change (w.node near)) (other (w.node far)) p → NextOf (changed far other (changed near change w)) p
+  both-next : (w : NetworkState) (change other : NetworkNode → NetworkNode) (p : PairState) → Next t (change (w.node near)) (other (w.node far)) p → NextOf (changed far other (changed near change w)) p
   both-next w change other p n =
       let v : NetworkState = changed near change w in
-      subst (λ (x : NetworkNode). Next x ((changed far other v).node far) p) (sym (node-other far near other v apart ∙ node-same near change w))
-      (subst (λ (y : NetworkNode). Next (change (w.node near)) y p) (sym (node-same far other v ∙ ap other (node-other near far change w back))) n)
+      subst (λ (x : NetworkNode). Next t x ((changed far other v).node far) p) (sym (node-other far near other v apart ∙ node-same near change w))
+      (subst (λ (y : NetworkNode). Next t (change (w.node near)) y p) (sym (node-same far other v ∙ ap other (node-other near far change w back))) n)
 
   -- at neither
   pub still-next : (w : NetworkState) (point : ℕ) (change : NetworkNode → NetworkNode) (p : PairState) → near ≢ point → far ≢ point → NextOf w p → NextOf (changed point change w) p
   still-next w point change p d e n =
-      subst (λ (x : NetworkNode). Next x ((changed point change w).node far) p) (sym (node-other point near change w d))
-      (subst (λ (y : NetworkNode). Next (w.node near) y p) (sym (node-other point far change w e)) n)
+      subst (λ (x : NetworkNode). Next t x ((changed point change w).node far) p) (sym (node-other point near change w d))
+      (subst (λ (y : NetworkNode). Next t (w.node near) y p) (sym (node-other point far change w e)) n)
 
   -- at one of the two something is done that the pair doesn't show
   pub past-near : (w : NetworkState) (change : NetworkNode → NetworkNode) (p : PairState)
-      → ((q : PairState) → ArePairsAlike (pair_of w near far) q → ArePairsAlike (pair_between (change (w.node near)) (w.node far)) q) → NextOf w p → NextOf (changed near change w) p
-  past-near w change p unseen n = here-next w change p (record { steps = n.steps; pair = unseen (neighbours.after_steps n.steps p) n.pair })
+      → ((q : PairState) → ArePairsAlike (pair_of_for t.to_far t.to_near w near far) q → ArePairsAlike (pair_between_for t.to_far t.to_near (change (w.node near)) (w.node far)) q) → NextOf w p → NextOf (changed near change w) p
+  past-near w change p unseen n = here-next w change p (record { steps = n.steps; hand = n.hand; pair = unseen (neighbours.after_steps_for t.to_far t.to_near n.steps p) n.pair })
 
   pub past-far : (w : NetworkState) (change : NetworkNode → NetworkNode) (p : PairState)
-      → ((q : PairState) → ArePairsAlike (pair_of w near far) q → ArePairsAlike (pair_between (w.node near) (change (w.node far))) q) → NextOf w p → NextOf (changed far change w) p
+      → ((q : PairState) → ArePairsAlike (pair_of_for t.to_far t.to_near w near far) q → ArePairsAlike (pair_between_for t.to_far t.to_near (w.node near) (change (w.node far))) q) → NextOf w p → NextOf (changed far change w) p
   past-far w change p unseen n =
-      subst (λ (x : NetworkNode). Next x ((changed far change w).node far) p) (sym (node-other far near change w apart))
-      (subst (λ (y : NetworkNode). Next (w.node near) y p) (sym (node-same far change w)) (record { steps = n.steps; pair = unseen (neighbours.after_steps n.steps p) n.pair }))
+      subst (λ (x : NetworkNode). Next t x ((changed far change w).node far) p) (sym (node-other far near change w apart))
+      (subst (λ (y : NetworkNode). Next t (w.node near) y p) (sym (node-same far change w)) (record { steps = n.steps; hand = n.hand; pair = unseen (neighbours.after_steps_for t.to_far t.to_near n.steps p) n.pair }))
 
   -- ---- something is done at the near node
 
-  module _ (w : NetworkState) (own : (point : ℕ) → (w.node point).exchange.settings.own ≡ point) (p : PairState) (h : ArePairsAlike (pair_of w near far) p) where
+  module _ (w : NetworkState) (own : (point : ℕ) → (w.node point).exchange.settings.own ≡ point) (p : PairState) (h : ArePairsAlike (pair_of_for t.to_far t.to_near w near far) p) where
     abbrev x : NetworkNode
     x = w.node near
 
@@ -121,7 +127,7 @@ module _ (near far : ℕ) (apart : near ≢ far) where
           (not-equal c.own z.own (λ f. apart (sym (own near) ∙ f ∙ own far)))))
 
       reaching : (other : NetworkNode → NetworkNode) → there.point ≢ far
-          → ((q : PairState) → IsAway v there.link → ArePairsAlike (pair_of v near far) q → ArePairsAlike (pair_between (other (v.node near)) (v.node far)) q)
+          → ((q : PairState) → IsAway v there.link → ArePairsAlike (pair_of_for t.to_far t.to_near v near far) q → ArePairsAlike (pair_between_for t.to_far t.to_near (other (v.node near)) (v.node far)) q)
           → NextOf v p → NextOf (changed there.point other v) p
       reaching other d unseen n =
           ⊎_elim
@@ -132,122 +138,129 @@ module _ (near far : ℕ) (apart : near ≢ far) where
           (cases_eq there.point near)
 
     takes-next : (o : Option FrameValue) (link : ℕ) → frame_to_take whole x.exchange link ≡ o → IsLed link → NextOf (take_frame o near link (place_there w c (entry link)) w) p
-    takes-next None link e l = idle x y p h
+    takes-next None link e l = idle t x y p h
     takes-next (Some frame) link e (nowhere f g) =
-        subst (λ (t : Option Place). NextOf (take_frame (Some frame) near link t w) p) (sym f) (here-next w (sends link) p (sent-nowhere x y p h frame link e g))
+        subst (λ (o : Option Place). NextOf (take_frame (Some frame) near link o w) p) (sym f) (here-next w (sends link) p (sent-nowhere t x y p h frame link e g))
     takes-next (Some frame) link e (between other f g d) =
-        subst (λ (t : Option Place). NextOf (take_frame (Some frame) near link t w) p) (sym f) (both-next w (sends link) (reaches frame other) p (sent-there x y p h frame link other e g))
+        subst (λ (o : Option Place). NextOf (take_frame (Some frame) near link o w) p) (sym f) (both-next w (sends link) (reaches frame other) p (sent-there t x y p h frame link other e g))
     takes-next (Some frame) link e (elsewhere there f d g a) =
-        subst (λ (t : Option Place). NextOf (take_frame (Some frame) near link t w) p) (sym f)
+        subst (λ (o : Option Place). NextOf (take_frame (Some frame) near link o w) p) (sym f)
         (reaching (sends link) there link (λ n. refl) f (reaches frame there.link) d
-        (λ q is i. reach-away ((changed near (sends link) w).node near) ((changed near (sends link) w).node far) q i frame there.link is)
-        (here-next w (sends link) p (sent-nowhere x y p h frame link e g)))
+        (λ q is i. reach-away t ((changed near (sends link) w).node near) ((changed near (sends link) w).node far) q i frame there.link is)
+        (here-next w (sends link) p (sent-nowhere t x y p h frame link e g)))
 
     opens-next : (wants : Wants) (may : Bool) (link : ℕ) → wants_of x.exchange link ≡ wants → may_open_there w (place_there w c (entry link)) ≡ may → IsLed link
         → NextOf (opens_first wants may near link (place_there w c (entry link)) w) p
-    opens-next Nothing may link e m l = idle x y p h
-    opens-next Close may link e m l = idle x y p h
-    opens-next Open false link e m l = idle x y p h
-    opens-next Open true link e m (nowhere f g) = subst (λ (t : Option Place). NextOf (opens_first Open true near link t w) p) (sym f) (idle x y p h)
+    opens-next Nothing may link e m l = idle t x y p h
+    opens-next Close may link e m l = idle t x y p h
+    opens-next Open false link e m l = idle t x y p h
+    opens-next Open true link e m (nowhere f g) = subst (λ (o : Option Place). NextOf (opens_first Open true near link o w) p) (sym f) (idle t x y p h)
     opens-next Open true link e m (between other f g d) =
-        subst (λ (t : Option Place). NextOf (opens_first Open true near link t w) p) (sym f)
-        (both-next w (comes_up link) (is_led other) p (first-pair x y p h link other e g (sym (ap (may_open_there w) f) ∙ m)))
+        subst (λ (o : Option Place). NextOf (opens_first Open true near link o w) p) (sym f)
+        (both-next w (comes_up link) (is_led other) p (first-pair t x y p h link other e g (sym (ap (may_open_there w) f) ∙ m)))
     opens-next Open true link e m (elsewhere there f d g a) =
-        subst (λ (t : Option Place). NextOf (opens_first Open true near link t w) p) (sym f)
+        subst (λ (o : Option Place). NextOf (opens_first Open true near link o w) p) (sym f)
         (reaching (comes_up link) there link (λ n. refl) f (is_led there.link) d
-        (λ q is i. led-away ((changed near (comes_up link) w).node near) ((changed near (comes_up link) w).node far) q i there.link is)
-        (here-next w (comes_up link) p (away-first x y p h link a)))
+        (λ q is i. led-away t ((changed near (comes_up link) w).node near) ((changed near (comes_up link) w).node far) q i there.link is)
+        (here-next w (comes_up link) p (away-first t x y p h link a)))
 
     abbrev OfLink : (NetworkNode → NetworkNode) → (link : ℕ) → Bool → Type 0
-    OfLink change link b = away c z link ≡ b → Next (change x) y p
+    OfLink change link b = away c z link ≡ b → Next t (change x) y p
 
     module _ (silent : HearsNothingElsewhere (pair_of w near far)) where
-      data-next : (b : Bool) (link : ℕ) → OfLink (did_here (pairs.Delivers link)) link b
-      data-next false link e = record {
+      data-next : (b : Bool) (link : ℕ) → (away c z link ≡ false → (text : List ℕ) → slice_get (in_flight x.incoming.user_data link) 0 ≡ Some text → t.near_is text) → OfLink (did_here (pairs.Delivers link)) link b
+      data-next false link told e = record {
         steps = AtNear (Does (pairs.Delivers link)) ∷ [];
+        hand = ((λ text f. told e text (sym (ap (λ (ts : List (List ℕ)). slice_get ts 0) (h.near_alike.incoming.user_data link e)) ∙ f)), tt);
         pair =
-            subst (λ (o : Option (List ℕ)). ArePairsAlike (pair_between (did_here (pairs.Delivers link) x) y) (neighbours.deliver_frame o link (without_data link p.near.incoming) p).left)
+            subst (λ (o : Option (List ℕ)). ArePairsAlike (pair_between_for t.to_far t.to_near (did_here (pairs.Delivers link) x) y) (neighbours.deliver_frame_for t.to_far t.to_near o link (without_data link p.near.incoming) p).left)
             (sym (ap (λ (ts : List (List ℕ)). slice_get ts 0) (h.near_alike.incoming.user_data link e)))
-            (heard-pair x y p h (slice_get (in_flight x.incoming.user_data link) 0) link (without_data link x.incoming) (without_data link p.near.incoming) e
+            (heard-pair t x y p h (slice_get (in_flight x.incoming.user_data link) 0) link (without_data link x.incoming) (without_data link p.near.incoming) e
             (without_data-alike c z x.incoming p.near.incoming link h.near_alike.incoming));
       }
-      data-next true link e =
-          away-heard x y p h (slice_get (in_flight x.incoming.user_data link) 0) link (without_data link x.incoming) e
+      data-next true link told e =
+          away-heard t x y p h (slice_get (in_flight x.incoming.user_data link) 0) link (without_data link x.incoming) e
           (data-away c z x.incoming p.near.incoming link _ e h.near_alike.incoming) (λ text f. silent.user_data link text e f)
 
       status-next : (b : Bool) (link : ℕ) → OfLink (did_here (pairs.DeliversStatus link)) link b
       status-next false link e = record {
         steps = AtNear (Does (pairs.DeliversStatus link)) ∷ [];
+        hand = (tt, tt);
         pair =
-            subst (λ (o : Option (List ℕ)). ArePairsAlike (pair_between (did_here (pairs.DeliversStatus link) x) y) (neighbours.deliver_frame o link (without_status link p.near.incoming) p).left)
+            subst (λ (o : Option (List ℕ)). ArePairsAlike (pair_between_for t.to_far t.to_near (did_here (pairs.DeliversStatus link) x) y) (neighbours.deliver_frame_for t.to_far t.to_near o link (without_status link p.near.incoming) p).left)
             (sym (ap (λ (ts : List (List ℕ)). slice_get ts 0) (h.near_alike.incoming.statuses link e)))
-            (heard-pair x y p h (slice_get (in_flight x.incoming.statuses link) 0) link (without_status link x.incoming) (without_status link p.near.incoming) e
+            (heard-pair t x y p h (slice_get (in_flight x.incoming.statuses link) 0) link (without_status link x.incoming) (without_status link p.near.incoming) e
             (without_status-alike c z x.incoming p.near.incoming link h.near_alike.incoming));
       }
       status-next true link e =
-          away-heard x y p h (slice_get (in_flight x.incoming.statuses link) 0) link (without_status link x.incoming) e
+          away-heard t x y p h (slice_get (in_flight x.incoming.statuses link) 0) link (without_status link x.incoming) e
           (statuses-away c z x.incoming p.near.incoming link _ e h.near_alike.incoming) (λ text f. silent.statuses link text e f)
 
       lost-next : (b : Bool) (link : ℕ) → OfLink (did_here (pairs.LosesStatus link)) link b
       lost-next false link e = record {
         steps = AtNear (Does (pairs.LosesStatus link)) ∷ [];
+        hand = (tt, tt);
         pair =
-            subst (λ (o : Option (List ℕ)). ArePairsAlike (pair_between (did_here (pairs.LosesStatus link) x) y) (pairs.change_statuses o (without_status link p.near.incoming) p).left)
+            subst (λ (o : Option (List ℕ)). ArePairsAlike (pair_between_for t.to_far t.to_near (did_here (pairs.LosesStatus link) x) y) (pairs.change_statuses o (without_status link p.near.incoming) p).left)
             (sym (ap (λ (ts : List (List ℕ)). slice_get ts 0) (h.near_alike.incoming.statuses link e)))
-            (changed-pair x y p h (slice_get (in_flight x.incoming.statuses link) 0) (without_status link x.incoming) (without_status link p.near.incoming)
+            (changed-pair t x y p h (slice_get (in_flight x.incoming.statuses link) 0) (without_status link x.incoming) (without_status link p.near.incoming)
             (without_status-alike c z x.incoming p.near.incoming link h.near_alike.incoming));
       }
       lost-next true link e = record {
         steps = [];
+        hand = tt;
         pair =
-            away-changed x y p h (slice_get (in_flight x.incoming.statuses link) 0) (without_status link x.incoming)
+            away-changed t x y p h (slice_get (in_flight x.incoming.statuses link) 0) (without_status link x.incoming)
             (statuses-away c z x.incoming p.near.incoming link _ e h.near_alike.incoming);
       }
 
       twice-next : (b : Bool) (link : ℕ) → OfLink (did_here (pairs.DoublesStatus link)) link b
       twice-next false link e = record {
         steps = AtNear (Does (pairs.DoublesStatus link)) ∷ [];
+        hand = (tt, tt);
         pair =
-            subst (λ (o : Option (List ℕ)). ArePairsAlike (pair_between (did_here (pairs.DoublesStatus link) x) y) (pairs.change_statuses o (with_status_twice link p.near.incoming) p).left)
+            subst (λ (o : Option (List ℕ)). ArePairsAlike (pair_between_for t.to_far t.to_near (did_here (pairs.DoublesStatus link) x) y) (pairs.change_statuses o (with_status_twice link p.near.incoming) p).left)
             (sym (ap (λ (ts : List (List ℕ)). slice_get ts 0) (h.near_alike.incoming.statuses link e)))
-            (changed-pair x y p h (slice_get (in_flight x.incoming.statuses link) 0) (with_status_twice link x.incoming) (with_status_twice link p.near.incoming)
+            (changed-pair t x y p h (slice_get (in_flight x.incoming.statuses link) 0) (with_status_twice link x.incoming) (with_status_twice link p.near.incoming)
             (twice-alike c z x.incoming p.near.incoming link h.near_alike.incoming));
       }
       twice-next true link e = record {
         steps = [];
+        hand = tt;
         pair =
-            away-changed x y p h (slice_get (in_flight x.incoming.statuses link) 0) (with_status_twice link x.incoming)
+            away-changed t x y p h (slice_get (in_flight x.incoming.statuses link) 0) (with_status_twice link x.incoming)
             (statuses-away c z x.incoming p.near.incoming link _ e h.near_alike.incoming);
       }
 
       second-next : (b : Bool) (link : ℕ) → OfLink (did_here (pairs.OpensSecond link)) link b
       second-next false link e = record {
         steps = AtNear (Does (pairs.OpensSecond link)) ∷ [];
+        hand = (tt, tt);
         pair =
-            subst (λ (b : Bool). ArePairsAlike (pair_between (did_here (pairs.OpensSecond link) x) y) (pairs.opens_second (wants_of p.near.exchange link) b link p).left)
+            subst (λ (b : Bool). ArePairsAlike (pair_between_for t.to_far t.to_near (did_here (pairs.OpensSecond link) x) y) (pairs.opens_second (wants_of p.near.exchange link) b link p).left)
             (sym (h.near_alike.following link e))
             (subst
-            (λ (a : Abstract). ArePairsAlike (pair_between (did_here (pairs.OpensSecond link) x) y) (pairs.opens_second (wants_of a link) (may_follow (end_of x) link) link p).left)
-            (sym h.near_alike.exchange) (second-pair x y p h (wants_of x.exchange link) (may_follow (end_of x) link) link));
+            (λ (a : Abstract). ArePairsAlike (pair_between_for t.to_far t.to_near (did_here (pairs.OpensSecond link) x) y) (pairs.opens_second (wants_of a link) (may_follow (end_of x) link) link p).left)
+            (sym h.near_alike.exchange) (second-pair t x y p h (wants_of x.exchange link) (may_follow (end_of x) link) link));
       }
-      second-next true link e = away-second x y p h (wants_of x.exchange link) (may_follow (end_of x) link) link e
+      second-next true link e = away-second t x y p h (wants_of x.exchange link) (may_follow (end_of x) link) link e
 
-      abbrev alone : (what : Doing) → ArePairsAlike (pair_between (did_here what x) y) (neighbours.did (Does what) p).left → NextOf (changed near (did_here what) w) p
-      alone what i = here-next w (did_here what) p (record { steps = AtNear (Does what) ∷ []; pair = i })
+      abbrev alone : (what : Doing) → HandsIn t.near_is (Does what) p → ArePairsAlike (pair_between_for t.to_far t.to_near (did_here what x) y) (neighbours.did_for t.to_far t.to_near (Does what) p).left → NextOf (changed near (did_here what) w) p
+      alone what hand i = here-next w (did_here what) p (record { steps = AtNear (Does what) ∷ []; hand = (hand, tt); pair = i })
 
-      pub near-next : (what : Doing) → NextOf (did what near w) p
-      near-next (pairs.Submits m) = alone (pairs.Submits m) (submit-pair x y p h m)
-      near-next (pairs.Takes link) = takes-next (frame_to_take whole x.exchange link) link refl (leads w c far (entry link) (own far))
-      near-next (pairs.Delivers link) = here-next w (did_here (pairs.Delivers link)) p (data-next (away c z link) link refl)
-      near-next (pairs.DeliversStatus link) = here-next w (did_here (pairs.DeliversStatus link)) p (status-next (away c z link) link refl)
-      near-next (pairs.LosesStatus link) = here-next w (did_here (pairs.LosesStatus link)) p (lost-next (away c z link) link refl)
-      near-next (pairs.DoublesStatus link) = here-next w (did_here (pairs.DoublesStatus link)) p (twice-next (away c z link) link refl)
-      near-next (pairs.Loses link) = alone (pairs.Loses link) (happens-pair x y p h (WentDown link))
-      near-next pairs.Ticks = alone pairs.Ticks (happens-pair x y p h Ticked)
-      near-next (pairs.Activates link) = alone (pairs.Activates link) (happens-pair x y p h (Activated link))
-      near-next (pairs.Deactivates link) = alone (pairs.Deactivates link) (happens-pair x y p h (Deactivated link))
-      near-next (pairs.AddsTitle row is_memory_refused) = alone (pairs.AddsTitle row is_memory_refused) (happens-pair x y p h (TitleAdded row is_memory_refused))
-      near-next (pairs.RemovesTitle key digits) = alone (pairs.RemovesTitle key digits) (happens-pair x y p h (TitleRemoved key digits))
-      near-next (pairs.OpensFirst link) =
+      pub near-next : (what : Doing) → TakesIn t.near_is what x y → NextOf (did what near w) p
+      near-next (pairs.Submits m) told = alone (pairs.Submits m) tt (submit-pair t x y p h m)
+      near-next (pairs.Takes link) told = takes-next (frame_to_take whole x.exchange link) link refl (leads w c far (entry link) (own far))
+      near-next (pairs.Delivers link) told = here-next w (did_here (pairs.Delivers link)) p (data-next (away c z link) link told refl)
+      near-next (pairs.DeliversStatus link) told = here-next w (did_here (pairs.DeliversStatus link)) p (status-next (away c z link) link refl)
+      near-next (pairs.LosesStatus link) told = here-next w (did_here (pairs.LosesStatus link)) p (lost-next (away c z link) link refl)
+      near-next (pairs.DoublesStatus link) told = here-next w (did_here (pairs.DoublesStatus link)) p (twice-next (away c z link) link refl)
+      near-next (pairs.Loses link) told = alone (pairs.Loses link) tt (happens-pair t x y p h (WentDown link))
+      near-next pairs.Ticks told = alone pairs.Ticks tt (happens-pair t x y p h Ticked)
+      near-next (pairs.Activates link) told = alone (pairs.Activates link) tt (happens-pair t x y p h (Activated link))
+      near-next (pairs.Deactivates link) told = alone (pairs.Deactivates link) tt (happens-pair t x y p h (Deactivated link))
+      near-next (pairs.AddsTitle row is_memory_refused) told = alone (pairs.AddsTitle row is_memory_refused) tt (happens-pair t x y p h (TitleAdded row is_memory_refused))
+      near-next (pairs.RemovesTitle key digits) told = alone (pairs.RemovesTitle key digits) tt (happens-pair t x y p h (TitleRemoved key digits))
+      near-next (pairs.OpensFirst link) told =
           opens-next (wants_of x.exchange link) (may_open_there w (place_there w c (entry link))) link refl refl (leads w c far (entry link) (own far))
-      near-next (pairs.OpensSecond link) = here-next w (did_here (pairs.OpensSecond link)) p (second-next (away c z link) link refl)
+      near-next (pairs.OpensSecond link) told = here-next w (did_here (pairs.OpensSecond link)) p (second-next (away c z link) link refl)

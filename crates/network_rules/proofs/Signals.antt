@@ -1,6 +1,6 @@
 -- Where one set alone leads to a point, management for it from here stands on links of that set, but for declarations.
 use Rattle.exchange_rules.proofs.Basics.{Result, Ok, Err, ◌*◌, ◌%◌, ◌≡◌, ◌≢◌, ◌<◌, ◌≤◌, ◌⊎◌, inl, inr, ℕ, ◌+◌, Bool, true, false, ◌&&◌, ◌||◌, not, List, [], ◌∷◌, ◌++◌, length, map, nat_eq, get_or, slice_set, refl, ap, sym, subst, ◌∙◌, arith, if◌then◌else◌, find, slice_index_or, Option, Some, None, option_map, option_and_then, list_any, position, ⊎_elim, cases_eq, cases_lt, eq-eqb, eqb-true, get_or_past, get_or-set_same, get_or-set_other, get_or-map, length-set, position-Some}
-use Rattle.exchange_rules.proofs.Definitions.{Message, dpc_of, flow_of, Configuration, SetEntry, DestinationEntry, destination_place, Queue, first_queue, emptied, appended, Route, RouteStatus, Allowed, first_route, first_routes, chosen_link, ToldTable, is_number, is_own_point, Node, facts, link_of, queue_on, declaration, test_answer, set_of, carries, WholeQueues, queue_at, whole, first_state}
+use Rattle.exchange_rules.proofs.Definitions.{link_test, Message, dpc_of, flow_of, Configuration, SetEntry, DestinationEntry, destination_place, Queue, first_queue, emptied, appended, Route, RouteStatus, Allowed, first_route, first_routes, chosen_link, ToldTable, is_number, is_own_point, Node, facts, link_of, queue_on, declaration, test_answer, set_of, carries, WholeQueues, queue_at, whole, first_state}
 use Rattle.std.proofs.lemmas.List.Folds.{list_any-append}
 use Rattle.std.proofs.lemmas.List.{get_or-map as get_or-map_inside}
 use Rattle.link.specs.Queue as queue
@@ -182,6 +182,7 @@ module _ (c : Configuration) (set point destination : ℕ) (leads : LeadsAlone c
     routed = λ link m n e. queued link m n (goes n m link e);
     declared = λ link other code n e f. queued other (declaration c link code) n (λ h away. declares (is_management_between c.own point (declaration c link code)) _ refl);
     tested = λ link at test n e f. queued link (test_answer c at test) n (λ h away. other-kind (nat_eq (service_indicator (test_answer c at test)) 0) _ _ (ap (λ (k : ℕ). nat_eq k 0) (tested-indicator c.network)));
+    probed = λ link n e. queued link (link_test c link) n (λ h away. other-kind (nat_eq (service_indicator (link_test c link)) 0) _ _ (ap (λ (k : ℕ). nat_eq k 0) (tested-indicator c.network)));
     held = λ m n e. same-lone n _ refl refl refl;
     taken_out = λ n. same-lone n _ refl refl refl;
     noted = λ notice n e. same-lone n _ refl refl refl;

@@ -1,6 +1,6 @@
 -- What is made at a third node, and each user message, is no management of one of two others for the other.
 use Rattle.exchange_rules.proofs.Basics.{◌≡◌, ◌≢◌, ◌<◌, ◌≤◌, ◌&&◌, ℕ, ◌+◌, ◌*◌, ◌/◌, ◌%◌, ◌^◌, Bool, true, false, [], refl, ap, ◌∙◌, arith, nat_tests, nat_eq, nat_lt, length, slice_index_or, ⊎_elim, cases_lt, get_or_past}
-use Rattle.exchange_rules.proofs.Definitions.{Message, opc_of, dpc_of, service_indicator, Configuration, SetEntry, IsWell, IsSet, Management, management_to, test_answer, adjacent_of, link_code_of}
+use Rattle.exchange_rules.proofs.Definitions.{link_test, Message, opc_of, dpc_of, service_indicator, Configuration, SetEntry, IsWell, IsSet, Management, management_to, test_answer, adjacent_of, link_code_of}
 use Rattle.network_rules.proofs.Ends.{fine-both, is_fine}
 use Rattle.network_rules.proofs.Passing.{IsFine}
 use Rattle.network_rules.proofs.Places.{not-equal}
@@ -49,6 +49,11 @@ third-fine c one two well d e = record {
       (other-origin (nat_eq (service_indicator m) 0) (nat_eq (opc_of m) two) (nat_eq (dpc_of m) one) (neither two e));
   tested = λ point test.
       let m : Message = test_answer c point test in
+      let kind : nat_eq (service_indicator m) 0 ≡ false = ap (λ (n : ℕ). nat_eq n 0) (test-kind c.network) in
+      fine-both one two m (other-kind (nat_eq (service_indicator m) 0) (nat_eq (opc_of m) one && nat_eq (dpc_of m) two) kind)
+      (other-kind (nat_eq (service_indicator m) 0) (nat_eq (opc_of m) two && nat_eq (dpc_of m) one) kind);
+  probed = λ link.
+      let m : Message = link_test c link in
       let kind : nat_eq (service_indicator m) 0 ≡ false = ap (λ (n : ℕ). nat_eq n 0) (test-kind c.network) in
       fine-both one two m (other-kind (nat_eq (service_indicator m) 0) (nat_eq (opc_of m) one && nat_eq (dpc_of m) two) kind)
       (other-kind (nat_eq (service_indicator m) 0) (nat_eq (opc_of m) two && nat_eq (dpc_of m) one) kind);

@@ -83,7 +83,7 @@ module _ (settings : (point : ℕ) → Configuration) (points : List ℕ) (steps
   none-at other its far =
       ap (λ (z : Configuration). users_that those (filter (λ m. not (goes_onward z m)) (texts_of (w.node other).arrived))) (settings-kept settings points h start steps other)
       ∙ none-received those (goes_onward (settings other))
-      (λ m e. onward-elsewhere c (settings other) m (network other its) (λ same. far (sym (h.own other) ∙ same ∙ h.own point)) (and-first (is_for c m) (of m) e))
+      (λ m e. onward-elsewhere c (settings other) m (network other its) (λ same. far (sym (h.placed.own other) ∙ same ∙ h.placed.own point)) (and-first (is_for c m) (of m) e))
       (texts_of (w.node other).arrived)
 
   abbrev its_count : ℕ
@@ -104,7 +104,7 @@ module _ (settings : (point : ℕ) → Configuration) (points : List ℕ) (steps
   all-there : total those points (received_at w) ≡ its_count
   all-there =
       sum-agree (λ other. users_that those (received_at w other)) (λ other. 0 + (if nat_eq point other then its_count else 0)) points at-point
-      ∙ sum-once (λ other. 0) point its_count points (h.once point listed)
+      ∙ sum-once (λ other. 0) point its_count points (h.placed.once point listed)
       ∙ ap (λ (n : ℕ). n + its_count) (sum-zero (λ other. 0) points (λ other. refl))
       ∙ first its_count
     where
@@ -120,7 +120,7 @@ ends-meet-anew settings points changes point joined listed network quiet steps k
     let refused : ℕ = total those points (λ other. (w.node other).refused) in
     accounts-anew settings points changes joined quiet steps kept those
     ∙ ap (λ (n : ℕ). n + waits + refused) (all-there settings points steps point joined start listed network kept of)
-    ∙ ap (λ (n : ℕ). users_that those (received_at w n) + waits + refused) (sym (joined.own point))
+    ∙ ap (λ (n : ℕ). users_that those (received_at w n) + waits + refused) (sym (joined.placed.own point))
 
 pub ends-meet : messages_come_from_end_to_end
 ends-meet settings points steps point joined listed network kept =

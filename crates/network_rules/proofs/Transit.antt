@@ -1,7 +1,7 @@
 -- A message for another point is queued, held or refused by the node to which it comes.
 use Rattle.exchange_rules.proofs.Basics.{◌≡◌, ◌&&◌, ℕ, Bool, true, false, not, List, [], ◌∷◌, ◌++◌, Option, Some, None, Result, Ok, Err, refl, ap, sym, subst, ◌∙◌, if◌then◌else◌, option_to_list, append-nil}
 use Rattle.std.proofs.Common.{map}
-use Rattle.exchange_rules.proofs.Definitions.{action_at, Action, UserData, SeqFault, EmptyFrame, FrameValue, MessageFrame, StatusFrame, read_frame, Discrimination, Configuration, Message, dpc_of, flow_of, Cause, FrameFault, is_destination, offer, transfer, apply, Carrying, accept, act_by_data, carry, empty_data, handle_by, message_data, numbers, read, waits, down, is_link, link_at, deliver_to, whither_goes, no_room_for, WholeQueues, whole, new_at, new_by, new_of, new_message, link_of, Done, Node, answer, refuse, advance, FrameCame, brought_in, brought_by, brought_to, taken_in, accept_text}
+use Rattle.exchange_rules.proofs.Definitions.{acts_on, Action, UserData, SeqFault, EmptyFrame, FrameValue, MessageFrame, StatusFrame, read_frame, Discrimination, Configuration, Message, dpc_of, flow_of, Cause, FrameFault, is_destination, offer, transfer, apply, Carrying, accept, act_by_data, carry, empty_data, handle_by, message_data, numbers, read, waits, down, is_link, link_at, deliver_to, whither_goes, no_room_for, WholeQueues, whole, new_at, new_by, new_of, new_message, link_of, Done, Node, answer, refuse, advance, FrameCame, brought_in, brought_by, brought_to, taken_in, accept_text}
 use Rattle.changeover.specs.Changeover.{users_of}
 use Rattle.link.specs.declared.action.Action.TheVariants as act
 use Rattle.signalling_types.specs.declared.cause.Cause.TheVariants as causes
@@ -62,8 +62,8 @@ module _ (c : Configuration) (link : ℕ) (m : Message) (label : Label) (away : 
   act-goes (act.Go step) d n e = (let next : Node WholeQueues = advance whole c link step n in handle-goes (numbers whole c link d next) d next e)
 
   frame-goes : (r : Result FrameValue FrameFault) (n : Node WholeQueues) → new_of r link c n ≡ Some m → goes_on (read whole c link r n).outcome ≡ true
-  frame-goes (Ok (EmptyFrame bsn fsn)) n e = act-goes (action_at (link_at n.parts link).alignment UserData) (empty_data bsn fsn) n e
-  frame-goes (Ok (MessageFrame bsn fsn sio sif)) n e = act-goes (action_at (link_at n.parts link).alignment UserData) (message_data bsn fsn sio sif) n e
+  frame-goes (Ok (EmptyFrame bsn fsn)) n e = act-goes (acts_on (link_at n.parts link) UserData) (empty_data bsn fsn) n e
+  frame-goes (Ok (MessageFrame bsn fsn sio sif)) n e = act-goes (acts_on (link_at n.parts link) UserData) (message_data bsn fsn sio sif) n e
   frame-goes (Ok (StatusFrame bsn fsn status)) n e = absurd cc
   frame-goes (Err fault) n e = absurd cc
 

@@ -1,4 +1,5 @@
 pub mod Networks
+pub mod Outside
 pub mod Pairs
 pub mod Links
 pub mod Transit
@@ -7,3 +8,4 @@ pub mod Anew
 pub mod Paths
 pub mod TwoFailures
 pub mod AfterRestart
+pub mod Hops

@@ -12,7 +12,8 @@ use Rattle.neighbour_rules.specs.Neighbours as neighbours
 use Rattle.neighbour_rules.specs.Neighbours.{leads_elsewhere, leads_elsewhere_by, speaks_for_either, users_to}
 use Rattle.neighbour_rules.specs.Awaiting.{AwaitsNothingInVain}
 use Rattle.neighbour_rules.specs.Promises.{AreBooked, EachOnce, InOrder, StaysBetween}
-use Rattle.network_rules.specs.Networks.{Arrival, NetworkNode, NetworkState, Step, after_steps, first_network}
+use Rattle.network_rules.specs.Networks.{Arrival, NetworkNode, NetworkState, first_network}
+use Rattle.network_rules.specs.Outside.{Move, after_moves}
 
 -- ---- two nodes as a pair
 
@@ -23,22 +24,32 @@ came_from near far arrived =
     (λ a. a.message)
     (filter (λ a. not (leads_elsewhere_by near far (slice_get near.links a.link))) arrived)
 
--- a node as one end of the pair: of the messages that it took in, those for the other; of those that came by links to
--- the other, those for itself
-abbrev pub end_between : (near far : NetworkNode) → End
-end_between near far = record {
+-- a node as one end of the pair: of the messages that it took in, those for one point; of those that came by links to
+-- the other, those for another
+abbrev pub end_between_for : (to_far to_near : ℕ) → (near far : NetworkNode) → End
+end_between_for to_far to_near near far = record {
   exchange = near.exchange;
   incoming = near.incoming;
   following = near.following;
-  accepted = users_to far.exchange.settings.own near.accepted;
-  received =
-      users_to
-      near.exchange.settings.own
-      (came_from near.exchange.settings far.exchange.settings near.arrived);
+  accepted = users_to to_far near.accepted;
+  received = users_to to_near (came_from near.exchange.settings far.exchange.settings near.arrived);
 }
 
+abbrev pub pair_between_for : (to_far to_near : ℕ) → (near far : NetworkNode) → PairState
+pair_between_for to_far to_near near far = record {
+  near = end_between_for to_far to_near near far;
+  far = end_between_for to_near to_far far near;
+}
+
+abbrev pub pair_of_for : (to_far to_near : ℕ) → NetworkState → (near far : ℕ) → PairState
+pair_of_for to_far to_near w near far = pair_between_for to_far to_near (w.node near) (w.node far)
+
+-- the same, where the messages are for the two themselves
+abbrev pub end_between : (near far : NetworkNode) → End
+end_between near far = end_between_for far.exchange.settings.own near.exchange.settings.own near far
+
 abbrev pub pair_between : (near far : NetworkNode) → PairState
-pair_between near far = record { near = end_between near far; far = end_between far near }
+pair_between near far = pair_between_for far.exchange.settings.own near.exchange.settings.own near far
 
 abbrev pub pair_of : NetworkState → (near far : ℕ) → PairState
 pair_of w near far = pair_between (w.node near) (w.node far)
@@ -88,12 +99,12 @@ AreWellOrAlone settings = (point : ℕ) → IsWell (settings point) ⊎ ((settin
 
 -- ---- always
 
--- after every list of steps of a network, of each two nodes in it that share a set
+-- after every list of moves of a network, and of those outside, of each two nodes in it that share a set
 abbrev pub Always : (PairState → Type 0) → Type 0
 Always Statement =
-    (settings : (point : ℕ) → Configuration) (steps : List Step) (near far : ℕ) → AreTheirPoints settings →
+    (settings : (point : ℕ) → Configuration) (moves : List Move) (near far : ℕ) → AreTheirPoints settings →
     AreWellOrAlone settings → AreSharing (settings near) (settings far) →
-    Statement (pair_of (after_steps steps (first_network settings)) near far)
+    Statement (pair_of (after_moves moves (first_network settings)) near far)
 
 abbrev pub runs_are_runs_of_neighbours : Type 0
 runs_are_runs_of_neighbours = Always IsRunOfNeighbours

@@ -46,7 +46,8 @@ waiting_at w point =
 abbrev pub is_listed : (points : List ℕ) → (point : ℕ) → Bool
 is_listed points point = list_any (nat_eq point) points
 
-pub record IsJoined (settings : (point : ℕ) → Configuration) (points : List ℕ) : Type 0 where
+-- where the nodes are
+pub record IsPlaced (settings : (point : ℕ) → Configuration) (points : List ℕ) : Type 0 where
   -- each node is told the point at which it is
   pub own : AreTheirPoints settings
   -- each point of the list is there once, and the settings of its node keep every limit
@@ -54,6 +55,10 @@ pub record IsJoined (settings : (point : ℕ) → Configuration) (points : List 
   pub well : (point : ℕ) → is_listed points point ≡ true → IsWell (settings point)
   -- no other point has a link
   pub others : (point : ℕ) → is_listed points point ≡ false → (settings point).links ≡ []
+
+-- and that none of their links leads out
+pub record IsJoined (settings : (point : ℕ) → Configuration) (points : List ℕ) : Type 0 where
+  pub placed : IsPlaced settings points
   -- each link leads to a point whose node shares its set
   pub shared : (point link : ℕ) → link < length (settings point).links →
       AreSharing (settings point) (settings (peer_of (settings point) link))

@@ -1,10 +1,12 @@
 //! What holds of each two nodes of a network that share a link set, and of all its nodes together, after every list of
-//! steps from newly booted exchanges on. The steps are those of `specs/Networks.antt`. Each function says its law by
-//! its contract, and does nothing.
+//! steps from newly booted exchanges on (`specs/Networks.antt`). What is said of each two nodes holds also after whatever
+//! comes by links that lead out of the network (`specs/Outside.antt`). Each function says its law by its contract, and
+//! does nothing.
 
 ghost use Rattle.network_rules.specs.AfterRestart.{ComesAfterRestart};
 ghost use Rattle.network_rules.specs.Anew.{neighbours_begin_anew, nobody_ever_speaks_for_another};
 ghost use Rattle.network_rules.specs.Anew.{destinations_begin_anew, networks_begin_anew, networks_begin_quietly};
+ghost use Rattle.network_rules.specs.Hops.{hops_keep_flows_in_order, paths_keep_flows_in_order};
 ghost use Rattle.network_rules.specs.Links.{frames_carry, moves_are_lacked, none_is_left, words_are_final};
 ghost use Rattle.network_rules.specs.Pairs.{books_are_of_the_two, each_flow_in_order, each_message_once};
 ghost use Rattle.network_rules.specs.Pairs.{flows_stay_between, nothing_is_awaited_in_vain, nothing_is_held_in_vain};
@@ -137,6 +139,16 @@ pub fn paths_keep_the_order_of_their_hops()
     ensures paths { paths_keep_the_order_of_their_hops }
     ensures last { last_hops_keep_flows_in_order }
     ensures anew { last_hops_begin_anew }
+{}
+
+/// So flows come over a path in order, without a premise on its hops. A hop keeps the order of a flow that goes on
+/// beyond the next node by the set between the two alone, while no status about its route (TFP, TFR, TFA, Q.704 §13)
+/// comes from there, neither node may have lost a message, and no timer of the former ended a hold. So over nodes in a
+/// row, to which the flow comes from the one before alone, what came to the last node is in the order in which the first
+/// accepted it.
+pub fn paths_keep_flows_in_order()
+    ensures hops { hops_keep_flows_in_order }
+    ensures paths { paths_keep_flows_in_order }
 {}
 
 /// From end to end, over any number of nodes, each of which reaches its adjacent points by one set alone and all others

@@ -1,6 +1,6 @@
 -- The laws by counts, kept by a move that is characterized by what it makes and what it looks at.
 use Rattle.pair_moves.proofs.Basics.{◌≡◌, ◌≢◌, ℕ, Bool, ◌+◌, List, count_by, ap, sym, arith, subst, ⊎_elim, cases_eq}
-use Rattle.pair_moves.proofs.Definitions.{Message, last_accepted, Saying, is_order, is_answer, is_untrue, is_declaration, is_confirmation, LinkEnd, Line, Side, Pair, turned, turned_line, unreceived, BecomeAt, sum_to, under_way, one_if, saying, OrdersAreAwaited, WordsAreTrue, CodesAreOutstanding, user, EachOnce}
+use Rattle.pair_moves.proofs.Definitions.{Message, last_accepted, Reading, Saying, turned_reading, is_order, is_answer, is_untrue, is_declaration, is_confirmation, LinkEnd, Line, Side, Pair, turned, turned_line, unreceived, BecomeAt, sum_to, under_way, one_if, saying, OrdersAreAwaited, WordsAreTrue, CodesAreOutstanding, user, EachOnce}
 use Rattle.pair_moves.proofs.Counts.{sum-but}
 
 -- ---- a line changes
@@ -40,62 +40,62 @@ pub record Books (p q : Pair) (made looked : List Message) : Type 0 where
   pub sends : (test : Message → Bool) → under_way test q ≡ under_way test p + count_by test made
   pub hears : (test : Message → Bool) → under_way test (turned q) + count_by test looked ≡ under_way test (turned p)
 
-module _ (read : Message → Saying) where
-  pub record Tallies (p : Pair) : Type 0 where
-    pub orders : OrdersAreAwaited read p
-    pub words : WordsAreTrue read p
-    pub codes : CodesAreOutstanding read p
-    pub once : EachOnce read p
+pub record Tallies (read : Reading) (p : Pair) : Type 0 where
+  pub orders : OrdersAreAwaited read p
+  pub words : WordsAreTrue read p
+  pub codes : CodesAreOutstanding read p
+  pub once : EachOnce read.there p
 
-  -- what one end says of a link is untrue if it is so of this end
-  abbrev pub untrue_of : ℕ → LinkEnd → Message → Bool
-  untrue_of link x = saying read (is_untrue link x.up (last_accepted x.queue))
+-- what one end says of a link is untrue if it is so of this end
+abbrev pub untrue_of : (Message → Saying) → ℕ → LinkEnd → Message → Bool
+untrue_of read link x = saying read (is_untrue link x.up (last_accepted x.queue))
 
+module _ (read : Reading) where
   -- what a move makes and looks at agrees with the flags that it leaves
   pub record Agrees (p q : Pair) (made looked : List Message) : Type 0 where
     pub far : q.far ≡ p.far
     pub given_up : q.near.given_up ≡ p.near.given_up
     pub orders : (link : ℕ) →
-        count_by (saying read (is_order link)) made + one_if (p.line link).near.awaited
-        ≡ one_if (q.line link).near.awaited + count_by (saying read (is_answer link)) looked
+        count_by (saying read.there (is_order link)) made + one_if (p.line link).near.awaited
+        ≡ one_if (q.line link).near.awaited + count_by (saying read.back (is_answer link)) looked
     pub answers : (link : ℕ) →
-        count_by (saying read (is_answer link)) made + one_if (p.line link).far.awaited
-        ≡ one_if (q.line link).far.awaited + count_by (saying read (is_order link)) looked
-    pub truth : (link : ℕ) → under_way (untrue_of link (q.line link).near) p + count_by (untrue_of link (q.line link).near) made ≡ 0
-    pub far_truth : (link : ℕ) → under_way (untrue_of link (q.line link).far) (turned p) ≡ 0
+        count_by (saying read.there (is_answer link)) made + one_if (p.line link).far.awaited
+        ≡ one_if (q.line link).far.awaited + count_by (saying read.back (is_order link)) looked
+    pub truth : (link : ℕ) → under_way (untrue_of read.there link (q.line link).near) p + count_by (untrue_of read.there link (q.line link).near) made ≡ 0
+    pub far_truth : (link : ℕ) → under_way (untrue_of read.back link (q.line link).far) (turned p) ≡ 0
     pub declarations : (code : ℕ) →
-        count_by (saying read (is_declaration code)) made + one_if (p.near.outstanding code)
-        ≡ one_if (q.near.outstanding code) + count_by (saying read (is_confirmation code)) looked
+        count_by (saying read.there (is_declaration code)) made + one_if (p.near.outstanding code)
+        ≡ one_if (q.near.outstanding code) + count_by (saying read.back (is_confirmation code)) looked
     pub confirmations : (code : ℕ) →
-        count_by (saying read (is_confirmation code)) made ≡ count_by (saying read (is_declaration code)) looked
+        count_by (saying read.there (is_confirmation code)) made ≡ count_by (saying read.back (is_declaration code)) looked
     pub accepted : (test : Message → Bool) →
-        count_by (user read test) q.near.accepted ≡ count_by (user read test) p.near.accepted + count_by (user read test) made
+        count_by (user read.there test) q.near.accepted ≡ count_by (user read.there test) p.near.accepted + count_by (user read.there test) made
     pub received : (test : Message → Bool) →
-        count_by (user read test) q.near.received ≡ count_by (user read test) p.near.received + count_by (user read test) looked
+        count_by (user read.back test) q.near.received ≡ count_by (user read.back test) p.near.received + count_by (user read.back test) looked
 
   pub tallies-there : (p q : Pair) (made looked : List Message) → Books p q made looked → Agrees p q made looked →
-      Tallies p → Tallies q
+      Tallies read p → Tallies read q
   tallies-there p q made looked b a t = record {
-    orders = λ link. omega (arith, b.sends (saying read (is_order link)), b.hears (saying read (is_answer link)), a.orders link, t.orders link);
-    words = λ link. omega (arith, b.sends (untrue_of link (q.line link).near), a.truth link);
+    orders = λ link. omega (arith, b.sends (saying read.there (is_order link)), b.hears (saying read.back (is_answer link)), a.orders link, t.orders link);
+    words = λ link. omega (arith, b.sends (untrue_of read.there link (q.line link).near), a.truth link);
     codes = λ code.
         let left : one_if (q.near.given_up code) ≡ one_if (p.near.given_up code) = ap (λ (f : ℕ → Bool). one_if (f code)) a.given_up in
-        omega (arith, b.sends (saying read (is_declaration code)), b.hears (saying read (is_confirmation code)), a.declarations code, t.codes code, left);
+        omega (arith, b.sends (saying read.there (is_declaration code)), b.hears (saying read.back (is_confirmation code)), a.declarations code, t.codes code, left);
     once = λ test.
-        let same : count_by (user read test) q.far.received ≡ count_by (user read test) p.far.received = ap (λ (s : Side). count_by (user read test) s.received) a.far in
-        omega (arith, b.sends (user read test), a.accepted test, t.once test, same);
+        let same : count_by (user read.there test) q.far.received ≡ count_by (user read.there test) p.far.received = ap (λ (s : Side). count_by (user read.there test) s.received) a.far in
+        omega (arith, b.sends (user read.there test), a.accepted test, t.once test, same);
   }
 
   pub tallies-back : (p q : Pair) (made looked : List Message) → Books p q made looked → Agrees p q made looked →
-      Tallies (turned p) → Tallies (turned q)
+      Tallies (turned_reading read) (turned p) → Tallies (turned_reading read) (turned q)
   tallies-back p q made looked b a t = record {
-    orders = λ link. omega (arith, b.sends (saying read (is_answer link)), b.hears (saying read (is_order link)), a.answers link, t.orders link);
-    words = λ link. omega (arith, b.hears (untrue_of link (q.line link).far), a.far_truth link);
+    orders = λ link. omega (arith, b.sends (saying read.there (is_answer link)), b.hears (saying read.back (is_order link)), a.answers link, t.orders link);
+    words = λ link. omega (arith, b.hears (untrue_of read.back link (q.line link).far), a.far_truth link);
     codes = λ code.
         let same : one_if (q.far.outstanding code) ≡ one_if (p.far.outstanding code) = ap (λ (s : Side). one_if (s.outstanding code)) a.far in
         let left : one_if (q.far.given_up code) ≡ one_if (p.far.given_up code) = ap (λ (s : Side). one_if (s.given_up code)) a.far in
-        omega (arith, b.sends (saying read (is_confirmation code)), b.hears (saying read (is_declaration code)), a.confirmations code, t.codes code, same, left);
+        omega (arith, b.sends (saying read.there (is_confirmation code)), b.hears (saying read.back (is_declaration code)), a.confirmations code, t.codes code, same, left);
     once = λ test.
-        let same : count_by (user read test) q.far.accepted ≡ count_by (user read test) p.far.accepted = ap (λ (s : Side). count_by (user read test) s.accepted) a.far in
-        omega (arith, b.hears (user read test), a.received test, t.once test, same);
+        let same : count_by (user read.back test) q.far.accepted ≡ count_by (user read.back test) p.far.accepted = ap (λ (s : Side). count_by (user read.back test) s.accepted) a.far in
+        omega (arith, b.hears (user read.back test), a.received test, t.once test, same);
   }

@@ -1,6 +1,6 @@
 -- The laws, after every list of moves.
 use Rattle.pair_moves.proofs.Basics.{◌≡◌, inl, inr, ℕ, false, drop, ap, arith}
-use Rattle.pair_moves.proofs.Definitions.{Message, Flow, Saying, Pair, turned, last_of, IsInOrder}
+use Rattle.pair_moves.proofs.Definitions.{Message, Flow, Reading, Saying, turned_reading, Pair, turned, last_of, IsInOrder}
 use Rattle.pair_moves.specs.Theorems.{Always, lines_flow, first_ends_are_alone, ends_are_sound, messages_come_in_order, orders_are_awaited, opens_with_nothing_under_way, follows_with_nothing_under_way}
 use Rattle.pair_moves.specs.Theorems.{words_are_true, numbers_name_what_was_received, what_waits_is_lacked}
 use Rattle.pair_moves.specs.Theorems.{orders_move_what_is_lacked, answers_move_what_is_lacked}
@@ -11,21 +11,21 @@ use Rattle.pair_moves.proofs.LinesTaken.{taken_message-is}
 use Rattle.pair_moves.proofs.LinesChanged.{line-names, line-waits}
 use Rattle.pair_moves.proofs.Tells.{order-tells, answer-tells, names-received, none-said}
 
-record Concludes (read : Message → Saying) (start p : Pair) : Type 0 where
+record Concludes (read : Reading) (start p : Pair) : Type 0 where
   laws : AllLaws read p
   given_up : GivenUp read start.near.given_up start.far.given_up p
 
-concludes : (read : Message → Saying) (start p : Pair) → p.near.lost ≡ false → p.far.lost ≡ false → IsKept read start.near.given_up start.far.given_up p → Concludes read start p
+concludes : (read : Reading) (start p : Pair) → p.near.lost ≡ false → p.far.lost ≡ false → IsKept read start.near.given_up start.far.given_up p → Concludes read start p
 concludes read start p near far (near_lost e) = both e near
 concludes read start p near far (far_lost e) = both e far
 concludes read start p near far (all_kept h g) = record { laws = h; given_up = g }
 
 -- what follows from all laws holds always
-always : (Statement : (Message → Saying) → Pair → Type 0) → ((read : Message → Saying) (p : Pair) → AllLaws read p → Statement read p) → Always Statement
+always : (Statement : Reading → Pair → Type 0) → ((read : Reading) (p : Pair) → AllLaws read p → Statement read p) → Always Statement
 always Statement follows read start pairs quiet moves near far =
     let p : Pair = last_of start pairs in
     let h : AllLaws read p = (concludes read start p near far (all-kept read start pairs quiet moves)).laws in
-    record { there = follows read p h; back = follows read (turned p) (turned-laws read p h) }
+    record { there = follows read p h; back = follows (turned_reading read) (turned p) (turned-laws read p h) }
 
 pub none_given_up-always : none_is_given_up
 none_given_up-always read start pairs quiet moves near far =
@@ -93,4 +93,4 @@ in-order read p (inl e) late = both e late
 in-order read p (inr h) late = h
 
 pub each_flow_in_order-always : each_flow_in_order
-each_flow_in_order-always = always _ (λ read p h. in-order read p h.there)
+each_flow_in_order-always = always _ (λ read p h. in-order read.there p h.there)

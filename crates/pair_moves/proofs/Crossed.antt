@@ -1,6 +1,6 @@
 -- The run of the example is one: each pair of it comes from the one before by a move.
 use Rattle.pair_moves.proofs.Basics.{true, false, [], refl, sym, arith, None}
-use Rattle.pair_moves.proofs.Definitions.{MessageFrame, turned, with_message, with_sent, with_frames_left, with_accepted, with_failure, with_completion, Move, Moves, read_plainly, the_message, the_order, the_answer, lines_with, Crosses}
+use Rattle.pair_moves.proofs.Definitions.{MessageFrame, turned, with_message, with_sent, with_frames_left, with_accepted, with_failure, with_completion, Move, Moves, plain_reading, read_plainly, the_message, the_order, the_answer, lines_with, Crosses}
 use Rattle.pair_moves.specs.Moves as moves
 use Rattle.pair_moves.specs.Crossing as run
 use Rattle.pair_moves.proofs.Lines.{false_is_true}
@@ -8,7 +8,7 @@ use Rattle.pair_moves.proofs.CrossingBegun.{set, some-none, held-alone, joining,
 
 -- ---- the order comes, and its answer
 
-takes-order : Move read_plainly run.order_sent run.order_came
+takes-order : Move plain_reading run.order_sent run.order_came
 takes-order = moves.far (moves.takes_message (record {
   link = 1;
   fsn = 0;
@@ -24,7 +24,7 @@ takes-order = moves.far (moves.takes_message (record {
   after = refl;
 }))
 
-fails-far : Move read_plainly run.order_came run.failed_far
+fails-far : Move plain_reading run.order_came run.failed_far
 fails-far = moves.far (moves.falls (record {
   link = 0;
   up = refl;
@@ -41,7 +41,7 @@ fails-far = moves.far (moves.falls (record {
   after = refl;
 }))
 
-drops : Move read_plainly run.failed_far run.message_dropped
+drops : Move plain_reading run.failed_far run.message_dropped
 drops = moves.far (moves.drops (record {
   link = 0;
   frame = MessageFrame 0 16777215 the_message;
@@ -53,7 +53,7 @@ drops = moves.far (moves.drops (record {
   after = refl;
 }))
 
-completes-far : Move read_plainly run.message_dropped run.completed_far
+completes-far : Move plain_reading run.message_dropped run.completed_far
 completes-far = moves.far (moves.completes_by_order (record {
   link = 0;
   number = 16777215;
@@ -70,7 +70,7 @@ completes-far = moves.far (moves.completes_by_order (record {
   after = refl;
 }))
 
-places-answer : Move read_plainly run.completed_far run.answer_placed
+places-answer : Move plain_reading run.completed_far run.answer_placed
 places-answer = moves.far (moves.places (record {
   link = 1;
   message = the_answer;
@@ -83,7 +83,7 @@ places-answer = moves.far (moves.places (record {
   after = refl;
 }))
 
-sends-answer : Move read_plainly run.answer_placed run.answer_sent
+sends-answer : Move plain_reading run.answer_placed run.answer_sent
 sends-answer = moves.far (moves.sends_message (record {
   link = 1;
   serving = refl;
@@ -96,7 +96,7 @@ sends-answer = moves.far (moves.sends_message (record {
   after = refl;
 }))
 
-takes-answer : Move read_plainly run.answer_sent run.answer_came
+takes-answer : Move plain_reading run.answer_sent run.answer_came
 takes-answer = moves.near (moves.takes_message (record {
   link = 1;
   fsn = 0;
@@ -112,7 +112,7 @@ takes-answer = moves.near (moves.takes_message (record {
   after = refl;
 }))
 
-completes-near : Move read_plainly run.answer_came run.completed_near
+completes-near : Move plain_reading run.answer_came run.completed_near
 completes-near = moves.near (moves.completes_by_answer (record {
   link = 0;
   number = 16777215;
@@ -128,12 +128,12 @@ completes-near = moves.near (moves.completes_by_answer (record {
   after = refl;
 }))
 
-takes-out : Move read_plainly run.completed_near run.taken_out
+takes-out : Move plain_reading run.completed_near run.taken_out
 takes-out = moves.near (moves.takes_out (record {
   after = refl;
 }))
 
-places-second : Move read_plainly run.taken_out run.placed_second
+places-second : Move plain_reading run.taken_out run.placed_second
 places-second = moves.near (moves.places (record {
   link = 1;
   message = the_message;
@@ -146,7 +146,7 @@ places-second = moves.near (moves.places (record {
   after = refl;
 }))
 
-sends-second : Move read_plainly run.placed_second run.sent_second
+sends-second : Move plain_reading run.placed_second run.sent_second
 sends-second = moves.near (moves.sends_message (record {
   link = 1;
   serving = refl;
@@ -159,7 +159,7 @@ sends-second = moves.near (moves.sends_message (record {
   after = refl;
 }))
 
-takes-second : Move read_plainly run.sent_second run.message_came
+takes-second : Move plain_reading run.sent_second run.message_came
 takes-second = moves.far (moves.takes_message (record {
   link = 1;
   fsn = 1;
@@ -175,13 +175,13 @@ takes-second = moves.far (moves.takes_message (record {
   after = refl;
 }))
 
-hands-over : Move read_plainly run.message_came run.handed_over
+hands-over : Move plain_reading run.message_came run.handed_over
 hands-over = moves.far (moves.hands_over (record {
   heard = record { message = the_message; rest = []; first = refl; says = refl };
   after = refl;
 }))
 
-crossing : Moves read_plainly run.opened_both run.crossing_run
+crossing : Moves plain_reading run.opened_both run.crossing_run
 crossing =
     (serves-first, (serves-second, (serves-first_there, (serves-second_there, (accepts, (places-first, (sends-first, (fails-near, (places-order, (sends-order, (takes-order, (fails-far, (drops, (completes-far, (places-answer, (sends-answer, (takes-answer, (completes-near, (takes-out, (places-second, (sends-second, (takes-second, (hands-over, tt)))))))))))))))))))))))
 

@@ -1,6 +1,6 @@
 -- The run of the example begins: the link opens, and fails under its message.
 use Rattle.pair_moves.proofs.Basics.{◌≡◌, ◌≢◌, ℕ, Bool, true, false, ◌<◌, List, [], ◌++◌, refl, ap, arith, Some, None, if◌then◌else◌, ne_eqb}
-use Rattle.pair_moves.proofs.Definitions.{Line, Procedure, Changeover, Code, Time, Pair, turned, first_pair, BecomeAt, with_message, with_status, with_statuses_left, with_sent, with_heard, with_failure, MayOpen, opened_first, opened_second, with_service, NearMove, Move, Moves, read_plainly, the_message, the_order, lines_with, held_by_changeover}
+use Rattle.pair_moves.proofs.Definitions.{Line, Procedure, Changeover, Code, Time, Pair, turned, first_pair, BecomeAt, with_message, with_status, with_statuses_left, with_sent, with_heard, with_failure, MayOpen, opened_first, opened_second, with_service, NearMove, Move, Moves, plain_reading, read_plainly, the_message, the_order, lines_with, held_by_changeover}
 use Rattle.pair_moves.specs.Moves as moves
 use Rattle.pair_moves.specs.Crossing as run
 use Rattle.pair_moves.proofs.Lines.{false_is_true}
@@ -29,7 +29,7 @@ held-alone link (Time returned) d = refl
 -- ---- the moves, in order
 
 module _ (p : Pair) (link : ℕ) (inside : link < p.links) where
-  pub opens : MayOpen (p.line link).near → MayOpen (p.line link).far → Move read_plainly p (run.opens p link)
+  pub opens : MayOpen (p.line link).near → MayOpen (p.line link).far → Move plain_reading p (run.opens p link)
   opens near far = moves.near (moves.opens_first (record {
     link = link;
     near_may = near;
@@ -39,7 +39,7 @@ module _ (p : Pair) (link : ℕ) (inside : link < p.links) where
     after = refl;
   }))
 
-  follows : (p.line link).near_may_follow ≡ true → MayOpen (p.line link).near → NearMove read_plainly p (run.follows p link)
+  follows : (p.line link).near_may_follow ≡ true → MayOpen (p.line link).near → NearMove plain_reading p (run.follows p link)
   follows may near = moves.opens_second (record {
     link = link;
     follows = may;
@@ -49,7 +49,7 @@ module _ (p : Pair) (link : ℕ) (inside : link < p.links) where
     after = refl;
   })
 
-  says : (p.line link).near.up ≡ true → NearMove read_plainly p (run.says_so p link)
+  says : (p.line link).near.up ≡ true → NearMove plain_reading p (run.says_so p link)
   says up = moves.sends_status (record {
     link = link;
     up = up;
@@ -58,7 +58,7 @@ module _ (p : Pair) (link : ℕ) (inside : link < p.links) where
     after = refl;
   })
 
-  hears : (p.line link).near.up ≡ true → (p.line link).told_near ≡ 1 → NearMove read_plainly p (run.hears p link)
+  hears : (p.line link).near.up ≡ true → (p.line link).told_near ≡ 1 → NearMove plain_reading p (run.hears p link)
   hears up some = moves.hears_status (record {
     link = link;
     up = up;
@@ -69,7 +69,7 @@ module _ (p : Pair) (link : ℕ) (inside : link < p.links) where
     after = refl;
   })
 
-  takes : (p.line link).told_near ≡ 1 → NearMove read_plainly p (run.takes p link)
+  takes : (p.line link).told_near ≡ 1 → NearMove plain_reading p (run.takes p link)
   takes some = moves.takes_status (record {
     link = link;
     rest = 0;
@@ -93,8 +93,8 @@ pub record Joins (p : Pair) (link : ℕ) : Type 0 where
   pub far_told : ((turned (run.taken p link)).line link).told_near ≡ 1
   pub far_told_still : ((turned (run.heard_there p link)).line link).told_near ≡ 1
 
-pub joining : (p : Pair) (link : ℕ) (others : List Pair) → Joins p link → Moves read_plainly (run.joined p link) others →
-    Moves read_plainly p (run.joining p link ++ others)
+pub joining : (p : Pair) (link : ℕ) (others : List Pair) → Joins p link → Moves plain_reading (run.joined p link) others →
+    Moves plain_reading p (run.joining p link ++ others)
 joining p link others j rest = (
   moves.far (follows (turned p) link j.inside j.follows j.far_may),
   (
@@ -118,7 +118,7 @@ joining p link others j rest = (
   ),
 )
 
-pub opens-first : Move read_plainly (first_pair 2) run.first_opens
+pub opens-first : Move plain_reading (first_pair 2) run.first_opens
 opens-first =
     opens (first_pair 2) 0 (omega arith) (record { down = refl; complete = refl; unawaited = refl }) (record { down = refl; complete = refl; unawaited = refl })
 
@@ -137,7 +137,7 @@ joins-first = record {
   far_told_still = refl;
 }
 
-pub opens-second : Move read_plainly (run.joined run.first_opens 0) run.second_opens
+pub opens-second : Move plain_reading (run.joined run.first_opens 0) run.second_opens
 opens-second =
     opens (run.joined run.first_opens 0) 1 (omega arith) (record { down = refl; complete = refl; unawaited = refl }) (record { down = refl; complete = refl; unawaited = refl })
 
@@ -156,7 +156,7 @@ joins-second = record {
   far_told_still = refl;
 }
 
-pub serves-first : Move read_plainly run.opened_both run.first_serves
+pub serves-first : Move plain_reading run.opened_both run.first_serves
 serves-first = moves.near (moves.enters (record {
   link = 0;
   up = refl;
@@ -168,7 +168,7 @@ serves-first = moves.near (moves.enters (record {
   after = refl;
 }))
 
-pub serves-second : Move read_plainly run.first_serves run.second_serves
+pub serves-second : Move plain_reading run.first_serves run.second_serves
 serves-second = moves.near (moves.enters (record {
   link = 1;
   up = refl;
@@ -180,7 +180,7 @@ serves-second = moves.near (moves.enters (record {
   after = refl;
 }))
 
-pub serves-first_there : Move read_plainly run.second_serves run.first_serves_there
+pub serves-first_there : Move plain_reading run.second_serves run.first_serves_there
 serves-first_there = moves.far (moves.enters (record {
   link = 0;
   up = refl;
@@ -192,7 +192,7 @@ serves-first_there = moves.far (moves.enters (record {
   after = refl;
 }))
 
-pub serves-second_there : Move read_plainly run.first_serves_there run.second_serves_there
+pub serves-second_there : Move plain_reading run.first_serves_there run.second_serves_there
 serves-second_there = moves.far (moves.enters (record {
   link = 1;
   up = refl;
@@ -204,14 +204,14 @@ serves-second_there = moves.far (moves.enters (record {
   after = refl;
 }))
 
-pub accepts : Move read_plainly run.second_serves_there run.accepted_one
+pub accepts : Move plain_reading run.second_serves_there run.accepted_one
 accepts = moves.near (moves.accepts (record {
   message = the_message;
   user = refl;
   after = refl;
 }))
 
-pub places-first : Move read_plainly run.accepted_one run.placed_first
+pub places-first : Move plain_reading run.accepted_one run.placed_first
 places-first = moves.near (moves.places (record {
   link = 0;
   message = the_message;
@@ -224,7 +224,7 @@ places-first = moves.near (moves.places (record {
   after = refl;
 }))
 
-pub sends-first : Move read_plainly run.placed_first run.sent_first
+pub sends-first : Move plain_reading run.placed_first run.sent_first
 sends-first = moves.near (moves.sends_message (record {
   link = 0;
   serving = refl;
@@ -237,7 +237,7 @@ sends-first = moves.near (moves.sends_message (record {
   after = refl;
 }))
 
-pub fails-near : Move read_plainly run.sent_first run.failed_near
+pub fails-near : Move plain_reading run.sent_first run.failed_near
 fails-near = moves.near (moves.falls_with_order (record {
   link = 0;
   serving = refl;
@@ -256,7 +256,7 @@ fails-near = moves.near (moves.falls_with_order (record {
   after = refl;
 }))
 
-pub places-order : Move read_plainly run.failed_near run.order_placed
+pub places-order : Move plain_reading run.failed_near run.order_placed
 places-order = moves.near (moves.places (record {
   link = 1;
   message = the_order;
@@ -269,7 +269,7 @@ places-order = moves.near (moves.places (record {
   after = refl;
 }))
 
-pub sends-order : Move read_plainly run.order_placed run.order_sent
+pub sends-order : Move plain_reading run.order_placed run.order_sent
 sends-order = moves.near (moves.sends_message (record {
   link = 1;
   serving = refl;

@@ -1,6 +1,6 @@
 -- Moves of a failure and its changeover are sound.
 use Rattle.pair_moves.proofs.Basics.{◌≡◌, ◌≢◌, inl, inr, ℕ, Bool, true, false, ◌+◌, List, [], ◌∷◌, ◌++◌, drop, count_by, nat_eq, refl, ap, sym, ◌∙◌, subst, arith, ⊎_elim, cases_eq}
-use Rattle.pair_moves.proofs.Definitions.{Message, last_accepted, Saying, Order, Answer, is_order, is_answer, is_untrue, is_declaration, is_confirmation, Line, Side, Pair, turned, with_failure, with_completion, without_wait, users_of, managements_of, Falls, FallsWithOrder, CompletesByOrder, AnswersOrder, CompletesByAnswer, EndsWait, IgnoresAnswer, under_way, one_if, saying}
+use Rattle.pair_moves.proofs.Definitions.{Message, last_accepted, Reading, Saying, turned_reading, Order, Answer, is_order, is_answer, is_untrue, is_declaration, is_confirmation, Line, Side, Pair, turned, with_failure, with_completion, without_wait, users_of, managements_of, Falls, FallsWithOrder, CompletesByOrder, AnswersOrder, CompletesByAnswer, EndsWait, IgnoresAnswer, under_way, one_if, saying}
 use Rattle.pair_moves.proofs.Counts.{count-append, count-one, count-first}
 use Rattle.pair_moves.proofs.Words.{said, said-no_user, same-link, other-link, told-order, told-answer, told-order_elsewhere, told-answer_elsewhere, arrived-not}
 use Rattle.pair_moves.proofs.Lines.{IsLine, not-beside, both}
@@ -10,7 +10,7 @@ use Rattle.pair_moves.proofs.Quiet.{quiet-line, still-true}
 use Rattle.pair_moves.proofs.Tells.{one-said, none-said, count-beyond, Tells, order-tells, answer-tells, names-received, moved-counts}
 use Rattle.pair_moves.proofs.LinesChanged.{line-failure, line-completion, line-unawaited}
 
-module _ (read : Message → Saying) (p q : Pair) where
+module _ (read : Reading) (p q : Pair) where
   pub sound-falls : Falls read p q → Sound read p → Sound read q
   sound-falls m h =
       let z : Line = p.line m.link in
@@ -34,8 +34,8 @@ module _ (read : Message → Saying) (p q : Pair) where
       let last : ℕ = last_accepted z.near.queue in
       let up : z.near.up ≡ true = (h.lines m.link).near.serving m.serving in
       let unawaited : one_if z.near.awaited ≡ 0 = none-said z.near.awaited (not-beside z.near.awaited (h.lines m.link).near.awaited up) in
-      let truth : under_way (untrue_of read m.link y.near) p ≡ 0 = still-true read p m.link y.near (λ u. up) (inr refl) h in
-      let of : (test : Saying → Bool) → count_by (saying read test) (m.order ∷ []) ≡ one_if (test (Order m.link last)) = said read m.order (Order m.link last) m.says in
+      let truth : under_way (untrue_of read.there m.link y.near) p ≡ 0 = still-true read p m.link y.near (λ u. up) (inr refl) h in
+      let of : (test : Saying → Bool) → count_by (saying read.there test) (m.order ∷ []) ≡ one_if (test (Order m.link last)) = said read.there m.order (Order m.link last) m.says in
       subst (Sound read) (sym m.after)
       (kept-sound read p (record p { line = m.lines; near = s }) (m.order ∷ []) []
       (books-line p m.link y m.lines m.set s (m.order ∷ []) []
@@ -44,20 +44,20 @@ module _ (read : Message → Saying) (p q : Pair) where
         far = refl;
         given_up = refl;
         orders = each-line p m.link y m.lines m.set
-            (λ k x. count_by (saying read (is_order k)) (m.order ∷ []) + one_if (p.line k).near.awaited ≡ one_if x.near.awaited + 0)
+            (λ k x. count_by (saying read.there (is_order k)) (m.order ∷ []) + one_if (p.line k).near.awaited ≡ one_if x.near.awaited + 0)
             (λ k d. omega (arith, of (is_order k), none-said (nat_eq m.link k) (other-link m.link k d)))
             (omega (arith, of (is_order m.link), one-said (nat_eq m.link m.link) (same-link m.link), unawaited));
         answers = each-line p m.link y m.lines m.set
-            (λ k x. count_by (saying read (is_answer k)) (m.order ∷ []) + one_if (p.line k).far.awaited ≡ one_if x.far.awaited + 0)
+            (λ k x. count_by (saying read.there (is_answer k)) (m.order ∷ []) + one_if (p.line k).far.awaited ≡ one_if x.far.awaited + 0)
             (λ k d. omega (arith, of (is_answer k))) (omega (arith, of (is_answer m.link)));
         truth = each-line p m.link y m.lines m.set
-            (λ k x. under_way (untrue_of read k x.near) p + count_by (untrue_of read k x.near) (m.order ∷ []) ≡ 0)
+            (λ k x. under_way (untrue_of read.there k x.near) p + count_by (untrue_of read.there k x.near) (m.order ∷ []) ≡ 0)
             (λ k d. omega (arith, h.there.words k, of (is_untrue k (p.line k).near.up (last_accepted (p.line k).near.queue)), told-order_elsewhere k m.link (p.line k).near.up (last_accepted (p.line k).near.queue) last d))
             (omega (arith, truth, of (is_untrue m.link false last), told-order m.link m.link false last refl));
-        far_truth = each-line p m.link y m.lines m.set (λ k x. under_way (untrue_of read k x.far) (turned p) ≡ 0) (λ k d. h.back.words k) (h.back.words m.link);
+        far_truth = each-line p m.link y m.lines m.set (λ k x. under_way (untrue_of read.back k x.far) (turned p) ≡ 0) (λ k d. h.back.words k) (h.back.words m.link);
         declarations = λ code. omega (arith, of (is_declaration code));
         confirmations = λ code. omega (arith, of (is_confirmation code));
-        accepted = λ test. omega (arith, said-no_user read m.order (Order m.link last) m.says refl test);
+        accepted = λ test. omega (arith, said-no_user read.there m.order (Order m.link last) m.says refl test);
         received = λ test. omega arith;
       })
       (each-line p m.link y m.lines m.set (λ k x. IsLine x) (λ k d. h.lines k) (line-failure z true up (inl m.serving) (h.lines m.link)))
@@ -68,21 +68,21 @@ module _ (read : Message → Saying) (p q : Pair) where
       let z : Line = p.line m.link in
       let y : Line = with_completion z z.near.awaited in
       let behind : List Message = drop m.count z.near.queue.all in
-      let s : Side = record p.near { arrived = m.heard.rest; held = users_of read behind ++ p.near.held; loose = p.near.loose ++ managements_of read behind ++ m.answer ∷ []; holds = m.holds } in
+      let s : Side = record p.near { arrived = m.heard.rest; held = users_of read.there behind ++ p.near.held; loose = p.near.loose ++ managements_of read.there behind ++ m.answer ∷ []; holds = m.holds } in
       let last : ℕ = last_accepted z.near.queue in
       let t : Tells p m.link m.number = order-tells read p m.link m.number m.heard.message m.heard.rest m.heard.first m.heard.says h in
       let e : m.count ≡ z.far.queue.received = names-received read p m.link m.number m.count t m.incomplete m.named h in
       let down : z.near.up ≡ false = (h.lines m.link).near.incomplete m.incomplete in
-      let made : (test : Saying → Bool) → count_by (saying read test) (m.answer ∷ []) ≡ one_if (test (Answer m.link last)) = said read m.answer (Answer m.link last) m.answers in
-      let looked : (test : Saying → Bool) → count_by (saying read test) (m.heard.message ∷ []) ≡ one_if (test (Order m.link m.number)) = said read m.heard.message (Order m.link m.number) m.heard.says in
+      let made : (test : Saying → Bool) → count_by (saying read.there test) (m.answer ∷ []) ≡ one_if (test (Answer m.link last)) = said read.there m.answer (Answer m.link last) m.answers in
+      let looked : (test : Saying → Bool) → count_by (saying read.back test) (m.heard.message ∷ []) ≡ one_if (test (Order m.link m.number)) = said read.back m.heard.message (Order m.link m.number) m.heard.says in
       subst (Sound read) (sym m.after)
       (kept-sound read p (record p { line = m.lines; near = s }) (m.answer ∷ []) (m.heard.message ∷ [])
       (books-line p m.link y m.lines m.set s (m.answer ∷ []) (m.heard.message ∷ [])
       (λ test. omega (
         arith,
-        count-append test (users_of read behind) p.near.held,
-        count-append test (p.near.loose ++ managements_of read behind) (m.answer ∷ []),
-        count-append test p.near.loose (managements_of read behind),
+        count-append test (users_of read.there behind) p.near.held,
+        count-append test (p.near.loose ++ managements_of read.there behind) (m.answer ∷ []),
+        count-append test p.near.loose (managements_of read.there behind),
         moved-counts read p m.link m.count e test,
         count-beyond test z.far.queue.received,
       ))
@@ -91,13 +91,13 @@ module _ (read : Message → Saying) (p q : Pair) where
         far = refl;
         given_up = refl;
         orders = each-line p m.link y m.lines m.set
-            (λ k x. count_by (saying read (is_order k)) (m.answer ∷ []) + one_if (p.line k).near.awaited ≡ one_if x.near.awaited + count_by (saying read (is_answer k)) (m.heard.message ∷ []))
+            (λ k x. count_by (saying read.there (is_order k)) (m.answer ∷ []) + one_if (p.line k).near.awaited ≡ one_if x.near.awaited + count_by (saying read.back (is_answer k)) (m.heard.message ∷ []))
             (λ k d. omega (arith, made (is_order k))) (omega (arith, made (is_order m.link)));
         answers = each-line p m.link y m.lines m.set
-            (λ k x. count_by (saying read (is_answer k)) (m.answer ∷ []) + one_if (p.line k).far.awaited ≡ one_if x.far.awaited + count_by (saying read (is_order k)) (m.heard.message ∷ []))
+            (λ k x. count_by (saying read.there (is_answer k)) (m.answer ∷ []) + one_if (p.line k).far.awaited ≡ one_if x.far.awaited + count_by (saying read.back (is_order k)) (m.heard.message ∷ []))
             (λ k d. omega (arith, made (is_answer k), looked (is_order k))) (omega (arith, made (is_answer m.link), looked (is_order m.link)));
         truth = each-line p m.link y m.lines m.set
-            (λ k x. under_way (untrue_of read k x.near) p + count_by (untrue_of read k x.near) (m.answer ∷ []) ≡ 0)
+            (λ k x. under_way (untrue_of read.there k x.near) p + count_by (untrue_of read.there k x.near) (m.answer ∷ []) ≡ 0)
             (λ k d. omega (
               arith,
               h.there.words k,
@@ -105,11 +105,11 @@ module _ (read : Message → Saying) (p q : Pair) where
               told-answer_elsewhere k m.link (p.line k).near.up (last_accepted (p.line k).near.queue) last d,
             ))
             (omega (arith, h.there.words m.link, made (is_untrue m.link z.near.up last), told-answer m.link m.link z.near.up last down));
-        far_truth = each-line p m.link y m.lines m.set (λ k x. under_way (untrue_of read k x.far) (turned p) ≡ 0) (λ k d. h.back.words k) (h.back.words m.link);
+        far_truth = each-line p m.link y m.lines m.set (λ k x. under_way (untrue_of read.back k x.far) (turned p) ≡ 0) (λ k d. h.back.words k) (h.back.words m.link);
         declarations = λ code. omega (arith, made (is_declaration code));
         confirmations = λ code. omega (arith, made (is_confirmation code));
-        accepted = λ test. omega (arith, said-no_user read m.answer (Answer m.link last) m.answers refl test);
-        received = λ test. omega (arith, said-no_user read m.heard.message (Order m.link m.number) m.heard.says refl test);
+        accepted = λ test. omega (arith, said-no_user read.there m.answer (Answer m.link last) m.answers refl test);
+        received = λ test. omega (arith, said-no_user read.back m.heard.message (Order m.link m.number) m.heard.says refl test);
       })
       (each-line p m.link y m.lines m.set (λ k x. IsLine x) (λ k d. h.lines k) (line-completion z z.near.awaited down t.far_down m.incomplete (h.lines m.link)))
       h)
@@ -118,8 +118,8 @@ module _ (read : Message → Saying) (p q : Pair) where
   sound-answers_order m h =
       let last : ℕ = last_accepted (p.line m.link).near.queue in
       let s : Side = record p.near { arrived = m.heard.rest; loose = p.near.loose ++ m.answer ∷ [] } in
-      let made : (test : Saying → Bool) → count_by (saying read test) (m.answer ∷ []) ≡ one_if (test (Answer m.link last)) = said read m.answer (Answer m.link last) m.answers in
-      let looked : (test : Saying → Bool) → count_by (saying read test) (m.heard.message ∷ []) ≡ one_if (test (Order m.link m.number)) = said read m.heard.message (Order m.link m.number) m.heard.says in
+      let made : (test : Saying → Bool) → count_by (saying read.there test) (m.answer ∷ []) ≡ one_if (test (Answer m.link last)) = said read.there m.answer (Answer m.link last) m.answers in
+      let looked : (test : Saying → Bool) → count_by (saying read.back test) (m.heard.message ∷ []) ≡ one_if (test (Order m.link m.number)) = said read.back m.heard.message (Order m.link m.number) m.heard.says in
       subst (Sound read) (sym m.after)
       (kept-sound read p (record p { near = s }) (m.answer ∷ []) (m.heard.message ∷ [])
       (books-side p s (m.answer ∷ []) (m.heard.message ∷ [])
@@ -148,8 +148,8 @@ module _ (read : Message → Saying) (p q : Pair) where
         far_truth = λ k. h.back.words k;
         declarations = λ code. omega (arith, made (is_declaration code));
         confirmations = λ code. omega (arith, made (is_confirmation code));
-        accepted = λ test. omega (arith, said-no_user read m.answer (Answer m.link last) m.answers refl test);
-        received = λ test. omega (arith, said-no_user read m.heard.message (Order m.link m.number) m.heard.says refl test);
+        accepted = λ test. omega (arith, said-no_user read.there m.answer (Answer m.link last) m.answers refl test);
+        received = λ test. omega (arith, said-no_user read.back m.heard.message (Order m.link m.number) m.heard.says refl test);
       })
       h.lines h)
 
@@ -158,18 +158,18 @@ module _ (read : Message → Saying) (p q : Pair) where
       let z : Line = p.line m.link in
       let y : Line = with_completion z false in
       let behind : List Message = drop m.count z.near.queue.all in
-      let s : Side = record p.near { arrived = m.heard.rest; held = users_of read behind ++ p.near.held; loose = p.near.loose ++ managements_of read behind; holds = m.holds } in
+      let s : Side = record p.near { arrived = m.heard.rest; held = users_of read.there behind ++ p.near.held; loose = p.near.loose ++ managements_of read.there behind; holds = m.holds } in
       let t : Tells p m.link m.number = answer-tells read p m.link m.number m.heard.message m.heard.rest m.heard.first m.heard.says h in
       let e : m.count ≡ z.far.queue.received = names-received read p m.link m.number m.count t m.incomplete m.named h in
       let down : z.near.up ≡ false = (h.lines m.link).near.incomplete m.incomplete in
-      let looked : (test : Saying → Bool) → count_by (saying read test) (m.heard.message ∷ []) ≡ one_if (test (Answer m.link m.number)) = said read m.heard.message (Answer m.link m.number) m.heard.says in
+      let looked : (test : Saying → Bool) → count_by (saying read.back test) (m.heard.message ∷ []) ≡ one_if (test (Answer m.link m.number)) = said read.back m.heard.message (Answer m.link m.number) m.heard.says in
       subst (Sound read) (sym m.after)
       (kept-sound read p (record p { line = m.lines; near = s }) [] (m.heard.message ∷ [])
       (books-line p m.link y m.lines m.set s [] (m.heard.message ∷ [])
       (λ test. omega (
         arith,
-        count-append test (users_of read behind) p.near.held,
-        count-append test p.near.loose (managements_of read behind),
+        count-append test (users_of read.there behind) p.near.held,
+        count-append test p.near.loose (managements_of read.there behind),
         moved-counts read p m.link m.count e test,
         count-beyond test z.far.queue.received,
       ))
@@ -178,18 +178,18 @@ module _ (read : Message → Saying) (p q : Pair) where
         far = refl;
         given_up = refl;
         orders = each-line p m.link y m.lines m.set
-            (λ k x. 0 + one_if (p.line k).near.awaited ≡ one_if x.near.awaited + count_by (saying read (is_answer k)) (m.heard.message ∷ []))
+            (λ k x. 0 + one_if (p.line k).near.awaited ≡ one_if x.near.awaited + count_by (saying read.back (is_answer k)) (m.heard.message ∷ []))
             (λ k d. omega (arith, looked (is_answer k), none-said (nat_eq m.link k) (other-link m.link k d))) (omega (arith, looked (is_answer m.link), one-said (nat_eq m.link m.link) (same-link m.link), one-said z.near.awaited m.awaited));
         answers = each-line p m.link y m.lines m.set
-            (λ k x. 0 + one_if (p.line k).far.awaited ≡ one_if x.far.awaited + count_by (saying read (is_order k)) (m.heard.message ∷ []))
+            (λ k x. 0 + one_if (p.line k).far.awaited ≡ one_if x.far.awaited + count_by (saying read.back (is_order k)) (m.heard.message ∷ []))
             (λ k d. omega arith) (omega arith);
-        truth = each-line p m.link y m.lines m.set (λ k x. under_way (untrue_of read k x.near) p + 0 ≡ 0)
+        truth = each-line p m.link y m.lines m.set (λ k x. under_way (untrue_of read.there k x.near) p + 0 ≡ 0)
             (λ k d. omega (arith, h.there.words k)) (omega (arith, h.there.words m.link));
-        far_truth = each-line p m.link y m.lines m.set (λ k x. under_way (untrue_of read k x.far) (turned p) ≡ 0) (λ k d. h.back.words k) (h.back.words m.link);
+        far_truth = each-line p m.link y m.lines m.set (λ k x. under_way (untrue_of read.back k x.far) (turned p) ≡ 0) (λ k d. h.back.words k) (h.back.words m.link);
         declarations = λ code. omega arith;
         confirmations = λ code. omega arith;
         accepted = λ test. omega arith;
-        received = λ test. omega (arith, said-no_user read m.heard.message (Answer m.link m.number) m.heard.says refl test);
+        received = λ test. omega (arith, said-no_user read.back m.heard.message (Answer m.link m.number) m.heard.says refl test);
       })
       (each-line p m.link y m.lines m.set (λ k x. IsLine x) (λ k d. h.lines k) (line-completion z false down t.far_down m.incomplete (h.lines m.link)))
       h)
@@ -199,7 +199,7 @@ module _ (read : Message → Saying) (p q : Pair) where
       let z : Line = p.line m.link in
       let y : Line = without_wait z in
       let s : Side = record p.near { arrived = m.heard.rest } in
-      let looked : (test : Saying → Bool) → count_by (saying read test) (m.heard.message ∷ []) ≡ one_if (test (Answer m.link m.number)) = said read m.heard.message (Answer m.link m.number) m.heard.says in
+      let looked : (test : Saying → Bool) → count_by (saying read.back test) (m.heard.message ∷ []) ≡ one_if (test (Answer m.link m.number)) = said read.back m.heard.message (Answer m.link m.number) m.heard.says in
       subst (Sound read) (sym m.after)
       (kept-sound read p (record p { line = m.lines; near = s }) [] (m.heard.message ∷ [])
       (books-line p m.link y m.lines m.set s [] (m.heard.message ∷ []) (λ test. omega arith)
@@ -208,18 +208,18 @@ module _ (read : Message → Saying) (p q : Pair) where
         far = refl;
         given_up = refl;
         orders = each-line p m.link y m.lines m.set
-            (λ k x. 0 + one_if (p.line k).near.awaited ≡ one_if x.near.awaited + count_by (saying read (is_answer k)) (m.heard.message ∷ []))
+            (λ k x. 0 + one_if (p.line k).near.awaited ≡ one_if x.near.awaited + count_by (saying read.back (is_answer k)) (m.heard.message ∷ []))
             (λ k d. omega (arith, looked (is_answer k), none-said (nat_eq m.link k) (other-link m.link k d))) (omega (arith, looked (is_answer m.link), one-said (nat_eq m.link m.link) (same-link m.link), one-said z.near.awaited m.awaited));
         answers = each-line p m.link y m.lines m.set
-            (λ k x. 0 + one_if (p.line k).far.awaited ≡ one_if x.far.awaited + count_by (saying read (is_order k)) (m.heard.message ∷ []))
+            (λ k x. 0 + one_if (p.line k).far.awaited ≡ one_if x.far.awaited + count_by (saying read.back (is_order k)) (m.heard.message ∷ []))
             (λ k d. omega arith) (omega arith);
-        truth = each-line p m.link y m.lines m.set (λ k x. under_way (untrue_of read k x.near) p + 0 ≡ 0)
+        truth = each-line p m.link y m.lines m.set (λ k x. under_way (untrue_of read.there k x.near) p + 0 ≡ 0)
             (λ k d. omega (arith, h.there.words k)) (omega (arith, h.there.words m.link));
-        far_truth = each-line p m.link y m.lines m.set (λ k x. under_way (untrue_of read k x.far) (turned p) ≡ 0) (λ k d. h.back.words k) (h.back.words m.link);
+        far_truth = each-line p m.link y m.lines m.set (λ k x. under_way (untrue_of read.back k x.far) (turned p) ≡ 0) (λ k d. h.back.words k) (h.back.words m.link);
         declarations = λ code. omega arith;
         confirmations = λ code. omega arith;
         accepted = λ test. omega arith;
-        received = λ test. omega (arith, said-no_user read m.heard.message (Answer m.link m.number) m.heard.says refl test);
+        received = λ test. omega (arith, said-no_user read.back m.heard.message (Answer m.link m.number) m.heard.says refl test);
       })
       (each-line p m.link y m.lines m.set (λ k x. IsLine x) (λ k d. h.lines k) (line-unawaited z (h.lines m.link)))
       h)
@@ -227,6 +227,6 @@ module _ (read : Message → Saying) (p q : Pair) where
   -- no answer comes that isn't awaited
   pub sound-ignores_answer : IgnoresAnswer read p q → Sound read p → Sound read q
   sound-ignores_answer m h =
-      let none : under_way (saying read (is_answer m.link)) (turned p) ≡ 0 = omega (arith, h.there.orders m.link, none-said (p.line m.link).near.awaited m.unawaited) in
+      let none : under_way (saying read.back (is_answer m.link)) (turned p) ≡ 0 = omega (arith, h.there.orders m.link, none-said (p.line m.link).near.awaited m.unawaited) in
       both (ap (is_answer m.link) m.heard.says ∙ same-link m.link)
-      (arrived-not (saying read (is_answer m.link)) p m.heard.message m.heard.rest m.heard.first none)
+      (arrived-not (saying read.back (is_answer m.link)) p m.heard.message m.heard.rest m.heard.first none)

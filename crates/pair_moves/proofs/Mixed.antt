@@ -1,6 +1,6 @@
 -- Messages that the laws don't mention come, leave and change places: all laws stay.
 use Rattle.pair_moves.proofs.Basics.{◌≡◌, ℕ, Bool, true, false, not, ◌+◌, ◌&&◌, List, [], ◌∷◌, ◌++◌, count_by, refl, ap, sym, ◌∙◌, subst, arith, if◌then◌else◌}
-use Rattle.pair_moves.proofs.Definitions.{Message, Flow, Saying, UserMessage, Order, Answer, Declaration, Confirmation, Other, is_other, is_user_message, is_same_flow, is_of_flow, flow_of, Side, Pair, turned, last_accepted, is_order, is_answer, is_untrue, is_declaration, is_confirmation, without_others, MixesOthers, under_way, one_if, saying, user, of_flow, IsInOrder}
+use Rattle.pair_moves.proofs.Definitions.{Message, Flow, Reading, turned_reading, Saying, UserMessage, Order, Answer, Declaration, Confirmation, Other, is_other, is_user_message, is_same_flow, is_of_flow, flow_of, Side, Pair, turned, last_accepted, is_order, is_answer, is_untrue, is_declaration, is_confirmation, without_others, MixesOthers, under_way, one_if, saying, user, of_flow, IsInOrder}
 use Rattle.pair_moves.proofs.Counts.{count-cons}
 use Rattle.pair_moves.proofs.Lines.{false_is_true, true_is_false}
 use Rattle.pair_moves.proofs.Books.{Tallies, untrue_of}
@@ -63,52 +63,52 @@ module _ (read : Message → Saying) where
   pub flow-stays : (flow : Flow) (xs ys : List Message) → without_others read xs ≡ without_others read ys → of_flow read flow xs ≡ of_flow read flow ys
   flow-stays flow xs ys e = sym (flow-left flow xs) ∙ ap (of_flow read flow) e ∙ flow-left flow ys
 
-  -- ---- the move
+-- ---- the move
 
-  module _ (p q : Pair) (m : MixesOthers read p q) where
-    abbrev s : Side
-    s = record p.near { held = m.held; loose = m.loose; arrived = m.arrived }
+module _ (read : Reading) (p q : Pair) (m : MixesOthers read p q) where
+  abbrev s : Side
+  s = record p.near { held = m.held; loose = m.loose; arrived = m.arrived }
 
-    abbrev mixed : Pair
-    mixed = record p { near = s }
+  abbrev mixed : Pair
+  mixed = record p { near = s }
 
-    -- as many are under way as before
-    way-there : (test : Message → Bool) → IsDeaf test → under_way test mixed ≡ under_way test p
-    way-there test d = omega (arith, count-stays test d m.held p.near.held m.held_stay, count-stays test d m.loose p.near.loose m.loose_stay)
+  -- as many are under way as before
+  way-there : (test : Message → Bool) → IsDeaf read.there test → under_way test mixed ≡ under_way test p
+  way-there test d = omega (arith, count-stays read.there test d m.held p.near.held m.held_stay, count-stays read.there test d m.loose p.near.loose m.loose_stay)
 
-    way-back : (test : Message → Bool) → IsDeaf test → under_way test (turned mixed) ≡ under_way test (turned p)
-    way-back test d = omega (arith, count-stays test d m.arrived p.near.arrived m.arrived_stay)
+  way-back : (test : Message → Bool) → IsDeaf read.back test → under_way test (turned mixed) ≡ under_way test (turned p)
+  way-back test d = omega (arith, count-stays read.back test d m.arrived p.near.arrived m.arrived_stay)
 
-    tallies-mixed : Tallies read p → Tallies read mixed
-    tallies-mixed t = record {
-      orders = λ link. omega (arith, way-there (saying read (is_order link)) (deaf-saying (is_order link) refl), way-back (saying read (is_answer link)) (deaf-saying (is_answer link) refl), t.orders link);
-      words = λ link.
-          omega (arith, way-there (untrue_of read link (p.line link).near) (deaf-saying (is_untrue link (p.line link).near.up (last_accepted (p.line link).near.queue)) refl), t.words link);
-      codes = λ code. omega (arith, way-there (saying read (is_declaration code)) (deaf-saying (is_declaration code) refl), way-back (saying read (is_confirmation code)) (deaf-saying (is_confirmation code) refl), t.codes code);
-      once = λ test. omega (arith, way-there (user read test) (deaf-user test), t.once test);
-    }
+  tallies-mixed : Tallies read p → Tallies read mixed
+  tallies-mixed t = record {
+    orders = λ link. omega (arith, way-there (saying read.there (is_order link)) (deaf-saying read.there (is_order link) refl), way-back (saying read.back (is_answer link)) (deaf-saying read.back (is_answer link) refl), t.orders link);
+    words = λ link.
+        omega (arith, way-there (untrue_of read.there link (p.line link).near) (deaf-saying read.there (is_untrue link (p.line link).near.up (last_accepted (p.line link).near.queue)) refl), t.words link);
+    codes = λ code. omega (arith, way-there (saying read.there (is_declaration code)) (deaf-saying read.there (is_declaration code) refl), way-back (saying read.back (is_confirmation code)) (deaf-saying read.back (is_confirmation code) refl), t.codes code);
+    once = λ test. omega (arith, way-there (user read.there test) (deaf-user read.there test), t.once test);
+  }
 
-    tallies-mixed_back : Tallies read (turned p) → Tallies read (turned mixed)
-    tallies-mixed_back t = record {
-      orders = λ link. omega (arith, way-back (saying read (is_order link)) (deaf-saying (is_order link) refl), way-there (saying read (is_answer link)) (deaf-saying (is_answer link) refl), t.orders link);
-      words = λ link.
-          omega (arith, way-back (untrue_of read link (p.line link).far) (deaf-saying (is_untrue link (p.line link).far.up (last_accepted (p.line link).far.queue)) refl), t.words link);
-      codes = λ code. omega (arith, way-back (saying read (is_declaration code)) (deaf-saying (is_declaration code) refl), way-there (saying read (is_confirmation code)) (deaf-saying (is_confirmation code) refl), t.codes code);
-      once = λ test. omega (arith, way-back (user read test) (deaf-user test), t.once test);
-    }
+  tallies-mixed_back : Tallies (turned_reading read) (turned p) → Tallies (turned_reading read) (turned mixed)
+  tallies-mixed_back t = record {
+    orders = λ link. omega (arith, way-back (saying read.back (is_order link)) (deaf-saying read.back (is_order link) refl), way-there (saying read.there (is_answer link)) (deaf-saying read.there (is_answer link) refl), t.orders link);
+    words = λ link.
+        omega (arith, way-back (untrue_of read.back link (p.line link).far) (deaf-saying read.back (is_untrue link (p.line link).far.up (last_accepted (p.line link).far.queue)) refl), t.words link);
+    codes = λ code. omega (arith, way-back (saying read.back (is_declaration code)) (deaf-saying read.back (is_declaration code) refl), way-there (saying read.there (is_confirmation code)) (deaf-saying read.there (is_confirmation code) refl), t.codes code);
+    once = λ test. omega (arith, way-back (user read.back test) (deaf-user read.back test), t.once test);
+  }
 
-    pub sound-mixes_others : Sound read p → Sound read q
-    sound-mixes_others h = subst (Sound read) (sym m.after) (record { lines = h.lines; there = tallies-mixed h.there; back = tallies-mixed_back h.back })
+  pub sound-mixes_others : Sound read p → Sound read q
+  sound-mixes_others h = subst (Sound read) (sym m.after) (record { lines = h.lines; there = tallies-mixed h.there; back = tallies-mixed_back h.back })
 
-    pub order-mixes_others : (flow : Flow) → IsInOrder read flow p → IsInOrder read flow q
-    order-mixes_others flow h =
-        subst (IsInOrder read flow) (sym m.after)
-        (there-quiet read flow p s refl
-        (ap (λ (xs : List Message). xs ++ of_flow read flow m.loose) (flow-stays flow m.held p.near.held m.held_stay)
-        ∙ ap (λ (xs : List Message). of_flow read flow p.near.held ++ xs) (flow-stays flow m.loose p.near.loose m.loose_stay))
-        refl refl h)
+  pub order-mixes_others : (flow : Flow) → IsInOrder read.there flow p → IsInOrder read.there flow q
+  order-mixes_others flow h =
+      subst (IsInOrder read.there flow) (sym m.after)
+      (there-quiet read.there flow p s refl
+      (ap (λ (xs : List Message). xs ++ of_flow read.there flow m.loose) (flow-stays read.there flow m.held p.near.held m.held_stay)
+      ∙ ap (λ (xs : List Message). of_flow read.there flow p.near.held ++ xs) (flow-stays read.there flow m.loose p.near.loose m.loose_stay))
+      refl refl h)
 
-    pub back-mixes_others : (flow : Flow) → IsInOrder read flow (turned p) → IsInOrder read flow (turned q)
-    back-mixes_others flow h =
-        subst (λ (x : Pair). IsInOrder read flow (turned x)) (sym m.after)
-        (back-side read flow p s (ap (λ (xs : List Message). of_flow read flow p.near.received ++ xs) (flow-stays flow m.arrived p.near.arrived m.arrived_stay)) h)
+  pub back-mixes_others : (flow : Flow) → IsInOrder read.back flow (turned p) → IsInOrder read.back flow (turned q)
+  back-mixes_others flow h =
+      subst (λ (x : Pair). IsInOrder read.back flow (turned x)) (sym m.after)
+      (back-side read.back flow p s (ap (λ (xs : List Message). of_flow read.back flow p.near.received ++ xs) (flow-stays read.back flow m.arrived p.near.arrived m.arrived_stay)) h)

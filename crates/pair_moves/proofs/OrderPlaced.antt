@@ -1,6 +1,6 @@
 -- A message that goes onto a link, or comes off it, keeps the order of each flow.
 use Rattle.pair_moves.proofs.Basics.{◌≡◌, ◌≢◌, ℕ, Bool, true, false, ◌<◌, List, [], ◌∷◌, ◌++◌, refl, ap, sym, ◌∙◌, subst, Some, ⊎_elim, cases_eq, append_assoc}
-use Rattle.pair_moves.proofs.Definitions.{Message, flow_of, Flow, Saying, is_user_message, is_of_flow, Line, Procedure, Changeover, Code, Time, Side, Pair, turned, turned_line, unreceived, BecomeAt, MayGo, with_message, Places, with_accepted, TakesMessage, of_flow, standing_on, IsGuarded, by_route, by_changeover, by_time, by_code, IsInOrder}
+use Rattle.pair_moves.proofs.Definitions.{Message, flow_of, Flow, Reading, Saying, is_user_message, is_of_flow, Line, Procedure, Changeover, Code, Time, Side, Pair, turned, turned_line, unreceived, BecomeAt, MayGo, with_message, Places, with_accepted, TakesMessage, of_flow, standing_on, IsGuarded, by_route, by_changeover, by_time, by_code, IsInOrder}
 use Rattle.pair_moves.proofs.Lines.{IsLine, both}
 use Rattle.pair_moves.proofs.Books.{each-line, set-turned}
 use Rattle.pair_moves.proofs.Sound.{Sound}
@@ -116,7 +116,7 @@ module _ (read : Message → Saying) (flow : Flow) where
         guard = λ k l n. by_route (go.routed ∙ ap (λ (j : ℕ). Some j) (sym (only-there q link k l freed n)));
       }
 
-  places-either : (p : Pair) (link : ℕ) (m : Message) (rest : List Message) (lines : ℕ → Line) → BecomeAt p link (with_message (p.line link) m) lines →
+  pub places-either : (p : Pair) (link : ℕ) (m : Message) (rest : List Message) (lines : ℕ → Line) → BecomeAt p link (with_message (p.line link) m) lines →
       (p.line link).near.serving ≡ true → p.near.loose ≡ m ∷ rest → (is_user_message (read m) ≡ true → MayGo read p.near (flow_of m) link) → IsLine (p.line link) →
       (b : Bool) → is_of_flow read flow m ≡ b →
       IsInOrder read flow p → IsInOrder read flow (record p { line = lines; near = record p.near { loose = rest } })
@@ -124,16 +124,6 @@ module _ (read : Message → Saying) (flow : Flow) where
       places-of p link m rest lines set serving first is
       (subst (λ (f : Flow). MayGo read p.near f link) (of-flow-is read flow m is) (go (of-flow-user read flow m is))) line h
   places-either p link m rest lines set serving first go line false is h = places-other p link m rest lines set serving first is line h
-
-  pub order-places : (p q : Pair) → Places read p q → Sound read p → IsInOrder read flow p → IsInOrder read flow q
-  order-places p q m s h =
-      subst (IsInOrder read flow) (sym m.after)
-      (places-either p m.link m.message m.rest m.lines m.set m.serving m.first m.may_go (s.lines m.link) (is_of_flow read flow m.message) refl h)
-
-  pub back-places : (p q : Pair) → Places read p q → IsInOrder read flow (turned p) → IsInOrder read flow (turned q)
-  back-places p q m h =
-      subst (λ (x : Pair). IsInOrder read flow (turned x)) (sym m.after)
-      (back-line read flow p m.link (with_message (p.line m.link) m.message) m.lines m.set refl refl (record p.near { loose = m.rest }) refl h)
 
   -- ---- a message comes off a link
 
@@ -199,11 +189,22 @@ module _ (read : Message → Saying) (flow : Flow) where
     taken-either true e h = taken-of e h
     taken-either false e h = taken-other e h
 
-  pub back-takes_message : (p q : Pair) → TakesMessage read p q → Sound read p → IsInOrder read flow (turned p) → IsInOrder read flow (turned q)
+module _ (read : Reading) (flow : Flow) where
+  pub order-places : (p q : Pair) → Places read p q → Sound read p → IsInOrder read.there flow p → IsInOrder read.there flow q
+  order-places p q m s h =
+      subst (IsInOrder read.there flow) (sym m.after)
+      (places-either read.there flow p m.link m.message m.rest m.lines m.set m.serving m.first m.may_go (s.lines m.link) (is_of_flow read.there flow m.message) refl h)
+
+  pub back-places : (p q : Pair) → Places read p q → IsInOrder read.back flow (turned p) → IsInOrder read.back flow (turned q)
+  back-places p q m h =
+      subst (λ (x : Pair). IsInOrder read.back flow (turned x)) (sym m.after)
+      (back-line read.back flow p m.link (with_message (p.line m.link) m.message) m.lines m.set refl refl (record p.near { loose = m.rest }) refl h)
+
+  pub back-takes_message : (p q : Pair) → TakesMessage read p q → Sound read p → IsInOrder read.back flow (turned p) → IsInOrder read.back flow (turned q)
   back-takes_message p q m s h =
       let z : Line = p.line m.link in
       let y : Line = with_accepted z m.rest true m.count in
-      subst (λ (x : Pair). IsInOrder read flow (turned x)) (sym m.after)
-      (taken-either (turned p) m.link (turned_line y) (λ k. turned_line (m.lines k)) (set-turned p m.link y m.lines m.set) m.message
+      subst (λ (x : Pair). IsInOrder read.back flow (turned x)) (sym m.after)
+      (taken-either read.back flow (turned p) m.link (turned_line y) (λ k. turned_line (m.lines k)) (set-turned p m.link y m.lines m.set) m.message
       (drop-first z.far.queue.all z.near.queue.received m.message (taken_message-is z m.fsn m.bsn m.message m.rest m.first m.up (s.lines m.link)))
-      refl (is_of_flow read flow m.message) refl h)
+      refl (is_of_flow read.back flow m.message) refl h)

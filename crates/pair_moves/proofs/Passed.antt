@@ -1,6 +1,6 @@
 -- Moves of messages and frames are sound.
 use Rattle.pair_moves.proofs.Basics.{◌≡◌, inl, ℕ, zero, suc, Bool, true, false, ◌+◌, ◌≤◌, List, [], ◌∷◌, ◌++◌, length, drop, slice_get, count_by, refl, ap, sym, ◌∙◌, subst, arith, Some, drop-append-le}
-use Rattle.pair_moves.proofs.Definitions.{Message, last_accepted, Saying, UserMessage, is_order, is_answer, is_untrue, is_declaration, is_confirmation, Line, Side, Pair, turned_line, unreceived, BecomeAt, with_message, Accepts, TakesOut, Keeps, Places, HandsOver, with_status, with_statuses_left, with_sent, with_heard, with_frames_left, with_accepted, SendsStatus, SendsMessage, SendsEmpty, HearsStatus, TakesStatus, DoublesStatus, Drops, TakesEmpty, TakesMessage, Flows, one_if, saying, user}
+use Rattle.pair_moves.proofs.Definitions.{Message, last_accepted, Reading, Saying, turned_reading, UserMessage, is_order, is_answer, is_untrue, is_declaration, is_confirmation, Line, Side, Pair, turned_line, unreceived, BecomeAt, with_message, Accepts, TakesOut, Keeps, Places, HandsOver, with_status, with_statuses_left, with_sent, with_heard, with_frames_left, with_accepted, SendsStatus, SendsMessage, SendsEmpty, HearsStatus, TakesStatus, DoublesStatus, Drops, TakesEmpty, TakesMessage, Flows, one_if, saying, user}
 use Rattle.std.proofs.lemmas.Grind.{common_steps}
 use Rattle.pair_moves.proofs.Counts.{count-append, count-one, count-first}
 use Rattle.pair_moves.proofs.Words.{only-user, said}
@@ -31,24 +31,24 @@ unreceived-appended z m serving h =
     let f : Flows z = serving-flows z h serving in
     drop-appended z.near.queue.all z.far.queue.received m (omega (arith, f.received, h.near.queue.sent))
 
-module _ (read : Message → Saying) (p q : Pair) where
+module _ (read : Reading) (p q : Pair) where
   pub sound-accepts : Accepts read p q → Sound read p → Sound read q
   sound-accepts m h =
       let s : Side = record p.near { accepted = p.near.accepted ++ m.message ∷ []; loose = p.near.loose ++ m.message ∷ [] } in
-      let is : read m.message ≡ UserMessage = only-user (read m.message) m.user in
+      let is : read.there m.message ≡ UserMessage = only-user (read.there m.message) m.user in
       subst (Sound read) (sym m.after)
       (kept-sound read p (record p { near = s }) (m.message ∷ []) []
       (books-side p s (m.message ∷ []) [] (λ test. omega (arith, count-append test p.near.loose (m.message ∷ []))) (λ test. omega arith))
       (record {
         far = refl;
         given_up = refl;
-        orders = λ link. omega (arith, said read m.message UserMessage is (is_order link));
-        answers = λ link. omega (arith, said read m.message UserMessage is (is_answer link));
-        truth = λ link. omega (arith, said read m.message UserMessage is (is_untrue link (p.line link).near.up (last_accepted (p.line link).near.queue)), h.there.words link);
+        orders = λ link. omega (arith, said read.there m.message UserMessage is (is_order link));
+        answers = λ link. omega (arith, said read.there m.message UserMessage is (is_answer link));
+        truth = λ link. omega (arith, said read.there m.message UserMessage is (is_untrue link (p.line link).near.up (last_accepted (p.line link).near.queue)), h.there.words link);
         far_truth = λ link. h.back.words link;
-        declarations = λ code. omega (arith, said read m.message UserMessage is (is_declaration code));
-        confirmations = λ code. omega (arith, said read m.message UserMessage is (is_confirmation code));
-        accepted = λ test. omega (arith, count-append (user read test) p.near.accepted (m.message ∷ []));
+        declarations = λ code. omega (arith, said read.there m.message UserMessage is (is_declaration code));
+        confirmations = λ code. omega (arith, said read.there m.message UserMessage is (is_confirmation code));
+        accepted = λ test. omega (arith, count-append (user read.there test) p.near.accepted (m.message ∷ []));
         received = λ test. omega arith;
       })
       h.lines h)
@@ -81,7 +81,7 @@ module _ (read : Message → Saying) (p q : Pair) where
   pub sound-hands_over : HandsOver read p q → Sound read p → Sound read q
   sound-hands_over m h =
       let s : Side = record p.near { arrived = m.heard.rest; received = p.near.received ++ m.heard.message ∷ [] } in
-      let looked : (test : Saying → Bool) → count_by (saying read test) (m.heard.message ∷ []) ≡ one_if (test UserMessage) = said read m.heard.message UserMessage m.heard.says in
+      let looked : (test : Saying → Bool) → count_by (saying read.back test) (m.heard.message ∷ []) ≡ one_if (test UserMessage) = said read.back m.heard.message UserMessage m.heard.says in
       subst (Sound read) (sym m.after)
       (kept-sound read p (record p { near = s }) [] (m.heard.message ∷ [])
       (books-side p s [] (m.heard.message ∷ []) (λ test. omega arith) (λ test. omega (arith, count-one test m.heard.message, count-first test p.near.arrived m.heard.message m.heard.rest m.heard.first)))
@@ -95,7 +95,7 @@ module _ (read : Message → Saying) (p q : Pair) where
         declarations = λ code. omega (arith, looked (is_confirmation code));
         confirmations = λ code. omega (arith, looked (is_declaration code));
         accepted = λ test. omega arith;
-        received = λ test. omega (arith, count-append (user read test) p.near.received (m.heard.message ∷ []));
+        received = λ test. omega (arith, count-append (user read.back test) p.near.received (m.heard.message ∷ []));
       })
       h.lines h)
 

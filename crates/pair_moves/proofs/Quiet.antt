@@ -1,6 +1,6 @@
 -- Moves that make nothing and look at nothing.
 use Rattle.pair_moves.proofs.Basics.{◌≡◌, ◌⊎◌, ℕ, Bool, true, ◌+◌, [], count_by, refl, ap, arith}
-use Rattle.pair_moves.proofs.Definitions.{Message, Saying, last_accepted, LinkEnd, Line, Side, Pair, turned, turned_line, unreceived, BecomeAt, under_way, one_if, user}
+use Rattle.pair_moves.proofs.Definitions.{Message, Reading, Saying, turned_reading, last_accepted, LinkEnd, Line, Side, Pair, turned, turned_line, unreceived, BecomeAt, under_way, one_if, user}
 use Rattle.pair_moves.proofs.Counts.{way-within}
 use Rattle.pair_moves.proofs.Words.{untrue-more}
 use Rattle.pair_moves.proofs.Lines.{IsLine}
@@ -15,13 +15,13 @@ pub record SameLists (s t : Side) : Type 0 where
   pub given_up : s.given_up ≡ t.given_up
 
 -- the flags of a line let what is under way be
-pub record SameFlags (read : Message → Saying) (p : Pair) (link : ℕ) (z : Line) : Type 0 where
+pub record SameFlags (read : Reading) (p : Pair) (link : ℕ) (z : Line) : Type 0 where
   pub awaited : one_if (p.line link).near.awaited ≡ one_if z.near.awaited
   pub far_awaited : one_if (p.line link).far.awaited ≡ one_if z.far.awaited
-  pub truth : under_way (untrue_of read link z.near) p ≡ 0
-  pub far_truth : under_way (untrue_of read link z.far) (turned p) ≡ 0
+  pub truth : under_way (untrue_of read.there link z.near) p ≡ 0
+  pub far_truth : under_way (untrue_of read.back link z.far) (turned p) ≡ 0
 
-module _ (read : Message → Saying) (p : Pair) where
+module _ (read : Reading) (p : Pair) where
   quiet-agrees : (q : Pair) → q.far ≡ p.far → SameLists q.near p.near → ((link : ℕ) → SameFlags read p link (q.line link)) → Agrees read p q [] []
   quiet-agrees q far s flags = record {
     far = far;
@@ -32,8 +32,8 @@ module _ (read : Message → Saying) (p : Pair) where
     far_truth = λ link. (flags link).far_truth;
     declarations = λ code. let e : one_if (q.near.outstanding code) ≡ one_if (p.near.outstanding code) = ap (λ f. one_if (f code)) s.outstanding in omega (arith, e);
     confirmations = λ code. omega arith;
-    accepted = λ test. let e : count_by (user read test) q.near.accepted ≡ count_by (user read test) p.near.accepted = ap (count_by (user read test)) s.accepted in omega (arith, e);
-    received = λ test. let e : count_by (user read test) q.near.received ≡ count_by (user read test) p.near.received = ap (count_by (user read test)) s.received in omega (arith, e);
+    accepted = λ test. let e : count_by (user read.there test) q.near.accepted ≡ count_by (user read.there test) p.near.accepted = ap (count_by (user read.there test)) s.accepted in omega (arith, e);
+    received = λ test. let e : count_by (user read.back test) q.near.received ≡ count_by (user read.back test) p.near.received = ap (count_by (user read.back test)) s.received in omega (arith, e);
   }
 
   pub as_before : Sound read p → (link : ℕ) → SameFlags read p link (p.line link)
@@ -65,12 +65,12 @@ module _ (read : Message → Saying) (p : Pair) where
   -- an end that didn't come up, and where nothing was accepted while it was down
   pub still-true : (link : ℕ) (x : LinkEnd) → (x.up ≡ true → (p.line link).near.up ≡ true) →
       ((p.line link).near.up ≡ true) ⊎ (last_accepted x.queue ≡ last_accepted (p.line link).near.queue) → Sound read p →
-      under_way (untrue_of read link x) p ≡ 0
+      under_way (untrue_of read.there link x) p ≡ 0
   still-true link x up last h =
       let old : LinkEnd = (p.line link).near in
       omega (
         arith,
         h.there.words link,
-        way-within (untrue_of read link x) (untrue_of read link old) (untrue_of read link old) p
-            (λ m. untrue-more link old.up x.up (last_accepted old.queue) (last_accepted x.queue) up last (read m)),
+        way-within (untrue_of read.there link x) (untrue_of read.there link old) (untrue_of read.there link old) p
+            (λ m. untrue-more link old.up x.up (last_accepted old.queue) (last_accepted x.queue) up last (read.there m)),
       )

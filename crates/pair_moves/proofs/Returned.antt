@@ -1,6 +1,6 @@
 -- Moves of a link that opens and returns are sound.
 use Rattle.pair_moves.proofs.Basics.{◌≡◌, ◌≢◌, inr, ℕ, Bool, true, ◌+◌, List, [], ◌∷◌, ◌++◌, drop, count_by, nat_eq, refl, ap, sym, ◌∙◌, subst, arith, ⊎_elim, cases_eq}
-use Rattle.pair_moves.proofs.Definitions.{Message, Queue, last_accepted, Saying, Declaration, Confirmation, is_order, is_answer, is_untrue, is_declaration, is_confirmation, LinkEnd, Line, Side, Pair, turned, turned_line, unreceived, with_message, opened_end, opened_first, opened_second, MayOpen, with_service, OpensFirst, OpensSecond, Enters, Declares, WaitsForTime, Confirms, EndsHold, IgnoresConfirmation, RunsLate, IsEnd, OpenedAlone, under_way, one_if, saying}
+use Rattle.pair_moves.proofs.Definitions.{Message, Queue, last_accepted, Saying, Declaration, Confirmation, is_order, is_answer, is_untrue, is_declaration, is_confirmation, LinkEnd, Line, Side, Pair, turned, turned_line, unreceived, with_message, opened_end, opened_first, opened_second, MayOpen, with_service, OpensFirst, OpensSecond, Enters, Declares, WaitsForTime, Confirms, EndsHold, IgnoresConfirmation, RunsLate, IsEnd, OpenedAlone, under_way, one_if, saying, HoldsInService, Reading, turned_reading}
 use Rattle.pair_moves.proofs.Counts.{count-append, count-one, count-first, way-within}
 use Rattle.pair_moves.proofs.Words.{said, said-no_user, same-link, other-link, untrue-any, small, arrived-not}
 use Rattle.pair_moves.proofs.Lines.{IsLine, line-message, both}
@@ -18,9 +18,9 @@ nothing-stands x m h = nothing-idle x h m.down m.complete
 none-unreceived : (test : Message → Bool) (ms : List Message) (n : ℕ) → ms ≡ [] → count_by test (drop n ms) ≡ 0
 none-unreceived test ms n e = ap (λ (xs : List Message). count_by test (drop n xs)) e ∙ count-beyond test n
 
-module _ (read : Message → Saying) (p q : Pair) where
+module _ (read : Reading) (p q : Pair) where
   -- nothing is said about a link that may open, nor is anything on an end of it
-  unsaid : (link : ℕ) → MayOpen (p.line link).near → one_if (p.line link).far.awaited ≡ 0 → Sound read p → under_way (untrue_of read link opened_end) p ≡ 0
+  unsaid : (link : ℕ) → MayOpen (p.line link).near → one_if (p.line link).far.awaited ≡ 0 → Sound read p → under_way (untrue_of read.there link opened_end) p ≡ 0
   unsaid link may far_free h =
       let near_free : one_if (p.line link).near.awaited ≡ 0 = none-said (p.line link).near.awaited may.unawaited in
       omega (
@@ -29,8 +29,8 @@ module _ (read : Message → Saying) (p q : Pair) where
         far_free,
         h.there.orders link,
         h.back.orders link,
-        way-within (untrue_of read link opened_end) (saying read (is_order link)) (saying read (is_answer link)) p
-            (λ m. untrue-any link true (last_accepted opened_end.queue) (read m)),
+        way-within (untrue_of read.there link opened_end) (saying read.there (is_order link)) (saying read.there (is_answer link)) p
+            (λ m. untrue-any link true (last_accepted opened_end.queue) (read.there m)),
       )
 
   pub sound-opens_first : OpensFirst read p q → Sound read p → Sound read q
@@ -92,6 +92,12 @@ module _ (read : Message → Saying) (p q : Pair) where
       (quiet-side read p (record p.near { route = m.route; holds = m.holds }) (record { accepted = refl; received = refl; outstanding = refl; given_up = refl })
       (λ test. omega arith) refl h)
 
+  pub sound-holds_in_service : HoldsInService read p q → Sound read p → Sound read q
+  sound-holds_in_service m h =
+      subst (Sound read) (sym m.after)
+      (quiet-side read p (record p.near { holds = m.holds }) (record { accepted = refl; received = refl; outstanding = refl; given_up = refl })
+      (λ test. omega arith) refl h)
+
   pub sound-runs_late : RunsLate p q → Sound read p → Sound read q
   sound-runs_late m h =
       subst (Sound read) (sym m.after)
@@ -103,7 +109,7 @@ module _ (read : Message → Saying) (p q : Pair) where
       let z : Line = p.line m.former in
       let y : Line = with_message z m.declaration in
       let s : Side = record p.near { outstanding = m.outstanding; route = m.route; holds = m.holds } in
-      let made : (test : Saying → Bool) → count_by (saying read test) (m.declaration ∷ []) ≡ one_if (test (Declaration m.code)) = said read m.declaration (Declaration m.code) m.says in
+      let made : (test : Saying → Bool) → count_by (saying read.there test) (m.declaration ∷ []) ≡ one_if (test (Declaration m.code)) = said read.there m.declaration (Declaration m.code) m.says in
       subst (Sound read) (sym m.after)
       (kept-sound read p (record p { line = m.lines; near = s }) (m.declaration ∷ []) []
       (books-line p m.former y m.lines m.set s (m.declaration ∷ []) []
@@ -116,16 +122,16 @@ module _ (read : Message → Saying) (p q : Pair) where
         far = refl;
         given_up = refl;
         orders = each-line p m.former y m.lines m.set
-            (λ k x. count_by (saying read (is_order k)) (m.declaration ∷ []) + one_if (p.line k).near.awaited ≡ one_if x.near.awaited + 0)
+            (λ k x. count_by (saying read.there (is_order k)) (m.declaration ∷ []) + one_if (p.line k).near.awaited ≡ one_if x.near.awaited + 0)
             (λ k d. omega (arith, made (is_order k))) (omega (arith, made (is_order m.former)));
         answers = each-line p m.former y m.lines m.set
-            (λ k x. count_by (saying read (is_answer k)) (m.declaration ∷ []) + one_if (p.line k).far.awaited ≡ one_if x.far.awaited + 0)
+            (λ k x. count_by (saying read.there (is_answer k)) (m.declaration ∷ []) + one_if (p.line k).far.awaited ≡ one_if x.far.awaited + 0)
             (λ k d. omega (arith, made (is_answer k))) (omega (arith, made (is_answer m.former)));
         truth = each-line p m.former y m.lines m.set
-            (λ k x. under_way (untrue_of read k x.near) p + count_by (untrue_of read k x.near) (m.declaration ∷ []) ≡ 0)
+            (λ k x. under_way (untrue_of read.there k x.near) p + count_by (untrue_of read.there k x.near) (m.declaration ∷ []) ≡ 0)
             (λ k d. omega (arith, h.there.words k, made (is_untrue k (p.line k).near.up (last_accepted (p.line k).near.queue))))
             (omega (arith, h.there.words m.former, made (is_untrue m.former z.near.up (last_accepted z.near.queue))));
-        far_truth = each-line p m.former y m.lines m.set (λ k x. under_way (untrue_of read k x.far) (turned p) ≡ 0) (λ k d. h.back.words k) (h.back.words m.former);
+        far_truth = each-line p m.former y m.lines m.set (λ k x. under_way (untrue_of read.back k x.far) (turned p) ≡ 0) (λ k d. h.back.words k) (h.back.words m.former);
         declarations = λ code. ⊎_elim
             (λ (e : code ≡ m.code). omega (
               arith,
@@ -138,7 +144,7 @@ module _ (read : Message → Saying) (p q : Pair) where
             omega (arith, made (is_declaration code), none-said (nat_eq m.code code) (other-link m.code code d), same))
             (cases_eq code m.code);
         confirmations = λ code. omega (arith, made (is_confirmation code));
-        accepted = λ test. omega (arith, said-no_user read m.declaration (Declaration m.code) m.says refl test);
+        accepted = λ test. omega (arith, said-no_user read.there m.declaration (Declaration m.code) m.says refl test);
         received = λ test. omega arith;
       })
       (each-line p m.former y m.lines m.set (λ k x. IsLine x) (λ k d. h.lines k) (line-message z m.declaration m.serving (h.lines m.former)))
@@ -147,8 +153,8 @@ module _ (read : Message → Saying) (p q : Pair) where
   pub sound-confirms : Confirms read p q → Sound read p → Sound read q
   sound-confirms m h =
       let s : Side = record p.near { arrived = m.heard.rest; loose = p.near.loose ++ m.answer ∷ [] } in
-      let made : (test : Saying → Bool) → count_by (saying read test) (m.answer ∷ []) ≡ one_if (test (Confirmation m.code)) = said read m.answer (Confirmation m.code) m.answers in
-      let looked : (test : Saying → Bool) → count_by (saying read test) (m.heard.message ∷ []) ≡ one_if (test (Declaration m.code)) = said read m.heard.message (Declaration m.code) m.heard.says in
+      let made : (test : Saying → Bool) → count_by (saying read.there test) (m.answer ∷ []) ≡ one_if (test (Confirmation m.code)) = said read.there m.answer (Confirmation m.code) m.answers in
+      let looked : (test : Saying → Bool) → count_by (saying read.back test) (m.heard.message ∷ []) ≡ one_if (test (Declaration m.code)) = said read.back m.heard.message (Declaration m.code) m.heard.says in
       subst (Sound read) (sym m.after)
       (kept-sound read p (record p { near = s }) (m.answer ∷ []) (m.heard.message ∷ [])
       (books-side p s (m.answer ∷ []) (m.heard.message ∷ [])
@@ -163,15 +169,15 @@ module _ (read : Message → Saying) (p q : Pair) where
         far_truth = λ k. h.back.words k;
         declarations = λ code. omega (arith, made (is_declaration code));
         confirmations = λ code. omega (arith, made (is_confirmation code), looked (is_declaration code));
-        accepted = λ test. omega (arith, said-no_user read m.answer (Confirmation m.code) m.answers refl test);
-        received = λ test. omega (arith, said-no_user read m.heard.message (Declaration m.code) m.heard.says refl test);
+        accepted = λ test. omega (arith, said-no_user read.there m.answer (Confirmation m.code) m.answers refl test);
+        received = λ test. omega (arith, said-no_user read.back m.heard.message (Declaration m.code) m.heard.says refl test);
       })
       h.lines h)
 
   pub sound-ends_hold : EndsHold read p q → Sound read p → Sound read q
   sound-ends_hold m h =
       let s : Side = record p.near { arrived = m.heard.rest; outstanding = m.outstanding; holds = m.holds } in
-      let looked : (test : Saying → Bool) → count_by (saying read test) (m.heard.message ∷ []) ≡ one_if (test (Confirmation m.code)) = said read m.heard.message (Confirmation m.code) m.heard.says in
+      let looked : (test : Saying → Bool) → count_by (saying read.back test) (m.heard.message ∷ []) ≡ one_if (test (Confirmation m.code)) = said read.back m.heard.message (Confirmation m.code) m.heard.says in
       subst (Sound read) (sym m.after)
       (kept-sound read p (record p { near = s }) [] (m.heard.message ∷ [])
       (books-side p s [] (m.heard.message ∷ []) (λ test. omega arith) (λ test. omega (arith, count-first test p.near.arrived m.heard.message m.heard.rest m.heard.first, count-one test m.heard.message)))
@@ -188,8 +194,8 @@ module _ (read : Message → Saying) (p q : Pair) where
               looked (is_confirmation code),
               small (p.near.outstanding code),
               h.there.codes code,
-              count-first (saying read (is_confirmation code)) p.near.arrived m.heard.message m.heard.rest m.heard.first,
-              count-one (saying read (is_confirmation code)) m.heard.message,
+              count-first (saying read.back (is_confirmation code)) p.near.arrived m.heard.message m.heard.rest m.heard.first,
+              count-one (saying read.back (is_confirmation code)) m.heard.message,
               one-said (nat_eq m.code code) (subst (λ (c : ℕ). nat_eq m.code c ≡ true) (sym e) (same-link m.code)),
               subst (λ (c : ℕ). one_if (m.outstanding c) ≡ 0) (sym e) (none-said (m.outstanding m.code) m.freed),
             ))
@@ -198,13 +204,13 @@ module _ (read : Message → Saying) (p q : Pair) where
             (cases_eq code m.code);
         confirmations = λ code. omega arith;
         accepted = λ test. omega arith;
-        received = λ test. omega (arith, said-no_user read m.heard.message (Confirmation m.code) m.heard.says refl test);
+        received = λ test. omega (arith, said-no_user read.back m.heard.message (Confirmation m.code) m.heard.says refl test);
       })
       h.lines h)
 
   -- no confirmation comes of a code that isn't outstanding
   pub sound-ignores_confirmation : IgnoresConfirmation read p q → Sound read p → Sound read q
   sound-ignores_confirmation m h =
-      let none : under_way (saying read (is_confirmation m.code)) (turned p) ≡ 0 = omega (arith, h.there.codes m.code, none-said (p.near.outstanding m.code) m.free) in
+      let none : under_way (saying read.back (is_confirmation m.code)) (turned p) ≡ 0 = omega (arith, h.there.codes m.code, none-said (p.near.outstanding m.code) m.free) in
       both (ap (is_confirmation m.code) m.heard.says ∙ same-link m.code)
-      (arrived-not (saying read (is_confirmation m.code)) p m.heard.message m.heard.rest m.heard.first none)
+      (arrived-not (saying read.back (is_confirmation m.code)) p m.heard.message m.heard.rest m.heard.first none)

@@ -1,15 +1,15 @@
 -- What a move keeps besides order, characterized by what it changes at the near node and on one line.
 use Rattle.pair_moves.proofs.Basics.{◌≡◌, ℕ, Bool, ◌+◌, List, count_by, arith}
-use Rattle.pair_moves.proofs.Definitions.{Message, Saying, Line, Side, Pair, turned, turned_line, unreceived, BecomeAt}
+use Rattle.pair_moves.proofs.Definitions.{Message, Reading, Saying, turned_reading, Line, Side, Pair, turned, turned_line, unreceived, BecomeAt}
 use Rattle.pair_moves.proofs.Lines.{IsLine}
 use Rattle.pair_moves.proofs.Books.{Books, Agrees, Tallies, total-but, set-turned, tallies-there, tallies-back}
 
-pub record Sound (read : Message → Saying) (p : Pair) : Type 0 where
+pub record Sound (read : Reading) (p : Pair) : Type 0 where
   pub lines : (link : ℕ) → IsLine (p.line link)
   pub there : Tallies read p
-  pub back : Tallies read (turned p)
+  pub back : Tallies (turned_reading read) (turned p)
 
-pub kept-sound : (read : Message → Saying) (p q : Pair) (made looked : List Message) → Books p q made looked → Agrees read p q made looked →
+pub kept-sound : (read : Reading) (p q : Pair) (made looked : List Message) → Books p q made looked → Agrees read p q made looked →
     ((link : ℕ) → IsLine (q.line link)) → Sound read p → Sound read q
 kept-sound read p q made looked b a lines h = record {
   lines = lines;

@@ -1,6 +1,6 @@
 -- What an order or an answer that just arrived tells, since it is true.
 use Rattle.pair_moves.proofs.Basics.{◌≡◌, ℕ, zero, suc, Bool, true, false, ◌||◌, ◌+◌, List, [], ◌∷◌, drop, count_by, refl, ap, sym, ◌∙◌, arith, Some}
-use Rattle.pair_moves.proofs.Definitions.{Message, last_accepted, named_count, Saying, Order, Answer, is_user_message, is_untrue, LinkEnd, Line, Pair, unreceived, users_of, managements_of, one_if}
+use Rattle.pair_moves.proofs.Definitions.{Message, last_accepted, named_count, Reading, Saying, turned_reading, Order, Answer, is_user_message, is_untrue, LinkEnd, Line, Pair, unreceived, users_of, managements_of, one_if}
 use Rattle.pair_moves.proofs.Counts.{count-split}
 use Rattle.pair_moves.proofs.Words.{true-order, true-answer, arrived-not}
 use Rattle.pair_moves.proofs.Lines.{or-second, used-by, unless-true, incomplete-joined, incomplete-first}
@@ -26,18 +26,18 @@ pub record Tells (p : Pair) (link number : ℕ) : Type 0 where
   pub far_down : (p.line link).far.up ≡ false
   pub right : number ≡ last_accepted (p.line link).far.queue
 
-module _ (read : Message → Saying) (p : Pair) where
-  pub order-tells : (link number : ℕ) (m : Message) (rest : List Message) → p.near.arrived ≡ m ∷ rest → read m ≡ Order link number → Sound read p → Tells p link number
+module _ (read : Reading) (p : Pair) where
+  pub order-tells : (link number : ℕ) (m : Message) (rest : List Message) → p.near.arrived ≡ m ∷ rest → read.back m ≡ Order link number → Sound read p → Tells p link number
   order-tells link number m rest first says h =
       let x : LinkEnd = (p.line link).far in
-      let n : is_untrue link x.up (last_accepted x.queue) (read m) ≡ false = arrived-not (untrue_of read link x) p m rest first (h.back.words link) in
+      let n : is_untrue link x.up (last_accepted x.queue) (read.back m) ≡ false = arrived-not (untrue_of read.back link x) p m rest first (h.back.words link) in
       let t : (x.up ≡ false) × (number ≡ last_accepted x.queue) = true-order link x.up (last_accepted x.queue) number (ap (is_untrue link x.up (last_accepted x.queue)) (sym says) ∙ n) in
       record { far_down = t.0; right = t.1 }
 
-  pub answer-tells : (link number : ℕ) (m : Message) (rest : List Message) → p.near.arrived ≡ m ∷ rest → read m ≡ Answer link number → Sound read p → Tells p link number
+  pub answer-tells : (link number : ℕ) (m : Message) (rest : List Message) → p.near.arrived ≡ m ∷ rest → read.back m ≡ Answer link number → Sound read p → Tells p link number
   answer-tells link number m rest first says h =
       let x : LinkEnd = (p.line link).far in
-      let n : is_untrue link x.up (last_accepted x.queue) (read m) ≡ false = arrived-not (untrue_of read link x) p m rest first (h.back.words link) in
+      let n : is_untrue link x.up (last_accepted x.queue) (read.back m) ≡ false = arrived-not (untrue_of read.back link x) p m rest first (h.back.words link) in
       let t : (x.up ≡ false) × (number ≡ last_accepted x.queue) = true-answer link x.up (last_accepted x.queue) number (ap (is_untrue link x.up (last_accepted x.queue)) (sym says) ∙ n) in
       record { far_down = t.0; right = t.1 }
 
@@ -54,8 +54,8 @@ module _ (read : Message → Saying) (p : Pair) where
 
   -- the user messages that move and the others that are queued again are those that weren't received
   pub moved-counts : (link count : ℕ) → count ≡ (p.line link).far.queue.received → (test : Message → Bool) →
-      count_by test (users_of read (drop count (p.line link).near.queue.all)) + count_by test (managements_of read (drop count (p.line link).near.queue.all))
+      count_by test (users_of read.there (drop count (p.line link).near.queue.all)) + count_by test (managements_of read.there (drop count (p.line link).near.queue.all))
       ≡ count_by test (unreceived (p.line link))
   moved-counts link count e test =
-      count-split test (λ m. is_user_message (read m)) (drop count (p.line link).near.queue.all)
+      count-split test (λ m. is_user_message (read.there m)) (drop count (p.line link).near.queue.all)
       ∙ ap (λ (n : ℕ). count_by test (drop n (p.line link).near.queue.all)) e

@@ -1,6 +1,6 @@
 -- The run in which the flow goes back is one: each pair of it comes from the one before by a move.
 use Rattle.pair_moves.proofs.Basics.{◌≡◌, ◌≢◌, inr, ℕ, true, false, [], nat_eq, refl, ap, sym, arith, Some, None, ne_eqb}
-use Rattle.pair_moves.proofs.Definitions.{Procedure, Changeover, Code, Time, turned, with_message, with_sent, with_accepted, with_failure, with_service, Move, Moves, read_plainly, lines_with}
+use Rattle.pair_moves.proofs.Definitions.{Procedure, Changeover, Code, Time, turned, with_message, with_sent, with_accepted, with_failure, with_service, Move, Moves, plain_reading, read_plainly, lines_with}
 use Rattle.pair_moves.specs.Moves as moves
 use Rattle.pair_moves.specs.Crossing as crossing
 use Rattle.pair_moves.specs.GoingBack as back
@@ -16,11 +16,11 @@ held-alone code (Time returned) d = refl
 
 -- ---- the moves, in order
 
-opens-alone : Move read_plainly crossing.handed_over back.opened_alone
+opens-alone : Move plain_reading crossing.handed_over back.opened_alone
 opens-alone =
     opens crossing.handed_over 0 (omega arith) (record { down = refl; complete = refl; unawaited = refl }) (record { down = refl; complete = refl; unawaited = refl })
 
-falls-alone : Move read_plainly back.opened_alone back.fallen_alone
+falls-alone : Move plain_reading back.opened_alone back.fallen_alone
 falls-alone = moves.near (moves.falls (record {
   link = 0;
   up = refl;
@@ -37,7 +37,7 @@ falls-alone = moves.near (moves.falls (record {
   after = refl;
 }))
 
-opens-again : Move read_plainly back.fallen_alone back.opened_again
+opens-again : Move plain_reading back.fallen_alone back.opened_again
 opens-again =
     opens back.fallen_alone 0 (omega arith) (record { down = refl; complete = refl; unawaited = refl }) (record { down = refl; complete = refl; unawaited = refl })
 
@@ -56,7 +56,7 @@ joins-again = record {
   far_told_still = refl;
 }
 
-serves : Move read_plainly back.reopened back.serves_again
+serves : Move plain_reading back.reopened back.serves_again
 serves = moves.near (moves.enters (record {
   link = 0;
   up = refl;
@@ -68,7 +68,7 @@ serves = moves.near (moves.enters (record {
   after = refl;
 }))
 
-serves-there : Move read_plainly back.serves_again back.serves_again_there
+serves-there : Move plain_reading back.serves_again back.serves_again_there
 serves-there = moves.far (moves.enters (record {
   link = 0;
   up = refl;
@@ -80,7 +80,7 @@ serves-there = moves.far (moves.enters (record {
   after = refl;
 }))
 
-declares : Move read_plainly back.serves_again_there back.declared
+declares : Move plain_reading back.serves_again_there back.declared
 declares = moves.near (moves.declares (record {
   former = 1;
   serving = refl;
@@ -100,14 +100,14 @@ declares = moves.near (moves.declares (record {
   after = refl;
 }))
 
-accepts : Move read_plainly back.declared back.accepted_second
+accepts : Move plain_reading back.declared back.accepted_second
 accepts = moves.near (moves.accepts (record {
   message = second_message;
   user = refl;
   after = refl;
 }))
 
-keeps : Move read_plainly back.accepted_second back.kept_second
+keeps : Move plain_reading back.accepted_second back.kept_second
 keeps = moves.near (moves.keeps (record {
   message = second_message;
   rest = [];
@@ -115,7 +115,7 @@ keeps = moves.near (moves.keeps (record {
   after = refl;
 }))
 
-sends-declaration : Move read_plainly back.kept_second back.declaration_sent
+sends-declaration : Move plain_reading back.kept_second back.declaration_sent
 sends-declaration = moves.near (moves.sends_message (record {
   link = 1;
   serving = refl;
@@ -128,7 +128,7 @@ sends-declaration = moves.near (moves.sends_message (record {
   after = refl;
 }))
 
-takes-declaration : Move read_plainly back.declaration_sent back.declaration_came
+takes-declaration : Move plain_reading back.declaration_sent back.declaration_came
 takes-declaration = moves.far (moves.takes_message (record {
   link = 1;
   fsn = 2;
@@ -144,7 +144,7 @@ takes-declaration = moves.far (moves.takes_message (record {
   after = refl;
 }))
 
-confirms : Move read_plainly back.declaration_came back.confirmed
+confirms : Move plain_reading back.declaration_came back.confirmed
 confirms = moves.far (moves.confirms (record {
   code = 0;
   heard = record { message = the_declaration; rest = []; first = refl; says = refl };
@@ -153,7 +153,7 @@ confirms = moves.far (moves.confirms (record {
   after = refl;
 }))
 
-places-confirmation : Move read_plainly back.confirmed back.confirmation_placed
+places-confirmation : Move plain_reading back.confirmed back.confirmation_placed
 places-confirmation = moves.far (moves.places (record {
   link = 1;
   message = the_confirmation;
@@ -166,7 +166,7 @@ places-confirmation = moves.far (moves.places (record {
   after = refl;
 }))
 
-sends-confirmation : Move read_plainly back.confirmation_placed back.confirmation_sent
+sends-confirmation : Move plain_reading back.confirmation_placed back.confirmation_sent
 sends-confirmation = moves.far (moves.sends_message (record {
   link = 1;
   serving = refl;
@@ -179,7 +179,7 @@ sends-confirmation = moves.far (moves.sends_message (record {
   after = refl;
 }))
 
-takes-confirmation : Move read_plainly back.confirmation_sent back.confirmation_came
+takes-confirmation : Move plain_reading back.confirmation_sent back.confirmation_came
 takes-confirmation = moves.near (moves.takes_message (record {
   link = 1;
   fsn = 1;
@@ -195,7 +195,7 @@ takes-confirmation = moves.near (moves.takes_message (record {
   after = refl;
 }))
 
-ends-hold : Move read_plainly back.confirmation_came back.hold_ended
+ends-hold : Move plain_reading back.confirmation_came back.hold_ended
 ends-hold = moves.near (moves.ends_hold (record {
   code = 0;
   heard = record { message = the_confirmation; rest = []; first = refl; says = refl };
@@ -207,12 +207,12 @@ ends-hold = moves.near (moves.ends_hold (record {
   after = refl;
 }))
 
-takes-out : Move read_plainly back.hold_ended back.let_out
+takes-out : Move plain_reading back.hold_ended back.let_out
 takes-out = moves.near (moves.takes_out (record {
   after = refl;
 }))
 
-places-back : Move read_plainly back.let_out back.placed_back
+places-back : Move plain_reading back.let_out back.placed_back
 places-back = moves.near (moves.places (record {
   link = 0;
   message = second_message;
@@ -225,7 +225,7 @@ places-back = moves.near (moves.places (record {
   after = refl;
 }))
 
-sends-back : Move read_plainly back.placed_back back.sent_back
+sends-back : Move plain_reading back.placed_back back.sent_back
 sends-back = moves.near (moves.sends_message (record {
   link = 0;
   serving = refl;
@@ -238,7 +238,7 @@ sends-back = moves.near (moves.sends_message (record {
   after = refl;
 }))
 
-takes-back : Move read_plainly back.sent_back back.second_came
+takes-back : Move plain_reading back.sent_back back.second_came
 takes-back = moves.far (moves.takes_message (record {
   link = 0;
   fsn = 0;
@@ -254,13 +254,13 @@ takes-back = moves.far (moves.takes_message (record {
   after = refl;
 }))
 
-hands-over : Move read_plainly back.second_came back.second_handed_over
+hands-over : Move plain_reading back.second_came back.second_handed_over
 hands-over = moves.far (moves.hands_over (record {
   heard = record { message = second_message; rest = []; first = refl; says = refl };
   after = refl;
 }))
 
-declaring : Moves read_plainly back.reopened back.declaring_run
+declaring : Moves plain_reading back.reopened back.declaring_run
 declaring =
     (serves, (serves-there, (declares, (accepts, (keeps, (sends-declaration, (takes-declaration, (confirms, (places-confirmation, (sends-confirmation, (takes-confirmation, (ends-hold, (takes-out, (places-back, (sends-back, (takes-back, (hands-over, tt)))))))))))))))))
 

@@ -4,7 +4,7 @@ use Rattle.signalling_types.specs.Message.{Message}
 use Rattle.signalling_types.specs.declared.limits.TheConstants.Limits.{WINDOW}
 use Rattle.link.specs.Queue.{Queue, Sending, to_send, after_sending, last_sent, last_accepted}
 use Rattle.link.specs.Queue.{accept_answer, after_answer}
-use Rattle.pair_moves.specs.Sayings.{Saying}
+use Rattle.pair_moves.specs.Sayings.{Reading}
 use Rattle.pair_moves.specs.Ends.{Frame, EmptyFrame, MessageFrame, Line, Pair}
 use Rattle.pair_moves.specs.Passing.{BecomeAt}
 
@@ -47,7 +47,7 @@ with_accepted z rest carries count = record z {
   to_near = rest;
 }
 
-module _ (read : Message → Saying) (p q : Pair) where
+module _ (read : Reading) (p q : Pair) where
   -- a link status goes out, from an end that is up
   pub record SendsStatus : Type 0 where
     pub link : ℕ

@@ -3,7 +3,7 @@ use Rattle.std.specs.Prelude.{◌≡◌, ℕ, ◌+◌, Bool, true, false, List, 
 use Rattle.std.specs.Prelude.{Option, Some, None, if◌then◌else◌}
 use Rattle.signalling_types.specs.Message.{Message, is_management}
 use Rattle.signalling_types.specs.Numbers.{number_of}
-use Rattle.pair_moves.specs.Sayings.{Saying, UserMessage, Order, Answer, Declaration, Confirmation, is_order, is_answer}
+use Rattle.pair_moves.specs.Sayings.{Reading, Saying, UserMessage, Order, Answer, Declaration, Confirmation, is_order, is_answer}
 use Rattle.pair_moves.specs.Ends.{Line, Procedure, Changeover, Code, Time, Side, Pair, turned, first_pair}
 use Rattle.pair_moves.specs.Passing.{with_message}
 use Rattle.pair_moves.specs.Carrying.{with_status, with_statuses_left, with_sent, with_heard, with_frames_left, with_accepted}
@@ -29,6 +29,10 @@ read_plainly m =
     if is_management m
     then read_heading (slice_index m.sif 0) (slice_index m.sif 1) (number_of (drop 2 m.sif))
     else UserMessage
+
+-- in either direction
+abbrev pub plain_reading : Reading
+plain_reading = record { there = read_plainly; back = read_plainly }
 
 -- the message, and the order and the answer about link 0, on which nothing was accepted at either
 -- end
@@ -258,7 +262,7 @@ pub record AwaitsOne (p : Pair) (link : ℕ) : Type 0 where
 
 -- the run is one, the order and its answer are awaited on their way, and the message crosses the failure
 pub record Crosses : Type 0 where
-  pub moves : Moves read_plainly (first_pair 2) run
+  pub moves : Moves plain_reading (first_pair 2) run
   pub order : AwaitsOne order_sent 0
   pub answer : AwaitsOne answer_sent 0
   pub crossed : HasCrossed (last_of (first_pair 2) run)

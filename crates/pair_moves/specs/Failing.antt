@@ -4,7 +4,7 @@ use Rattle.std.specs.Prelude.{drop, filter, Option, Some}
 use Rattle.signalling_types.specs.Message.{Message}
 use Rattle.signalling_types.specs.declared.point.Flow.{Flow}
 use Rattle.link.specs.Queue.{named_count, emptied, last_accepted}
-use Rattle.pair_moves.specs.Sayings.{Saying, Order, Answer, is_user_message}
+use Rattle.pair_moves.specs.Sayings.{Reading, Saying, Order, Answer, is_user_message}
 use Rattle.pair_moves.specs.Ends.{Line, Procedure, Changeover, Pair}
 use Rattle.pair_moves.specs.Passing.{BecomeAt, Hears}
 
@@ -51,7 +51,7 @@ pub record Suspends (p : Pair) (link : ℕ) (route : Flow → Option ℕ) (holds
   pub held : (flow : Flow) → (p.line link).near.serving ≡ true → p.near.route flow ≡ Some link →
       holds (Changeover link) flow ≡ true
 
-module _ (read : Message → Saying) (p q : Pair) where
+module _ (read : Reading) (p q : Pair) where
   -- a link fails, and no order goes out: it didn't serve, no other link is left, or the peer's
   -- order said so
   pub record Falls : Type 0 where
@@ -70,7 +70,7 @@ module _ (read : Message → Saying) (p q : Pair) where
     pub link : ℕ
     pub serving : (p.line link).near.serving ≡ true
     pub order : Message
-    pub says : read order ≡ Order link (last_accepted (p.line link).near.queue)
+    pub says : read.there order ≡ Order link (last_accepted (p.line link).near.queue)
     pub route : Flow → Option ℕ
     pub holds : Procedure → Flow → Bool
     pub suspends : Suspends p link route holds
@@ -85,12 +85,12 @@ module _ (read : Message → Saying) (p q : Pair) where
   pub record CompletesByOrder : Type 0 where
     pub link : ℕ
     pub number : ℕ
-    pub heard : Hears read p (Order link number)
+    pub heard : Hears read.back p (Order link number)
     pub incomplete : (p.line link).near.incomplete ≡ true
     pub count : ℕ
     pub named : named_count (p.line link).near.queue number ≡ Some count
     pub answer : Message
-    pub answers : read answer ≡ Answer link (last_accepted (p.line link).near.queue)
+    pub answers : read.there answer ≡ Answer link (last_accepted (p.line link).near.queue)
     pub holds : Procedure → Flow → Bool
     pub lifted : ChangesOnly p.near.holds (Changeover link) holds
     pub lines : ℕ → Line
@@ -99,8 +99,8 @@ module _ (read : Message → Saying) (p q : Pair) where
       line = lines;
       near = record p.near {
         arrived = heard.rest;
-        held = users_of read (drop count (p.line link).near.queue.all) ++ p.near.held;
-        loose = p.near.loose ++ managements_of read (drop count (p.line link).near.queue.all) ++ answer ∷ [];
+        held = users_of read.there (drop count (p.line link).near.queue.all) ++ p.near.held;
+        loose = p.near.loose ++ managements_of read.there (drop count (p.line link).near.queue.all) ++ answer ∷ [];
         holds = holds;
       };
     }
@@ -109,18 +109,18 @@ module _ (read : Message → Saying) (p q : Pair) where
   pub record AnswersOrder : Type 0 where
     pub link : ℕ
     pub number : ℕ
-    pub heard : Hears read p (Order link number)
+    pub heard : Hears read.back p (Order link number)
     pub down : (p.line link).near.up ≡ false
     pub complete : (p.line link).near.incomplete ≡ false
     pub answer : Message
-    pub answers : read answer ≡ Answer link (last_accepted (p.line link).near.queue)
+    pub answers : read.there answer ≡ Answer link (last_accepted (p.line link).near.queue)
     pub after : q ≡ record p { near = record p.near { arrived = heard.rest; loose = p.near.loose ++ answer ∷ [] } }
 
   -- the answer about a link that failed completes its changeover
   pub record CompletesByAnswer : Type 0 where
     pub link : ℕ
     pub number : ℕ
-    pub heard : Hears read p (Answer link number)
+    pub heard : Hears read.back p (Answer link number)
     pub awaited : (p.line link).near.awaited ≡ true
     pub incomplete : (p.line link).near.incomplete ≡ true
     pub count : ℕ
@@ -133,8 +133,8 @@ module _ (read : Message → Saying) (p q : Pair) where
       line = lines;
       near = record p.near {
         arrived = heard.rest;
-        held = users_of read (drop count (p.line link).near.queue.all) ++ p.near.held;
-        loose = p.near.loose ++ managements_of read (drop count (p.line link).near.queue.all);
+        held = users_of read.there (drop count (p.line link).near.queue.all) ++ p.near.held;
+        loose = p.near.loose ++ managements_of read.there (drop count (p.line link).near.queue.all);
         holds = holds;
       };
     }
@@ -143,7 +143,7 @@ module _ (read : Message → Saying) (p q : Pair) where
   pub record EndsWait : Type 0 where
     pub link : ℕ
     pub number : ℕ
-    pub heard : Hears read p (Answer link number)
+    pub heard : Hears read.back p (Answer link number)
     pub awaited : (p.line link).near.awaited ≡ true
     pub complete : (p.line link).near.incomplete ≡ false
     pub lines : ℕ → Line
@@ -154,6 +154,14 @@ module _ (read : Message → Saying) (p q : Pair) where
   pub record IgnoresAnswer : Type 0 where
     pub link : ℕ
     pub number : ℕ
-    pub heard : Hears read p (Answer link number)
+    pub heard : Hears read.back p (Answer link number)
     pub unawaited : (p.line link).near.awaited ≡ false
     pub after : q ≡ record p { near = record p.near { arrived = heard.rest } }
+
+  -- the far processor of a link in service is out, or back (Q.703 §8): the changeover of the link holds flows meanwhile
+  pub record HoldsInService : Type 0 where
+    pub link : ℕ
+    pub serving : (p.line link).near.serving ≡ true
+    pub holds : Procedure → Flow → Bool
+    pub only : ChangesOnly p.near.holds (Changeover link) holds
+    pub after : q ≡ record p { near = record p.near { holds = holds } }

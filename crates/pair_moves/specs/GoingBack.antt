@@ -8,7 +8,7 @@ use Rattle.pair_moves.specs.Passing.{with_message}
 use Rattle.pair_moves.specs.Failing.{with_failure}
 use Rattle.pair_moves.specs.Moves.{Moves, last_of}
 use Rattle.pair_moves.specs.Laws.{saying, under_way}
-use Rattle.pair_moves.specs.Crossing.{read_plainly, the_message, with_line, with_near, opens, joining, joined}
+use Rattle.pair_moves.specs.Crossing.{plain_reading, read_plainly, the_message, with_line, with_near, opens, joining, joined}
 use Rattle.pair_moves.specs.Crossing.{enters_near, after_placing}
 use Rattle.pair_moves.specs.Crossing.{after_sending_one, after_taking_one, handed_over, RaisesNoFlag}
 
@@ -144,7 +144,7 @@ pub record IsOutstanding (p : Pair) (code : ℕ) : Type 0 where
 
 -- the run goes on like this from where the first message was handed over
 pub record Returns : Type 0 where
-  pub moves : Moves read_plainly handed_over return_run
+  pub moves : Moves plain_reading handed_over return_run
   pub declaration : IsOutstanding declaration_sent 0
   pub confirmation : IsOutstanding confirmation_sent 0
   pub returned : HasReturned (last_of handed_over return_run)

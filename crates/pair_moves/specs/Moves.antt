@@ -2,13 +2,13 @@
 use Rattle.std.specs.Prelude.{◌≡◌, Bool, true, List, [], ◌∷◌}
 use Rattle.signalling_types.specs.Message.{Message}
 use Rattle.signalling_types.specs.declared.point.Flow.{Flow}
-use Rattle.pair_moves.specs.Sayings.{Saying}
+use Rattle.pair_moves.specs.Sayings.{Reading, turned_reading}
 use Rattle.pair_moves.specs.Ends.{Procedure, Pair, turned}
 use Rattle.pair_moves.specs.Passing.{Accepts, TakesOut, Keeps, Places, HandsOver, MixesOthers}
 use Rattle.pair_moves.specs.Carrying.{SendsStatus, SendsMessage, SendsEmpty, HearsStatus, TakesStatus, DoublesStatus, Drops}
 use Rattle.pair_moves.specs.Carrying.{TakesEmpty, TakesMessage}
 use Rattle.pair_moves.specs.Failing.{Falls, FallsWithOrder, CompletesByOrder, AnswersOrder}
-use Rattle.pair_moves.specs.Failing.{CompletesByAnswer, EndsWait, IgnoresAnswer}
+use Rattle.pair_moves.specs.Failing.{CompletesByAnswer, EndsWait, IgnoresAnswer, HoldsInService}
 use Rattle.pair_moves.specs.Returning.{OpensFirst, OpensSecond, Enters, Declares, WaitsForTime}
 use Rattle.pair_moves.specs.Returning.{Confirms, EndsHold, IgnoresConfirmation}
 
@@ -21,7 +21,7 @@ pub record RunsLate (p q : Pair) : Type 0 where
 pub record Loses (q : Pair) : Type 0 where
   pub lost : q.near.lost ≡ true
 
-module _ (read : Message → Saying) where
+module _ (read : Reading) where
   -- a move of the near node
   pub data NearMove (p q : Pair) : Type 0 where
     accepts : Accepts read p q → NearMove p q
@@ -46,6 +46,7 @@ module _ (read : Message → Saying) where
     completes_by_answer : CompletesByAnswer read p q → NearMove p q
     ends_wait : EndsWait read p q → NearMove p q
     ignores_answer : IgnoresAnswer read p q → NearMove p q
+    holds_in_service : HoldsInService read p q → NearMove p q
     opens_first : OpensFirst read p q → NearMove p q
     opens_second : OpensSecond read p q → NearMove p q
     enters : Enters read p q → NearMove p q
@@ -57,10 +58,11 @@ module _ (read : Message → Saying) where
     runs_late : RunsLate p q → NearMove p q
     loses : Loses q → NearMove p q
 
+module _ (read : Reading) where
   -- a move of either node
   pub data Move (p q : Pair) : Type 0 where
-    near : NearMove p q → Move p q
-    far : NearMove (turned p) (turned q) → Move p q
+    near : NearMove read p q → Move p q
+    far : NearMove (turned_reading read) (turned p) (turned q) → Move p q
 
   -- from a pair, by moves, through the pairs of a list
   abbrev pub Moves : Pair → List Pair → Type 0

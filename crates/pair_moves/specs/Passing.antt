@@ -4,7 +4,7 @@ use Rattle.std.specs.Prelude.{◌≡◌, ◌≢◌, ℕ, true, false, not, ◌<�
 use Rattle.signalling_types.specs.Message.{Message, flow_of}
 use Rattle.signalling_types.specs.declared.point.Flow.{Flow}
 use Rattle.link.specs.Queue.{appended}
-use Rattle.pair_moves.specs.Sayings.{Saying, UserMessage, is_user_message, is_other, is_of_flow}
+use Rattle.pair_moves.specs.Sayings.{Reading, Saying, UserMessage, is_user_message, is_other, is_of_flow}
 use Rattle.pair_moves.specs.Ends.{Line, Procedure, Side, Pair}
 
 -- of the lines of a pair, that of one link becomes z, and the others are as before
@@ -34,11 +34,11 @@ pub record Hears (read : Message → Saying) (p : Pair) (saying : Saying) : Type
   pub first : p.near.arrived ≡ message ∷ rest
   pub says : read message ≡ saying
 
-module _ (read : Message → Saying) (p q : Pair) where
+module _ (read : Reading) (p q : Pair) where
   -- a user part hands a message over (Q.704 §2.1)
   pub record Accepts : Type 0 where
     pub message : Message
-    pub user : is_user_message (read message) ≡ true
+    pub user : is_user_message (read.there message) ≡ true
     pub after : q ≡ record p {
       near = record p.near { accepted = p.near.accepted ++ message ∷ []; loose = p.near.loose ++ message ∷ [] };
     }
@@ -61,14 +61,14 @@ module _ (read : Message → Saying) (p q : Pair) where
     pub rest : List Message
     pub first : p.near.loose ≡ message ∷ rest
     pub serving : (p.line link).near.serving ≡ true
-    pub may_go : is_user_message (read message) ≡ true → MayGo read p.near (flow_of message) link
+    pub may_go : is_user_message (read.there message) ≡ true → MayGo read.there p.near (flow_of message) link
     pub lines : ℕ → Line
     pub set : BecomeAt p link (with_message (p.line link) message) lines
     pub after : q ≡ record p { line = lines; near = record p.near { loose = rest } }
 
   -- a user message that came in a frame is handed to its user part
   pub record HandsOver : Type 0 where
-    pub heard : Hears read p UserMessage
+    pub heard : Hears read.back p UserMessage
     pub after : q ≡ record p {
       near = record p.near { arrived = heard.rest; received = p.near.received ++ heard.message ∷ [] };
     }
@@ -79,7 +79,7 @@ module _ (read : Message → Saying) (p q : Pair) where
     pub held : List Message
     pub loose : List Message
     pub arrived : List Message
-    pub held_stay : without_others read held ≡ without_others read p.near.held
-    pub loose_stay : without_others read loose ≡ without_others read p.near.loose
-    pub arrived_stay : without_others read arrived ≡ without_others read p.near.arrived
+    pub held_stay : without_others read.there held ≡ without_others read.there p.near.held
+    pub loose_stay : without_others read.there loose ≡ without_others read.there p.near.loose
+    pub arrived_stay : without_others read.back arrived ≡ without_others read.back p.near.arrived
     pub after : q ≡ record p { near = record p.near { held = held; loose = loose; arrived = arrived } }

@@ -2,7 +2,7 @@
 use Rattle.std.specs.Prelude.{◌≡◌, ◌≢◌, ◌⊎◌, ℕ, Bool, true, false, [], ◌∷◌, ◌++◌, Option, Some}
 use Rattle.signalling_types.specs.Message.{Message}
 use Rattle.signalling_types.specs.declared.point.Flow.{Flow}
-use Rattle.pair_moves.specs.Sayings.{Saying, Declaration, Confirmation}
+use Rattle.pair_moves.specs.Sayings.{Reading, Declaration, Confirmation}
 use Rattle.pair_moves.specs.Ends.{LinkEnd, Line, Procedure, Code, Time, Pair, closed_end}
 use Rattle.pair_moves.specs.Passing.{BecomeAt, Hears, with_message}
 use Rattle.pair_moves.specs.Failing.{ChangesOnly}
@@ -49,7 +49,7 @@ pub record AddsOnly (before : Procedure → Flow → Bool) (adding : Procedure)
   pub kept : (procedure : Procedure) (flow : Flow) → before procedure flow ≡ true → holds procedure flow ≡ true
   pub same : ChangesOnly before adding holds
 
-module _ (read : Message → Saying) (p q : Pair) where
+module _ (read : Reading) (p q : Pair) where
   -- a link opens at the near end, if it may open at the far one too, which may then follow
   pub record OpensFirst : Type 0 where
     pub link : ℕ
@@ -88,7 +88,7 @@ module _ (read : Message → Saying) (p q : Pair) where
     pub code : ℕ
     pub free : p.near.outstanding code ≡ false
     pub declaration : Message
-    pub says : read declaration ≡ Declaration code
+    pub says : read.there declaration ≡ Declaration code
     pub outstanding : ℕ → Bool
     pub used : outstanding code ≡ true
     pub others : (other : ℕ) → other ≢ code → outstanding other ≡ p.near.outstanding other
@@ -116,15 +116,15 @@ module _ (read : Message → Saying) (p q : Pair) where
   -- a declaration is confirmed with its code
   pub record Confirms : Type 0 where
     pub code : ℕ
-    pub heard : Hears read p (Declaration code)
+    pub heard : Hears read.back p (Declaration code)
     pub answer : Message
-    pub answers : read answer ≡ Confirmation code
+    pub answers : read.there answer ≡ Confirmation code
     pub after : q ≡ record p { near = record p.near { arrived = heard.rest; loose = p.near.loose ++ answer ∷ [] } }
 
   -- the confirmation of a code frees it and ends its holds
   pub record EndsHold : Type 0 where
     pub code : ℕ
-    pub heard : Hears read p (Confirmation code)
+    pub heard : Hears read.back p (Confirmation code)
     pub outstanding : ℕ → Bool
     pub freed : outstanding code ≡ false
     pub others : (other : ℕ) → other ≢ code → outstanding other ≡ p.near.outstanding other
@@ -137,6 +137,6 @@ module _ (read : Message → Saying) (p q : Pair) where
   -- the confirmation of a code that isn't outstanding is ignored
   pub record IgnoresConfirmation : Type 0 where
     pub code : ℕ
-    pub heard : Hears read p (Confirmation code)
+    pub heard : Hears read.back p (Confirmation code)
     pub free : p.near.outstanding code ≡ false
     pub after : q ≡ record p { near = record p.near { arrived = heard.rest } }

@@ -19,6 +19,15 @@ pub data Saying : Type 0 where
   -- comes from one, or is management of another kind
   Other : Saying
 
+-- what messages say: those that go from the near node to the far one, and those that come back
+pub record Reading : Type 0 where
+  pub there : Message → Saying
+  pub back : Message → Saying
+
+-- the same, seen from the far node
+abbrev pub turned_reading : Reading → Reading
+turned_reading read = record { there = read.back; back = read.there }
+
 -- whether a message is none of those that the laws speak of
 abbrev pub is_other : Saying → Bool
 is_other UserMessage = false

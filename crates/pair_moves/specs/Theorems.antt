@@ -2,7 +2,7 @@
 use Rattle.std.specs.Prelude.{◌≡◌, ℕ, true, false, ◌+◌, List, drop, slice_get, Some}
 use Rattle.signalling_types.specs.Message.{Message}
 use Rattle.signalling_types.specs.declared.point.Flow.{Flow}
-use Rattle.pair_moves.specs.Sayings.{Saying, is_order, is_answer}
+use Rattle.pair_moves.specs.Sayings.{Reading, turned_reading, is_order, is_answer}
 use Rattle.pair_moves.specs.Ends.{Pair, turned, unreceived}
 use Rattle.pair_moves.specs.Carrying.{TakesMessage}
 use Rattle.pair_moves.specs.Failing.{CompletesByOrder, CompletesByAnswer}
@@ -15,17 +15,17 @@ use Rattle.pair_moves.specs.Once.{EachOnce}
 use Rattle.pair_moves.specs.Order.{IsInOrder}
 
 -- a statement about one direction holds in both
-pub record BothWays (Statement : Pair → Type 0) (p : Pair) : Type 0 where
-  pub there : Statement p
-  pub back : Statement (turned p)
+pub record BothWays (Statement : Reading → Pair → Type 0) (read : Reading) (p : Pair) : Type 0 where
+  pub there : Statement read p
+  pub back : Statement (turned_reading read) (turned p)
 
 -- and it does so after every list of moves from every quiet pair on, as the first is, however messages are read, while
 -- neither node lost anything
-abbrev pub Always : ((Message → Saying) → Pair → Type 0) → Type 0
+abbrev pub Always : (Reading → Pair → Type 0) → Type 0
 Always Statement =
-    (read : Message → Saying) (start : Pair) (pairs : List Pair) → IsQuiet read start → Moves read start pairs →
+    (read : Reading) (start : Pair) (pairs : List Pair) → IsQuiet read start → Moves read start pairs →
     (last_of start pairs).near.lost ≡ false →
-    (last_of start pairs).far.lost ≡ false → BothWays (Statement read) (last_of start pairs)
+    (last_of start pairs).far.lost ≡ false → BothWays Statement read (last_of start pairs)
 
 -- law (i), and what holds in place of it; how the ends of a link are; a message that comes is the first that its end
 -- lacked
@@ -53,14 +53,14 @@ abbrev pub opens_with_nothing_under_way : Type 0
 opens_with_nothing_under_way =
     Always (λ read p.
     (link : ℕ) → MayOpen (p.line link).near → MayOpen (p.line link).far →
-    under_way (saying read (is_order link)) p + under_way (saying read (is_answer link)) p ≡ 0)
+    under_way (saying read.there (is_order link)) p + under_way (saying read.there (is_answer link)) p ≡ 0)
 
 abbrev pub follows_with_nothing_under_way : Type 0
 follows_with_nothing_under_way =
     Always (λ read p.
     (link : ℕ) → (p.line link).near_may_follow ≡ true →
-    (under_way (saying read (is_order link)) p + under_way (saying read (is_answer link)) p)
-    + (under_way (saying read (is_order link)) (turned p) + under_way (saying read (is_answer link)) (turned p))
+    (under_way (saying read.there (is_order link)) p + under_way (saying read.there (is_answer link)) p)
+    + (under_way (saying read.back (is_order link)) (turned p) + under_way (saying read.back (is_answer link)) (turned p))
     ≡ 0)
 
 -- law (iii)
@@ -93,7 +93,7 @@ codes_are_outstanding = Always CodesAreOutstanding
 
 abbrev pub none_is_given_up : Type 0
 none_is_given_up =
-    (read : Message → Saying) (start : Pair) (pairs : List Pair) → IsQuiet read start → Moves read start pairs →
+    (read : Reading) (start : Pair) (pairs : List Pair) → IsQuiet read start → Moves read start pairs →
     (last_of start pairs).near.lost ≡ false →
     (last_of start pairs).far.lost ≡ false →
     ((last_of start pairs).near.given_up ≡ start.near.given_up)
@@ -101,8 +101,8 @@ none_is_given_up =
 
 -- "Exactly once"
 abbrev pub each_message_once : Type 0
-each_message_once = Always EachOnce
+each_message_once = Always (λ read. EachOnce read.there)
 
 -- "Order", if furthermore no timer of the sending node ended a hold
 abbrev pub each_flow_in_order : Type 0
-each_flow_in_order = Always (λ read p. p.near.late ≡ false → (flow : Flow) → IsInOrder read flow p)
+each_flow_in_order = Always (λ read p. p.near.late ≡ false → (flow : Flow) → IsInOrder read.there flow p)

@@ -1,12 +1,14 @@
 -- A frame that newly carries a message: what it leads to, and the node that the message comes to.
 use Rattle.pair_rules.proofs.Basics.{◌≡◌, ◌&&◌, ℕ, zero, suc, Bool, true, false, not, List, length, Option, Some, None, Result, Ok, Err, refl, subst, ◌∙◌, if◌then◌else◌, sym}
-use Rattle.pair_rules.proofs.Definitions.{Message, Ignored, Configuration, TitleEntry, FrameValue, EmptyFrame, MessageFrame, StatusFrame, read_frame, Action, UserData, action_at, SeqFault, Facts, Node, Done, answer, refuse, down, is_link, link_at, WholeQueues, whole, Carrying, accept, accept_data, accept_frame, accept_text, act_by_data, carry, data_of, empty_data, handle_by, message_data, numbers, read, receive, receive_frame, deliver, new_at, new_by, new_in, new_message, new_of, advance, begun_anew_if, enters, return_if, step_on, loses_flows, hold_flows, code_for, take_back_each, count_confirmed, facts, owing, Parts, with_parts, has_other}
+use Rattle.pair_rules.proofs.Definitions.{Message, Ignored, Configuration, TitleEntry, FrameValue, EmptyFrame, MessageFrame, StatusFrame, read_frame, Action, UserData, acts_on, SeqFault, Facts, Node, Done, answer, refuse, down, is_link, link_at, WholeQueues, whole, Carrying, accept, accept_data, accept_frame, accept_text, act_by_data, carry, data_of, empty_data, handle_by, message_data, numbers, read, receive, receive_frame, deliver, new_at, new_by, new_in, new_message, new_of, advance, begun_anew_if, enters, return_if, step_on, loses_flows, hold_flows, code_for, take_back_each, count_confirmed, facts, owing, Parts, with_parts, has_other, in_service, Cause, no_room}
+use Rattle.sccp_relay.specs.Statuses.{TitlesValue}
 use Rattle.signalling_types.specs.declared.cause.Cause.TheVariants as causes
 use Rattle.signalling_types.specs.declared.notice.FrameFault.{FrameFault}
 use Rattle.link.specs.declared.action.Action.TheVariants as act
 use Rattle.link.specs.declared.action.Transition.{Transition}
 use Rattle.exchange_rules.specs.ChangingBack.{declare_by}
-use Rattle.exchange_rules.specs.Frames.{moved_on}
+use Rattle.exchange_rules.specs.Frames.{moved_on, take_step, test_if}
+use Rattle.exchange_rules.specs.LinkTests.{awaiting_test, link_test, queue_if, send_test, tests_links}
 use Rattle.exchange_rules.specs.First.{Abstract}
 
 module _ (c : Configuration) (link : ℕ) where
@@ -28,8 +30,8 @@ module _ (c : Configuration) (link : ℕ) where
         handled-as (numbers whole c link d (advance whole c link step n)) d (advance whole c link step n) e refl
 
     framed-as : (frame : FrameValue) (n : Node WholeQueues) → new_in (data_of frame) link c n ≡ Some m → P (receive_frame whole c link frame n) (accept_frame (data_of frame) link c n)
-    framed-as (EmptyFrame bsn fsn) n e = acted-as (action_at (link_at n.parts link).alignment UserData) (empty_data bsn fsn) n e
-    framed-as (MessageFrame bsn fsn sio sif) n e = acted-as (action_at (link_at n.parts link).alignment UserData) (message_data bsn fsn sio sif) n e
+    framed-as (EmptyFrame bsn fsn) n e = acted-as (acts_on (link_at n.parts link) UserData) (empty_data bsn fsn) n e
+    framed-as (MessageFrame bsn fsn sio sif) n e = acted-as (acts_on (link_at n.parts link) UserData) (message_data bsn fsn sio sif) n e
     framed-as (StatusFrame bsn fsn status) n e = absurd cc
 
     abbrev at_rest : Node WholeQueues → Abstract
@@ -51,7 +53,7 @@ module _ (c : Configuration) (link : ℕ) where
 
   -- ---- the translation rows stay as they are
 
-  either-titles : (b : Bool) (n o : Node WholeQueues) (rows : List TitleEntry) → n.parts.titles ≡ rows → o.parts.titles ≡ rows → (if b then n else o).parts.titles ≡ rows
+  either-titles : (b : Bool) (n o : Node WholeQueues) (rows : TitlesValue) → n.parts.titles ≡ rows → o.parts.titles ≡ rows → (if b then n else o).parts.titles ≡ rows
   either-titles true n o rows e f = e
   either-titles false n o rows e f = f
 
@@ -72,6 +74,16 @@ module _ (c : Configuration) (link : ℕ) where
   returned-titles true before n = taken_back-titles before (facts c n.parts) (length c.links) n
   returned-titles false before n = refl
 
+  queue_if-titles : (room : Option Cause) (n : Node WholeQueues) → (queue_if whole c room link (link_test c link) n).parts.titles ≡ n.parts.titles
+  queue_if-titles (Some cause) n = refl
+  queue_if-titles None n = refl
+
+  tested-titles : (entered : Bool) (n : Node WholeQueues) → (test_if whole c entered link n).parts.titles ≡ n.parts.titles
+  tested-titles true n =
+      either-titles (tests_links c && in_service n.parts link) (send_test whole c link n) n n.parts.titles
+      (queue_if-titles (no_room whole c (link_test c link) n.queues) (with_parts n (awaiting_test c link n.parts))) refl
+  tested-titles false n = refl
+
   anew-titles : (again : Bool) (step : Transition) (n : Node WholeQueues) → (begun_anew_if again c link (step_on c link step n.parts)).titles ≡ n.parts.titles
   anew-titles true step n = refl
   anew-titles false step n = refl
@@ -85,11 +97,12 @@ module _ (c : Configuration) (link : ℕ) where
   acted-titles act.Fail d n = refl
   acted-titles (act.Go step) d n =
       owed-titles d.message _
+      ∙ tested-titles (enters link step n.parts) (take_step whole c link step n)
       ∙ returned-titles (enters link step n.parts) (facts c n.parts) (with_parts n (moved_on c link step n.parts))
       ∙ anew-titles (enters link step n.parts && not (has_other c link n.parts)) step n
 
   pub accepted-titles : (r : Result FrameValue FrameFault) (n : Node WholeQueues) → (accept_text link r (record { settings = c; node = n })).parts.titles ≡ n.parts.titles
-  accepted-titles (Ok (EmptyFrame bsn fsn)) n = acted-titles (action_at (link_at n.parts link).alignment UserData) (empty_data bsn fsn) n
-  accepted-titles (Ok (MessageFrame bsn fsn sio sif)) n = acted-titles (action_at (link_at n.parts link).alignment UserData) (message_data bsn fsn sio sif) n
+  accepted-titles (Ok (EmptyFrame bsn fsn)) n = acted-titles (acts_on (link_at n.parts link) UserData) (empty_data bsn fsn) n
+  accepted-titles (Ok (MessageFrame bsn fsn sio sif)) n = acted-titles (acts_on (link_at n.parts link) UserData) (message_data bsn fsn sio sif) n
   accepted-titles (Ok (StatusFrame bsn fsn status)) n = refl
   accepted-titles (Err fault) n = refl

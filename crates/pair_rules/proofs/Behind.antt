@@ -1,15 +1,16 @@
 -- User messages after a number: there are as many if a node makes only management.
 use Rattle.pair_rules.proofs.Basics.{◌≡◌, ◌≤◌, ◌+◌, ◌&&◌, ℕ, zero, suc, Bool, true, false, not, List, [], ◌∷◌, ◌++◌, length, drop, Option, Some, None, refl, ap, ◌∙◌, arith, if◌then◌else◌, count_by}
-use Rattle.pair_rules.proofs.Definitions.{Message, flow_of, is_management, Cause, Configuration, Queue, appended, first_queue, named_count, Facts, Node, with_parts, WholeQueues, whole, queue_at, queue_on, no_room, link_of, send, entry_of, peer_of, set_of, ChangebackDeclaration, advance, enters, return_if, loses_flows, hold_flows, code_for, declaration, take_back_each, facts, after}
+use Rattle.pair_rules.proofs.Definitions.{in_service, Message, flow_of, is_management, Cause, Configuration, Queue, appended, first_queue, named_count, Facts, Node, with_parts, WholeQueues, whole, queue_at, queue_on, no_room, link_of, send, entry_of, peer_of, set_of, ChangebackDeclaration, advance, enters, return_if, loses_flows, hold_flows, code_for, declaration, take_back_each, facts, after}
 use Rattle.std.specs.Prelude.{unwrap_or}
 use Rattle.link.specs.declared.action.Transition.{Transition}
 use Rattle.exchange_rules.specs.ChangingBack.{code_in_use, declare_by}
 use Rattle.exchange_rules.specs.Routing.{adjacent_of, point_of}
-use Rattle.exchange_rules.specs.Frames.{moved_on}
+use Rattle.exchange_rules.specs.Frames.{moved_on, take_step, test_if}
+use Rattle.exchange_rules.specs.LinkTests.{awaiting_test, link_test, queue_if, send_test, tests_links}
 use Rattle.exchange_rules.specs.Telling.{may_tell, tell_each, tell_if, tell_owed, told_parts}
 use Rattle.exchange_rules.specs.Telling as telling
 use Rattle.exchange_rules.proofs.Lists.{alike-at}
-use Rattle.exchange_rules.proofs.OwnManagement.{made-management}
+use Rattle.exchange_rules.proofs.OwnManagement.{made-management, test-management}
 use Rattle.route_management.specs.Told.{Owed, owed}
 use Rattle.pair_moves.specs.Laws.{sum_to}
 use Rattle.pair_moves.proofs.Counts.{count-append, sum-alike}
@@ -134,7 +135,23 @@ module _ (number : ℕ) (c : Configuration) where
     returned-same true before n = taken_back-same before (facts c n.parts) (length c.links) n
     returned-same false before n = itself n
 
+    queue_if-same : (room : Option Cause) (n : Node WholeQueues) → Same n (queue_if whole c room link (link_test c link) n)
+    queue_if-same (Some cause) n = itself n
+    queue_if-same None n = queued-same link (link_test c link) n (test-management c link)
+
+    send_test-same : (n : Node WholeQueues) → Same n (send_test whole c link n)
+    send_test-same n =
+        let next : Node WholeQueues = with_parts n (awaiting_test c link n.parts) in
+        both n next (send_test whole c link n) (record { held = refl; each = λ l. refl }) (queue_if-same (no_room whole c (link_test c link) n.queues) next)
+
+    test_if-same : (entered : Bool) (n : Node WholeQueues) → Same n (test_if whole c entered link n)
+    test_if-same true n = either (tests_links c && in_service n.parts link) n (send_test whole c link n) n (send_test-same n) (itself n)
+    test_if-same false n = itself n
+
     pub advance-same : (step : Transition) (n : Node WholeQueues) → Same n (advance whole c link step n)
     advance-same step n =
-        both n (with_parts n (moved_on c link step n.parts)) (advance whole c link step n) (record { held = refl; each = λ l. refl })
-        (returned-same (enters link step n.parts) (facts c n.parts) (with_parts n (moved_on c link step n.parts)))
+        let took : Node WholeQueues = take_step whole c link step n in
+        both n took (advance whole c link step n)
+        (both n (with_parts n (moved_on c link step n.parts)) took (record { held = refl; each = λ l. refl })
+        (returned-same (enters link step n.parts) (facts c n.parts) (with_parts n (moved_on c link step n.parts))))
+        (test_if-same (enters link step n.parts) took)

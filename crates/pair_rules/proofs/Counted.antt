@@ -1,7 +1,7 @@
 -- A message that SCCP refuses adds to the user messages after a number: one, if the UDTS that returns it is in a queue
 -- or in Held.
 use Rattle.pair_rules.proofs.Basics.{◌≡◌, ◌≤◌, ◌<◌, ◌+◌, ◌-◌, ◌&&◌, ℕ, Bool, true, false, not, List, [], ◌∷◌, ◌++◌, length, drop, Option, Some, None, Result, Ok, Err, refl, ap, sym, subst, ◌∙◌, nat_eq, arith, if◌then◌else◌, get_or-set_other, get_or-set_same}
-use Rattle.pair_rules.proofs.Definitions.{Message, dpc_of, flow_of, service_indicator, Cause, Refused, Configuration, FrameValue, EmptyFrame, MessageFrame, StatusFrame, read_frame, Action, UserData, action_at, SeqFault, Queue, IsQueue, after_answer, appended, count_confirmed, first_queue, named_count, Discrimination, Node, FrameCame, Submitted, WholeQueues, whole, queue_at, queue_on, no_room_for, link_of, waits, Carrying, Fits, accept, accept_data, accept_text, carries, empty_data, message_data, numbers, is_link, down, link_at, new_at, new_by, new_message, new_of, advance, outcome_of, after, sccp, whither_goes, taken_in, Done, refuse, fit-steps, in_service, confirming, owing-steps, advance-serves, data-serves}
+use Rattle.pair_rules.proofs.Definitions.{Message, dpc_of, flow_of, service_indicator, Cause, Refused, Configuration, FrameValue, EmptyFrame, MessageFrame, StatusFrame, read_frame, Action, UserData, acts_on, SeqFault, Queue, IsQueue, after_answer, appended, count_confirmed, first_queue, named_count, Discrimination, Node, FrameCame, Submitted, WholeQueues, whole, queue_at, queue_on, no_room_for, link_of, waits, Carrying, Fits, accept, accept_data, accept_text, carries, empty_data, message_data, numbers, is_link, down, link_at, new_at, new_by, new_message, new_of, advance, outcome_of, after, sccp, whither_goes, taken_in, Done, refuse, fit-steps, in_service, confirming, owing-steps, advance-serves, data-serves}
 use Rattle.std.specs.Option.{option_map}
 use Rattle.std.specs.Prelude.{unwrap_or}
 use Rattle.signalling_types.specs.declared.cause.Cause.TheVariants as causes
@@ -16,7 +16,7 @@ use Rattle.link.specs.Queue.{Names, newly_confirmed, confirmation, expected}
 use Rattle.link.specs.Queue as queue
 use Rattle.mtp3_codec.specs.declared.discrimination.Discrimination.TheVariants as whither
 use Rattle.mtp3_codec.specs.declared.label.Label.{Label}
-use Rattle.sccp_relay.specs.Relay.{returned}
+use Rattle.sccp_relay.specs.Returning.{returned}
 use Rattle.exchange_rules.specs.Messages.{is_destination, offer, transfer, in_place_of, own_of, return_unitdata, send_udts}
 use Rattle.exchange_rules.specs.Conserving.{returned_in}
 use Rattle.exchange_rules.specs.Laws.{answered, answered_by, no_part_answered, carried_message, noted}
@@ -143,7 +143,7 @@ module _ (c : Configuration) (link : ℕ) where
   }
   accept-same d (Err fault) m n h e f = absurd cc
 
-  data-same : (a : Action) (d : Carrying) (m : Message) (n : Node WholeQueues) → Fits c n → action_at (link_at n.parts link).alignment UserData ≡ a → new_at a link d c n ≡ Some m
+  data-same : (a : Action) (d : Carrying) (m : Message) (n : Node WholeQueues) → Fits c n → acts_on (link_at n.parts link) UserData ≡ a → new_at a link d c n ≡ Some m
       → Same d.bsn c n (accept_data a link d c n)
   data-same act.Ignored d m n f at e = absurd cc
   data-same act.Fail d m n f at e = absurd cc
@@ -159,26 +159,26 @@ module _ (c : Configuration) (link : ℕ) where
       ((owing-steps (rules-of (fit-steps c)) link d.message (confirming c link d count n)).stay (((fit-steps c).accepted link d count n tt serves e).stay f))
   handled-fits (Err fault) d m n f serves e g = absurd cc
 
-  data-fits : (a : Action) (d : Carrying) (m : Message) (n : Node WholeQueues) → Fits c n → action_at (link_at n.parts link).alignment UserData ≡ a → new_at a link d c n ≡ Some m
+  data-fits : (a : Action) (d : Carrying) (m : Message) (n : Node WholeQueues) → Fits c n → acts_on (link_at n.parts link) UserData ≡ a → new_at a link d c n ≡ Some m
       → Fits c (accept_data a link d c n)
   data-fits act.Ignored d m n f at e = absurd cc
   data-fits act.Fail d m n f at e = absurd cc
   data-fits (act.Go step) d m n f at e =
       let next : Node WholeQueues = advance whole c link step n in
       handled-fits (numbers whole c link d next) d m next ((advance-steps (rules-of (fit-steps c)) link UserData step n tt at).stay f)
-      (advance-serves c link UserData step n at ∙ data-serves (link_at n.parts link).alignment step at) refl e
+      (advance-serves c link UserData step n at ∙ data-serves (link_at n.parts link).period (link_at n.parts link).alignment step at) refl e
 
   read-same : (r : Result FrameValue FrameFault) (m : Message) (n : Node WholeQueues) → Fits c n → new_of r link c n ≡ Some m
       → Same (confirming_number r) c n (accept_text link r (record { settings = c; node = n }))
-  read-same (Ok (EmptyFrame bsn fsn)) m n f e = data-same (action_at (link_at n.parts link).alignment UserData) (empty_data bsn fsn) m n f refl e
-  read-same (Ok (MessageFrame bsn fsn sio sif)) m n f e = data-same (action_at (link_at n.parts link).alignment UserData) (message_data bsn fsn sio sif) m n f refl e
+  read-same (Ok (EmptyFrame bsn fsn)) m n f e = data-same (acts_on (link_at n.parts link) UserData) (empty_data bsn fsn) m n f refl e
+  read-same (Ok (MessageFrame bsn fsn sio sif)) m n f e = data-same (acts_on (link_at n.parts link) UserData) (message_data bsn fsn sio sif) m n f refl e
   read-same (Ok (StatusFrame bsn fsn status)) m n f e = absurd cc
   read-same (Err fault) m n f e = absurd cc
 
   -- the node that the message comes to has its places
   read-fits : (r : Result FrameValue FrameFault) (m : Message) (n : Node WholeQueues) → Fits c n → new_of r link c n ≡ Some m → Fits c (accept_text link r (record { settings = c; node = n }))
-  read-fits (Ok (EmptyFrame bsn fsn)) m n f e = data-fits (action_at (link_at n.parts link).alignment UserData) (empty_data bsn fsn) m n f refl e
-  read-fits (Ok (MessageFrame bsn fsn sio sif)) m n f e = data-fits (action_at (link_at n.parts link).alignment UserData) (message_data bsn fsn sio sif) m n f refl e
+  read-fits (Ok (EmptyFrame bsn fsn)) m n f e = data-fits (acts_on (link_at n.parts link) UserData) (empty_data bsn fsn) m n f refl e
+  read-fits (Ok (MessageFrame bsn fsn sio sif)) m n f e = data-fits (acts_on (link_at n.parts link) UserData) (message_data bsn fsn sio sif) m n f refl e
   read-fits (Ok (StatusFrame bsn fsn status)) m n f e = absurd cc
   read-fits (Err fault) m n f e = absurd cc
 

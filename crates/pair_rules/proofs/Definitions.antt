@@ -22,9 +22,10 @@ pub use Rattle.exchange_rules.specs.Frames.{Carrying, accept, act_by_data, empty
 pub use Rattle.exchange_rules.specs.State.{CameUp, Happening, FrameCame, Submitted, down, is_link, in_service, link_at, links_with, flagged, flagged_late, note_outcome, Node, Done, answer, Parts, with_parts, Found, refuse, lost_any, Noted, late_any}
 pub use Rattle.exchange_rules.specs.Routing.{all_wait, waits, is_held_at, is_flow_held, entry_of, peer_of, set_of, no_room, is_share_full, no_room_on, queue_on, link_of, facts, network_of, goes_by, sets_in}
 pub use Rattle.exchange_rules.specs.Laws.{accept_data, accept_frame, accept_text}
-pub use Rattle.exchange_rules.specs.Messages.{no_room_for, is_user, local, do_test, distribute, do_management, do_order, do_acknowledgement, is_adjacent, manage, on_management, sccp, testing, link_with_code, submit_to, whither_goes, deliver, deliver_to, on_unitdata, with_titles, add_title, add_title_unless, remove_title, title_refusal}
+pub use Rattle.exchange_rules.specs.Messages.{no_room_for, is_user, local, do_test, distribute, do_management, do_order, do_acknowledgement, is_adjacent, manage, on_management, sccp, link_with_code, submit_to, whither_goes, deliver, deliver_to, on_unitdata, with_titles, add_title, add_title_unless, remove_title, title_refusal}
+pub use Rattle.exchange_rules.specs.LinkTests.{testing}
 pub use Rattle.exchange_rules.specs.Telling.{send, management_to, send_anew, send_routed}
-pub use Rattle.exchange_rules.specs.Opening.{open_link, wanted, association_up, may_open, wanted_down, activate, association_down, deactivate, end_association, fail_if_up, set_active}
+pub use Rattle.exchange_rules.specs.Opening.{period_of, open_link, wanted, association_up, may_open, wanted_down, activate, association_down, deactivate, end_association, fail_if_up, set_active}
 pub use Rattle.exchange_rules.specs.Queues.{WholeQueues, whole, queue_at, with_queue}
 pub use Rattle.exchange_rules.specs.Receiving.{new_message, new_of, new_by, new_at, new_in, is_idle}
 pub use Rattle.exchange_rules.specs.Rerouting.{without_tests, rerouting_ended, ask_by}
@@ -36,11 +37,12 @@ pub use Rattle.flow_hold.specs.Holds.{with_flows, lifted, HoldSet, by_numbers, h
 unfoldable pub use Rattle.flow_hold.specs.Holds.{any_flow, flows}
 pub use Rattle.flow_hold.specs.declared.procedure.Procedure.{Procedure}
 pub use Rattle.link.specs.Queue.{count_confirmed, Queue, appended, emptied, first_queue, named_count, last_accepted, IsQueue, accept_answer, after_answer, Sending, forward_number, numbered, to_send, sent_one, last_sent}
-pub use Rattle.link.specs.Table.{action_at, Effect, Fails, Remembers, Enters, EntersServing, Serves, Cell, table, state_number, is_same_input, effect_in, action_of}
+pub use Rattle.link.specs.Table.{action_at, Effect, Fails, Remembers, Enters, EntersServing, BeginsAgain, Serves, Passes, Cell, table, period_after, state_number, is_same_input, effect_in, action_of}
 pub use Rattle.link.specs.declared.action.Action.{Action}
 pub use Rattle.link.specs.declared.action.Input.{Input}
 pub use Rattle.link.specs.declared.action.Input.TheVariants.{UserData, Status, Expiry}
 pub use Rattle.link.specs.declared.alignment.Alignment.{Alignment}
+pub use Rattle.link.specs.declared.period.Period.{Period}
 pub use Rattle.link.specs.declared.alignment.Alignment.TheVariants.{Down, NotAligned, Aligned, Proving, AlignedReady, InService}
 pub use Rattle.link.specs.declared.fault.SeqFault.{SeqFault}
 pub use Rattle.m2pa_codec.specs.Frames.{FrameValue, EmptyFrame, MessageFrame, StatusFrame, spelled, IsSayable, read_frame}
@@ -52,12 +54,12 @@ pub use Rattle.mtp3_codec.specs.declared.label.Label.{Label}
 pub use Rattle.mtp3_codec.specs.declared.management.Management.{Management}
 pub use Rattle.mtp3_codec.specs.declared.management.Management.TheVariants.{ExtendedChangeoverAcknowledgement, ChangebackDeclaration, ExtendedChangeoverOrder, ChangebackAcknowledgement}
 pub use Rattle.node_links.proofs.Serving.{serving_none, serving_alike, facts_alike, serving_set}
-pub use Rattle.node_links.specs.NodeLinks.{Link, after_failure, down_link, is_down, is_in_service, opened, stepped, link_in}
+pub use Rattle.node_links.specs.NodeLinks.{acts_on, Link, after_failure, down_link, is_down, is_in_service, opened, stepped, link_in}
 pub use Rattle.pair_moves.specs.Ends.{Pair, LinkEnd, Line, Side, closed_end, first_side, Frame}
 pub use Rattle.pair_moves.specs.Failing.{without_wait, ChangesOnly, with_completion, with_failure, Suspends}
 pub use Rattle.pair_moves.specs.Passing.{BecomeAt, MayGo}
 pub use Rattle.pair_moves.specs.Returning.{MayOpen, opened_end, AddsOnly, StaysOrIsHeld}
-pub use Rattle.pair_moves.specs.Sayings.{Saying, Order, Answer, Declaration, is_user_message, is_answer, is_order, is_untrue, UserMessage, Confirmation, is_of_flow, is_same_flow}
+pub use Rattle.pair_moves.specs.Sayings.{Reading, Saying, Order, Answer, Declaration, is_user_message, is_answer, is_order, is_untrue, UserMessage, Confirmation, is_of_flow, is_same_flow}
 pub use Rattle.pair_rules.specs.Laws.{messages_in, Word, is_down_at, is_incomplete_at, word_of, SayTheirWord, about, word_in, word_read, words_are_read}
 pub use Rattle.pair_rules.specs.Pairs.{AddsTitle, DeliversStatus, Doing, DoublesStatus, LosesStatus, RemovesTitle, Streams, Submits, Takes, Delivers, Loses, Ticks, Activates, Deactivates, OpensFirst, OpensSecond, PairState, Step, AtNear, AtFar, after_steps, did, may_follow, may_open_at, opens_first, opens_second, turn, turned, in_flight, first_pair, deliver_frame, without_data, without_status, End, happens, change_statuses, take_frame}
 pub use Rattle.pair_rules.specs.Promises.{LostNothing, queue_of, AreJoined, waiting_on}

@@ -1,10 +1,11 @@
 -- Lists of moves, one after another.
 use Rattle.pair_rules.proofs.Basics.{◌≡◌, true, List, [], ◌∷◌, ◌++◌, refl, ◌∙◌, ap, subst, sym}
-use Rattle.pair_rules.proofs.Definitions.{Message, Saying, Pair}
+use Rattle.pair_rules.proofs.Definitions.{Pair}
 use Rattle.pair_moves.specs.Moves.{NearMove, Move, Moves, Loses, last_of}
 use Rattle.pair_moves.specs.Moves as moves
+use Rattle.pair_moves.specs.Sayings.{Reading}
 
-module _ (read : Message → Saying) where
+module _ (read : Reading) where
   -- some moves lead from one pair to another
   pub record Goes (p q : Pair) : Type 0 where
     pub through : List Pair

@@ -3,6 +3,8 @@ use Rattle.pair_rules.proofs.Basics.{◌≡◌, ◌≢◌, ℕ, Bool, true, fals
 use Rattle.pair_rules.proofs.Definitions.{Message, dpc_of, flow_of, is_management, Cause, Outcome, Refused, Queued, Held, Configuration, TitleEntry, Node, Done, refuse, WholeQueues, whole, link_of, is_share_full, no_room_on, no_room_for, waits}
 use Rattle.signalling_types.specs.declared.cause.Cause.TheVariants as causes
 use Rattle.sccp_relay.specs.Relay as relays
+use Rattle.sccp_relay.specs.Points.{OwnValue}
+use Rattle.sccp_relay.specs.Statuses.{TitlesValue}
 use Rattle.sccp_relay.proofs.RefusedCauses.{is_relay_cause, is_refused_so, refused-so}
 use Rattle.exchange_rules.specs.Messages.{is_destination, offer, transfer}
 
@@ -16,6 +18,7 @@ other-cause cause e = λ f. let no : is_other causes.NoUserPart ≡ true = ap is
 abbrev pub is_relay_other : relays.RelayedValue → Bool
 is_relay_other relays.Delivered = true
 is_relay_other (relays.Onward sif) = true
+is_relay_other (relays.Heard news) = true
 is_relay_other (relays.Refused cause) = is_other cause
 
 -- the causes for which SCCP refuses
@@ -26,9 +29,10 @@ relay-cause cause e = refl
 relayed-other : (v : relays.RelayedValue) → is_refused_so v ≡ true → is_relay_other v ≡ true
 relayed-other relays.Delivered e = refl
 relayed-other (relays.Onward sif) e = refl
+relayed-other (relays.Heard news) e = refl
 relayed-other (relays.Refused cause) e = relay-cause cause e
 
-pub relay-other : (own : relays.OwnValue) (rows : List TitleEntry) (sif : List ℕ) → is_relay_other (relays.relay own rows sif) ≡ true
+pub relay-other : (own : OwnValue) (rows : TitlesValue) (sif : List ℕ) → is_relay_other (relays.relay own rows sif) ≡ true
 relay-other own rows sif = relayed-other (relays.relay own rows sif) (refused-so own rows sif)
 
 -- nor are those of a message for another point, which is queued, held or refused

@@ -5,9 +5,12 @@ use Rattle.signalling_types.specs.declared.cause.Cause.{Cause}
 use Rattle.signalling_types.specs.declared.cause.Cause.TheVariants.{NoUserPart}
 use Rattle.signalling_types.specs.declared.outcome.Outcome.{Outcome}
 use Rattle.signalling_types.specs.declared.outcome.Outcome.TheVariants.{Queued, Held, Local, Handled, Ignored, Refused}
-use Rattle.settings_rows.specs.Configuration.{Configuration, TitleEntry}
-use Rattle.sccp_relay.specs.Relay.{OwnValue, RelayedValue, relay, returned}
+use Rattle.settings_rows.specs.Configuration.{Configuration}
+use Rattle.sccp_relay.specs.Points.{OwnValue}
+use Rattle.sccp_relay.specs.Relay.{RelayedValue, relay}
+use Rattle.sccp_relay.specs.Returning.{returned}
 use Rattle.sccp_relay.specs.Relay as relays
+use Rattle.sccp_relay.specs.Statuses.{TitlesValue}
 use Rattle.exchange_rules.specs.Messages.{is_user, sccp, in_place_of, own_of}
 use Rattle.pair_rules.specs.Pairs.{PairState, Doing, Delivers, DeliversStatus, did}
 use Rattle.pair_rules.specs.Promises.{Always, BothWays}
@@ -20,35 +23,37 @@ IsReturnedAtMost None m accepted = accepted ≡ []
 IsReturnedAtMost (Some udts) m accepted = (accepted ≡ []) ⊎ (accepted ≡ in_place_of m udts ∷ [])
 
 -- for a cause that isn't one of user parts
-pub record IsRefused (own : OwnValue) (rows : List TitleEntry) (cause : Cause) (m : Message)
+pub record IsRefused (own : OwnValue) (titles : TitlesValue) (cause : Cause) (m : Message)
     (accepted : List Message) : Type 0 where
   pub other : cause ≢ NoUserPart
-  pub returned : IsReturnedAtMost (returned own rows m.sif cause) m accepted
+  pub returned : IsReturnedAtMost (returned own titles m.sif cause) m accepted
 
 -- one that goes on, rewritten, is queued or held, and nothing else is accepted; or it is refused
-abbrev pub GoesOn : (sif : List ℕ) → OwnValue → List TitleEntry → Message → Outcome → (accepted : List Message)
+abbrev pub GoesOn : (sif : List ℕ) → OwnValue → TitlesValue → Message → Outcome → (accepted : List Message)
     → Type 0
-GoesOn sif own rows m (Queued link) accepted = accepted ≡ in_place_of m sif ∷ []
-GoesOn sif own rows m Held accepted = accepted ≡ in_place_of m sif ∷ []
-GoesOn sif own rows m (Refused cause) accepted = IsRefused own rows cause m accepted
-GoesOn sif own rows m Local accepted = ⊥
-GoesOn sif own rows m Handled accepted = ⊥
-GoesOn sif own rows m Ignored accepted = ⊥
+GoesOn sif own titles m (Queued link) accepted = accepted ≡ in_place_of m sif ∷ []
+GoesOn sif own titles m Held accepted = accepted ≡ in_place_of m sif ∷ []
+GoesOn sif own titles m (Refused cause) accepted = IsRefused own titles cause m accepted
+GoesOn sif own titles m Local accepted = ⊥
+GoesOn sif own titles m Handled accepted = ⊥
+GoesOn sif own titles m Ignored accepted = ⊥
 
--- by what becomes of it at this point; one for a subsystem here is delivered
-abbrev pub IsRelayed : RelayedValue → OwnValue → List TitleEntry → Message → Outcome → (accepted : List Message)
+-- by what becomes of it at this point; one for a subsystem here is delivered, and one that says something of a
+-- subsystem at another point is handled
+abbrev pub IsRelayed : RelayedValue → OwnValue → TitlesValue → Message → Outcome → (accepted : List Message)
     → Type 0
-IsRelayed relays.Delivered own rows m outcome accepted = (outcome ≡ Local) × (accepted ≡ [])
-IsRelayed (relays.Onward sif) own rows m outcome accepted = GoesOn sif own rows m outcome accepted
-IsRelayed (relays.Refused cause) own rows m outcome accepted =
-    (outcome ≡ Refused cause) × IsRefused own rows cause m accepted
+IsRelayed relays.Delivered own titles m outcome accepted = (outcome ≡ Local) × (accepted ≡ [])
+IsRelayed (relays.Heard news) own titles m outcome accepted = (outcome ≡ Handled) × (accepted ≡ [])
+IsRelayed (relays.Onward sif) own titles m outcome accepted = GoesOn sif own titles m outcome accepted
+IsRelayed (relays.Refused cause) own titles m outcome accepted =
+    (outcome ≡ Refused cause) × IsRefused own titles cause m accepted
 
 -- ---- what came of a message
 
-abbrev pub ComesOf : (is_sccp : Bool) → OwnValue → Configuration → List TitleEntry → Message → Outcome → (accepted : List Message)
+abbrev pub ComesOf : (is_sccp : Bool) → OwnValue → Configuration → TitlesValue → Message → Outcome → (accepted : List Message)
     → Type 0
-ComesOf true own c rows m outcome accepted = IsRelayed (relay own rows m.sif) own rows m outcome accepted
-ComesOf false own c rows m outcome accepted =
+ComesOf true own c titles m outcome accepted = IsRelayed (relay own titles m.sif) own titles m outcome accepted
+ComesOf false own c titles m outcome accepted =
     (outcome ≡ (if is_user c (service_indicator m) then Local else Refused NoUserPart)) × (accepted ≡ [])
 
 -- nothing was delivered, taken on or accepted
@@ -61,10 +66,10 @@ pub record IsQuiet (outcome : Outcome) (accepted : List Message) : Type 0 where
 
 -- what an end with these settings and translation rows answers, by what was received: Local if a message came for a
 -- user part that the settings list, NoUserPart if one came for another, and what SCCP makes of it if one came for SCCP
-abbrev pub ComesTo : OwnValue → Configuration → List TitleEntry → (received accepted : List Message) → Outcome → Type 0
-ComesTo own c rows [] accepted outcome = IsQuiet outcome accepted
-ComesTo own c rows (m ∷ ms) accepted outcome =
-    ComesOf (nat_eq (service_indicator m) sccp) own c rows m outcome accepted
+abbrev pub ComesTo : OwnValue → Configuration → TitlesValue → (received accepted : List Message) → Outcome → Type 0
+ComesTo own c titles [] accepted outcome = IsQuiet outcome accepted
+ComesTo own c titles (m ∷ ms) accepted outcome =
+    ComesOf (nat_eq (service_indicator m) sccp) own c titles m outcome accepted
 
 -- what the near end received and accepted by something done there
 abbrev pub received_by : Doing → PairState → List Message

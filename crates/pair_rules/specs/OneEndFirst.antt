@@ -25,6 +25,9 @@ ticks = record {
   t6 = 9;
   t8 = 9;
   t10 = 9;
+  link_tests = None;
+  l4e = None;
+  sst = None;
 }
 
 -- a point with two links to another
@@ -39,6 +42,7 @@ settings_of own adjacent = record {
   extended_unitdata = false;
   subsystem_tests = false;
   user_part_unavailable = false;
+  processor_outage = false;
   timers = ticks;
   sets = record { name = 97 ∷ []; adjacent = adjacent } ∷ [];
   links =
