@@ -1,6 +1,9 @@
+pub mod LinkEnds
 pub mod Seen
 pub mod Calling
 pub mod Filling
+pub mod Called
+pub mod Lifting
 pub mod Lawful
 pub mod Running
 pub mod Reading

@@ -1,6 +1,5 @@
 -- All that gates put out is packets that can be written, and so reads back.
 use Rattle.std.proofs.Common.{◌≡◌, ℕ, Bool, true, false, List, [], ◌∷◌, Option, Some, None, map, refl, sym, subst, nat_eq, arith}
-use Rattle.std.proofs.lemmas.Bool.Decides.{nat_tests}
 use Rattle.std.specs.Prelude.{All, if◌then◌else◌}
 use Rattle.std.proofs.lemmas.List.Elements.{All-nil, All-cons, All-head, All-tail, All-append, All-weaker, All-contains}
 use Rattle.m2pa_codec.specs.Frames.{FrameValue, spelled}
@@ -29,7 +28,9 @@ use Rattle.gate_rules.specs.Worlds as gates
 use Rattle.gate_rules.specs.Worlds.{Make, World, new_world, last_world}
 use Rattle.gate_rules.specs.Promises.{node_make, first_nodes}
 use Rattle.gate_rules.specs.Octets.{AreRead, packets_are_read}
-use Rattle.gate_rules.proofs.Running.{IsThere, Beside, Reaches, all-reach}
+use Rattle.gate_rules.proofs.LinkEnds.{same-number}
+use Rattle.gate_rules.proofs.Called.{IsThere}
+use Rattle.gate_rules.proofs.Running.{BesideNode, Reaches, all-reach}
 
 -- ---- a packet that can be written
 
@@ -79,14 +80,11 @@ site-happens m what s ports fit h f =
 record NodeFits (m : nodes.Make) (n : nodes.Node) : Type 0 where
   each : (k : ℕ) → SiteFits (m.endpoints k).settings (n.ports k).site
 
-equal : (i j : ℕ) → nat_eq i j ≡ true → i ≡ j
-equal i j e = grind (arith, nat_tests, e)
-
 port-fits : (m : nodes.Make) (n : nodes.Node) (k : ℕ) (port : Port) → NodeFits m n → SiteFits (m.endpoints k).settings port.site
     → (j : ℕ) → SiteFits (m.endpoints j).settings (if nat_eq j k then port else n.ports j).site
 port-fits m n k port f h j = by (nat_eq j k) refl where
   by : (b : Bool) → nat_eq j k ≡ b → SiteFits (m.endpoints j).settings (if b then port else n.ports j).site
-  by true e = subst (λ (i : ℕ). SiteFits (m.endpoints i).settings port.site) (sym (equal j k e)) h
+  by true e = subst (λ (i : ℕ). SiteFits (m.endpoints i).settings port.site) (sym (same-number j k e)) h
   by false e = f.each j
 
 module _ (m : nodes.Make) (ports : (k : ℕ) → HasPorts (m.endpoints k).settings) (fit : (k : ℕ) → AreFit (m.endpoints k).secrets) where
@@ -149,9 +147,9 @@ text-back : (p : PacketValue) → IsPacket p → read_packet (packet_text p) ≡
 unfolding packet_text
 text-back p h = packet-back p h
 
-read-so : (m : Make) (g : gates.Node) (n : nodes.Node) → Beside m g n → NodeFits (node_make m) n → AreRead g
+read-so : (m : Make) (g : gates.Node) (n : nodes.Node) → BesideNode m g n → NodeFits (node_make m) n → AreRead g
 read-so m g n b f link one i =
-    let t : IsThere (n.ports link).site (g.ports link) one = (b.ages link).packets one (in-from (g.ports link).packets one i) in
+    let t : IsThere (n.ports link).site (g.ports link) one = (b.ports link).ages.packets one (in-from (g.ports link).packets one i) in
     text-back one.packet
     (subst IsPacket t.same (All-contains Written (n.ports link).site.packets t.one (f.each link).packets (contains-from (n.ports link).site.packets t.one t.there)))
 

@@ -9,15 +9,15 @@ use Rattle.sctp_moves.proofs.Members.{In}
 use Rattle.sctp_ends.specs.Told.{with_last, text_told, told_by, opened_by, given_by}
 use Rattle.sctp_ends.specs.Worlds as ends
 use Rattle.sctp_ends.specs.Worlds.{count, messages_at}
-use Rattle.exchange_rules.specs.State as exchange
+use Rattle.exchange_rules.specs.State.{CameUp, WentDown, FrameCame}
 use Rattle.exchange_rules.specs.Exchange.{after, outcome_of}
 use Rattle.exchange_rules.specs.First.{Abstract}
 use Rattle.exchange_rules.specs.Queues.{whole}
 use Rattle.sctp_gate.specs.Watching.{Sight, CameIn, Dropped}
 use Rattle.sctp_gate.specs.Handing.{after_one, after_told, sight_of, sights_of}
-use Rattle.node_rules.specs.Worlds.{Books, handed_all, is_frame, happened}
-use Rattle.node_rules.specs.Worlds as worlds
-use Rattle.gate_rules.specs.Calls.{seen_by, seen_all, one_if_message, messages_in}
+use Rattle.node_rules.specs.Worlds.{is_frame}
+use Rattle.gate_rules.specs.Calls.{Keeping, seen_by, seen_all, one_if_message, messages_in}
+use Rattle.gate_rules.proofs.LinkEnds.{Keeps, handed, handed_all}
 
 -- ---- lists
 
@@ -38,43 +38,50 @@ pub in-behind : {X : Type 0} (x : X) (xs ys : List X) → In x ys → In x (xs +
 in-behind x [] ys i = i
 in-behind x (y ∷ xs) ys i = inr (in-behind x xs ys i)
 
--- ---- one thing after another
-
-pub seen-more : (k : ℕ) (xs ys : List Sight) (b : Books) → seen_all k (xs ++ ys) b ≡ seen_all k ys (seen_all k xs b)
-seen-more k [] ys b = refl
-seen-more k (x ∷ xs) ys b = seen-more k xs ys (seen_by k x b)
+-- ---- how many passed, one thing after another
 
 pub messages-more : (xs ys : List Sight) → messages_in (xs ++ ys) ≡ messages_in xs + messages_in ys
 messages-more [] ys = omega arith
 messages-more (x ∷ xs) ys = (let h = messages-more xs ys in omega (arith, h))
 
--- ---- what is told is handed in alike
+module _ {B : Type 0} (keeping : Keeping B) (k : ℕ) where
+  pub seen-more : (xs ys : List Sight) (b : B) → seen_all keeping k (xs ++ ys) b ≡ seen_all keeping k ys (seen_all keeping k xs b)
+  seen-more [] ys b = refl
+  seen-more (x ∷ xs) ys b = seen-more xs ys (seen_by keeping k x b)
 
-pub handed-told : (k : ℕ) (ts : List Told) (b : Books) → (handed_all k ts b).exchange ≡ after_told whole k ts b.exchange
-handed-told k [] b = refl
-handed-told k (Up ∷ more) b = handed-told k more (happened (exchange.CameUp k) b)
-handed-told k (Down why ∷ more) b = handed-told k more (happened (exchange.WentDown k) b)
-handed-told k (Failed why ∷ more) b = handed-told k more b
-handed-told k (Heard m ∷ more) b = handed-told k more (worlds.handed k (Heard m) b) ∙ ap (λ (x : Abstract). after_told whole k more x) (by (is_frame m)) where
-  by : (f : Bool) → (if f then happened (exchange.FrameCame k m.octets) b else b).exchange
-      ≡ (if f then (happened (exchange.FrameCame k m.octets) b).exchange else b.exchange)
-  by true = refl
-  by false = refl
+  -- ---- what is told is handed in alike
 
-pub seen-told : (k : ℕ) (ts : List Told) (b : Books) → handed_all k ts b ≡ seen_all k (sights_of whole k ts b.exchange) b
-seen-told k [] b = refl
-seen-told k (Up ∷ more) b = seen-told k more (happened (exchange.CameUp k) b)
-seen-told k (Down why ∷ more) b = seen-told k more (happened (exchange.WentDown k) b)
-seen-told k (Failed why ∷ more) b = seen-told k more b
-seen-told k (Heard m ∷ more) b = seen-told k more (worlds.handed k (Heard m) b) ∙ by (is_frame m) where
-  came : Books
-  came = happened (exchange.FrameCame k m.octets) b
+  module _ (keeps : Keeps keeping) where
+    pub handed-told : (ts : List Told) (b : B) → keeping.exchange (handed_all keeping k ts b) ≡ after_told whole k ts (keeping.exchange b)
+    handed-told [] b = refl
+    handed-told (Up ∷ more) b = handed-told more (keeping.happened (CameUp k) b) ∙ ap (after_told whole k more) (keeps.happened (CameUp k) b)
+    handed-told (Down why ∷ more) b = handed-told more (keeping.happened (WentDown k) b) ∙ ap (after_told whole k more) (keeps.happened (WentDown k) b)
+    handed-told (Failed why ∷ more) b = handed-told more b
+    handed-told (Heard m ∷ more) b = handed-told more (handed keeping k (Heard m) b) ∙ ap (λ (x : Abstract). after_told whole k more x) (by (is_frame m)) where
+      by : (f : Bool) → keeping.exchange (if f then keeping.happened (FrameCame k m.octets) b else b)
+          ≡ (if f then after whole (FrameCame k m.octets) (keeping.exchange b) else keeping.exchange b)
+      by true = keeps.happened (FrameCame k m.octets) b
+      by false = refl
 
-  by : (f : Bool) → seen_all k (sights_of whole k more (if f then came else b).exchange) (if f then came else b)
-      ≡ seen_all k ((if f then CameIn m.octets (outcome_of whole (exchange.FrameCame k m.octets) b.exchange) else Dropped m)
-      ∷ sights_of whole k more (if f then after whole (exchange.FrameCame k m.octets) b.exchange else b.exchange)) b
-  by true = refl
-  by false = refl
+    -- the same what is seen of the rest, whichever state it begins with
+    seen-so : (more : List Told) (b : B) (s t : Abstract) → s ≡ t → seen_all keeping k (sights_of whole k more s) b ≡ seen_all keeping k (sights_of whole k more t) b
+    seen-so more b s t e = ap (λ (x : Abstract). seen_all keeping k (sights_of whole k more x) b) e
+
+    pub seen-told : (ts : List Told) (b : B) → handed_all keeping k ts b ≡ seen_all keeping k (sights_of whole k ts (keeping.exchange b)) b
+    seen-told [] b = refl
+    seen-told (Up ∷ more) b = seen-told more (keeping.happened (CameUp k) b) ∙ seen-so more _ _ _ (keeps.happened (CameUp k) b)
+    seen-told (Down why ∷ more) b = seen-told more (keeping.happened (WentDown k) b) ∙ seen-so more _ _ _ (keeps.happened (WentDown k) b)
+    seen-told (Failed why ∷ more) b = seen-told more b
+    seen-told (Heard m ∷ more) b = seen-told more (handed keeping k (Heard m) b) ∙ by (is_frame m) where
+      came : B
+      came = keeping.happened (FrameCame k m.octets) b
+
+      by : (f : Bool) → seen_all keeping k (sights_of whole k more (keeping.exchange (if f then came else b))) (if f then came else b)
+          ≡ seen_all keeping k
+          ((if f then CameIn m.octets (outcome_of whole (FrameCame k m.octets) (keeping.exchange b)) else Dropped m)
+          ∷ sights_of whole k more (if f then after whole (FrameCame k m.octets) (keeping.exchange b) else keeping.exchange b)) b
+      by true = seen-so more came _ _ (keeps.happened (FrameCame k m.octets) b)
+      by false = refl
 
 -- ---- how many messages an endpoint was given and told
 
@@ -87,7 +94,7 @@ count-last m (latest ∷ past) = (let e : length (latest ++ m ∷ []) ≡ length
 
 one-heard : (k : ℕ) (m : pieces.Message) (s : Abstract) → one_if_message (sight_of whole k (Heard m) s) ≡ 1
 one-heard k m s = by (is_frame m) where
-  by : (f : Bool) → one_if_message (if f then CameIn m.octets (outcome_of whole (exchange.FrameCame k m.octets) s) else Dropped m) ≡ 1
+  by : (f : Bool) → one_if_message (if f then CameIn m.octets (outcome_of whole (FrameCame k m.octets) s) else Dropped m) ≡ 1
   by true = refl
   by false = refl
 

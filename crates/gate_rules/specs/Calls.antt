@@ -1,4 +1,4 @@
--- What a gate does, as steps of a node.
+-- What a gate does at its end of a link, whatever its node keeps; and of two nodes, as steps of that node.
 use Rattle.std.specs.Prelude.{◌≡◌, ◌+◌, ℕ, Bool, true, false, List, [], ◌∷◌, Some, None, map}
 use Rattle.std.specs.List.{Contains}
 use Rattle.settings_rows.specs.Configuration.{Configuration}
@@ -7,16 +7,17 @@ use Rattle.sctp_rules.specs.State.{Datagram}
 use Rattle.sctp_rules.specs.Wishing.{Wish, Idle, Seeking, Served}
 use Rattle.sctp_ends.specs.Worlds as ends
 use Rattle.sctp_endpoint.specs.Endpoints.{secrets_of}
-use Rattle.exchange_rules.specs.State.{CameUp, WentDown, FrameCame}
+use Rattle.exchange_rules.specs.State.{Happening, CameUp, WentDown, FrameCame}
 use Rattle.exchange_rules.specs.Exchange.{taken}
+use Rattle.exchange_rules.specs.First.{Abstract}
 use Rattle.exchange_rules.specs.Queues.{WholeQueues, whole}
 use Rattle.sctp_gate.specs.Watching.{Sight, Rose, CameIn, Dropped, Fell, Failed, WentOut}
 use Rattle.sctp_gate.specs.Gates.{Gate, Did, is_lasting, new_gate}
 use Rattle.sctp_gate.specs.Calling.{Call, Hears, Ticks, Settles, Fills, Closes, called}
-use Rattle.node_rules.specs.Worlds.{Books, happened, Make, Node, new_node, Doing, did, IsBetween, MayDo, World}
+use Rattle.node_rules.specs.Worlds.{Books, happened, Make, Node, Port, new_node, Doing, did, IsBetween, MayDo, World}
 use Rattle.node_rules.specs.Promises.{Always}
 
--- ---- a gate and a node
+-- ---- a gate and the port of a link
 
 abbrev pub is_served : Wish → Bool
 is_served Idle = false
@@ -28,29 +29,44 @@ is_seeking Idle = false
 is_seeking Seeking = true
 is_seeking Served = false
 
--- a gate is that of a link of a node: it has the link's endpoint, and knows what its user wants
-pub record Shows (m : Make) (n : Node) (link : ℕ) (g : Gate) : Type 0 where
+-- a gate is that of a link of a node so made: it has the link's endpoint, and knows what its user wants
+pub record Shows (m : Make) (link : ℕ) (port : Port) (g : Gate) : Type 0 where
   pub link_is : g.link ≡ link
   pub settings : (m.endpoints link).settings ≡ g.endpoint.settings
   pub secrets : (m.endpoints link).secrets ≡ secrets_of g.endpoint
-  pub state : (n.ports link).site.state ≡ g.endpoint.state
-  pub up : g.standing.is_up ≡ is_served (n.ports link).wish
-  pub seeking : g.standing.is_seeking ≡ is_seeking (n.ports link).wish
+  pub state : port.site.state ≡ g.endpoint.state
+  pub up : g.standing.is_up ≡ is_served port.wish
+  pub seeking : g.standing.is_seeking ≡ is_seeking port.wish
 
 -- ---- what is seen of a call
 
--- what happened to the exchange, and so what that accepted and received
-abbrev pub seen_by : (link : ℕ) → Sight → Books → Books
-seen_by link Rose b = happened (CameUp link) b
-seen_by link (CameIn frame outcome) b = happened (FrameCame link frame) b
-seen_by link (Dropped message) b = b
-seen_by link (Fell why) b = happened (WentDown link) b
-seen_by link (Failed why) b = b
-seen_by link (WentOut frame) b = record b { exchange = taken whole b.exchange link }
+-- what a node keeps, its exchange and what that accepted and received: what happens to the exchange changes it, and the
+-- next frame of a link that is taken
+pub record Keeping (B : Type 0) : Type 0 where
+  pub exchange : B → Abstract
+  pub happened : Happening → B → B
+  pub took : (link : ℕ) → B → B
 
-abbrev pub seen_all : (link : ℕ) → List Sight → Books → Books
-seen_all link [] b = b
-seen_all link (sight ∷ more) b = seen_all link more (seen_by link sight b)
+abbrev pub books_kept : Keeping Books
+books_kept = record {
+  exchange = λ b. b.exchange;
+  happened = happened;
+  took = λ link b. record b { exchange = taken whole b.exchange link };
+}
+
+module _ {B : Type 0} (keeping : Keeping B) (link : ℕ) where
+  -- what happened to the exchange
+  abbrev pub seen_by : Sight → B → B
+  seen_by Rose b = keeping.happened (CameUp link) b
+  seen_by (CameIn frame outcome) b = keeping.happened (FrameCame link frame) b
+  seen_by (Dropped message) b = b
+  seen_by (Fell why) b = keeping.happened (WentDown link) b
+  seen_by (Failed why) b = b
+  seen_by (WentOut frame) b = keeping.took link b
+
+  abbrev pub seen_all : List Sight → B → B
+  seen_all [] b = b
+  seen_all (sight ∷ more) b = seen_all more (seen_by sight b)
 
 -- how many messages passed the gate
 abbrev pub one_if_message : Sight → ℕ
@@ -85,9 +101,9 @@ packets_of n link = map (λ e. e.packet) (n.ports link).site.packets
 pub record AreSteps (m : Make) (peer : Configuration) (other n : Node) (link : ℕ) (d : Did WholeQueues) : Type 0 where
   pub steps : List Doing
   pub may : MayAll m peer other steps n
-  pub shows : Shows m (dids m steps n) link d.gate
+  pub shows : Shows m link ((dids m steps n).ports link) d.gate
   pub exchange : (dids m steps n).books.exchange ≡ d.exchange
-  pub books : (dids m steps n).books ≡ seen_all link d.seen n.books
+  pub books : (dids m steps n).books ≡ seen_all books_kept link d.seen n.books
   pub sent : (x : Datagram) → Contains d.sent x → Contains (packets_of (dids m steps n) link) x.packet
 
 -- ---- calls
@@ -112,8 +128,9 @@ does_flush (Closes now) g = false
 -- for a node and the other one, whatever was done before, and the gate of each link between the two
 abbrev pub CallsAreSteps : (m : Make) → (peer : Configuration) → (other n : Node) → Type 0
 CallsAreSteps m peer other n =
-    (link : ℕ) (g : Gate) (call : Call) (between : IsBetween m.configuration peer link) → Shows m n link g →
-    MayCall (other.ports between.there).site call → AreSteps m peer other n link (called whole call g n.books.exchange)
+    (link : ℕ) (g : Gate) (call : Call) (between : IsBetween m.configuration peer link) →
+    Shows m link (n.ports link) g → MayCall (other.ports between.there).site call →
+    AreSteps m peer other n link (called whole call g n.books.exchange)
 
 pub record BothCall (near far : Make) (w : World) : Type 0 where
   pub near_calls : CallsAreSteps near far.configuration w.far w.near
@@ -127,4 +144,4 @@ abbrev pub new_gates_show : Type 0
 new_gates_show =
     (m : Make) (link : ℕ) (g : Gate) (tries : Bool) (tag_key cookie_key : List ℕ) →
     g ≡ new_gate link tries (m.endpoints link).settings tag_key cookie_key →
-    (m.endpoints link).secrets ≡ secrets_of g.endpoint → Shows m (new_node m) link g
+    (m.endpoints link).secrets ≡ secrets_of g.endpoint → Shows m link ((new_node m).ports link) g

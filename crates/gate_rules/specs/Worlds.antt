@@ -15,7 +15,7 @@ use Rattle.exchange_rules.specs.Queues.{WholeQueues, whole}
 use Rattle.sctp_gate.specs.Gates.{Gate, Did, new_gate}
 use Rattle.sctp_gate.specs.Calling.{Call, Hears, Ticks, Settles, Fills, Closes, called}
 use Rattle.node_rules.specs.Worlds.{Books, happened, happened_elsewhere, left_by, IsBetween, IsOwn, LeadsElsewhere, MayBring}
-use Rattle.gate_rules.specs.Calls.{seen_all, messages_in, does_flush}
+use Rattle.gate_rules.specs.Calls.{books_kept, seen_all, messages_in, does_flush}
 
 -- ---- a node
 
@@ -82,7 +82,7 @@ port_after call d p = record {
 
 -- the exchange is the one that the call leaves, and what is seen of the call says what it accepted and received
 abbrev pub books_after : (link : ℕ) → Did WholeQueues → Books → Books
-books_after link d b = record (seen_all link d.seen b) { exchange = d.exchange }
+books_after link d b = record (seen_all books_kept link d.seen b) { exchange = d.exchange }
 
 abbrev pub with_call : Call → (link : ℕ) → Did WholeQueues → Node → Node
 with_call call link d n = record {

@@ -22,7 +22,7 @@ use Rattle.sctp_rules.specs.Sending.{may_send}
 use Rattle.sctp_ends.proofs.Happening.{good, arrives}
 use Rattle.network_rules.proofs.RowSettings as rows
 use Rattle.node_rules.specs.Worlds.{CanGo, MayAssociate, message_of}
-use Rattle.network_datagrams.specs.NetworkWorlds.{NetworkWorld, Associates, HasEnd, Sends, Step, bare, new_world}
+use Rattle.network_datagrams.specs.NetworkWorlds.{NetworkWorld, Associates, HasEnd, Sends, Step, bare, new_world, shown}
 use Rattle.network_datagrams.specs.Example as run
 use Rattle.network_datagrams.specs.Example.{Happens, does, hears, latest, make}
 
@@ -31,11 +31,11 @@ some-is a b e = cc
 
 -- ---- steps on link 0
 
-does-step : (point : ℕ) (what : endpoint.Happening) (w : NetworkWorld) → (e : HasEnd w point 0) → MayAssociate ((w.node e.there.point).ports e.there.link).site 0 what (bare (w.node point))
+does-step : (point : ℕ) (what : endpoint.Happening) (w : NetworkWorld) → (e : HasEnd (shown w) point 0) → MayAssociate ((w.node e.there.point).ports e.there.link).site 0 what (bare (w.node point))
     → Step make w (does point (Associates 0 what) w)
 does-step point what w e may = record { point = point; what = Associates 0 what; may = (e, may); is = refl }
 
-sends-step : (point : ℕ) (w : NetworkWorld) → HasEnd w point 0 → CanGo 0 (bare (w.node point)) → Step make w (does point (Sends 0) w)
+sends-step : (point : ℕ) (w : NetworkWorld) → HasEnd (shown w) point 0 → CanGo 0 (bare (w.node point)) → Step make w (does point (Sends 0) w)
 sends-step point w e can = record { point = point; what = Sends 0; may = (e, can); is = refl }
 
 pub happens : Happens

@@ -12,6 +12,7 @@ use Rattle.network_rules.specs.Pairs.{pair_of}
 use Rattle.network_rules.specs.Totals.{ComeToPoint, HaveLostNothing, IsAccounted, is_listed}
 use Rattle.network_rules.proofs.Accounted as network
 use Rattle.network_rules.proofs.Joined.{well-or-alone}
+use Rattle.network_rules.proofs.Outside.{at-steps}
 use Rattle.network_rules.proofs.Promised as neighbours
 use Rattle.network_rules.proofs.ToPoint as destinations
 use Rattle.node_rules.specs.Worlds.{Make}
@@ -116,39 +117,39 @@ module _ (make : (point : ℕ) → Make) (points : List ℕ) (joined : AreJoined
   run-once near far sharing lost =
       so (λ t. BothWays EachOnce (pair_of t near far))
       (once-moved s (shown w) near far
-      (neighbours.once settings run.steps near far joined.joined.own (well-or-alone settings points joined.joined) sharing (none-lost near far lost)))
+      (at-steps (λ p. LostNothing p → BothWays EachOnce p) neighbours.once settings run.steps near far joined.joined.placed.own (well-or-alone settings points joined.joined) sharing (none-lost near far lost)))
 
   run-order : (near far : ℕ) → AreSharing (settings near) (settings far) → LostNothing (pair_of (shown w) near far)
       → BothWays (λ p. IsPunctual p → InOrder p) (pair_of (shown w) near far)
   run-order near far sharing lost =
       so (λ t. BothWays (λ p. IsPunctual p → InOrder p) (pair_of t near far))
       (order-moved s (shown w) near far
-      (neighbours.order settings run.steps near far joined.joined.own (well-or-alone settings points joined.joined) sharing (none-lost near far lost)))
+      (at-steps (λ p. LostNothing p → BothWays (λ q. IsPunctual q → InOrder q) p) neighbours.order settings run.steps near far joined.joined.placed.own (well-or-alone settings points joined.joined) sharing (none-lost near far lost)))
 
   run-awaited : (near far : ℕ) → AreSharing (settings near) (settings far) → LostNothing (pair_of (shown w) near far)
       → BothWays AwaitsNothingInVain (pair_of (shown w) near far)
   run-awaited near far sharing lost =
       so (λ t. BothWays AwaitsNothingInVain (pair_of t near far))
       (awaited-moved s (shown w) near far
-      (neighbours.awaited settings run.steps near far joined.joined.own (well-or-alone settings points joined.joined) sharing (none-lost near far lost)))
+      (at-steps (λ p. LostNothing p → BothWays AwaitsNothingInVain p) neighbours.awaited settings run.steps near far joined.joined.placed.own (well-or-alone settings points joined.joined) sharing (none-lost near far lost)))
 
   run-books : (near far : ℕ) → AreSharing (settings near) (settings far) → BothWays AreBooked (pair_of (shown w) near far)
   run-books near far sharing =
       so (λ t. BothWays AreBooked (pair_of t near far))
       (books-moved s (shown w) near far
-      (neighbours.books settings run.steps near far joined.joined.own (well-or-alone settings points joined.joined) sharing))
+      (at-steps (λ p. BothWays AreBooked p) neighbours.books settings run.steps near far joined.joined.placed.own (well-or-alone settings points joined.joined) sharing))
 
   run-flows : (near far : ℕ) → AreSharing (settings near) (settings far) → BothWays StaysBetween (pair_of (shown w) near far)
   run-flows near far sharing =
       so (λ t. BothWays StaysBetween (pair_of t near far))
       (flows-moved s (shown w) near far
-      (neighbours.flows settings run.steps near far joined.joined.own (well-or-alone settings points joined.joined) sharing))
+      (at-steps (λ p. BothWays StaysBetween p) neighbours.flows settings run.steps near far joined.joined.placed.own (well-or-alone settings points joined.joined) sharing))
 
   run-held : (near far : ℕ) → AreSharing (settings near) (settings far) → HoldInNoVain (pair_of (shown w) near far)
   run-held near far sharing =
       so (λ t. HoldInNoVain (pair_of t near far))
       (held-moved s (shown w) near far
-      (neighbours.held settings run.steps near far joined.joined.own (well-or-alone settings points joined.joined) sharing))
+      (at-steps HoldInNoVain neighbours.held settings run.steps near far joined.joined.placed.own (well-or-alone settings points joined.joined) sharing))
 
   all-kept : HaveLostNothing points (shown w) → HaveLostNothing points s
   all-kept lost = back (λ t. HaveLostNothing points t) lost

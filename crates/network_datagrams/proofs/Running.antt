@@ -34,7 +34,7 @@ module _ (make : (point : ℕ) → Make) (w : NetworkWorld) (s : NetworkState) (
   abbrev settings : (point : ℕ) → Configuration
   settings = settings_of make
 
-  ends-there : (p k : ℕ) (there : HasEnd w p k) → AreEnds settings p k there.there.point there.there.link
+  ends-there : (p k : ℕ) (there : HasEnd (shown w) p k) → AreEnds settings p k there.there.point there.there.link
   ends-there p k there =
       ends-of settings points joined.joined p k there.there.point there.there.link
       (sym (ends-are settings (shown w) (λ o. (h.all.each o).settings) p k) ∙ there.is)
@@ -48,7 +48,7 @@ module _ (make : (point : ℕ) → Make) (w : NetworkWorld) (s : NetworkState) (
     others = λ o d f. h.all.each o;
   }
 
-  associates : (p k : ℕ) (what : endpoint.Happening) (there : HasEnd w p k)
+  associates : (p k : ℕ) (what : endpoint.Happening) (there : HasEnd (shown w) p k)
       → MayAssociate ((w.node there.there.point).ports there.there.link).site k what (bare (w.node p))
       → Reached make (with_node p (did (make p) (Associates k what) (w.node p)) w) s
   associates p k what there may =
@@ -73,7 +73,7 @@ module _ (make : (point : ℕ) → Make) (w : NetworkWorld) (s : NetworkState) (
       (subst (λ (a : Abstract). Linked k j ((make p).endpoints k) ((make q).endpoints j) port ((w.node q).ports j) a (w.node q).books.exchange x') exchange-is went.linked)
       (λ i d m. subst (λ (a : Abstract). MayOpen i a.node.parts) exchange-is (told-stays i k (λ c. d (sym c)) ts b.exchange m))
 
-  gives : (p k : ℕ) (there : HasEnd w p k) → CanGo k (bare (w.node p)) → (o : Option FrameValue) → frame_to_take whole (w.node p).books.exchange k ≡ o
+  gives : (p k : ℕ) (there : HasEnd (shown w) p k) → CanGo k (bare (w.node p)) → (o : Option FrameValue) → frame_to_take whole (w.node p).books.exchange k ≡ o
       → Reached make (with_node p (sent (make p) k o (w.node p)) w) s
   gives p k leads can None next = record { list = []; meets = subst (λ (y : NetworkWorld). Meets make y s) (node-same p w) h }
   gives p k leads can (Some frame) next =
@@ -104,7 +104,7 @@ module _ (make : (point : ℕ) → Make) (points : List ℕ) (joined : AreJoined
   abbrev first : NetworkState
   first = first_network (settings_of make)
 
-  one-step : (w v : NetworkWorld) → worlds.Step make w v → IsRun make w → IsRun make v
+  pub one-step : (w v : NetworkWorld) → worlds.Step make w v → IsRun make w → IsRun make v
   one-step w v step r =
       let g : Reached make (with_node step.point (did (make step.point) step.what (w.node step.point)) w) (after_steps r.steps first) =
       did-goes make w (after_steps r.steps first) r.meets points joined step.point step.what step.may in
@@ -118,7 +118,7 @@ module _ (make : (point : ℕ) → Make) (points : List ℕ) (joined : AreJoined
   all-steps [] w m r = r
   all-steps (v ∷ list) w m r = all-steps list v m.1 (one-step w v m.0 r)
 
-  first-runs : IsRun make (new_world make)
+  pub first-runs : IsRun make (new_world make)
   first-runs = record {
     steps = [];
     meets = record {

@@ -12,7 +12,8 @@ use Rattle.pair_rules.specs.Promises.{BothWays, IsPunctual, LostNothing}
 use Rattle.pair_rules.specs.Sharing.{AreSharing}
 use Rattle.neighbour_rules.specs.Awaiting.{AwaitsNothingInVain}
 use Rattle.neighbour_rules.specs.Promises.{AreBooked, EachOnce, InOrder, StaysBetween}
-use Rattle.network_rules.specs.Networks.{NetworkNode, Step, after_steps, first_network}
+use Rattle.network_rules.specs.Networks.{NetworkNode, NetworkState, Step, after_steps, first_network}
+use Rattle.network_rules.specs.Hops.{AreOpenHops}
 use Rattle.network_rules.specs.Pairs.{pair_of}
 use Rattle.network_rules.specs.Paths.{ComesInOrder, EachHopInOrder, EachOnlyPasses, KeepsInOrder, PassesInOrder}
 use Rattle.network_rules.specs.Totals.{ComeToPoint, HaveLostNothing, IsAccounted, IsJoined, is_listed}
@@ -28,11 +29,11 @@ pub record AreJoined (make : (point : ℕ) → Make) (points : List ℕ) : Type 
   pub joined : IsJoined (settings_of make) points
   pub good : (point link : ℕ) → AreGood ((make point).endpoints link).secrets
 
--- after every list of steps
-abbrev pub Always : ((make : (point : ℕ) → Make) → (points : List ℕ) → NetworkWorld → Type 0) → Type 0
+-- what is said of a network with these settings, whose nodes stand at these points, by what they have booked
+abbrev pub Always : ((settings : (point : ℕ) → Configuration) → (points : List ℕ) → NetworkState → Type 0) → Type 0
 Always Statement =
     (make : (point : ℕ) → Make) (points : List ℕ) → AreJoined make points → (list : List NetworkWorld) →
-    Steps make (new_world make) list → Statement make points (last_world (new_world make) list)
+    Steps make (new_world make) list → Statement (settings_of make) points (shown (last_world (new_world make) list))
 
 -- ---- runs are runs of a network
 
@@ -45,84 +46,117 @@ pub record AreOne (one other : NetworkNode) : Type 0 where
   pub refused : one.refused ≡ other.refused
 
 -- there are steps of a network with frames in flight in it that lead to the same exchanges, with the same books
-pub record IsRunOfNetwork (make : (point : ℕ) → Make) (w : NetworkWorld) : Type 0 where
+pub record IsRunOfNetwork (settings : (point : ℕ) → Configuration) (points : List ℕ) (s : NetworkState) : Type 0 where
   pub steps : List Step
-  pub is : (point : ℕ) →
-      AreOne ((shown w).node point) ((after_steps steps (first_network (settings_of make))).node point)
+  pub is : (point : ℕ) → AreOne (s.node point) ((after_steps steps (first_network settings)).node point)
 
 abbrev pub runs_are_runs_of_networks : Type 0
-runs_are_runs_of_networks = Always (λ make points w. IsRunOfNetwork make w)
+runs_are_runs_of_networks = Always IsRunOfNetwork
 
--- ---- between each two nodes that share a set
+-- ---- what is said
 
-abbrev pub AlwaysBetween : (PairState → Type 0) → Type 0
-AlwaysBetween Statement =
-    Always (λ make points w.
-    (near far : ℕ) → AreSharing (settings_of make near) (settings_of make far) → Statement (pair_of (shown w) near far))
+module _ (settings : (point : ℕ) → Configuration) (points : List ℕ) (s : NetworkState) where
+  -- between each two nodes that share a set
+  abbrev pub Between : (PairState → Type 0) → Type 0
+  Between Statement = (near far : ℕ) → AreSharing (settings near) (settings far) → Statement (pair_of s near far)
 
--- "Exactly once"
+  -- "Exactly once"
+  abbrev pub EachMessageOnce : Type 0
+  EachMessageOnce = Between (λ p. LostNothing p → BothWays EachOnce p)
+
+  -- "Order", where besides no timer of the accepting end ended a hold
+  abbrev pub EachFlowInOrder : Type 0
+  EachFlowInOrder = Between (λ p. LostNothing p → BothWays (λ q. IsPunctual q → InOrder q) p)
+
+  abbrev pub NothingAwaitedInVain : Type 0
+  NothingAwaitedInVain = Between (λ p. LostNothing p → BothWays AwaitsNothingInVain p)
+
+  -- whatever has been lost: the books of the two; where their flows to each other go; and that nothing is held in vain
+  abbrev pub BooksAreOfTheTwo : Type 0
+  BooksAreOfTheTwo = Between (λ p. BothWays AreBooked p)
+
+  abbrev pub FlowsStayBetween : Type 0
+  FlowsStayBetween = Between (λ p. BothWays StaysBetween p)
+
+  abbrev pub NothingHeldInVain : Type 0
+  NothingHeldInVain = Between HoldInNoVain
+
+  -- from end to end
+  abbrev pub EachMessageAccounted : Type 0
+  EachMessageAccounted = HaveLostNothing points s → IsAccounted points s
+
+  -- of the messages for one point, where all nodes have one network indicator
+  abbrev pub MessagesComeToEnd : Type 0
+  MessagesComeToEnd =
+      (point : ℕ) → is_listed points point ≡ true →
+      ((other : ℕ) → is_listed points other ≡ true → (settings other).network ≡ (settings point).network) →
+      HaveLostNothing points s → ComeToPoint points s (settings point)
+
+  -- order over a path: at each node, whatever has been lost
+  abbrev pub NodesPassInOrder : Type 0
+  NodesPassInOrder = (point : ℕ) → PassesInOrder (s.node point)
+
+  -- over each path of which each hop keeps a flow in order
+  abbrev pub PathsKeepOrder : Type 0
+  PathsKeepOrder =
+      (flow : Flow) (first : ℕ) (rest : List ℕ) → EachHopInOrder flow s first rest → EachOnlyPasses flow s first rest →
+      ComesInOrder flow s first rest
+
+  -- where this is a run of a network by some steps, a flow comes over a path in order, on the premises of hops on these
+  abbrev pub PathsKeepFlows : Type 0
+  PathsKeepFlows =
+      (run : IsRunOfNetwork settings points s) (flow : Flow) (first : ℕ) (rest : List ℕ) →
+      AreOpenHops settings run.steps flow first rest → EachOnlyPasses flow s first rest → ComesInOrder flow s first rest
+
+  -- as the last hop does, where the flow is for the last point
+  abbrev pub LastHopsKeepOrder : Type 0
+  LastHopsKeepOrder =
+      (near far sls : ℕ) → AreSharing (settings near) (settings far) → LostNothing (pair_of s near far) →
+      IsPunctual (pair_of s near far) → KeepsInOrder (record { point = far; sls = sls }) s near far
+
+  -- an endpoint takes each frame that a link sends next as a message, as in `node_rules`
+  abbrev pub FramesAreShort : Type 0
+  FramesAreShort =
+      (point link : ℕ) → HasEnd s point link → (frame : FrameValue) →
+      frame_to_take whole (s.node point).exchange link ≡ Some frame → IsShort frame
+
+-- ---- the promises
+
 abbrev pub each_message_once : Type 0
-each_message_once = AlwaysBetween (λ p. LostNothing p → BothWays EachOnce p)
+each_message_once = Always EachMessageOnce
 
--- "Order", where besides no timer of the accepting end ended a hold
 abbrev pub each_flow_in_order : Type 0
-each_flow_in_order = AlwaysBetween (λ p. LostNothing p → BothWays (λ q. IsPunctual q → InOrder q) p)
+each_flow_in_order = Always EachFlowInOrder
 
--- nothing is awaited in vain
 abbrev pub nothing_is_awaited_in_vain : Type 0
-nothing_is_awaited_in_vain = AlwaysBetween (λ p. LostNothing p → BothWays AwaitsNothingInVain p)
+nothing_is_awaited_in_vain = Always NothingAwaitedInVain
 
--- whatever has been lost: the books of the two; where their flows to each other go; and that nothing is held in vain
 abbrev pub books_are_of_the_two : Type 0
-books_are_of_the_two = AlwaysBetween (λ p. BothWays AreBooked p)
+books_are_of_the_two = Always BooksAreOfTheTwo
 
 abbrev pub flows_stay_between : Type 0
-flows_stay_between = AlwaysBetween (λ p. BothWays StaysBetween p)
+flows_stay_between = Always FlowsStayBetween
 
 abbrev pub nothing_is_held_in_vain : Type 0
-nothing_is_held_in_vain = AlwaysBetween HoldInNoVain
-
--- ---- from end to end
+nothing_is_held_in_vain = Always NothingHeldInVain
 
 abbrev pub each_message_is_accounted_for : Type 0
-each_message_is_accounted_for =
-    Always (λ make points w. HaveLostNothing points (shown w) → IsAccounted points (shown w))
+each_message_is_accounted_for = Always EachMessageAccounted
 
--- of the messages for one point, where all nodes have one network indicator
 abbrev pub messages_come_from_end_to_end : Type 0
-messages_come_from_end_to_end =
-    Always (λ make points w.
-    (point : ℕ) → is_listed points point ≡ true →
-    ((other : ℕ) → is_listed points other ≡ true →
-    (settings_of make other).network ≡ (settings_of make point).network) →
-    HaveLostNothing points (shown w) → ComeToPoint points (shown w) (settings_of make point))
+messages_come_from_end_to_end = Always MessagesComeToEnd
 
--- ---- order over a path
-
--- at each node, whatever has been lost
 abbrev pub nodes_pass_on_in_order : Type 0
-nodes_pass_on_in_order = Always (λ make points w. (point : ℕ) → PassesInOrder ((shown w).node point))
+nodes_pass_on_in_order = Always NodesPassInOrder
 
--- over each path of which each hop keeps a flow in order
 abbrev pub paths_keep_the_order_of_their_hops : Type 0
-paths_keep_the_order_of_their_hops =
-    Always (λ make points w.
-    (flow : Flow) (first : ℕ) (rest : List ℕ) → EachHopInOrder flow (shown w) first rest →
-    EachOnlyPasses flow (shown w) first rest → ComesInOrder flow (shown w) first rest)
+paths_keep_the_order_of_their_hops = Always PathsKeepOrder
 
--- as the last hop does, where the flow is for the last point
+abbrev pub paths_keep_flows_in_order : Type 0
+paths_keep_flows_in_order = Always PathsKeepFlows
+
 abbrev pub last_hops_keep_flows_in_order : Type 0
-last_hops_keep_flows_in_order =
-    Always (λ make points w.
-    (near far sls : ℕ) → AreSharing (settings_of make near) (settings_of make far) →
-    LostNothing (pair_of (shown w) near far) → IsPunctual (pair_of (shown w) near far) →
-    KeepsInOrder (record { point = far; sls = sls }) (shown w) near far)
+last_hops_keep_flows_in_order = Always LastHopsKeepOrder
 
--- ---- frames
-
--- an endpoint takes each frame that a link sends next as a message, as in `node_rules`
 abbrev pub frames_are_short : Type 0
-frames_are_short =
-    Always (λ make points w.
-    (point link : ℕ) → HasEnd w point link → (frame : FrameValue) →
-    frame_to_take whole (w.node point).books.exchange link ≡ Some frame → IsShort frame)
+frames_are_short = Always FramesAreShort

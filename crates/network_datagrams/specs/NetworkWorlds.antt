@@ -92,18 +92,18 @@ after make point what w =
 -- ---- when
 
 -- a link joins two ends
-pub record HasEnd (w : NetworkWorld) (point link : ℕ) : Type 0 where
+pub record HasEnd (s : NetworkState) (point link : ℕ) : Type 0 where
   pub there : Place
-  pub is : other_end (shown w) point link ≡ Some there
+  pub is : other_end s point link ≡ Some there
 
 -- as between two nodes: packets that come were put out by the other end of the link, and frames are taken only when
 -- they can go out
 abbrev pub MayDo : (w : NetworkWorld) → (point : ℕ) → Doing → Type 0
 MayDo w point (Happens what) = IsOwn what
 MayDo w point (Associates link what) =
-    (e : HasEnd w point link) ×
+    (e : HasEnd (shown w) point link) ×
     MayAssociate ((w.node e.there.point).ports e.there.link).site link what (bare (w.node point))
-MayDo w point (Sends link) = HasEnd w point link × CanGo link (bare (w.node point))
+MayDo w point (Sends link) = HasEnd (shown w) point link × CanGo link (bare (w.node point))
 
 pub record Step (make : (point : ℕ) → Make) (w v : NetworkWorld) : Type 0 where
   pub point : ℕ

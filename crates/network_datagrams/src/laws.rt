@@ -5,6 +5,7 @@ ghost use Rattle.network_datagrams.specs.NetworkPromises.{books_are_of_the_two, 
 ghost use Rattle.network_datagrams.specs.NetworkPromises.{each_message_is_accounted_for, flows_stay_between};
 ghost use Rattle.network_datagrams.specs.NetworkPromises.{frames_are_short};
 ghost use Rattle.network_datagrams.specs.NetworkPromises.{last_hops_keep_flows_in_order, nodes_pass_on_in_order};
+ghost use Rattle.network_datagrams.specs.NetworkPromises.{paths_keep_flows_in_order};
 ghost use Rattle.network_datagrams.specs.NetworkPromises.{paths_keep_the_order_of_their_hops};
 ghost use Rattle.network_datagrams.specs.NetworkPromises.{messages_come_from_end_to_end, nothing_is_awaited_in_vain};
 ghost use Rattle.network_datagrams.specs.NetworkPromises.{nothing_is_held_in_vain, runs_are_runs_of_networks};
@@ -71,11 +72,13 @@ pub fn messages_come_from_end_to_end()
 /// been lost. So over a path of which each hop keeps a flow in order, and whose nodes between get the flow from the one
 /// before alone, what came to the last node is in the order in which the first accepted it; what is missing there waits
 /// at a node of the path, or was refused or ended at one between. The last hop keeps a flow that is for the last node,
-/// while neither of its nodes may have lost a message and no timer of the former ended a hold.
+/// while neither of its nodes may have lost a message and no timer of the former ended a hold. So does each hop of which
+/// the premises of `network_rules` hold in a run of a network that this one is.
 pub fn paths_keep_the_order_of_their_hops()
     ensures nodes { nodes_pass_on_in_order }
     ensures paths { paths_keep_the_order_of_their_hops }
     ensures last { last_hops_keep_flows_in_order }
+    ensures flows { paths_keep_flows_in_order }
 {}
 
 /// The next frame that a link sends has 1 to 290 octets, so an endpoint takes it as a message.

@@ -25,7 +25,7 @@ use Rattle.neighbour_rules.specs.Neighbours.{after_steps}
 use Rattle.neighbour_rules.proofs.Good.{IsSent, made, accepted, passes_by}
 use Rattle.neighbour_rules.proofs.Sharing.{AreFacing, from_first}
 use Rattle.neighbour_rules.proofs.Standing.{Stands}
-use Rattle.neighbour_rules.proofs.Promised.{all-stand}
+use Rattle.neighbour_rules.proofs.Promised.{all-stand, for_each_other}
 use Rattle.node_rules.specs.Worlds.{Make, World, new_world, last_world}
 use Rattle.node_rules.specs.Promises.{IsShort, BothAreShort, frames_are_short}
 use Rattle.node_rules.proofs.Runs.{IsRun, all-run, facing}
@@ -39,10 +39,10 @@ goes-here z m label here = by (nat_lt SIF_OCTETS (length m.sif)) refl here where
   by true e f = absurd cc
   by false e f = grind (arith, nat_tests, e)
 
-short-enough : (c z : Configuration) (set : ℕ) (m : Message) → IsSent c z set m → length m.sif ≤ SIF_OCTETS
-short-enough c z set m (made b) = goes-here z m b.label b.here
-short-enough c z set m (accepted b) = goes-here z m b.label b.here
-short-enough c z set m (passes_by other short) = short
+short-enough : (c z : Configuration) (there set : ℕ) (m : Message) → IsSent c z there set m → length m.sif ≤ SIF_OCTETS
+short-enough c z there set m (made b) = goes-here z m b.label b.here
+short-enough c z there set m (accepted b) = b.short
+short-enough c z there set m (passes_by other short) = short
 
 -- ---- frames
 
@@ -90,7 +90,7 @@ sent-is : (b : Bool) (o : Option Sending) (next : Sending) → (if b then o else
 sent-is true o next e = e
 sent-is false o next e = absurd cc
 
-module _ (c z : Configuration) (set link : ℕ) (a : Abstract) (queued : Each (IsSent c z set) (queue_at a.node.queues link).all) where
+module _ (c z : Configuration) (there set link : ℕ) (a : Abstract) (queued : Each (IsSent c z there set) (queue_at a.node.queues link).all) where
   abbrev q : Queue
   q = queue_at a.node.queues link
 
@@ -100,7 +100,7 @@ module _ (c z : Configuration) (set link : ℕ) (a : Abstract) (queued : Each (I
       message-is (slice_get (link_at a.node.parts link).waiting 0) (next_message whole a.settings link a.node) (link_at a.node.parts link).acknowledgement_owed next e in
       let sending : to_send q a.settings.window ≡ Some next = sent-is (may_send (link_at a.node.parts link)) (to_send q a.settings.window) next message in
       let stands : slice_get q.all q.sent ≡ Some next.message = queued-is _ (forward_number q q.sent) (slice_get q.all q.sent) next sending in
-      short-enough c z set next.message (each-get (IsSent c z set) q.all q.sent next.message queued stands)
+      short-enough c z there set next.message (each-get (IsSent c z there set) q.all q.sent next.message queued stands)
 
   pub taken-short : (frame : FrameValue) → frame_to_take whole a link ≡ Some frame → IsShort frame
   taken-short frame e =
@@ -111,12 +111,12 @@ module _ (c z : Configuration) (set link : ℕ) (a : Abstract) (queued : Each (I
 pub run-short : (near far : Make) (f : AreFacing near.configuration far.configuration) (w : World) → IsRun near far f w → BothAreShort w
 run-short near far f w r =
     let p : PairState = after_steps r.steps (first_pair near.configuration far.configuration) in
-    let s : Stands near.configuration far.configuration (from_first near.configuration far.configuration f) p = all-stand near.configuration far.configuration r.steps f in
+    let s : Stands near.configuration far.configuration (from_first near.configuration far.configuration (for_each_other near.configuration far.configuration f)) p = all-stand near.configuration far.configuration r.steps f in
     record {
       near = λ link. subst (λ (a : Abstract). (frame : FrameValue) → frame_to_take whole a link ≡ Some frame → IsShort frame) (sym r.meets.shows.near_has.exchange)
-          (taken-short near.configuration far.configuration f.near_set link p.near.exchange (s.near_good.queued link));
+          (taken-short near.configuration far.configuration far.configuration.own f.near_set link p.near.exchange (s.near_good.queued link));
       far = λ link. subst (λ (a : Abstract). (frame : FrameValue) → frame_to_take whole a link ≡ Some frame → IsShort frame) (sym r.meets.shows.far_has.exchange)
-          (taken-short far.configuration near.configuration f.far_set link p.far.exchange (s.far_good.queued link));
+          (taken-short far.configuration near.configuration near.configuration.own f.far_set link p.far.exchange (s.far_good.queued link));
     }
 
 pub all-short : frames_are_short

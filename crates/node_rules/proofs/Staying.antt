@@ -1,4 +1,5 @@
 -- A link that may open stays so, whatever happens, until its association comes up.
+use Rattle.link.specs.declared.period.Period.{Period}
 use Rattle.exchange_rules.proofs.Basics.{◌≡◌, ◌≢◌, ℕ, zero, suc, Bool, true, false, ◌&&◌, not, List, [], ◌∷◌, refl, ap, sym, ◌∙◌, subst, get_or, set}
 use Rattle.settings_rows.specs.Configuration.{Configuration}
 use Rattle.link.specs.Table.{action_at}
@@ -83,8 +84,8 @@ restarts-so s e f = by s.incomplete s.awaited e f where
   by false false e f = refl
 
 -- a link that is down goes nowhere by what comes, nor by a timer
-nowhere : (input : Input) (step : Transition) → action_at Down input ≡ Go step → ⊥
-nowhere input step e = let no : Ignored ≡ Go step = e in absurd cc
+nowhere : (period : Period) (input : Input) (step : Transition) → action_at period Down input ≡ Go step → ⊥
+nowhere period input step e = let no : Ignored ≡ Go step = e in absurd cc
 
 -- ---- each step
 
@@ -127,8 +128,8 @@ module _ (c : Configuration) (l : ℕ) where
   serving : (k : ℕ) (n : Node WholeQueues) → is_in_service (link_at n.parts k).alignment ≡ true → k ≡ l → MayOpen l n.parts → ⊥
   serving k n e q h = not-both (link_at n.parts k).alignment e (at (λ (j : ℕ). down n.parts j ≡ true) k q h.down)
 
-  goes-nowhere : (k : ℕ) (input : Input) (a : Alignment) → is_down a ≡ true → (step : Transition) → action_at a input ≡ Go step → ⊥
-  goes-nowhere k input a d step e = nowhere input step (subst (λ (b : Alignment). action_at b input ≡ Go step) (down-is a d) e)
+  goes-nowhere : (k : ℕ) (input : Input) (period : Period) (a : Alignment) → is_down a ≡ true → (step : Transition) → action_at period a input ≡ Go step → ⊥
+  goes-nowhere k input period a d step e = nowhere period input step (subst (λ (b : Alignment). action_at period b input ≡ Go step) (down-is a d) e)
 
   pub open-steps : IsOfSteps c any (λ k. k ≢ l) (StaysOpen l)
   open-steps = record {
@@ -137,6 +138,7 @@ module _ (c : Configuration) (l : ℕ) where
     routed = λ link m n e. alike n _ refl refl;
     declared = λ link other code n e f. alike n _ refl refl;
     tested = λ link point test n e f. alike n _ refl refl;
+    probed = λ link n e. alike n _ refl refl;
     held = λ m n e. alike n _ refl refl;
     taken_out = λ n. alike n _ refl refl;
     noted = λ notice n e. alike n _ refl refl;
@@ -165,7 +167,7 @@ module _ (c : Configuration) (l : ℕ) where
         linked link x n _ refl refl (same-down link x n refl);
     opened = λ link n own there e f. linked link _ n _ refl refl (λ q h. absurd (own q));
     stepped = λ link input step n own e. linked link _ n _ refl refl
-        (λ q h. absurd (goes-nowhere link input (link_at n.parts link).alignment (at (λ (j : ℕ). down n.parts j ≡ true) link q h.down) step e));
+        (λ q h. absurd (goes-nowhere link input (link_at n.parts link).period (link_at n.parts link).alignment (at (λ (j : ℕ). down n.parts j ≡ true) link q h.down) step e));
     busied = λ link n own e f. let x : Link = record (link_at n.parts link) { peer_busy = true } in
         linked link x n _ refl refl (same-down link x n refl);
     resumed = λ link n own e f. let x : Link = record (link_at n.parts link) { peer_busy = false } in

@@ -1,0 +1,3 @@
+pub mod GateWorlds
+pub mod GateCalls
+pub mod GatePromises
