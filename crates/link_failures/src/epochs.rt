@@ -6,7 +6,7 @@ use link_trials::rounds::{
     bring_up, carry, carry_statuses, come_back, prove_links, settle, submit_all,
 };
 use link_trials::{Clock, Total, Trial, World};
-use pair_world::End;
+use linked_nodes::End;
 use std::alloc::Global;
 
 /// How many links there are.

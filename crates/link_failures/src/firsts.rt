@@ -6,7 +6,7 @@ use exchange::LinkId;
 use link_trials::rounds::{pass_round, serve, settle, steps_over, submit_all};
 use link_trials::stopping::{ROUNDS, Stop, Stopped};
 use link_trials::{Clock, Total, Trial, World};
-use pair_world::End;
+use linked_nodes::End;
 use std::alloc::Global;
 
 /// How many links there are.

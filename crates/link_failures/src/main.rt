@@ -1,9 +1,9 @@
 //! Two nodes whose links stop and come back, at each place of a busy exchange and at random.
 //!
-//! Two nodes (`Pair` of `pair_world`) with the built-in timers have one to four links of one set between them, and each
-//! other as the one destination. All that is done is a `Pair::turn`. A round is, for each end and each link in order, a
-//! frame that is taken and then delivered at the other end. Each message carries its flow in its label, and after that
-//! its number in the flow: the accepted messages of a flow are numbered 1, 2, 3 and so on.
+//! Two nodes (`Network` of `pair_world`) with the built-in timers have one to four links of one set between them, and
+//! each other as the one destination. All that is done is a `Network::turn`. A round is, for each end and each link in
+//! order, a frame that is taken and then delivered at the other end. Each message carries its flow in its label, and
+//! after that its number in the flow: the accepted messages of a flow are numbered 1, 2, 3 and so on.
 //!
 //! # What a line says
 //!
@@ -16,14 +16,14 @@
 //!   many `flows` were `out of order`.
 //! - `lost_any`, `late_any`: in how many runs an end set the flag.
 //! - `sums compared`: while no end had set `lost_any`, before each 16th step, the sums of both ends were compared: as
-//!   many messages were accepted, by the outcomes and by `Pair::accepted`, as the other end received and as
-//!   `Pair::waiting` counts; and the same for one message. That is done in every group; only the lines of the random
+//!   many messages were accepted, by the outcomes and by `Network::accepted`, as the other end received and as
+//!   `Network::waiting` counts; and the same for one message. That is done in every group; only the lines of the random
 //!   groups say how often. If a sum is wrong, the line says how many `sums` were `wrong`.
 //! - `unended`: in how many runs a link that was to open didn't, rounds never came to rest, not all messages came while
 //!   one of several links was down though no end had set `lost_any`, or an order to add or remove a translation row
 //!   wasn't carried out.
 //!
-//! That is what `Pair::accepted`, `Pair::received` and `Pair::waiting` promise, and no more. Nothing is promised after
+//! That is what `Network::accepted`, `arrived` and `waiting` promise, and no more. Nothing is promised after
 //! `lost_any`, so what comes then isn't judged; the numbers in brackets show how much was.
 //!
 //! # The groups

@@ -4,7 +4,7 @@ use crate::sharing::run_over;
 use exchange::LinkId;
 use link_trials::rounds::{bring_up, open_all, prove_links, settle};
 use link_trials::{Clock, FLOWS, Total, Trial, World};
-use pair_world::End;
+use linked_nodes::End;
 use std::alloc::Global;
 use test_nodes::Dice;
 

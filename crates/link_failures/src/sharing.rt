@@ -2,8 +2,7 @@
 
 use exchange::{Draft, DraftFault, LinkDraft, Settings};
 use link_trials::{Shape, Total, Trial};
-use linked_nodes::{LinkedNodes, points};
-use pair_world::End;
+use linked_nodes::{End, LinkedNodes, points};
 use script::built_in;
 use std::alloc::{AllocError, Global};
 
@@ -21,7 +20,7 @@ pub(crate) fn run_over<T: Trial>(total: &mut Total, alloc: Global, links: u8, tr
 fn linked(alloc: Global, links: u8) -> Option<LinkedNodes> {
     let one = settings_at(alloc, End::One, links).ok()?;
     let two = settings_at(alloc, End::Two, links).ok()?;
-    LinkedNodes::new(alloc, one, two).ok()
+    LinkedNodes::new(alloc, one, two)
 }
 
 /// The settings of an end with this many links, e0 and so on, to the other, its one destination. The rest is as built

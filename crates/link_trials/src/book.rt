@@ -1,7 +1,7 @@
 //! What the ends submitted, and how much of it came.
 
 use crate::marking::{Mark, count_of_flow};
-use pair_world::End;
+use linked_nodes::End;
 use std::alloc::Global;
 
 /// What an end submitted, and how much of it came.

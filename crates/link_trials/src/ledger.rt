@@ -1,7 +1,7 @@
 //! What was accepted, compared with what was received.
 //!
-//! What is judged is what `Pair::received` promises. While neither end has said that a message may be lost, each one
-//! that was accepted has come once, or waits. While the accepting end hasn't said that one may be late either, the
+//! What is judged is what `Network` promises of two nodes. While neither end has said that a message may be lost, each
+//! one that was accepted has come once, or waits. While the accepting end hasn't said that one may be late either, the
 //! first messages of each flow have come, in order, and the others wait. So what came until then is judged. If no end
 //! ever said so, no message may still be waiting at the end.
 
@@ -9,7 +9,7 @@ use crate::book::Book;
 use crate::marking::{FLOWS, Mark, counts_up, mark_of, place_of};
 use crate::world::World;
 use exchange::Msu;
-use pair_world::End;
+use linked_nodes::End;
 use std::alloc::Global;
 
 /// What became of the messages of some runs.

@@ -3,7 +3,7 @@
 use crate::marking::FLOWS;
 use crate::world::World;
 use exchange::LinkId;
-use pair_world::End;
+use linked_nodes::End;
 
 /// The most rounds that carry what is left.
 pub const MOST_ROUNDS: usize = 200;

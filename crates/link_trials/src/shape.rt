@@ -1,7 +1,7 @@
 //! Which links there are between two nodes, and what they carry.
 
 use exchange::LinkId;
-use pair_world::End;
+use linked_nodes::End;
 
 /// Which links there are between two nodes, and what they carry.
 #[derive(Clone, Copy)]

@@ -4,7 +4,7 @@ use crate::rounds::{step_of_round, steps_over};
 use crate::total::Total;
 use crate::world::World;
 use exchange::LinkId;
-use pair_world::End;
+use linked_nodes::End;
 use std::alloc::Global;
 
 /// How many rounds pass in which a link may stop.

@@ -1,5 +1,5 @@
-//! The sums that a pair keeps between any two steps, while no end says that a message may be lost. Of any messages, as
-//! many were accepted at one end as the other received, together with those that wait.
+//! The sums that two nodes keep between any two steps, while no end says that a message may be lost. Of any messages,
+//! as many were accepted at one end as the other received, together with those that wait.
 
 ghost use Rattle.std.specs.Prelude.{true};
 ghost use Rattle.std.specs.Str.{bytes_eq};
@@ -7,8 +7,7 @@ ghost use Rattle.std.specs.Str.{bytes_eq};
 use crate::book::{Book, Books};
 use crate::marking::{Mark, count_of, count_received, message_of};
 use exchange::{Msu, Pick};
-use linked_nodes::{LinkedNodes, other, points};
-use pair_world::End;
+use linked_nodes::{End, LinkedNodes, other, points};
 
 /// Sums that were compared.
 #[derive(Clone, Copy)]
@@ -67,12 +66,12 @@ fn chosen(book: &Book, count: Option<u64>) -> Option<Mark> {
     book.mark_by(count?)
 }
 
-/// Compares the sums of all messages: of those in the book, and of those that the pair says were accepted.
+/// Compares the sums of all messages: of those in the book, and of those that the nodes say were accepted.
 fn compare_all(nodes: &LinkedNodes, from: End, book: &Book) -> Sums {
     let received = nodes.received(other(from)).len() as u128;
     let waiting = nodes.waiting(from, &AllMessages);
     let booked = Sums::of(book.accepted.len() as u128, received, waiting);
-    booked.and(Sums::of(nodes.accepted(from).len() as u128, received, waiting))
+    booked.and(Sums::of(nodes.count_accepted(from) as u128, received, waiting))
 }
 
 /// Compares the sum of the message of a mark.

@@ -9,8 +9,7 @@ use crate::book::{Book, Books};
 use crate::shape::Shape;
 use crate::tally::{Passing, Tally};
 use exchange::{LinkId, LinkStanding, Msu, SetId};
-use linked_nodes::{LinkedNodes, other};
-use pair_world::End;
+use linked_nodes::{End, LinkedNodes, other};
 use std::alloc::Global;
 use std::marker::Model;
 

@@ -1,6 +1,13 @@
 //! The two ends and their points.
 
-use pair_world::End;
+/// One of two nodes.
+#[derive(Clone, Copy, PartialEq, Eq)]
+pub enum End {
+    /// The node at point 1.
+    One,
+    /// The node at point 2.
+    Two,
+}
 
 /// The point of the first node.
 const POINT_ONE: u16 = 1;

@@ -5,7 +5,8 @@ pub mod became;
 pub mod ends;
 pub mod nodes;
 mod reading;
+mod receiving;
 
 pub use became::Became;
-pub use ends::{other, points};
+pub use ends::{End, other, points};
 pub use nodes::LinkedNodes;

@@ -7,8 +7,8 @@ use Rattle.exchange.specs.Calls as exchanges
 use Rattle.exchange.specs.Calls.{Kept}
 use Rattle.exchange_rules.specs.State.{lost_any}
 use Rattle.pair_rules.specs.Promises.{BothWays, EachOnce, InOrder, IsPunctual, LostNothing}
-use Rattle.pair_world.specs.declared.step.End.{End}
-use Rattle.pair_world.specs.declared.step.End.TheVariants.{One, Two}
+use Rattle.node_world.specs.declared.end.End.{End}
+use Rattle.node_world.specs.declared.end.End.TheVariants.{One, Two}
 use Rattle.gate_rules.specs.Worlds.{World}
 use Rattle.gate_rules.specs.Promises.{IsSpecial, whole_ends}
 use Rattle.gate_rules.proofs.Running.{is-special}

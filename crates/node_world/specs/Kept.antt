@@ -5,8 +5,8 @@ use Rattle.sctp_bundling.specs.Watching.{Sent}
 use Rattle.sctp_gate.specs.Watching.{Sight}
 use Rattle.sctp_gate.specs.Gates.{Gate, due}
 use Rattle.exchange.specs.Calls.{Kept}
-use Rattle.pair_world.specs.declared.step.End.{End}
-use Rattle.pair_world.specs.declared.step.End.TheVariants.{One, Two}
+use Rattle.node_world.specs.declared.end.End.{End}
+use Rattle.node_world.specs.declared.end.End.TheVariants.{One, Two}
 
 -- the datagrams that a gate put out, in order. If memory ran out for one, it isn't among them
 pub record KeptLog : Type 0 where

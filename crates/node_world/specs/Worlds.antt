@@ -2,12 +2,17 @@
 use Rattle.std.specs.Prelude.{ℕ, Bool, true, false, List}
 use Rattle.exchange.specs.declared.event.Event.{Event}
 use Rattle.exchange.specs.declared.event.Event.TheVariants as event
-use Rattle.pair_world.specs.declared.step.End.{End}
-use Rattle.pair_world.specs.declared.step.End.TheVariants.{One, Two}
+use Rattle.node_world.specs.declared.end.End.{End}
+use Rattle.node_world.specs.declared.end.End.TheVariants.{One, Two}
 use Rattle.gate_rules.specs.Worlds.{Port, Node, World, Doing, did}
 use Rattle.node_world.specs.declared.call.Call.{Call}
 use Rattle.node_world.specs.declared.call.Call.TheVariants.{Hear, Tick, Settle, Fill, Close}
 use Rattle.node_world.specs.Stands.{IsYoung}
+
+-- the other node
+abbrev pub other : End → End
+other One = Two
+other Two = One
 
 abbrev pub node_at : End → World → Node
 node_at One w = w.near

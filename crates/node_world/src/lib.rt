@@ -2,6 +2,7 @@
 #![tactic(auto)]
 
 mod call;
+pub mod end;
 pub mod fault;
 mod log;
 pub mod making;
@@ -10,8 +11,8 @@ mod port;
 pub mod world;
 
 pub use call::Call;
+pub use end::End;
 pub use fault::WorldFault;
 pub use log::Datagram;
 pub use making::GateMaking;
-pub use pair_world::End;
 pub use world::World;

@@ -10,14 +10,14 @@ use Rattle.exchange_rules.specs.State.{CameUp, FrameCame}
 use Rattle.exchange_rules.proofs.FacingNodes.{peer-sole}
 use Rattle.pair_rules.specs.Pairs as pairs
 use Rattle.pair_rules.specs.Pairs.{PairState, Turn, first_pair, turned}
-use Rattle.pair_rules.specs.Promises.{AreJoined}
+use Rattle.pair_rules.specs.Promises.{Always, AreJoined, BothWays}
+use Rattle.pair_rules.specs.Sharing.{AreSharing}
 use Rattle.neighbour_rules.specs.Neighbours.{Does, OpensElsewhere, HearsElsewhere, Step, AtNear, AtFar, after_steps, leads_elsewhere, leads_elsewhere_by, speaks_for_either, takes_elsewhere, turn}
 use Rattle.neighbour_rules.proofs.Asked.{AreEnds, all-ends}
 use Rattle.neighbour_rules.proofs.Special.{facing, is-special, joined-back, stands-alone}
 use Rattle.neighbour_rules.proofs.Sharing.{AreFacing}
 use Rattle.neighbour_rules.proofs.Standing.{Stands}
 use Rattle.pair_world.specs.Tells.{AreAlone}
-use Rattle.pair_world.specs.Stands.{IsReached}
 
 -- ---- the links of two settings that face each other
 
@@ -98,7 +98,15 @@ module _ (near far : Configuration) (g : AreJoined near far) where
   paired : (steps : List Step) → IsPaired (after_steps steps first)
   paired steps = all-paired steps first (record { steps = []; same = refl })
 
--- so it is of two that some steps led to and that have only each other
+-- two that some steps led to, from settings that share a link set
+pub record IsReached (p : PairState) : Type 0 where
+  pub near : Configuration
+  pub far : Configuration
+  pub sharing : AreSharing near far
+  pub steps : List Step
+  pub by : p ≡ after_steps steps (first_pair near far)
+
+-- so it is of two of those that have only each other
 pub record IsAlone (p : PairState) : Type 0 where
   pub near : Configuration
   pub far : Configuration
@@ -118,3 +126,7 @@ reached-alone p r a =
     } in
     let h : IsPaired r.near r.far joined (after_steps r.steps (first_pair r.near r.far)) = paired r.near r.far joined r.steps in
     record { near = r.near; far = r.far; joined = joined; steps = h.steps; by = r.by ∙ h.same }
+
+-- what holds after every list of steps of two that have only each other, holds of these
+pub alone-always : (Statement : PairState → Type 0) → Always (λ p. BothWays Statement p) → (p : PairState) → IsAlone p → BothWays Statement p
+alone-always Statement always p a = subst (BothWays Statement) (sym a.by) (always a.near a.far a.steps a.joined)

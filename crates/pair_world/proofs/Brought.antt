@@ -7,12 +7,15 @@ use Rattle.signalling_types.specs.declared.cause.Cause.{Cause}
 use Rattle.signalling_types.specs.declared.notice.FrameFault.{FrameFault}
 use Rattle.signalling_types.specs.declared.outcome.Outcome.{Outcome}
 use Rattle.signalling_types.specs.declared.outcome.Outcome.TheVariants.{Queued, Held, Local, Handled, Ignored, Refused}
-use Rattle.settings_rows.specs.Configuration.{Configuration, TitleEntry}
+use Rattle.settings_rows.specs.Configuration.{Configuration}
+use Rattle.sccp_relay.specs.Statuses.{TitlesValue}
 use Rattle.m2pa_codec.specs.Frames.{FrameValue, EmptyFrame, MessageFrame, StatusFrame, read_frame}
 use Rattle.mtp3_codec.specs.declared.label.Label.{Label}
 use Rattle.mtp3_codec.specs.declared.discrimination.Discrimination.{Discrimination}
 use Rattle.mtp3_codec.specs.declared.discrimination.Discrimination.TheVariants as whither
-use Rattle.sccp_relay.specs.Relay.{OwnValue, RelayedValue, relay, returned}
+use Rattle.sccp_relay.specs.Points.{OwnValue}
+use Rattle.sccp_relay.specs.Relay.{RelayedValue, relay}
+use Rattle.sccp_relay.specs.Returning.{returned}
 use Rattle.sccp_relay.specs.Relay as relays
 use Rattle.exchange_rules.specs.Frames.{receive}
 use Rattle.exchange_rules.specs.Messages.{deliver, transfer, whither_goes, in_place_of, own_of}
@@ -89,7 +92,7 @@ abbrev LeadsAlike : OwnValue → Configuration → Message → Node WholeQueues 
 LeadsAlike own c m n = (label : Label) → whither_goes c m ≡ whither.Here label → is_sccp m ≡ true → own ≡ own_of c n.parts
 
 module _ (own : OwnValue) (c : Configuration) (m : Message) (n : Node WholeQueues) (is_more : Bool) (alike : LeadsAlike own c m n) where
-  abbrev rows : List TitleEntry
+  abbrev rows : TitlesValue
   rows = n.parts.titles
 
   -- the UDTS is told by the counts
@@ -114,32 +117,38 @@ module _ (own : OwnValue) (c : Configuration) (m : Message) (n : Node WholeQueue
   queued-so : (link : ℕ) (v : RelayedValue) → written_as v m ≡ relayed_in v (Queued link) m ++ []
   queued-so link relays.Delivered = refl
   queued-so link (relays.Onward sif) = refl
+  queued-so link (relays.Heard news) = refl
   queued-so link (relays.Refused cause) = refl
 
   held-so : (v : RelayedValue) → written_as v m ≡ relayed_in v Held m ++ []
   held-so relays.Delivered = refl
   held-so (relays.Onward sif) = refl
+  held-so (relays.Heard news) = refl
   held-so (relays.Refused cause) = refl
 
   -- what is refused is not taken in itself
   refused-so : (cause : Cause) (v : RelayedValue) (ms : List Message) → ms ≡ relayed_in v (Refused cause) m ++ ms
   refused-so cause relays.Delivered ms = refl
   refused-so cause (relays.Onward sif) ms = refl
+  refused-so cause (relays.Heard news) ms = refl
   refused-so cause (relays.Refused other) ms = refl
 
   local-so : (v : RelayedValue) → [] ≡ relayed_in v Local m ++ []
   local-so relays.Delivered = refl
   local-so (relays.Onward sif) = refl
+  local-so (relays.Heard news) = refl
   local-so (relays.Refused cause) = refl
 
   handled-so : (v : RelayedValue) → [] ≡ relayed_in v Handled m ++ []
   handled-so relays.Delivered = refl
   handled-so (relays.Onward sif) = refl
+  handled-so (relays.Heard news) = refl
   handled-so (relays.Refused cause) = refl
 
   ignored-so : (v : RelayedValue) → [] ≡ relayed_in v Ignored m ++ []
   ignored-so relays.Delivered = refl
   ignored-so (relays.Onward sif) = refl
+  ignored-so (relays.Heard news) = refl
   ignored-so (relays.Refused cause) = refl
 
   abbrev its : RelayedValue
@@ -292,7 +301,7 @@ module _ (a : Abstract) (sound : IsSound a) (places : HasAllPlaces a.settings a.
       message-came : kept_in number k (after kept came k) (outcome_of kept came k) m ≡ brought_to (whither_goes a.settings m) (outcome_of whole came a) a.settings m mid
       message-came =
           ap (λ (o : Outcome). kept_in number k (after kept came k) o m) (stands-outcome came k a (stands-itself a sound))
-          ∙ ap (λ (rows : List TitleEntry). told_in (outcome_of whole came a) more_stand own_behind a.settings rows m) (sym (accepted-titles a.settings link (read_frame text) a.node))
+          ∙ ap (λ (rows : TitlesValue). told_in (outcome_of whole came a) more_stand own_behind a.settings rows m) (sym (accepted-titles a.settings link (read_frame text) a.node))
           ∙ told-so own_behind a.settings m mid more_stand leads-alike (outcome_of whole came a) frame-back
 
     by-message : (o : Option Message) → new_message link text a ≡ o

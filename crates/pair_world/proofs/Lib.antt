@@ -1,13 +1,9 @@
-pub mod InOrder
+pub mod NoneBrought
 pub mod Newly
 pub mod Brought
-pub mod Reached
+pub mod Ready
 pub mod Fetching
-pub mod Rules
-pub mod Turns
 pub mod Alone
-pub mod Promised
-pub mod Telling
 pub mod Waiting
 pub mod Firsts
 pub mod TwoPlaces
@@ -21,6 +17,7 @@ pub mod NodePlaces
 pub mod NetworkSteps
 pub mod NetworkTurns
 pub mod NetworkLaws
+pub mod OutsideTurns
 pub mod NetworkTelling
 pub mod NetworkFirst
 pub mod OneByOne

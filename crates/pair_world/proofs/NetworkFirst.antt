@@ -4,20 +4,24 @@ use Rattle.std.specs.Prelude.{if◌then◌else◌, map, slice_get}
 use Rattle.std.specs.Option.{option_map}
 use Rattle.std.proofs.lemmas.Option.{slice_get-get_or}
 use Rattle.settings_rows.specs.Configuration.{Configuration, LinkEntry}
-use Rattle.settings.specs.Readings.{set_place}
 use Rattle.settings.specs.Sharing.{SharesSet}
 use Rattle.settings.specs.Well.{IsWell}
+use Rattle.exchange_rules.specs.First.{IsSound, first_state}
 use Rattle.exchange_rules.specs.Routing.{adjacent_of, entry_of}
-use Rattle.pair_rules.specs.Sharing.{AreSharing}
+use Rattle.exchange.specs.Calls.{kept_of}
+use Rattle.exchange.proofs.Standing.{stands-first}
 use Rattle.network_rules.specs.Networks.{first_network, first_node}
-use Rattle.network_rules.specs.Totals as totals
+use Rattle.network_rules.specs.Totals.{IsPlaced}
 use Rattle.pair_world.specs.Joined.{no_settings, AreJoined, AreWell, are_apart, settings_at, settings_for, settings_or}
 use Rattle.pair_world.specs.KeptNodes.{KeptNode, kept_node_of}
 use Rattle.pair_world.specs.KeptNetworks.{kept_at, points_of}
+use Rattle.pair_world.specs.NetworkPromised.{ShareAll}
 use Rattle.pair_world.specs.NetworkStands.{IsNodeAt, NetworkStandsFor}
 use Rattle.pair_world.proofs.FirstPoints.{for-listed, once-there, own}
 use Rattle.pair_world.proofs.NodePlaces.{equal}
-use Rattle.pair_world.proofs.Turns.{first-sound}
+
+first-sound : (c : Configuration) → IsWell c → IsSound (first_state c)
+first-sound c well = (stands-first c (kept_of (first_state c)) well.window.below refl).sound
 
 -- ---- the settings of a point
 
@@ -44,7 +48,7 @@ found (first ∷ settings) point c e = by (nat_eq first.own point) refl (found s
         record { place = 0; at = g; own = ap (λ (d : Configuration). d.own) (sym same) ∙ equal first.own point f }
     by false f rest g = let its : IsFound settings point c = rest g in record { place = suc its.place; at = its.at; own = its.own }
 
-module _ (settings : List Configuration) (apart : are_apart settings ≡ true) (well : AreWell settings) (joined : AreJoined settings) where
+module _ (settings : List Configuration) (apart : are_apart settings ≡ true) (well : AreWell settings) where
   abbrev its : (point : ℕ) → Configuration
   its point = settings_at settings point
 
@@ -52,23 +56,10 @@ module _ (settings : List Configuration) (apart : are_apart settings ≡ true) (
   own-by point None e = refl
   own-by point (Some c) e = (found settings point c e).own
 
-  -- a link's other end is well too: its own set leads back
-  shared-well : (far : ℕ) (c : Configuration) (o : Option Configuration) → settings_for settings far ≡ o → SharesSet c (settings_or far o) → IsWell (settings_or far o)
-  shared-well far c None e shares =
-      absurd (let no : set_place (no_settings far) c.own ≡ Some shares.far_set = shares.far_leads.adjacent in cc)
-  shared-well far c (Some d) e shares = let f : IsFound settings far d = found settings far d e in well f.place d f.at
-
-  joined-by : (point link : ℕ) (l : LinkEntry) (o : Option Configuration) → settings_for settings point ≡ o → slice_get (settings_or point o).links link ≡ Some l
-      → AreSharing (settings_or point o) (its (adjacent_of (settings_or point o) l.set))
-  joined-by point link l None e is = absurd cc
-  joined-by point link l (Some c) e is =
-      let f : IsFound settings point c = found settings point c e in
-      let shares : SharesSet c (its (adjacent_of c l.set)) = joined f.place c f.at link l is in
-      record {
-        near_well = well f.place c f.at;
-        far_well = shared-well (adjacent_of c l.set) c (settings_for settings (adjacent_of c l.set)) refl shares;
-        shares = shares;
-      }
+  joined-by : AreJoined settings → (point link : ℕ) (l : LinkEntry) (o : Option Configuration) → settings_for settings point ≡ o → slice_get (settings_or point o).links link ≡ Some l
+      → SharesSet (settings_or point o) (its (adjacent_of (settings_or point o) l.set))
+  joined-by joined point link l None e is = absurd cc
+  joined-by joined point link l (Some c) e is = let f : IsFound settings point c = found settings point c e in joined f.place c f.at link l is
 
   -- ---- the points
 
@@ -84,18 +75,21 @@ module _ (settings : List Configuration) (apart : are_apart settings ≡ true) (
   other-links point None is = refl
   other-links point (Some c) is = absurd cc
 
-  is-joined : totals.IsJoined its points
-  is-joined = record {
+  is-placed : IsPlaced its points
+  is-placed = record {
     own = λ point. own-by point (settings_for settings point) refl;
     once = once-there settings apart;
     well = λ point e.
         well-listed point (settings_for settings point) refl (sym (for-listed settings point (settings_for settings point) refl) ∙ e);
     others = λ point e.
         other-links point (settings_for settings point) (sym (for-listed settings point (settings_for settings point) refl) ∙ e);
-    shared = λ point link inside.
-        joined-by point link (entry_of (its point) link) (settings_for settings point) refl
-        (slice_get-get_or (its point).links link (record { name = []; set = 0; slc = 0; share = None }) inside);
   }
+
+  -- each link leads to a node with which its own shares a set, if they are joined
+  pub first-share : AreJoined settings → ShareAll (first_network its)
+  first-share joined = λ point link inside.
+      joined-by joined point link (entry_of (its point) link) (settings_for settings point) refl
+      (slice_get-get_or (its point).links link (record { name = []; set = 0; slc = 0; share = None }) inside)
 
   -- ---- the nodes
 
@@ -125,8 +119,8 @@ module _ (settings : List Configuration) (apart : are_apart settings ≡ true) (
   first-stands = record {
     reached = record {
       settings = its;
-      joined = subst (totals.IsJoined its) (sym (points-same settings)) is-joined;
-      steps = [];
+      placed = subst (IsPlaced its) (sym (points-same settings)) is-placed;
+      moves = [];
       by = refl;
     };
     nodes = λ point.

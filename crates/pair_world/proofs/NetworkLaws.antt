@@ -1,12 +1,13 @@
 -- What a network shows is what the abstract one has, and what that promises it promises.
 use Rattle.std.proofs.Common.{◌≡◌, ◌+◌, ℕ, Bool, List, [], Option, Some, None, refl, ap, sym, subst, ◌∙◌}
 use Rattle.std.specs.Prelude.{IfSome, count_by, false, is_some, slice_get, slice_index_or, true}
+use Rattle.settings.specs.Sharing.{LeadsAlone, SharesSet}
+use Rattle.settings.specs.Well.{IsWell}
 use Rattle.std.specs.Option.{option_and_then, option_map}
 use Rattle.signalling_types.specs.Message.{Message}
 use Rattle.settings_rows.specs.Configuration.{Configuration}
 use Rattle.settings.specs.Readings.{set_place}
 use Rattle.exchange_rules.specs.First.{IsSound}
-use Rattle.exchange_rules.specs.Routing.{adjacent_of}
 use Rattle.exchange.specs.Calls as exchanges
 use Rattle.pair_rules.specs.Awaiting.{HoldInNoVain}
 use Rattle.pair_rules.specs.Pairs.{PairState, may_follow}
@@ -22,13 +23,14 @@ use Rattle.pair_world.specs.Joined.{no_settings}
 use Rattle.pair_world.specs.Promised.{ComeInOrder, ComeOnce}
 use Rattle.pair_world.specs.KeptNodes.{KeptNode, kept_node_of}
 use Rattle.pair_world.specs.KeptNetworks.{kept_at, node_at, place_at, points_of}
-use Rattle.pair_world.specs.NetworkPromised.{AcceptedInOrder, AcceptedOnce, AcceptedOrWait, AreAdjacent, ArrivedInOrder, ArrivedOnce, booked, follows_at, waiting_between}
+use Rattle.pair_world.specs.NetworkPromised.{AcceptedInOrder, AcceptedOnce, AcceptedOrWait, ArrivedInOrder, ArrivedOnce, ShareSet, booked, follows_at, waiting_between}
 use Rattle.pair_world.specs.NetworkStands.{IsNetworkReached, IsNodeAt, NetworkStandsFor, has_node}
 use Rattle.pair_world.proofs.NetworkSteps.{own-point}
-use Rattle.pair_world.proofs.Listed.{are-well, leads}
+use Rattle.network_rules.proofs.Joined.{placed-well}
+use Rattle.pair_world.proofs.Listed.{listed-kept}
 use Rattle.pair_world.proofs.NodeFits.{Fits, reached-fit}
 use Rattle.pair_world.proofs.NodePlaces.{gets, keeps, keeps-none}
-use Rattle.pair_world.proofs.Reached.{IsReady}
+use Rattle.pair_world.proofs.Ready.{IsReady}
 use Rattle.pair_world.proofs.Waiting.{waiting-same}
 
 module _ (k : List KeptNode) (w : NetworkState) (s : NetworkStandsFor k w) where
@@ -83,9 +85,41 @@ module _ (k : List KeptNode) (w : NetworkState) (s : NetworkStandsFor k w) where
     pub refused-same : booked (λ n. n.refused) (node_at point k) ≡ x.refused
     refused-same = booked-same (λ n. n.refused) (λ y. y.refused) (λ y. refl) (λ c. refl)
 
-  -- ---- two that a link joins
+  -- ---- a node from which a set leads
 
-  module _ (near far : ℕ) (a : AreAdjacent w near far) where
+  -- no set leads from a point without a node
+  no-sets : (point other set : ℕ) → LeadsAlone (w.node point).exchange.settings other set → w.node point ≡ first_node (no_settings point) → ⊥
+  no-sets point other set leads is =
+      (let no : set_place (no_settings point) other ≡ Some set = ap (λ (y : NetworkNode). set_place y.exchange.settings other) (sym is) ∙ leads.adjacent in cc)
+
+  module _ (point other set : ℕ) (leads : LeadsAlone (w.node point).exchange.settings other set) where
+    kept-there : is_some (kept_at point k) ≡ true
+    kept-there = by (kept_at point k) (s.nodes point)
+      where
+        by : (o : Option KeptNode) → IsNodeAt point o (w.node point) → is_some o ≡ true
+        by (Some n) is = refl
+        by None is = absurd (no-sets point other set leads is)
+
+    is-well : IsWell (r.settings point)
+    is-well = r.placed.well point (listed-kept k point ∙ kept-there)
+
+    has-place : has_node point k ≡ true
+    has-place = by (place_at point k) (node-there point)
+      where
+        by : (o : Option ℕ) → IsNodeAt point (option_and_then (slice_get k) o) (w.node point) → is_some o ≡ true
+        by (Some place) is = refl
+        by None is = absurd (no-sets point other set leads is)
+
+    is-sound : IsSound (w.node point).exchange
+    is-sound = by (node_at point k) (node-there point)
+      where
+        by : (o : Option KeptNode) → IsNodeAt point o (w.node point) → IsSound (w.node point).exchange
+        by (Some n) is = is.sound
+        by None is = absurd (no-sets point other set leads is)
+
+  -- ---- two that share a set
+
+  module _ (near far : ℕ) (a : ShareSet w near far) where
     abbrev c : Configuration
     c = (w.node near).exchange.settings
 
@@ -96,15 +130,18 @@ module _ (k : List KeptNode) (w : NetworkState) (s : NetworkStandsFor k w) where
     far-same = (reached-fit w r far).settings
 
     pub sharing : AreSharing (r.settings near) (r.settings far)
-    sharing =
-        subst (λ (point : ℕ). AreSharing (r.settings near) (r.settings point))
-        (ap (λ (d : Configuration). adjacent_of d a.entry.set) (sym near-same) ∙ a.leads)
-        (leads r.settings (points_of k) r.joined near a.link a.entry (ap (λ (d : Configuration). slice_get d.links a.link) (sym near-same) ∙ a.is))
+    sharing = record {
+      near_well = is-well near (w.node far).exchange.settings.own a.near_set a.near_leads;
+      far_well = is-well far c.own a.far_set a.far_leads;
+      shares =
+          subst (λ (d : Configuration). SharesSet d (r.settings far)) near-same
+          (subst (SharesSet c) far-same a);
+    }
 
     pub law : (Statement : PairState → Type 0) → networks.Always Statement → Statement (pair_of w near far)
     law Statement always =
         subst (λ (v : NetworkState). Statement (pair_of v near far)) (sym r.by)
-        (always r.settings r.steps near far r.joined.own (are-well r.settings (points_of k) r.joined) sharing)
+        (always r.settings r.moves near far r.placed.own (placed-well r.settings (points_of k) r.placed) sharing)
 
     pub between : (Statement : PairState → Type 0) → networks.Always (λ p. LostNothing p → BothWays Statement p) → LostNothing (pair_of w near far)
         → BothWays Statement (pair_of w near far)
@@ -121,30 +158,13 @@ module _ (k : List KeptNode) (w : NetworkState) (s : NetworkStandsFor k w) where
 
     -- both are there
     pub has-near : has_node near k ≡ true
-    has-near = by (place_at near k) (node-there near)
-      where
-        by : (o : Option ℕ) → IsNodeAt near (option_and_then (slice_get k) o) (w.node near) → is_some o ≡ true
-        by (Some place) is = refl
-        by None is =
-            absurd (let no : slice_get (no_settings near).links a.link ≡ Some a.entry = ap (λ (y : NetworkNode). slice_get y.exchange.settings.links a.link) (sym is) ∙ a.is in cc)
-
-    near-by : (o : Option KeptNode) → IsNodeAt near o (w.node near) → IsSound (w.node near).exchange
-    near-by (Some n) is = is.sound
-    near-by None is =
-        absurd (let no : slice_get (no_settings near).links a.link ≡ Some a.entry = ap (λ (y : NetworkNode). slice_get y.exchange.settings.links a.link) (sym is) ∙ a.is in cc)
+    has-near = has-place near (w.node far).exchange.settings.own a.near_set a.near_leads
 
     near-sound : IsSound (w.node near).exchange
-    near-sound = near-by (node_at near k) (node-there near)
-
-    far-by : (o : Option KeptNode) → IsNodeAt far o (w.node far) → IsSound (w.node far).exchange
-    far-by (Some n) is = is.sound
-    far-by None is =
-        absurd
-        (let no : set_place (no_settings far) (r.settings near).own ≡ Some sharing.shares.far_set =
-        ap (λ (d : Configuration). set_place d (r.settings near).own) (ap (λ (y : NetworkNode). y.exchange.settings) (sym is) ∙ far-same) ∙ sharing.shares.far_leads.adjacent in cc)
+    near-sound = is-sound near (w.node far).exchange.settings.own a.near_set a.near_leads
 
     far-sound : IsSound (w.node far).exchange
-    far-sound = far-by (node_at far k) (node-there far)
+    far-sound = is-sound far c.own a.far_set a.far_leads
 
     near-fits : Fits (w.node near)
     near-fits = (reached-fit w r near).fits
@@ -169,12 +189,8 @@ module _ (k : List KeptNode) (w : NetworkState) (s : NetworkStandsFor k w) where
           ap (λ (z : KeptNode). waiting_between picks (Some z) (Some m)) is.kept
           ∙ ap (λ (z : KeptNode). waiting_between picks (Some (kept_node_of (w.node near))) (Some z)) are.kept
           ∙ waiting-same picks (pair_of w near far) near-sound far-sound ready
-      waiting-by (Some n) None is are =
-          absurd
-          (let no : set_place (no_settings far) (r.settings near).own ≡ Some sharing.shares.far_set =
-          ap (λ (d : Configuration). set_place d (r.settings near).own) (ap (λ (y : NetworkNode). y.exchange.settings) (sym are) ∙ far-same) ∙ sharing.shares.far_leads.adjacent in cc)
-      waiting-by None v is are =
-          absurd (let no : slice_get (no_settings near).links a.link ≡ Some a.entry = ap (λ (y : NetworkNode). slice_get y.exchange.settings.links a.link) (sym is) ∙ a.is in cc)
+      waiting-by (Some n) None is are = absurd (no-sets far c.own a.far_set a.far_leads are)
+      waiting-by None v is are = absurd (no-sets near (w.node far).exchange.settings.own a.near_set a.near_leads is)
 
       pub counted : waiting_between picks (node_at near k) (node_at far k) ≡ waits
       counted = waiting-by (node_at near k) (node_at far k) (node-there near) (node-there far)

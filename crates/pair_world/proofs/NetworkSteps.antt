@@ -11,7 +11,8 @@ use Rattle.exchange_rules.specs.Exchange.{frame_to_take, wants_of}
 use Rattle.exchange_rules.specs.First.{IsSound}
 use Rattle.exchange_rules.specs.Queues.{whole}
 use Rattle.pair_rules.specs.Pairs.{Doing, may_open_at}
-use Rattle.network_rules.specs.Networks.{NetworkNode, NetworkState, Step, after_step, after_steps, changed, comes_up, did_here, end_of, first_network, is_led, opens_first, reaches, sends, take_frame}
+use Rattle.network_rules.specs.Networks.{NetworkNode, NetworkState, changed, comes_up, did_here, end_of, first_network, is_led, opens_first, reaches, sends, take_frame}
+use Rattle.network_rules.specs.Outside.{Move, after_move, after_moves}
 use Rattle.network_rules.proofs.Places.{node-other, node-same}
 use Rattle.pair_world.specs.declared.doing.Reach.{Reach}
 use Rattle.pair_world.specs.declared.doing.Reach.TheVariants as reach
@@ -23,23 +24,23 @@ use Rattle.pair_world.proofs.NodePlaces.{equal, unlike, gets, has-point, keeps, 
 use Rattle.pair_world.proofs.NodeReaches.{AreBothSame, fetch-same, led_by, open-same, open_outcome, opened_by, reached_with, sent_by}
 use Rattle.pair_world.proofs.NodeRules.{IsNodeSame, here-same}
 
--- ---- one step more
+-- ---- one move more
 
-steps-more : (steps : List Step) (step : Step) (w : NetworkState) → after_steps (steps ++ step ∷ []) w ≡ after_step step (after_steps steps w)
-steps-more [] step w = refl
-steps-more (first ∷ steps) step w = steps-more steps step (after_step first w)
+moves-more : (moves : List Move) (move : Move) (w : NetworkState) → after_moves (moves ++ move ∷ []) w ≡ after_move move (after_moves moves w)
+moves-more [] move w = refl
+moves-more (first ∷ moves) move w = moves-more moves move (after_move first w)
 
-pub reached-more : {points : List ℕ} (step : Step) (w : NetworkState) → IsNetworkReached points w → IsNetworkReached points (after_step step w)
-reached-more step w r = record {
+pub reached-more : {points : List ℕ} (move : Move) (w : NetworkState) → IsNetworkReached points w → IsNetworkReached points (after_move move w)
+reached-more move w r = record {
   settings = r.settings;
-  joined = r.joined;
-  steps = r.steps ++ step ∷ [];
-  by = ap (after_step step) r.by ∙ sym (steps-more r.steps step (first_network r.settings));
+  placed = r.placed;
+  moves = r.moves ++ move ∷ [];
+  by = ap (after_move move) r.by ∙ sym (moves-more r.moves move (first_network r.settings));
 }
 
 -- each node is told its point
 pub own-point : {points : List ℕ} (w : NetworkState) → IsNetworkReached points w → (point : ℕ) → (w.node point).exchange.settings.own ≡ point
-own-point w r point = ap (λ (c : Configuration). c.own) (reached-fit w r point).settings ∙ r.joined.own point
+own-point w r point = ap (λ (c : Configuration). c.own) (reached-fit w r point).settings ∙ r.placed.own point
 
 -- the nodes that are kept are those of a state
 abbrev pub AreNodes : List KeptNode → NetworkState → Type 0
@@ -99,7 +100,7 @@ module _ (k : List KeptNode) (w : NetworkState) (s : NetworkStandsFor k w) where
     -- its point stays the same
     own-here : (what : Doing) → (did_here what x).exchange.settings.own ≡ point
     own-here what =
-        ap (λ (d : Configuration). d.own) (here-fits (r.settings point) x (reached-fit w r point) what).settings ∙ r.joined.own point
+        ap (λ (d : Configuration). d.own) (here-fits (r.settings point) x (reached-fit w r point) what).settings ∙ r.placed.own point
 
     -- what is done here alone
     pub here-turn : (what : Doing) → IsTurn (points_of k) (one_turned place (node_did what) (slice_get k place) k) (here_outcome what x) (changed point (did_here what) w)

@@ -10,20 +10,18 @@ use Rattle.pair_rules.specs.Pairs.{PairState, Streams, Turn, deliver_frame, firs
 use Rattle.pair_rules.specs.Deliveries.{ComesTo, Tells, TellsOf, TellsWhatCame}
 use Rattle.pair_rules.specs.Sharing.{AreSharing}
 use Rattle.neighbour_rules.specs.Neighbours as neighbours
-use Rattle.neighbour_rules.specs.Neighbours.{Does, leads_elsewhere}
+use Rattle.neighbour_rules.specs.Neighbours.{leads_elsewhere}
 use Rattle.neighbour_rules.proofs.Outcomes as rules
 use Rattle.network_rules.specs.Networks.{NetworkNode, NetworkState}
 use Rattle.network_rules.specs.Pairs.{IsRunOfNeighbours, pair_of}
 use Rattle.network_rules.proofs.Always.{runs}
 use Rattle.network_rules.proofs.Promised.{is-written, written}
 use Rattle.pair_world.specs.KeptNodes.{KeptNode}
-use Rattle.pair_world.specs.NetworkPromised.{AreAdjacent, TellsBetween}
+use Rattle.pair_world.specs.NetworkPromised.{ShareSet, TellsBetween}
 use Rattle.pair_world.specs.NetworkStands.{NetworkStandsFor, did_outcome, has_node, hear_outcome, step_outcome}
-use Rattle.pair_world.specs.Stands.{IsReached}
 use Rattle.pair_world.specs.Tells.{AreAlone, TellsHere}
-use Rattle.pair_world.proofs.Alone.{none-elsewhere, reached-alone}
+use Rattle.pair_world.proofs.Alone.{IsReached, alone-always, none-elsewhere, reached-alone}
 use Rattle.pair_world.proofs.NetworkLaws.{far-same, has-near, law, near-same, r, sharing}
-use Rattle.pair_world.proofs.Promised.{alone-always}
 
 -- ---- of two that are alike, a frame that comes tells the same
 
@@ -43,7 +41,7 @@ hears : (text : Option (List ℕ)) (link : ℕ) (left : Streams) (p : PairState)
 hears None link left p x e = refl
 hears (Some text) link left p x e = ap (λ (a : Abstract). hear_outcome (Some text) link (record x { exchange = a })) e
 
-module _ (k : List KeptNode) (w : NetworkState) (s : NetworkStandsFor k w) (near far : ℕ) (a : AreAdjacent w near far) (alone : AreAlone (pair_of w near far)) where
+module _ (k : List KeptNode) (w : NetworkState) (s : NetworkStandsFor k w) (near far : ℕ) (a : ShareSet w near far) (alone : AreAlone (pair_of w near far)) where
   abbrev p : PairState
   p = pair_of w near far
 
@@ -94,7 +92,7 @@ module _ (k : List KeptNode) (w : NetworkState) (s : NetworkStandsFor k w) (near
   abbrev x : NetworkNode
   x = w.node near
 
-  here : (what : pairs.Doing) → TellsHere (Does what) p (did_outcome what near w)
+  here : (what : pairs.Doing) → TellsHere what p (did_outcome what near w)
   here (pairs.Delivers link) =
       subst (TellsOf (pairs.Delivers link) p) (hears (slice_get (in_flight x.incoming.user_data link) 0) link (without_data link x.incoming) p x refl) (user-data link)
   here (pairs.DeliversStatus link) =
@@ -112,9 +110,9 @@ module _ (k : List KeptNode) (w : NetworkState) (s : NetworkStandsFor k w) (near
   here (pairs.OpensFirst link) = tt
   here (pairs.OpensSecond link) = tt
 
-  tells-there : (what : pairs.Doing) → TellsHere (Does what) p (step_outcome (has_node near k) (record { point = near; what = what }) w)
+  tells-there : (what : pairs.Doing) → TellsHere what p (step_outcome (has_node near k) (record { point = near; what = what }) w)
   tells-there what =
-      subst (λ (there : Bool). TellsHere (Does what) p (step_outcome there (record { point = near; what = what }) w)) (sym (has-near k w s near far a)) (here what)
+      subst (λ (there : Bool). TellsHere what p (step_outcome there (record { point = near; what = what }) w)) (sym (has-near k w s near far a)) (here what)
 
 pub tells : (k : List KeptNode) (w : NetworkState) → NetworkStandsFor k w → (what : pairs.Doing) (near far : ℕ)
     → TellsBetween what w near far (step_outcome (has_node near k) (record { point = near; what = what }) w)

@@ -13,21 +13,20 @@ use Rattle.exchange_rules.specs.Messages.{link_with_code}
 use Rattle.exchange_rules.specs.Queues.{whole}
 use Rattle.exchange_rules.specs.Routing.{adjacent_of}
 use Rattle.pair_rules.specs.Pairs.{Doing, Submits, Takes, Delivers, DeliversStatus, LosesStatus, DoublesStatus, Loses, Ticks, Activates, Deactivates, AddsTitle, RemovesTitle, OpensFirst, OpensSecond}
-use Rattle.pair_rules.specs.Sharing.{AreSharing}
 use Rattle.neighbour_rules.specs.Neighbours.{end_there}
 use Rattle.network_rules.specs.Networks.{NetworkNode, NetworkState, Place, Step, changed, did, did_here, first_node, may_open_there, opens_first, other_end, place_there, sends, take_frame}
-use Rattle.network_rules.proofs.AllRuns.{are-apart}
+use Rattle.network_rules.specs.Outside.{Within}
 use Rattle.pair_world.specs.Joined.{no_settings}
 use Rattle.pair_world.specs.declared.doing.Reach.TheVariants as reach
 use Rattle.pair_world.specs.KeptNodes.{KeptNode, kept_node_of, node_did, node_takes}
 use Rattle.pair_world.specs.KeptNetworks.{KeptPlace, end_at, end_by, kept_did, kept_did_at, kept_other_end, network_ignored, network_turn, one_turned, place_at, points_of, reached_by}
 use Rattle.pair_world.specs.NetworkStands.{IsNetworkReached, IsNodeAt, NetworkStandsFor, did_outcome, first_outcome, has_node, here_outcome, if_any, step_outcome, stepped}
-use Rattle.pair_world.proofs.Listed.{leads}
+use Rattle.pair_world.proofs.Listed.{leads-apart}
 use Rattle.pair_world.proofs.NodeFits.{reached-fit}
 use Rattle.pair_world.proofs.NodePlaces.{itself-eq, keeps-none, points-same, put-nodes}
 use Rattle.pair_world.proofs.NodeReaches.{sent_by, take-alone}
 use Rattle.pair_world.proofs.NodeRules.{IsNodeSame}
-use Rattle.pair_world.proofs.Reached.{far-there}
+use Rattle.pair_world.proofs.Ready.{far-there}
 use Rattle.pair_world.proofs.NetworkSteps as steps
 use Rattle.pair_world.proofs.NetworkSteps.{IsTurn, own-point, reached-more}
 
@@ -78,9 +77,8 @@ module _ (k : List KeptNode) (w : NetworkState) (s : NetworkStandsFor k w) where
 
       far-apart : far_point ≢ point
       far-apart i =
-          let sharing : AreSharing (r.settings point) (r.settings (adjacent_of (r.settings point) l.set)) =
-          leads r.settings (points_of k) r.joined point link l (ap (λ (d : Configuration). slice_get d.links link) (sym c-same) ∙ is) in
-          are-apart r.settings point (adjacent_of (r.settings point) l.set) r.joined.own sharing (sym i ∙ ap (λ (d : Configuration). adjacent_of d l.set) c-same)
+          leads-apart r.settings (points_of k) r.placed point link l (ap (λ (d : Configuration). slice_get d.links link) (sym c-same) ∙ is)
+          (ap (λ (d : Configuration). adjacent_of d l.set) (sym c-same) ∙ i)
 
       -- no link is at a point without a node
       none-there : place_at far_point k ≡ None → link_with_code z c.own l.slc ≡ None
@@ -116,7 +114,7 @@ module _ (k : List KeptNode) (w : NetworkState) (s : NetworkStandsFor k w) where
     ends-of link (Some l) is = ends-by link l is (place_at (adjacent_of c l.set) k) refl
 
     -- where there is none
-    sent-alone : (link : ℕ) (frame : Option FrameValue) → IsNodeSame (node_takes link n) (if_any frame) (sent_by frame link x)
+    pub sent-alone : (link : ℕ) (frame : Option FrameValue) → IsNodeSame (node_takes link n) (if_any frame) (sent_by frame link x)
         → IsTurn (points_of k) (one_turned place (node_takes link) (slice_get k place) k) (if_any frame) (take_frame frame point link None w)
     sent-alone link None same =
         subst (λ (o : Option KeptNode). IsTurn (points_of k) (one_turned place (node_takes link) o k) Ignored w) (sym got)
@@ -199,7 +197,7 @@ module _ (k : List KeptNode) (w : NetworkState) (s : NetworkStandsFor k w) (what
   turn-outcome = turns.outcome_same
 
   reached-by : (b : Bool) → IsNetworkReached (points_of k) (stepped b step w)
-  reached-by true = reached-more step w s.reached
+  reached-by true = reached-more (Within step) w s.reached
   reached-by false = s.reached
 
   pub turn-stands : NetworkStandsFor (network_turn what point k).left (stepped (has_node point k) step w)

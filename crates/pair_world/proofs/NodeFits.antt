@@ -1,4 +1,4 @@
--- Each node of a network that some steps led to has all its places, its settings, and two lists of frames for each link.
+-- Each node of a network that some moves led to has all its places, its settings, and two lists of frames for each link.
 use Rattle.std.proofs.Common.{◌≡◌, ◌≤◌, ℕ, Bool, true, false, List, [], ◌∷◌, length, Option, Some, None, inl, inr, ◌⊎◌, nat_eq, refl, sym, subst, ◌∙◌, arith}
 use Rattle.std.specs.Prelude.{if◌then◌else◌, slice_get}
 use Rattle.std.proofs.lemmas.List.{length-replicate, length-set}
@@ -15,9 +15,10 @@ use Rattle.exchange_rules.specs.State as happening
 use Rattle.exchange_rules.specs.State.{Asking, Happens, Happening}
 use Rattle.exchange_rules.proofs.LastingPlaces.{places-first, places-stay}
 use Rattle.pair_rules.specs.Pairs.{Doing, Submits, Takes, Delivers, DeliversStatus, LosesStatus, DoublesStatus, Loses, Ticks, Activates, Deactivates, AddsTitle, RemovesTitle, OpensFirst, OpensSecond, in_flight, may_follow, with_status_twice, without_data, without_status}
-use Rattle.network_rules.specs.Networks.{NetworkNode, NetworkState, Place, Step, after_step, after_steps, change_statuses, changed, comes_up, deliver_frame, did, did_here, end_of, first_network, first_node, happens, is_led, may_open_there, opens_first, opens_second, other_end, reaches, sends, submit, take_frame}
+use Rattle.network_rules.specs.Networks.{NetworkNode, NetworkState, Place, change_statuses, changed, comes_up, deliver_frame, did, did_here, end_of, first_network, first_node, happens, is_led, may_open_there, opens_first, opens_second, other_end, reaches, sends, submit, take_frame}
 use Rattle.pair_world.specs.NetworkStands.{IsNetworkReached}
-use Rattle.pair_world.proofs.Listed.{are-well}
+use Rattle.network_rules.specs.Outside.{HearsOutside, Move, OpensOutside, Within, after_move, after_moves, hears, hears_outside, leads_out, opens_outside, speaks_within}
+use Rattle.network_rules.proofs.Joined.{placed-well}
 
 pub record Fits (x : NetworkNode) : Type 0 where
   pub places : HasAllPlaces x.exchange.settings x.exchange.node
@@ -124,6 +125,12 @@ module _ (c : Configuration) (x : NetworkNode) (f : FitsTo c x) where
   second-fits wants.Nothing may link = f
   second-fits wants.Close may link = f
 
+  hears-fits : (link : ℕ) (text : List ℕ) → FitsTo c (hears link text x)
+  hears-fits link text = record {
+    settings = f.settings;
+    fits = record { places = after-asked (Happens (happening.FrameCame link text)); statuses = f.fits.statuses; user_data = f.fits.user_data };
+  }
+
   pub here-fits : (what : Doing) → FitsTo c (did_here what x)
   here-fits (Submits m) = submit-fits m
   here-fits (Delivers link) = deliver-data (slice_get (in_flight x.incoming.user_data link) 0) link
@@ -189,9 +196,23 @@ module _ (settings : (point : ℕ) → Configuration) where
   did-fit (RemovesTitle key digits) point w all = changed-fit point (did_here (RemovesTitle key digits)) w all (λ c x f. here-fits c x f (RemovesTitle key digits))
   did-fit (OpensSecond link) point w all = changed-fit point (did_here (OpensSecond link)) w all (λ c x f. here-fits c x f (OpensSecond link))
 
-  steps-fit : (steps : List Step) (w : NetworkState) → AllFit w → AllFit (after_steps steps w)
-  steps-fit [] w all = all
-  steps-fit (step ∷ steps) w all = steps-fit steps (after_step step w) (did-fit step.what step.point w all)
+  opens-fit : (out : Bool) (point link : ℕ) (w : NetworkState) → AllFit w → AllFit (opens_outside out point link w)
+  opens-fit true point link w all = changed-fit point (happens (happening.CameUp link)) w all (λ c x f. happens-fits c x f (happening.CameUp link))
+  opens-fit false point link w all = all
+
+  outside-fit : (out speaks : Bool) (point link : ℕ) (text : List ℕ) (w : NetworkState) → AllFit w → AllFit (hears_outside out speaks point link text w)
+  outside-fit true false point link text w all = changed-fit point (hears link text) w all (λ c x f. hears-fits c x f link text)
+  outside-fit true true point link text w all = all
+  outside-fit false speaks point link text w all = all
+
+  move-fit : (move : Move) (w : NetworkState) → AllFit w → AllFit (after_move move w)
+  move-fit (Within step) w all = did-fit step.what step.point w all
+  move-fit (OpensOutside point link) w all = opens-fit (leads_out w point link) point link w all
+  move-fit (HearsOutside point link text) w all = outside-fit (leads_out w point link) (speaks_within w text) point link text w all
+
+  moves-fit : (moves : List Move) (w : NetworkState) → AllFit w → AllFit (after_moves moves w)
+  moves-fit [] w all = all
+  moves-fit (move ∷ moves) w all = moves-fit moves (after_move move w) (move-fit move w all)
 
 -- ---- from the first on
 
@@ -212,4 +233,4 @@ first-fits c few = record {
 pub reached-fit : {points : List ℕ} (w : NetworkState) (r : IsNetworkReached points w) (point : ℕ) → FitsTo (r.settings point) (w.node point)
 reached-fit {points} w r point =
     subst (λ (v : NetworkState). FitsTo (r.settings point) (v.node point)) (sym r.by)
-    (steps-fit r.settings r.steps (first_network r.settings) (λ other. first-fits (r.settings other) (few-links (r.settings other) (are-well r.settings points r.joined other))) point)
+    (moves-fit r.settings r.moves (first_network r.settings) (λ other. first-fits (r.settings other) (few-links (r.settings other) (placed-well r.settings points r.placed other))) point)

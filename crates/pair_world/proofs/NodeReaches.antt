@@ -17,8 +17,7 @@ use Rattle.exchange.proofs.Standing.{stands-after, stands-frame, stands-taken}
 use Rattle.pair_rules.specs.Pairs.{Streams, emptied, may_open_at}
 use Rattle.network_rules.specs.Networks.{NetworkNode, comes_up, end_of, is_led, reaches, sends}
 use Rattle.pair_world.specs.declared.doing.Reach.TheVariants as reach
-use Rattle.pair_world.specs.KeptPairs.{has_link}
-use Rattle.pair_world.specs.KeptSites.{behind_its, take_outcome, text_to_take}
+use Rattle.pair_world.specs.KeptSites.{behind_its, has_link, take_outcome, text_to_take}
 use Rattle.pair_world.specs.KeptNodes.{BothTurn, both_did, both_open, both_take, kept_node_of, node_takes}
 use Rattle.pair_world.specs.NetworkStands.{IsNodeOf, if_any}
 use Rattle.pair_world.proofs.Fetching.{behind-same, both-there, data-same, is-there, nothing-taken, statuses-same}
@@ -82,7 +81,7 @@ module _ (x : NetworkNode) (sound : IsSound x.exchange) (link : ℕ) where
   abbrev frame_now : Option FrameValue
   frame_now = frame_to_take whole a link
 
-  text-same : text_to_take (kept_of a) link ≡ option_map spelled frame_now
+  pub text-same : text_to_take (kept_of a) link ≡ option_map spelled frame_now
   text-same = ap (option_map spelled) (stands-frame link (kept_of a) a k)
 
   pub take-alone : IsNodeSame (node_takes link (kept_node_of x)) (if_any frame_now) (sent_by frame_now link x)

@@ -47,7 +47,7 @@ module _ (x : NetworkNode) (sound : IsSound x.exchange) (places : HasAllPlaces x
   itself : IsNodeOf (kept_node_of x) x
   itself = record { sound = sound; kept = refl }
 
-  happens-same : (what : Happening) → IsNodeSame (node_happens what (kept_node_of x)) (outcome_of whole what a) (happens what x)
+  pub happens-same : (what : Happening) → IsNodeSame (node_happens what (kept_node_of x)) (outcome_of whole what a) (happens what x)
   happens-same what =
       let s = stands-after what (kept_of a) a k in
       record {
@@ -106,7 +106,7 @@ module _ (x : NetworkNode) (sound : IsSound x.exchange) (places : HasAllPlaces x
         ∙ refused-same new a.settings (outcome_of kept came (kept_of a))
         ∙ ap (λ (o : Outcome). refused_by new a.settings o) (stands-outcome came (kept_of a) a k)
 
-    frame-node : (left : Streams) → IsNodeSame (node_hears (Some text) link left (kept_node_of x)) (outcome_of whole came a) (deliver_frame (Some text) link left x)
+    pub frame-node : (left : Streams) → IsNodeSame (node_hears (Some text) link left (kept_node_of x)) (outcome_of whole came a) (deliver_frame (Some text) link left x)
     frame-node left =
         let s = stands-after came (kept_of a) a k in
         record {

@@ -16,20 +16,15 @@ use Rattle.exchange.proofs.Waiting.{stands-behind}
 use Rattle.exchange_rules.specs.First.{IsSound}
 use Rattle.pair_moves.specs.Order.{join_to}
 use Rattle.pair_moves.proofs.Counts.{count-append}
-use Rattle.pair_rules.specs.Pairs.{PairState, turned}
+use Rattle.pair_rules.specs.Pairs.{PairState}
 use Rattle.pair_rules.specs.Promises.{queue_of, user}
 use Rattle.pair_rules.proofs.Promised.{count-join, sum-alike}
 use Rattle.neighbour_rules.specs.Neighbours.{far_end, users_to}
 use Rattle.neighbour_rules.specs.Promises.{accepted_there, waiting, waiting_by, waiting_on}
-use Rattle.pair_world.specs.declared.step.End.{End}
-use Rattle.pair_world.specs.declared.step.End.TheVariants.{One, Two}
 use Rattle.pair_world.specs.KeptSites.{accepted_number, number_shown}
-use Rattle.pair_world.specs.KeptPairs.{KeptPair}
-use Rattle.pair_world.specs.Stands.{StandsFor}
-use Rattle.pair_world.specs.Told.{kept_at, other, seen_from}
 use Rattle.pair_world.specs.Waiting.{kept_waiting, kept_waiting_by, kept_waiting_on, picked_to}
 use Rattle.pair_world.proofs.Newly.{shown-number, stands-itself}
-use Rattle.pair_world.proofs.Reached.{IsReady, far-there, reached-ready, ready-turned}
+use Rattle.pair_world.proofs.Ready.{IsReady, far-there}
 use Rattle.pair_world.proofs.Fetching.{is-there}
 
 -- of a list, those that are for a point and that a choice takes
@@ -92,11 +87,3 @@ module _ (picks : Message → Bool) (p : PairState) (near_sound : IsSound p.near
       (sum-alike (kept_waiting_on picks near far) (λ link. count_by (user picks) (waiting_on p link)) links on-link ∙ sym (count-join (user picks) (waiting_on p) links))
       ∙ ap (λ (k : ℕ). count_by (user picks) (join_to (waiting_on p) links) + k) (count-to far_point picks held)
       ∙ sym (count-append (user picks) (join_to (waiting_on p) links) (users_to far_point held))
-
-abbrev IsCounted : (Message → Bool) → End → PairState → KeptPair → Type 0
-IsCounted picks end p k = kept_waiting picks (kept_at end k).exchange (kept_at (other end) k).exchange ≡ count_by (user picks) (waiting (seen_from end p))
-
-pub waiting-shown : (picks : Message → Bool) (end : End) (k : KeptPair) (p : PairState) → StandsFor k p → IsCounted picks end p k
-waiting-shown picks One k p s = subst (IsCounted picks One p) (sym s.kept) (waiting-same picks p s.near_sound s.far_sound (reached-ready p s.reached))
-waiting-shown picks Two k p s =
-    subst (IsCounted picks Two p) (sym s.kept) (waiting-same picks (turned p) s.far_sound s.near_sound (ready-turned p (reached-ready p s.reached)))

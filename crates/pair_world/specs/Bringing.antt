@@ -6,12 +6,15 @@ use Rattle.signalling_types.specs.declared.cause.Cause.{Cause}
 use Rattle.signalling_types.specs.declared.notice.FrameFault.{FrameFault}
 use Rattle.signalling_types.specs.declared.outcome.Outcome.{Outcome}
 use Rattle.signalling_types.specs.declared.outcome.Outcome.TheVariants.{Queued, Held, Local, Handled, Ignored, Refused}
-use Rattle.settings_rows.specs.Configuration.{Configuration, TitleEntry}
+use Rattle.settings_rows.specs.Configuration.{Configuration}
 use Rattle.m2pa_codec.specs.Frames.{FrameValue, EmptyFrame, MessageFrame, StatusFrame}
 use Rattle.mtp3_codec.specs.declared.discrimination.Discrimination.{Discrimination}
 use Rattle.mtp3_codec.specs.declared.discrimination.Discrimination.TheVariants as whither
-use Rattle.sccp_relay.specs.Relay.{OwnValue, RelayedValue, relay, returned}
+use Rattle.sccp_relay.specs.Points.{OwnValue}
+use Rattle.sccp_relay.specs.Relay.{RelayedValue, relay}
+use Rattle.sccp_relay.specs.Returning.{returned}
 use Rattle.sccp_relay.specs.Relay as relays
+use Rattle.sccp_relay.specs.Statuses.{TitlesValue}
 use Rattle.exchange_rules.specs.Messages.{sccp, whither_goes, in_place_of, own_of}
 use Rattle.cell_pool.specs.Lanes.{is_user_picked}
 use Rattle.exchange.specs.Counting.{kept_behind_number}
@@ -52,11 +55,12 @@ number_in (Err fault) = 0
 -- an SCCP message for this point goes on as its relay writes it
 abbrev pub written_as : RelayedValue → Message → List Message
 written_as relays.Delivered m = []
+written_as (relays.Heard news) m = []
 written_as (relays.Onward sif) m = in_place_of m sif ∷ []
 written_as (relays.Refused cause) m = []
 
 -- one that is queued or held
-abbrev pub goes_on : Discrimination → OwnValue → List TitleEntry → Message → List Message
+abbrev pub goes_on : Discrimination → OwnValue → TitlesValue → Message → List Message
 goes_on (whither.Refused fault) own rows m = []
 goes_on (whither.Here label) own rows m = if is_sccp m then written_as (relay own rows m.sif) m else []
 goes_on (whither.Transfer label) own rows m = m ∷ []
@@ -66,14 +70,14 @@ udts_as (Some sif) m = in_place_of m sif ∷ []
 udts_as None m = []
 
 -- the UDTS that returns one that is refused, if one does
-abbrev pub comes_back : Discrimination → Cause → OwnValue → List TitleEntry → Message → List Message
+abbrev pub comes_back : Discrimination → Cause → OwnValue → TitlesValue → Message → List Message
 comes_back (whither.Refused fault) cause own rows m = []
 comes_back (whither.Here label) cause own rows m =
     if is_sccp m then udts_as (returned own rows m.sif cause) m else []
 comes_back (whither.Transfer label) cause own rows m = []
 
 -- by what became of it, whether more user messages stand, and where the links lead
-abbrev pub told_in : Outcome → (is_more : Bool) → OwnValue → Configuration → List TitleEntry → Message → List Message
+abbrev pub told_in : Outcome → (is_more : Bool) → OwnValue → Configuration → TitlesValue → Message → List Message
 told_in (Queued link) is_more own c rows m = goes_on (whither_goes c m) own rows m
 told_in Held is_more own c rows m = goes_on (whither_goes c m) own rows m
 told_in (Refused cause) is_more own c rows m =

@@ -15,8 +15,7 @@ use Rattle.pair_rules.specs.Pairs.{Doing, Submits, Takes, Delivers, DeliversStat
 use Rattle.network_rules.specs.Networks.{Arrival, NetworkNode, entered_by, refused_by}
 use Rattle.pair_world.specs.declared.doing.Reach.{Reach}
 use Rattle.pair_world.specs.declared.doing.Reach.TheVariants as reach
-use Rattle.pair_world.specs.KeptSites.{KeptSite, SiteTurn, behind_its, handed_in, newly_brought, newly_carried, site_doubles_status, site_happens, site_loses_status, site_may_follow, site_opens_first, site_opens_second, take_outcome, text_to_take}
-use Rattle.pair_world.specs.KeptPairs.{has_link}
+use Rattle.pair_world.specs.KeptSites.{KeptSite, SiteTurn, behind_its, handed_in, newly_brought, newly_carried, site_doubles_status, site_happens, site_loses_status, site_may_follow, site_opens_first, site_opens_second, take_outcome, text_to_take, has_link}
 
 pub record KeptNode : Type 0 where
   pub exchange : Kept

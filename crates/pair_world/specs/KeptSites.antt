@@ -1,6 +1,6 @@
 -- A site as the code keeps it, and what becomes of it: an exchange with what is in flight to it, and of each link
 -- whether it may follow the other end. And what comes there, and what goes out.
-use Rattle.std.specs.Prelude.{ℕ, Bool, true, false, nat_eq, List, [], ◌∷◌, ◌++◌, slice_get, slice_set, drop, take, length, replicate, Option, Some, None, option_to_list, slice_index_or, if◌then◌else◌}
+use Rattle.std.specs.Prelude.{ℕ, Bool, true, false, ◌&&◌, nat_eq, nat_lt, List, [], ◌∷◌, ◌++◌, slice_get, slice_set, drop, take, length, replicate, Option, Some, None, option_to_list, slice_index_or, if◌then◌else◌}
 use Rattle.std.specs.Option.{option_map}
 use Rattle.signalling_types.specs.Message.{Message}
 use Rattle.signalling_types.specs.declared.outcome.Outcome.{Outcome}
@@ -149,6 +149,10 @@ text_to_take k link = option_map spelled (frame_to_take kept k link)
 abbrev pub behind : List (List ℕ) → Option (List ℕ) → List (List ℕ)
 behind frames (Some text) = frames ++ text ∷ []
 behind frames None = frames
+
+-- whether a link is one of those that something can be in flight on
+abbrev pub has_link : (link : ℕ) → Streams → Bool
+has_link link s = nat_lt link (length s.statuses) && nat_lt link (length s.user_data)
 
 -- the message type of a frame says which stream it goes out on (RFC 4165 §4.1.2)
 abbrev pub is_of_type : (kind : ℕ) → Option ℕ → Bool

@@ -1,16 +1,13 @@
 pub mod Faults
 pub mod Bringing
 pub mod KeptSites
-pub mod KeptEnds
-pub mod KeptPairs
 pub mod Told
-pub mod Elsewhere
-pub mod Stands
 pub mod Promised
 pub mod Tells
 pub mod Waiting
 pub mod Joined
 pub mod KeptNodes
 pub mod KeptNetworks
+pub mod KeptOutside
 pub mod NetworkStands
 pub mod NetworkPromised

@@ -1,7 +1,8 @@
--- What a network promises: of the messages that one node accepted for an adjacent one, and of all from end to end.
-use Rattle.std.specs.Prelude.{◌≡◌, ℕ, Bool, true, false, List, [], Option, Some, None, slice_get, slice_index_or}
-use Rattle.settings_rows.specs.Configuration.{LinkEntry}
-use Rattle.exchange_rules.specs.Routing.{adjacent_of}
+-- What a network promises: of the messages that one node accepted for another with which it shares a set, and of all
+-- from end to end.
+use Rattle.std.specs.Prelude.{◌≡◌, ◌<◌, ℕ, Bool, true, false, List, [], Option, Some, None, length, slice_index_or}
+use Rattle.settings.specs.Sharing.{SharesSet}
+use Rattle.exchange_rules.specs.Routing.{peer_of}
 use Rattle.signalling_types.specs.Message.{Message}
 use Rattle.signalling_types.specs.declared.outcome.Outcome.{Outcome}
 use Rattle.pair_rules.specs.Awaiting.{HoldInNoVain}
@@ -10,29 +11,33 @@ use Rattle.pair_rules.specs.Promises.{BothWays, LostNothing}
 use Rattle.network_rules.specs.Networks.{Arrival, NetworkState}
 use Rattle.network_rules.specs.Pairs.{pair_of, came_from}
 use Rattle.network_rules.specs.Totals.{ComeToPoint, HaveLostNothing, is_listed}
-use Rattle.neighbour_rules.specs.Neighbours.{Does, users_to}
+use Rattle.neighbour_rules.specs.Neighbours.{users_to}
+use Rattle.neighbour_rules.specs.Promises.{AreBooked}
 use Rattle.pair_world.specs.KeptNodes.{KeptNode}
 use Rattle.pair_world.specs.NetworkStands.{NetworkStandsFor}
 use Rattle.pair_world.specs.Promised.{ComeInOrder, ComeOnce, ComeOrWait}
 use Rattle.pair_world.specs.Tells.{AreAlone, TellsHere}
 use Rattle.pair_world.specs.Waiting.{kept_waiting}
 
--- a link of the node at the near point leads to the far point
-pub record AreAdjacent (w : NetworkState) (near far : ℕ) : Type 0 where
-  pub link : ℕ
-  pub entry : LinkEntry
-  pub is : slice_get (w.node near).exchange.settings.links link ≡ Some entry
-  pub leads : adjacent_of (w.node near).exchange.settings entry.set ≡ far
+-- the nodes at two points share a set
+abbrev pub ShareSet : NetworkState → (near far : ℕ) → Type 0
+ShareSet w near far = SharesSet (w.node near).exchange.settings (w.node far).exchange.settings
+
+-- each link leads to a node with which its own shares a set
+abbrev pub ShareAll : NetworkState → Type 0
+ShareAll w =
+    (point link : ℕ) → link < length (w.node point).exchange.settings.links →
+    ShareSet w point (peer_of (w.node point).exchange.settings link)
 
 -- of all that a node accepted, what is for another
 abbrev pub AcceptedOnce : NetworkState → (near far : ℕ) → (accepted : List Message) → Type 0
 AcceptedOnce w near far accepted =
-    AreAdjacent w near far →
+    ShareSet w near far →
     ComeOnce (pair_of w near far) (users_to far accepted) (pair_of w near far).far.received
 
 abbrev pub AcceptedInOrder : NetworkState → (near far : ℕ) → (accepted : List Message) → Type 0
 AcceptedInOrder w near far accepted =
-    AreAdjacent w near far →
+    ShareSet w near far →
     ComeInOrder (pair_of w near far) (users_to far accepted) (pair_of w near far).far.received
 
 -- of all that came to a node, what is for it and came by links to the other
@@ -42,36 +47,41 @@ received_from w near far arrived =
 
 abbrev pub ArrivedOnce : NetworkState → (near far : ℕ) → (arrived : List Arrival) → Type 0
 ArrivedOnce w near far arrived =
-    AreAdjacent w far near →
+    ShareSet w far near →
     ComeOnce (pair_of w far near) (pair_of w far near).near.accepted (received_from w near far arrived)
 
 abbrev pub ArrivedInOrder : NetworkState → (near far : ℕ) → (arrived : List Arrival) → Type 0
 ArrivedInOrder w near far arrived =
-    AreAdjacent w far near →
+    ShareSet w far near →
     ComeInOrder (pair_of w far near) (pair_of w far near).near.accepted (received_from w near far arrived)
 
 -- and how many that a choice takes were accepted, and how many wait
 abbrev pub AcceptedOrWait : NetworkState → (near far : ℕ) → (picks : Message → Bool) → (count : ℕ) → Type 0
-AcceptedOrWait w near far picks count = AreAdjacent w near far → ComeOrWait (pair_of w near far) picks count
+AcceptedOrWait w near far picks count = ShareSet w near far → ComeOrWait (pair_of w near far) picks count
 
--- while neither of two adjacent nodes may have lost a message, this holds between them in both directions, of every
--- abstract network that it stands for
+-- while neither of two nodes that share a set may have lost a message, this holds between them in both directions, of
+-- every abstract network that it stands for
 abbrev pub HoldsBetween : (PairState → Type 0) → List KeptNode → Type 0
 HoldsBetween Statement k =
-    (w : NetworkState) → NetworkStandsFor k w → (near far : ℕ) → AreAdjacent w near far →
+    (w : NetworkState) → NetworkStandsFor k w → (near far : ℕ) → ShareSet w near far →
     LostNothing (pair_of w near far) → BothWays Statement (pair_of w near far)
 
--- and nothing is held in vain at either, whatever has been lost
+-- whatever has been lost, what is booked of the two is for the one or the other
+abbrev pub AreBookedBetween : List KeptNode → Type 0
+AreBookedBetween k =
+    (w : NetworkState) → NetworkStandsFor k w → (near far : ℕ) → ShareSet w near far →
+    BothWays AreBooked (pair_of w near far)
+
+-- and nothing is held in vain at either
 abbrev pub HoldsNothingInVain : List KeptNode → Type 0
 HoldsNothingInVain k =
-    (w : NetworkState) → NetworkStandsFor k w → (near far : ℕ) → AreAdjacent w near far →
+    (w : NetworkState) → NetworkStandsFor k w → (near far : ℕ) → ShareSet w near far →
     HoldInNoVain (pair_of w near far)
 
--- the outcome of a delivery at a node tells what it received and accepted, where it and an adjacent node have only each
--- other
+-- the outcome of a delivery at a node tells what it received and accepted, where it and another have only each other
 abbrev pub TellsBetween : Doing → NetworkState → (near far : ℕ) → Outcome → Type 0
 TellsBetween what w near far outcome =
-    AreAdjacent w near far → AreAlone (pair_of w near far) → TellsHere (Does what) (pair_of w near far) outcome
+    ShareSet w near far → AreAlone (pair_of w near far) → TellsHere what (pair_of w near far) outcome
 
 -- ---- from end to end
 

@@ -1,29 +1,32 @@
 -- When a network of the code stands for an abstract one, and what becomes of something that is done in that.
-use Rattle.std.specs.Prelude.{◌≡◌, ℕ, Bool, true, List, is_some, slice_get, Option, Some, None, if◌then◌else◌}
+use Rattle.std.specs.Prelude.{◌≡◌, ℕ, Bool, true, false, List, is_some, slice_get, Option, Some, None, if◌then◌else◌}
+use Rattle.std.specs.Option.{option_map}
 use Rattle.signalling_types.specs.declared.outcome.Outcome.{Outcome}
 use Rattle.signalling_types.specs.declared.outcome.Outcome.TheVariants.{Handled, Ignored}
 use Rattle.settings_rows.specs.Configuration.{Configuration}
+use Rattle.m2pa_codec.specs.Frames.{spelled}
 use Rattle.exchange_rules.specs.First.{IsSound}
 use Rattle.exchange_rules.specs.Exchange.{frame_to_take, outcome_of, wants_of}
 use Rattle.exchange_rules.specs.Queues.{whole}
-use Rattle.exchange_rules.specs.State.{FrameCame, Submitted, WentDown, Ticked, Activated, Deactivated, TitleAdded, TitleRemoved}
+use Rattle.exchange_rules.specs.State.{Happening, FrameCame, Submitted, WentDown, Ticked, Activated, Deactivated, TitleAdded, TitleRemoved}
 use Rattle.exchange_rules.specs.declared.wants.Wants.{Wants}
 use Rattle.exchange_rules.specs.declared.wants.Wants.TheVariants.{Open}
 use Rattle.pair_rules.specs.Pairs.{Doing, Submits, Takes, Delivers, DeliversStatus, LosesStatus, DoublesStatus, Loses, Ticks, Activates, Deactivates, AddsTitle, RemovesTitle, OpensFirst, OpensSecond, in_flight, may_follow}
-use Rattle.network_rules.specs.Networks.{NetworkNode, NetworkState, Place, Step, after_step, after_steps, end_of, first_network, first_node, may_open_there, other_end}
-use Rattle.network_rules.specs.Totals.{IsJoined}
+use Rattle.network_rules.specs.Networks.{NetworkNode, NetworkState, Place, Step, after_step, end_of, first_network, first_node, may_open_there, other_end}
+use Rattle.network_rules.specs.Outside.{Move, after_moves}
+use Rattle.network_rules.specs.Totals.{IsPlaced}
 use Rattle.pair_world.specs.Joined.{no_settings}
 use Rattle.pair_world.specs.KeptNodes.{KeptNode, kept_node_of}
 use Rattle.pair_world.specs.KeptNetworks.{kept_at, place_at, points_of}
 
 -- ---- it stands for an abstract network
 
--- by these steps it comes of a network of nodes at these points, joined by their links, that were just booted
+-- by these moves it comes of a network of nodes at these points that were just booted
 pub record IsNetworkReached (points : List ℕ) (w : NetworkState) : Type 0 where
   pub settings : (point : ℕ) → Configuration
-  pub joined : IsJoined settings points
-  pub steps : List Step
-  pub by : w ≡ after_steps steps (first_network settings)
+  pub placed : IsPlaced settings points
+  pub moves : List Move
+  pub by : w ≡ after_moves moves (first_network settings)
 
 -- the node that is kept for a point
 pub record IsNodeOf (n : KeptNode) (x : NetworkNode) : Type 0 where
@@ -93,6 +96,16 @@ step_outcome is_there step w = if is_there then did_outcome step.what step.point
 
 abbrev pub stepped : (is_there : Bool) → Step → NetworkState → NetworkState
 stepped is_there step w = if is_there then after_step step w else w
+
+-- of what comes by a link, if that leads out, and a frame doesn't speak for a node of the network
+abbrev pub outside_outcome : (out speaks : Bool) → Happening → NetworkNode → Outcome
+outside_outcome true false what x = outcome_of whole what x.exchange
+outside_outcome out speaks what x = Ignored
+
+-- and the frame that goes out there
+abbrev pub sent_outside : (out : Bool) → (link : ℕ) → NetworkNode → Option (List ℕ)
+sent_outside true link x = option_map spelled (frame_to_take whole x.exchange link)
+sent_outside false link x = None
 
 abbrev pub has_node : (point : ℕ) → List KeptNode → Bool
 has_node point k = is_some (place_at point k)

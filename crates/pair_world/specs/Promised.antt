@@ -1,12 +1,10 @@
--- What a pair promises of the messages that its near end accepted for the far one, and its far end received.
+-- What two nodes promise of the messages that the near one accepted for the far one, and the far one received.
 use Rattle.std.specs.Prelude.{◌≡◌, ◌+◌, ℕ, Bool, List, ◌++◌, count_by}
 use Rattle.signalling_types.specs.Message.{Message}
 use Rattle.signalling_types.specs.declared.point.Flow.{Flow}
 use Rattle.pair_rules.specs.Pairs.{PairState}
-use Rattle.pair_rules.specs.Promises.{BothWays, IsPunctual, LostNothing, of_flow, user}
+use Rattle.pair_rules.specs.Promises.{IsPunctual, LostNothing, of_flow, user}
 use Rattle.neighbour_rules.specs.Promises.{waiting}
-use Rattle.pair_world.specs.KeptPairs.{KeptPair}
-use Rattle.pair_world.specs.Stands.{StandsFor}
 
 -- while neither end may have lost a message: of every kind of user message, as many were accepted as were received and
 -- as wait at the near end
@@ -27,7 +25,3 @@ ComeInOrder p accepted received =
 abbrev pub ComeOrWait : PairState → (picks : Message → Bool) → (waiting : ℕ) → Type 0
 ComeOrWait p picks waiting =
     LostNothing p → count_by (user picks) p.near.accepted ≡ count_by (user picks) p.far.received + waiting
-
--- while neither end may have lost a message, this holds in both directions of every abstract pair that it stands for
-abbrev pub HoldsBothWays : (PairState → Type 0) → KeptPair → Type 0
-HoldsBothWays Statement k = (p : PairState) → StandsFor k p → LostNothing p → BothWays Statement p

@@ -1,16 +1,16 @@
-//! What an event brings into a queue or Held at an end of a pair.
+//! What an event brings into a queue or Held at a node.
 
 ghost use Rattle.std.specs.Prelude.{◌≡◌, ◌≤◌, ◌*◌, ◌^◌, true, Some, length, option_to_list, IfOk};
 ghost use Rattle.pair_moves.specs.Laws.{sum_to};
 ghost use Rattle.mtp3_codec.specs.declared.label.Label.{Label};
 ghost use Rattle.exchange_rules.specs.Messages.{whither_goes, in_place_of, own_of};
 ghost use Rattle.sccp_relay.specs.Relay as rule;
-ghost use Rattle.sccp_relay.specs.Relay.{returned};
+ghost use Rattle.sccp_relay.specs.Returning.{returned};
 ghost use Rattle.pair_world.specs.Bringing.{is_sccp, kept_behind, kept_standing, kept_standing_if, goes_on, comes_back, told_in, written_as, udts_as};
 
 use exchange::{Exchange, NoMemory, Pick};
 use mtp3_codec::{Discrimination, discriminate};
-use sccp_relay::{Relayed, Translations, relay, returned};
+use sccp_relay::{Relayed, Titles, relay, returned};
 use settings::{Cause, Limits, LinkId, Msu, Outcome, Settings};
 use signalling_types::Number24;
 use std::alloc::Global;
@@ -36,20 +36,14 @@ pub(crate) fn is_sccp(message: &Msu) -> bool
     message.service_indicator() == SCCP
 }
 
-/// The translation rows of an exchange, in a table.
-pub(crate) fn rows_of(alloc: Global, exchange: &Exchange) -> Result<Translations, NoMemory>
+/// A copy of the translation rows of an exchange, and of which of the subsystems that they lead to are prohibited.
+pub(crate) fn rows_of(alloc: Global, exchange: &Exchange) -> Result<Titles, NoMemory>
     ensures { IfOk result (λ rows. rows ≡ exchange.now.node.parts.titles) }
 {
-    let mut rows = Translations::new(alloc);
-    for index in 0..exchange.title_count() {
-        let Some(row) = exchange.title(index) else {
-            unreachable!()
-        };
-        if rows.add(row).is_err() {
-            return Err(NoMemory);
-        }
+    match exchange.titles().copy(alloc) {
+        Ok(titles) => Ok(titles),
+        Err(_) => Err(NoMemory),
     }
-    Ok(rows)
 }
 
 /// How many user messages stand at an exchange, behind a number on each link and in Held; 0 unless they are counted.
@@ -84,7 +78,7 @@ pub(crate) fn told_in(
     outcome: &Outcome,
     is_more: bool,
     exchange: &Exchange,
-    rows: &Translations,
+    rows: &Titles,
     message: &Msu,
 ) -> Option<Msu>
     ensures { option_to_list result ≡ told_in outcome.now is_more
@@ -98,7 +92,7 @@ pub(crate) fn told_in(
 }
 
 /// What a message brings in that is queued or held.
-fn goes_on(exchange: &Exchange, rows: &Translations, message: &Msu) -> Option<Msu>
+fn goes_on(exchange: &Exchange, rows: &Titles, message: &Msu) -> Option<Msu>
     ensures { option_to_list result ≡ goes_on (whither_goes exchange.now.settings message.now)
         (own_of exchange.now.settings exchange.now.node.parts) rows.now message.now }
 {
@@ -110,7 +104,7 @@ fn goes_on(exchange: &Exchange, rows: &Translations, message: &Msu) -> Option<Ms
 }
 
 /// What returns a message that is refused, if anything does.
-fn comes_back(cause: Cause, exchange: &Exchange, rows: &Translations, message: &Msu) -> Option<Msu>
+fn comes_back(cause: Cause, exchange: &Exchange, rows: &Titles, message: &Msu) -> Option<Msu>
     ensures { option_to_list result ≡ comes_back (whither_goes exchange.now.settings message.now) cause
         (own_of exchange.now.settings exchange.now.node.parts) rows.now message.now }
 {
@@ -133,7 +127,7 @@ pub(crate) fn whither_goes(settings: &Settings, message: &Msu) -> Discrimination
 }
 
 /// An SCCP message as its relay writes it, where it goes on.
-fn written(exchange: &Exchange, rows: &Translations, message: &Msu) -> Option<Msu>
+fn written(exchange: &Exchange, rows: &Titles, message: &Msu) -> Option<Msu>
     requires { 4 ≤ length message.now.sif }
     ensures { option_to_list result ≡
         written_as (rule.relay (own_of exchange.now.settings exchange.now.node.parts) rows.now message.now.sif)
@@ -142,12 +136,12 @@ fn written(exchange: &Exchange, rows: &Translations, message: &Msu) -> Option<Ms
     let mut field = [0; Limits::SIF_OCTETS];
     match relay(message.sif(), rows, &exchange.own(), &mut field) {
         Relayed::Onward(count) => in_place_of(message, &field[..count]),
-        Relayed::Delivered | Relayed::Refused(_) => None,
+        Relayed::Delivered | Relayed::Heard(_) | Relayed::Refused(_) => None,
     }
 }
 
 /// The UDTS or XUDTS that returns an SCCP message, if one does.
-fn udts(cause: Cause, exchange: &Exchange, rows: &Translations, message: &Msu) -> Option<Msu>
+fn udts(cause: Cause, exchange: &Exchange, rows: &Titles, message: &Msu) -> Option<Msu>
     requires { 4 ≤ length message.now.sif }
     ensures { option_to_list result ≡
         udts_as (returned (own_of exchange.now.settings exchange.now.node.parts) rows.now message.now.sif cause)

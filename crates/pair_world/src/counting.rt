@@ -1,4 +1,4 @@
-//! How many user messages wait at an end of a pair for the other.
+//! How many user messages wait at a node for another.
 
 ghost use Rattle.std.specs.Prelude.{◌≡◌, ◌≤◌, ◌*◌, ◌^◌};
 ghost use Rattle.pair_moves.specs.Laws.{sum_to};

@@ -3,13 +3,14 @@
 use exchange::{TitleDigits, TitleKey};
 use settings::{LinkId, Msu, TitleRow};
 
-/// What is done at one node, of a network or a pair.
+/// What is done at one node of a network.
 #[derive(Drop)]
 pub enum Doing {
     /// A user part hands a message over.
     Submit(Msu),
     /// The next frame of a link is fetched. It is then in flight to the other end of the link, on the stream of link
-    /// statuses or on that of User Data (RFC 4165 §4.1.2). Ignored where there is none.
+    /// statuses or on that of User Data (RFC 4165 §4.1.2). Ignored where there is none. One of a link that leads out of
+    /// the network is gone: `Network::send_outside` gives it to the caller.
     Take(LinkId),
     /// The next User Data in flight on a link to the node is handed in. Ignored where there is none.
     Deliver(LinkId),

@@ -1,25 +1,7 @@
-//! Why there is no pair, and why there is no network.
+//! Why there is no network.
 
 ghost use Rattle.std.specs.Prelude.{◌≡◌};
-ghost use Rattle.pair_world.specs.Faults.{network_fault_number, pair_fault_number};
-
-/// Why there is no pair of two settings.
-#[derive(Clone, Copy, Debug, PartialEq, Eq)]
-pub enum PairFault {
-    /// The two nodes don't share a link set.
-    NotSharing = 1,
-    /// Memory ran out.
-    NoMemory = 2,
-}
-
-impl PairFault {
-    /// The fault's number, 1 or 2.
-    pub fn number(self) -> u8
-        ensures { result ≡ pair_fault_number self }
-    {
-        self as u8
-    }
-}
+ghost use Rattle.pair_world.specs.Faults.{network_fault_number};
 
 /// Why there is no network of some settings.
 #[derive(Clone, Copy, Debug, PartialEq, Eq)]

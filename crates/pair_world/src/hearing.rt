@@ -1,20 +1,18 @@
 //! What comes to an exchange: a message that a user part hands over, and a frame.
 
-ghost use Rattle.std.specs.Prelude.{◌≡◌, ◌≤◌, ◌<◌, ◌∷◌, [], Ok, ◌++◌, length, option_to_list, vec_len, vec_capacity};
+ghost use Rattle.std.specs.Prelude.{◌≡◌, ◌≤◌, ◌∷◌, [], Ok, length, option_to_list};
 ghost use Rattle.m2pa_codec.specs.Frames.{read_frame};
 ghost use Rattle.m2pa_codec.specs.Values.{value_of};
 ghost use Rattle.exchange_rules.specs.State.{FrameCame, Submitted};
 ghost use Rattle.exchange_rules.specs.Exchange.{outcome_of, after};
 ghost use Rattle.exchange.specs.KeptQueues.{kept};
-ghost use Rattle.neighbour_rules.specs.Neighbours.{users_to};
 ghost use Rattle.pair_world.specs.Bringing.{number_in};
 ghost use Rattle.pair_world.specs.KeptSites.{accepted_number, handed_in, newly_brought, newly_carried, new_if_other, message_in};
 
-use crate::between::is_user_to;
 use crate::bringing::{count_standing, is_sccp, told_in};
 use exchange::{Event, Exchange, Frame, FrameText, LONGEST_FRAME, decode};
-use sccp_relay::Translations;
-use settings::{Limits, LinkId, Msu, Outcome, PointCode};
+use sccp_relay::Titles;
+use settings::{Limits, LinkId, Msu, Outcome};
 use signalling_types::Number24;
 
 /// What became of a message or a frame that came.
@@ -29,7 +27,7 @@ pub(crate) struct Heard {
 }
 
 /// A user part hands a message over.
-pub(crate) fn hand_over(exchange: &mut Exchange, rows: &Translations, message: &Msu) -> Heard
+pub(crate) fn hand_over(exchange: &mut Exchange, rows: &Titles, message: &Msu) -> Heard
     requires rows { rows.now ≡ exchange.old.node.parts.titles }
     ensures outcome { result.outcome ≡ outcome_of kept (Submitted message.now) exchange.old }
     ensures state { exchange.new ≡ after kept (Submitted message.now) exchange.old }
@@ -50,7 +48,7 @@ pub(crate) fn hand_over(exchange: &mut Exchange, rows: &Translations, message: &
 /// A frame is handed in.
 pub(crate) fn hand_in(
     exchange: &mut Exchange,
-    rows: &Translations,
+    rows: &Titles,
     link: LinkId,
     text: &FrameText,
 ) -> Heard
@@ -73,7 +71,7 @@ pub(crate) fn hand_in(
 /// The same, of a frame with a message.
 fn hand_in_message(
     exchange: &mut Exchange,
-    rows: &Translations,
+    rows: &Titles,
     link: LinkId,
     text: &FrameText,
     message: Msu,
@@ -135,18 +133,6 @@ pub(crate) fn last_accepted(exchange: &Exchange, link: LinkId) -> Number24
     match exchange.link(link) {
         Some(view) => view.last_accepted,
         None => Number24::zero(),
-    }
-}
-
-/// A message joins others, where it is a user message for a point.
-pub(crate) fn add(messages: &mut Vec<Msu>, point: PointCode, message: Option<Msu>)
-    requires { vec_len messages.old < vec_capacity messages.old }
-    ensures { messages.new.items ≡ messages.old.items ++ users_to point (option_to_list message) }
-{
-    if let Some(message) = message
-        && is_user_to(point, &message)
-    {
-        messages.push_reserved(message);
     }
 }
 

@@ -1,7 +1,6 @@
-//! Two exchanges that share a link set, or any number of a network, and the frames in flight between them, in one type.
+//! The exchanges of a network, any number of them, and the frames in flight between them, in one type.
 #![tactic(auto)]
 
-mod act;
 mod arrival;
 mod between;
 mod books;
@@ -12,19 +11,14 @@ pub mod fault;
 mod flight;
 mod hearing;
 mod joining;
-pub mod laws;
 pub mod network;
 mod node;
-pub mod pair;
+mod outside;
 mod reaching;
 mod reading;
-mod side;
 mod site;
-pub mod step;
 
 pub use arrival::Arrival;
 pub use doing::Doing;
-pub use fault::{NetworkFault, PairFault};
+pub use fault::NetworkFault;
 pub use network::Network;
-pub use pair::Pair;
-pub use step::{End, Step, Turned};

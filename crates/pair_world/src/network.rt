@@ -1,6 +1,8 @@
 //! Any number of exchanges, joined by links in any shape.
 
-ghost use Rattle.std.specs.Prelude.{◌≡◌, ◌↔◌, ℕ, true, false, is_some, IfOk, IfErr, IfSome, OnOk, OnErr, count_by};
+mod outside;
+
+ghost use Rattle.std.specs.Prelude.{◌≡◌, ◌≢◌, ◌↔◌, ℕ, true, false, is_some, IfOk, IfErr, IfSome, OnOk, OnErr, count_by};
 ghost use Rattle.exchange.specs.Calls as exchanges;
 ghost use Rattle.neighbour_rules.specs.Awaiting.{AwaitsNothingInVain};
 ghost use Rattle.neighbour_rules.specs.Laws.{AreFinal, MovesLacked, NoneIsLeft};
@@ -10,11 +12,12 @@ ghost use Rattle.pair_rules.specs.Promises.{user};
 ghost use Rattle.network_rules.specs.Links.{IsCarriedBetween};
 ghost use Rattle.network_rules.specs.Pairs.{pair_of};
 ghost use Rattle.pair_world.specs.Joined.{AreJoined, are_apart, settings_at};
-ghost use Rattle.pair_world.specs.NetworkPromised.{AcceptedInOrder, AcceptedOnce, AcceptedOrWait, AreAdjacent, ArrivedInOrder, ArrivedOnce, ComeToEach, HoldsBetween, HoldsNothingInVain, TellsBetween};
+ghost use Rattle.pair_world.specs.NetworkPromised.{AcceptedInOrder, AcceptedOnce, AcceptedOrWait, AreBookedBetween, ArrivedInOrder, ArrivedOnce, ComeToEach, HoldsBetween, HoldsNothingInVain, ShareAll, ShareSet, TellsBetween};
 ghost use Rattle.pair_world.specs.KeptNetworks.{network_turn, points_of};
 ghost use Rattle.pair_world.specs.Told.{doing_told};
 ghost use Rattle.pair_world.specs.NetworkStands.{NetworkStandsFor, has_node, step_outcome, stepped};
 ghost use Rattle.network_rules.specs.Networks.{NetworkState, end_of, first_network};
+ghost use Rattle.network_rules.specs.Outside.{Move, after_move};
 ghost use Rattle.network_rules.specs.Totals.{HaveLostNothing, IsAccounted};
 
 use crate::arrival::Arrival;
@@ -32,7 +35,7 @@ use std::alloc::Global;
 use std::marker::Model;
 
 /// Any number of exchanges, joined by links in any shape, the frames in flight between them, and what each of them
-/// books: all that it accepted, whomever it is for, and all that came to it.
+/// books: all that it accepted, whomever it is for, and all that came to it. Links may lead out, to other nodes.
 ///
 /// It stands for an abstract network that some steps led to from the first on (`NetworkStandsFor`): `new` makes it so,
 /// and each `turn` keeps it.
@@ -74,6 +77,7 @@ impl Network {
         // There is one only if each has a point of its own, and all links are joined,
         ensures apart { OnOk result (are_apart settings.items ≡ true) }
         ensures joined { OnOk result (AreJoined settings.items) }
+        ensures shared { OnOk result (ShareAll (first_network (settings_at settings.items))) }
         // and the fault says whether they do.
         ensures same_point { IfErr result (λ fault.
             (fault ≡ NetworkFault.SamePoint) ↔ (are_apart settings.items ≡ false)) }
@@ -92,6 +96,31 @@ impl Network {
             Err(NoMemory) => Err(NetworkFault::NoMemory),
         }
     }
+
+    /// The same, of nodes whose links may lead out, or to a node with which their own shares no set: what two nodes
+    /// that share a set promise each other stands, but not what holds from end to end.
+    ///
+    /// SamePoint where two of them are for the same point; NoMemory comes only where a growth was refused.
+    pub fn new_part(alloc: Global, settings: Vec<Settings>) -> Result<Network, NetworkFault>
+        // It stands for the first network of these settings.
+        ensures first { IfOk result (λ network.
+            NetworkStandsFor network (first_network (settings_at settings.items))) }
+        // There is one only if each has a point of its own,
+        ensures apart { OnOk result (are_apart settings.items ≡ true) }
+        // and the fault says whether they do.
+        ensures same_point { IfErr result (λ fault.
+            (fault ≡ NetworkFault.SamePoint) ↔ (are_apart settings.items ≡ false)) }
+        ensures not_joined { IfErr result (λ fault. fault ≢ NetworkFault.NotJoined) }
+    {
+        are_well(&settings);
+        if !are_apart(&settings) {
+            return Err(NetworkFault::SamePoint);
+        }
+        match boot_all(alloc, settings) {
+            Ok(nodes) => Ok(Network { nodes }),
+            Err(NoMemory) => Err(NetworkFault::NoMemory),
+        }
+    }
 }
 
 impl Network {
@@ -103,8 +132,8 @@ impl Network {
         // For every abstract network that it stood for, the outcome is that of the abstract step,
         ensures outcome { (w : NetworkState) → NetworkStandsFor self.old w → IfOk result (λ outcome.
             outcome ≡ step_outcome (has_node at self.old) (record { point = at; what = doing_told doing outcome }) w) }
-        // which for a delivery says what came, and what was accepted of that, where the node and an adjacent one have
-        // only each other: Local exactly if it received a message for a user part or a subsystem here, NoUserPart
+        // which for a delivery says what came, and what was accepted of that, where the node and another have only each
+        // other: Local exactly if it received a message for a user part or a subsystem here, NoUserPart
         // exactly if one for another user part;
         ensures told { (w : NetworkState) → NetworkStandsFor self.old w → (far : ℕ) →
             IfOk result (λ outcome. TellsBetween (doing_told doing outcome) w at far outcome) }
@@ -120,7 +149,7 @@ impl Network {
     /// Empty where no node is at the point.
     pub fn accepted(&self, at: PointCode) -> &[Msu]
         ensures accepted { (w : NetworkState) → NetworkStandsFor self.now w → result.now ≡ (w.node at).accepted }
-        // "Exactly once", of what is for a node to which a link leads
+        // "Exactly once", of what is for a node with which it shares a set
         ensures once { (w : NetworkState) → NetworkStandsFor self.now w → (far : ℕ) →
             AcceptedOnce w at far result.now }
         // "Order"
@@ -134,7 +163,7 @@ impl Network {
     /// Empty where no node is at the point.
     pub fn arrived(&self, at: PointCode) -> &[Arrival]
         ensures arrived { (w : NetworkState) → NetworkStandsFor self.now w → result.now ≡ (w.node at).arrived }
-        // "Exactly once", of what is for this node, and came from one whose link leads here
+        // "Exactly once", of what is for this node, and came from one with which it shares a set
         ensures once { (w : NetworkState) → NetworkStandsFor self.now w → (far : ℕ) →
             ArrivedOnce w at far result.now }
         // "Order"
@@ -162,11 +191,11 @@ impl Network {
 
     /// How many user messages for another node that a choice takes wait at the node at a point: on a link between the
     /// two, behind the last message that the other accepted there, or in Held. 0 where one of the points has no node.
-    /// So while neither may have lost a message, as many were accepted as the other received and as wait, between any
-    /// two steps.
+    /// So while neither of two that share a set may have lost a message, as many were accepted as the other received
+    /// and as wait, between any two steps.
     pub fn waiting<P: Pick>(&self, at: PointCode, far: PointCode, pick: &P) -> u128
         ensures waiting { (w : NetworkState) → NetworkStandsFor self.now w →
-            AreAdjacent w at far → result ≡ count_by (user (P.picks pick.now)) (promises.waiting (pair_of w at far)) }
+            ShareSet w at far → result ≡ count_by (user (P.picks pick.now)) (promises.waiting (pair_of w at far)) }
         ensures once { (w : NetworkState) → NetworkStandsFor self.now w →
             AcceptedOrWait w at far (P.picks pick.now) result }
     {
@@ -185,30 +214,36 @@ impl Network {
     /// Whether the node at a point may follow the other end of a link, which opened there first. False where no node is
     /// at the point.
     pub fn may_follow(&self, at: PointCode, link: LinkId) -> bool
-        ensures { (w : NetworkState) → NetworkStandsFor self.now w → result ≡ pairs.may_follow (end_of (w.node at)) link }
+        ensures { (w : NetworkState) → NetworkStandsFor self.now w →
+            result ≡ pairs.may_follow (end_of (w.node at)) link }
     {
         follows_at(&self.nodes, at, link)
     }
 
-    /// What holds from end to end, over all nodes, between any two steps, while none of them may have lost a message:
-    /// as many user messages entered the network, by any test, as were received at a node that they aren't to leave, as
+    /// What holds from end to end, over all nodes, between any two steps, where each link leads to a node with which
+    /// its own shares a set, as `new` sees to and nothing changes, and while none of them may have lost a message: as
+    /// many user messages entered the network, by any test, as were received at a node that they aren't to leave, as
     /// wait in nodes, and as were refused by a node on the way (`specs/Totals.antt` of `network_rules`). So it is of
     /// the messages for each node, if all have its network indicator: of those as many entered as it received, as wait,
     /// and as were refused.
     ///
     /// And what holds between any two nodes that share a set, the laws (i) to (iv) of a pair and that nothing is
-    /// awaited in vain while neither of the two may have lost a message, and that nothing is held in vain whatever was
-    /// lost (`laws` of `network_rules`). This says so by its contract, and does nothing.
+    /// awaited in vain while neither of the two may have lost a message; and whatever was lost, that nothing is held in
+    /// vain, and that what is booked of the two is for the one or the other (`laws` of `network_rules`). This says so by
+    /// its contract, and does nothing.
     pub fn laws(&self)
-        ensures accounted { (w : NetworkState) → NetworkStandsFor self.now w →
+        ensures accounted { (w : NetworkState) → NetworkStandsFor self.now w → ShareAll w →
             HaveLostNothing (points_of self.now) w → IsAccounted (points_of self.now) w }
-        ensures to_each { (w : NetworkState) → NetworkStandsFor self.now w → ComeToEach (points_of self.now) w }
+        ensures to_each { (w : NetworkState) → NetworkStandsFor self.now w → ShareAll w →
+            ComeToEach (points_of self.now) w }
+        ensures shared { (w : NetworkState) → ShareAll w → (move : Move) → ShareAll (after_move move w) }
         ensures carried { HoldsBetween IsCarriedBetween self.now }
         ensures none_left { HoldsBetween NoneIsLeft self.now }
         ensures final_number { HoldsBetween AreFinal self.now }
         ensures moved { HoldsBetween MovesLacked self.now }
         ensures awaited { HoldsBetween AwaitsNothingInVain self.now }
         ensures held { HoldsNothingInVain self.now }
+        ensures booked { AreBookedBetween self.now }
     {}
 
     /// Does one thing at the node at a point, by what is kept.

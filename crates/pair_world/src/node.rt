@@ -5,6 +5,8 @@ ghost use Rattle.exchange.specs.Calls.{happened};
 ghost use Rattle.network_rules.specs.Networks.{first_node};
 ghost use Rattle.pair_rules.specs.Pairs as pairs;
 ghost use Rattle.pair_world.specs.KeptNodes.{both_did, kept_node_of, node_did, node_happens, node_takes};
+ghost use Rattle.pair_world.specs.KeptOutside.{node_hears_outside};
+ghost use Rattle.pair_world.specs.KeptSites.{text_to_take};
 ghost use Rattle.pair_world.specs.Waiting.{kept_waiting};
 ghost use Rattle.pair_world.specs.Told.{doing_told};
 
@@ -12,7 +14,7 @@ use crate::arrival::Arrival;
 use crate::books::{Books, book_frame, book_submission, make_room};
 use crate::doing::{Doing, Reach};
 use crate::site::Site;
-use exchange::{Event, Exchange, NoMemory, Order, Pick, Wants};
+use exchange::{Event, Exchange, FrameText, NoMemory, Order, Pick, Wants};
 use settings::{LinkId, Msu, Outcome, PointCode, Settings};
 use std::alloc::Global;
 use std::marker::Model;
@@ -161,7 +163,7 @@ impl Node {
     }
 
     /// Something happens to its exchange.
-    fn happen(&mut self, event: &Event<'_>) -> Outcome
+    pub(crate) fn happen(&mut self, event: &Event<'_>) -> Outcome
         ensures outcome { result ≡ (node_happens (happened event.now result) self.old).outcome }
         ensures state { self.new ≡ (node_happens (happened event.now result) self.old).left }
     {
@@ -213,15 +215,29 @@ impl Node {
         Ok(heard.outcome)
     }
 
-    /// The next frame of a link that has no other end is fetched, and goes nowhere.
-    pub(crate) fn take_alone(&mut self, link: LinkId) -> Outcome
-        ensures outcome { result ≡ (node_takes link self.old).outcome }
+    /// A frame comes by a link that leads out of the network.
+    pub(crate) fn hear_outside(
+        &mut self,
+        link: LinkId,
+        text: &FrameText,
+    ) -> Result<Outcome, NoMemory>
+        ensures outcome { IfOk result (λ outcome. outcome ≡ (node_hears_outside link text.now self.old).outcome) }
+        ensures state { OnOk result (self.new ≡ (node_hears_outside link text.now self.old).left) }
+        ensures unchanged { OnErr result (self.new ≡ self.old) }
+    {
+        let rows = self.site.rows()?;
+        make_room(&mut self.books)?;
+        let heard = self.site.hear(&rows, link, text);
+        book_frame(&mut self.books, self.site.settings(), link, &heard);
+        Ok(heard.outcome)
+    }
+
+    /// The next frame of a link is fetched, and is in flight to no node.
+    pub(crate) fn take(&mut self, link: LinkId) -> Option<FrameText>
+        ensures text { result ≡ text_to_take self.old.exchange link }
         ensures state { self.new ≡ (node_takes link self.old).left }
     {
-        match self.site.take(link) {
-            Some(_) => Outcome::Handled,
-            None => Outcome::Ignored,
-        }
+        self.site.take(link)
     }
 }
 

@@ -2,7 +2,7 @@
 
 ghost use Rattle.std.specs.Prelude.{◌≡◌, ◌<◌, ◌≢◌, length, slice_get, IfOk, IfSome, OnOk, OnErr};
 ghost use Rattle.pair_world.specs.KeptNetworks.{KeptPlace, kept_other_end, kept_reaches, one_turned, place_at, reached_at};
-ghost use Rattle.pair_world.specs.KeptNodes.{node_did};
+ghost use Rattle.pair_world.specs.KeptNodes.{node_did, node_takes};
 ghost use Rattle.pair_world.specs.Told.{doing_told};
 
 use crate::between::{adjacent_of, far_end};
@@ -74,12 +74,24 @@ pub(crate) fn reach_from(
 {
     match (other_end(nodes, near, link), what) {
         (Some(there), _) => reach_at(nodes, what, near, link, there.place, there.link),
-        (None, Reach::Fetch) => Ok(nodes[near].take_alone(link)),
+        (None, Reach::Fetch) => Ok(take_alone(nodes, near, link)),
         (None, Reach::Open) => Ok(Outcome::Ignored),
     }
 }
 
-/// The same, where the other end is this link at this place. Ignored where that is the same place.
+/// The next frame of a link of the node at a place is fetched, and goes nowhere. Requires that the node is there.
+fn take_alone(nodes: &mut [Node], place: usize, link: LinkId) -> Outcome
+    requires { place < length nodes.old }
+    ensures outcome { result ≡ (one_turned place (node_takes link) (slice_get nodes.old place) nodes.old).outcome }
+    ensures state { nodes.new ≡ (one_turned place (node_takes link) (slice_get nodes.old place) nodes.old).left }
+{
+    match nodes[place].take(link) {
+        Some(_) => Outcome::Handled,
+        None => Outcome::Ignored,
+    }
+}
+
+/// What `reach_from` does, where the other end is this link at this place. Ignored where that is the same place.
 fn reach_at(
     nodes: &mut [Node],
     what: Reach,

@@ -7,8 +7,7 @@ ghost use Rattle.exchange.specs.Calls.{happened};
 ghost use Rattle.exchange.specs.KeptQueues.{kept};
 ghost use Rattle.exchange.specs.Views.{may_restart_at};
 ghost use Rattle.pair_rules.specs.Pairs.{in_flight};
-ghost use Rattle.pair_world.specs.KeptSites.{behind_its, first_site, handed_in, newly_brought, newly_carried, site_doubles_status, site_happens, site_loses_status, site_may_follow, site_opens_first, site_opens_second, take_outcome, text_to_take, without_first};
-ghost use Rattle.pair_world.specs.KeptPairs.{has_link};
+ghost use Rattle.pair_world.specs.KeptSites.{behind_its, first_site, handed_in, has_link, newly_brought, newly_carried, site_doubles_status, site_happens, site_loses_status, site_may_follow, site_opens_first, site_opens_second, take_outcome, text_to_take, without_first};
 ghost use Rattle.pair_world.specs.Waiting.{kept_waiting};
 
 use crate::bringing::rows_of;
@@ -19,7 +18,7 @@ use crate::flight::{
 };
 use crate::hearing::{Heard, hand_in, hand_over};
 use exchange::{Event, Exchange, FrameText, NoMemory, Pick, Wants};
-use sccp_relay::Translations;
+use sccp_relay::Titles;
 use settings::{LinkId, Msu, Outcome, PointCode, Settings};
 use std::alloc::Global;
 use std::marker::Model;
@@ -141,7 +140,7 @@ impl Site {
     }
 
     /// The translation rows of its exchange, in a table.
-    pub(crate) fn rows(&self) -> Result<Translations, NoMemory>
+    pub(crate) fn rows(&self) -> Result<Titles, NoMemory>
         ensures { IfOk result (λ rows. rows ≡ self.now.exchange.node.parts.titles) }
     {
         rows_of(self.alloc, &self.exchange)
@@ -158,7 +157,7 @@ impl Site {
     }
 
     /// A user part hands over a message.
-    pub(crate) fn submit(&mut self, rows: &Translations, message: &Msu) -> Heard
+    pub(crate) fn submit(&mut self, rows: &Titles, message: &Msu) -> Heard
         requires rows { rows.now ≡ self.old.exchange.node.parts.titles }
         ensures outcome { result.outcome ≡ outcome_of kept (Submitted message.now) self.old.exchange }
         ensures state { self.new ≡
@@ -169,7 +168,7 @@ impl Site {
     }
 
     /// A frame comes.
-    pub(crate) fn hear(&mut self, rows: &Translations, link: LinkId, text: &FrameText) -> Heard
+    pub(crate) fn hear(&mut self, rows: &Titles, link: LinkId, text: &FrameText) -> Heard
         requires rows { rows.now ≡ self.old.exchange.node.parts.titles }
         ensures outcome { result.outcome ≡ outcome_of kept (FrameCame link text.now) self.old.exchange }
         ensures state { self.new ≡

@@ -1,7 +1,6 @@
 //! The four nodes of the ring.
 
-use linked_nodes::LinkedNodes;
-use pair_world::End;
+use linked_nodes::{End, LinkedNodes};
 use std::alloc::Global;
 use test_nodes::{Node, settings_of};
 
@@ -64,7 +63,7 @@ pub(crate) const UNKNOWN: u16 = 9;
 pub(crate) fn ends(alloc: Global) -> Option<LinkedNodes> {
     let one = settings_of(alloc, BESIDE_THREE).ok()?;
     let two = settings_of(alloc, BESIDE_FOUR).ok()?;
-    LinkedNodes::new(alloc, one, two).ok()
+    LinkedNodes::new(alloc, one, two)
 }
 
 /// The third neighbour of an end. None if memory ran out.

@@ -1,11 +1,11 @@
 //! Two nodes that have a third neighbour each, with a link between them that stops at each place while routes fail and
 //! return and messages pass through them.
 //!
-//! Four nodes stand in a ring. Points 1 and 2 are the two ends (`Pair` of `pair_world`), with two links between them.
-//! Two more lead from end 1 to point 3, and from end 2 to point 4; one more is between these. All have the built-in
-//! timers. The ends know each link by another number. All that is done to the ends is a `Pair::turn`: frames from and
-//! to their neighbours are `HearElsewhere` and what a take hands out. A round is that of `link_failures`, and then a
-//! frame each way on each other link.
+//! Four nodes stand in a ring. Points 1 and 2 are the two ends (`Network` of `pair_world`), with two links between
+//! them. Two more lead from end 1 to point 3, and from end 2 to point 4; one more is between these. All have the
+//! built-in timers. The ends know each link by another number. Frames from and to their neighbours are those of
+//! `Network::hear_outside` and `Network::send_outside`. A round is that of `link_failures`, and then a frame each way
+//! on each other link.
 //!
 //! End 1 submits a message on each of 8 flows to end 2, and on each to point 4; point 3 submits one on each of 8 others
 //! to end 2, and one to a point that end 1 doesn't know; and so do end 2 and point 4. A link between the ends stops

@@ -4,8 +4,7 @@ use crate::four_nodes::neighbour;
 use crate::marks::far_mark;
 use exchange::{Event, FrameText, LinkId, Outcome, SetId};
 use link_trials::{World, numbered};
-use linked_nodes::{Became, other, points};
-use pair_world::End;
+use linked_nodes::{Became, End, other, points};
 use std::alloc::Global;
 use std::marker::Model;
 use test_nodes::Node;
@@ -147,7 +146,7 @@ fn carry_out(world: &mut World, beside: &mut Neighbours, end: End, link: LinkId)
 fn carry_in(world: &mut World, beside: &mut Neighbours, end: End, link: LinkId) -> bool {
     match beside.fetch(end, link) {
         Some(text) => {
-            come_in(world, end, link, text);
+            come_in(world, end, link, &text);
             true
         }
         None => false,
@@ -155,7 +154,7 @@ fn carry_in(world: &mut World, beside: &mut Neighbours, end: End, link: LinkId) 
 }
 
 /// A frame comes to an end from its neighbour.
-fn come_in(world: &mut World, end: End, link: LinkId, text: FrameText) {
+fn come_in(world: &mut World, end: End, link: LinkId, text: &FrameText) {
     let (_, adjacent) = points(end);
     let mark = far_mark(text.octets(), adjacent);
     world.hear_elsewhere(end, number_at(end, link), text, mark);

@@ -10,7 +10,7 @@ use link_trials::rounds::{
 };
 use link_trials::stopping::{ROUNDS, Stop, StopTrial, round_with};
 use link_trials::{Clock, Shape, Total, Trial, World};
-use pair_world::End;
+use linked_nodes::End;
 use std::alloc::Global;
 
 /// Before this round the third neighbours lose the link between them,

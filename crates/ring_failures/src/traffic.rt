@@ -5,8 +5,7 @@ use crate::neighbours::Neighbours;
 use exchange::Event;
 use link_trials::marking::message_of;
 use link_trials::{FLOWS, Mark, World};
-use linked_nodes::{other, points};
-use pair_world::End;
+use linked_nodes::{End, other, points};
 
 /// The flows from there on are those of the third neighbours.
 const NEIGHBOURS_FLOW: u8 = FLOWS / 2;

@@ -2,28 +2,21 @@
 
 use crate::world::World;
 use exchange::LinkId;
-use linked_nodes::Became;
-use pair_world::{Doing, End, Step};
+use linked_nodes::{Became, End};
+use pair_world::Doing;
 
 impl World {
-    /// Takes a step at an end.
-    pub(super) fn turn(&mut self, end: End, step: Step) -> Became {
+    /// Does something at an end.
+    pub(super) fn turn(&mut self, end: End, doing: Doing) -> Became {
         self.compare_now_and_then();
-        let became = self.nodes.turn(end, step);
+        let became = self.nodes.turn(end, doing);
         self.note(became == Became::Starved);
         became
     }
 
     /// Does something at an end, and says whether something came of it.
     pub(super) fn act(&mut self, end: End, doing: Doing) -> bool {
-        self.turn(end, Step::Do(doing)).is_something()
-    }
-
-    /// Takes a step at an end that hands in a frame.
-    pub(super) fn arrive(&mut self, end: End, step: Step) -> Became {
-        let became = self.turn(end, step);
-        self.tally.passing.arrive(became);
-        became
+        self.turn(end, doing).is_something()
     }
 
     /// An end sends the next frame of a link.
@@ -40,8 +33,9 @@ impl World {
 
     /// The next User Data on a link to an end comes.
     fn deliver_data(&mut self, end: End, link: LinkId) -> bool {
-        let delivery = Doing::Deliver(self.shape.at(end, link));
-        self.arrive(end, Step::Do(delivery)).is_something()
+        let became = self.turn(end, Doing::Deliver(self.shape.at(end, link)));
+        self.tally.passing.arrive(became);
+        became.is_something()
     }
 
     /// The next frame on a link to an end comes: a link status if there is one, else User Data.

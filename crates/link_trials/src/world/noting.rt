@@ -3,8 +3,7 @@
 use crate::marking::{Mark, mark_of};
 use crate::sums::compare_both;
 use crate::world::World;
-use linked_nodes::other;
-use pair_world::End;
+use linked_nodes::{End, other};
 
 /// Before one of this many steps the sums are compared.
 const COMPARED_EVERY: u64 = 16;

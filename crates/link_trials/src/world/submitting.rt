@@ -4,8 +4,8 @@ use crate::marking::{Mark, message_of, unitdata_of};
 use crate::titles::title_order;
 use crate::world::World;
 use exchange::Msu;
-use linked_nodes::points;
-use pair_world::{Doing, End, Step};
+use linked_nodes::{End, points};
+use pair_world::Doing;
 
 impl World {
     /// An operator adds a translation row, or removes it if it is there.
@@ -35,8 +35,7 @@ impl World {
 
     /// An end submits a message. Says whether it accepted it.
     pub fn submit_message(&mut self, end: End, message: Msu) -> bool {
-        self.turn(end, Step::Do(Doing::Submit(message)))
-            .is_accepted()
+        self.turn(end, Doing::Submit(message)).is_accepted()
     }
 
     /// The message of a mark that an end submits; there is one, since the points and the flow are in range. If SCCP is

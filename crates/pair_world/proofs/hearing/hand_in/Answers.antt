@@ -1,7 +1,7 @@
 -- A frame without a message brings nothing in.
 use Rattle.std.proofs.Common.{rules, ◌≡◌, []}
 use Rattle.pair_world.specs.KeptSites.{message_in}
-use Rattle.pair_world.proofs.InOrder.{none-brought}
+use Rattle.pair_world.proofs.NoneBrought.{none-brought}
 use Rattle.pair_world.proofs.hearing.hand_in.Goals as goal
 
 pub returns-in-None-clause-brought : goal.returns-in-None-clause-brought

@@ -1,12 +1,11 @@
 -- A call of a gate is a step of the world.
 use Rattle.std.proofs.Common.{sym, subst}
-use Rattle.pair_world.specs.declared.step.End.{End}
-use Rattle.pair_world.specs.Told.{other}
+use Rattle.node_world.specs.declared.end.End.{End}
 use Rattle.gate_rules.specs.Worlds.{Calls}
 use Rattle.node_world.specs.Kept.{KeptWorld, kept_at}
 use Rattle.node_world.specs.Calls.{told, octets_heard}
 use Rattle.node_world.specs.Stands.{StandsFor}
-use Rattle.node_world.specs.Worlds.{after_doing, node_at, MayCome}
+use Rattle.node_world.specs.Worlds.{after_doing, node_at, other, MayCome}
 use Rattle.node_world.proofs.Worlds.{near-called, far-called}
 use Rattle.node_world.proofs.world.World.call.Goals as goal
 

@@ -1,6 +1,6 @@
 -- What happens to the exchange of a node is a step of the world.
 use Rattle.std.proofs.Common.{sym, subst}
-use Rattle.pair_world.specs.declared.step.End.{End}
+use Rattle.node_world.specs.declared.end.End.{End}
 use Rattle.exchange.specs.Calls.{happened}
 use Rattle.gate_rules.specs.Worlds.{Happens}
 use Rattle.node_world.specs.Kept.{KeptWorld}

@@ -5,7 +5,7 @@ use Rattle.network_rules.specs.Networks.{first_network}
 use Rattle.pair_world.specs.Joined.{AreJoined, AreWell, are_apart, settings_at}
 use Rattle.pair_world.specs.KeptNodes.{KeptNode}
 use Rattle.pair_world.specs.NetworkStands.{NetworkStandsFor}
-use Rattle.pair_world.proofs.NetworkFirst.{first-stands}
+use Rattle.pair_world.proofs.NetworkFirst.{first-share, first-stands}
 use Rattle.pair_world.proofs.network.Network.new.Goals as goal
 
 pub returns-in-Ok-clause-first : goal.returns-in-Ok-clause-first
@@ -13,5 +13,12 @@ returns-in-Ok-clause-first c =
     let own = c.args.settings.items in
     let apart : are_apart own ≡ true = subst (λ (cs : List Configuration). are_apart cs ≡ true) c.deref-2.ensures.value (search rules) in
     let well : AreWell own = subst AreWell c.deref.ensures.value c.are_well.ensures in
+    subst (λ (k : List KeptNode). NetworkStandsFor k (first_network (settings_at own))) (sym c.in-Ok.ensures) (first-stands own apart well)
+
+pub returns-in-Ok-clause-shared : goal.returns-in-Ok-clause-shared
+returns-in-Ok-clause-shared c =
+    let own = c.args.settings.items in
+    let apart : are_apart own ≡ true = subst (λ (cs : List Configuration). are_apart cs ≡ true) c.deref-2.ensures.value (search rules) in
+    let well : AreWell own = subst AreWell c.deref.ensures.value c.are_well.ensures in
     let joined : AreJoined own = subst AreJoined c.deref-3.ensures.value (c.are_joined.ensures.0 (search rules)) in
-    subst (λ (k : List KeptNode). NetworkStandsFor k (first_network (settings_at own))) (sym c.in-Ok.ensures) (first-stands own apart well joined)
+    first-share own apart well joined

@@ -1,0 +1,20 @@
+-- What becomes of it on what is kept is what becomes of it.
+use Rattle.std.proofs.Common.{List, sym, subst, ◌∙◌}
+use Rattle.std.proofs.lemmas.Result.{IfOk-weaker}
+use Rattle.network_rules.specs.Outside.{HearsOutside, after_move}
+use Rattle.pair_world.specs.KeptNodes.{KeptNode}
+use Rattle.pair_world.specs.NetworkStands.{NetworkStandsFor}
+use Rattle.pair_world.proofs.OutsideTurns.{hear-outcome, hear-stands}
+use Rattle.pair_world.proofs.network.Network.hear_outside.Goals as goal
+
+pub returns-clause-outcome : goal.returns-clause-outcome
+returns-clause-outcome c = λ w s.
+    IfOk-weaker c.heard.result _ _ (λ outcome e. e ∙ hear-outcome c.args.self.now w s c.args.at c.args.link c.args.text.now) c.heard.ensures.outcome
+
+pub returns-clause-state : goal.returns-clause-state
+returns-clause-state c = λ w s.
+    IfOk-weaker c.heard.result _ _
+    (λ outcome e.
+    subst (λ (k : List KeptNode). NetworkStandsFor k (after_move (HearsOutside c.args.at c.args.link c.args.text.now) w)) (sym e)
+    (hear-stands c.args.self.now w s c.args.at c.args.link c.args.text.now))
+    c.heard.ensures.state

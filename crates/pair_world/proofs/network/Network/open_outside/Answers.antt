@@ -1,0 +1,15 @@
+-- What becomes of it on what is kept is what becomes of it.
+use Rattle.std.proofs.Common.{List, sym, subst, ◌∙◌}
+use Rattle.network_rules.specs.Outside.{OpensOutside, after_move}
+use Rattle.pair_world.specs.KeptNodes.{KeptNode}
+use Rattle.pair_world.specs.NetworkStands.{NetworkStandsFor}
+use Rattle.pair_world.proofs.OutsideTurns.{open-outcome, open-stands}
+use Rattle.pair_world.proofs.network.Network.open_outside.Goals as goal
+
+pub returns-clause-outcome : goal.returns-clause-outcome
+returns-clause-outcome c = λ w s. c.opened.ensures.outcome ∙ open-outcome c.args.self.now w s c.args.at c.args.link
+
+pub returns-clause-state : goal.returns-clause-state
+returns-clause-state c = λ w s.
+    subst (λ (k : List KeptNode). NetworkStandsFor k (after_move (OpensOutside c.args.at c.args.link) w)) (sym c.opened.ensures.state)
+    (open-stands c.args.self.now w s c.args.at c.args.link)
