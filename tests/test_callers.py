@@ -48,7 +48,7 @@ class Callers(NodeTest):
         for number, line in enumerate(shown):
             self.assertRegex(line, rf"^link e{number} InService waiting 0 fsn \d+ bsn \d+$")
         self.assertEqual(self.near.ask("show routes"), [ROUTE])
-        self.assertEqual(len(self.near.ask("show counters")), 3 * 38 + 3)
+        self.assertEqual(len(self.near.ask("show counters")), 3 * 40 + 3)
         self.assertEqual(len(self.near.ask("help")), HELP_LINES)
         self.assertEqual(self.near.ask("# nothing\n"), [])
         caller = self.near.call()

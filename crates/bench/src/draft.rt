@@ -146,6 +146,7 @@ pub(crate) fn draft_with(alloc: Global, shape: &Shape) -> Result<Draft, AllocErr
         extended_unitdata: false,
         subsystem_tests: false,
         user_part_unavailable: false,
+        processor_outage: false,
         timers: timers(),
         sets: set_drafts(alloc, set_count)?,
         links: link_drafts(alloc, shape.links, shape.sets)?,
@@ -173,6 +174,9 @@ fn timers() -> TimersDraft {
         t6: TICKS,
         t8: TICKS,
         t10: TICKS,
+        link_tests: None,
+        l4e: None,
+        sst: None,
     }
 }
 

@@ -36,7 +36,7 @@ mod traces;
 
 use rows::{OCTETS, last, octets, word};
 use said::Said;
-use sccp_relay::{Translations, Trie};
+use sccp_relay::{Titles, Trie};
 use std::rt::Files;
 use std::{env, fs, io};
 
@@ -51,7 +51,7 @@ fn main(rt: HostRuntime) -> io::Result<()> {
 /// What the rows of a file change.
 #[derive(Drop)]
 struct Stores {
-    titles: Translations,
+    titles: Titles,
     points: [u16; 2],
     trie: Trie,
 }
@@ -60,7 +60,7 @@ struct Stores {
 fn print_file<R: Files + Print + AllocGlobal>(rt: &R, name: &str) -> io::Result<()> {
     let text = fs::read_to_string(rt, name)?;
     let mut stores = Stores {
-        titles: Translations::new(rt.alloc()),
+        titles: Titles::of_rows(rt.alloc(), &[])?,
         points: [0; 2],
         trie: Trie::new(rt.alloc()),
     };

@@ -2,7 +2,7 @@
 
 use crate::rows::word;
 use crate::said::Said;
-use mtp3_codec::{ANSWER_OCTETS, Label, LinkTest, MANAGEMENT_OCTETS, Management, discriminate};
+use mtp3_codec::{Label, LinkTest, MANAGEMENT_OCTETS, Management, TEST_OCTETS, discriminate};
 use signalling_types::number::{distance, next, within};
 use signalling_types::{MsuRef, Number24, PointCode};
 
@@ -42,7 +42,7 @@ pub fn test(said: &mut Said, sif: &[u8]) {
     match LinkTest::read(sif) {
         Ok(test) => {
             let (here, there) = (PointCode::of_low_bits(1), PointCode::of_low_bits(2));
-            let mut out = [0xee; ANSWER_OCTETS];
+            let mut out = [0xee; TEST_OCTETS];
             let count = test.answer(there, here, &mut out);
             said.show(&test.kind);
             said.name("slc", test.slc.number());

@@ -4,7 +4,7 @@ ghost use Rattle.std.specs.Prelude.{◌<◌, ◌↔◌, All, IsTrue};
 
 use crate::rows::{digits, word};
 use crate::said::Said;
-use sccp_relay::{Own, Relayed, TitleKey, Translations, Trie, Ways, relay, returned};
+use sccp_relay::{Own, Relayed, TitleKey, Titles, Trie, Ways, relay, returned};
 use settings_rows::{TitleChange, TitleRoute, TitleRow};
 use signalling_types::{Cause, Limits, PointCode, Sls, Ssn};
 
@@ -45,7 +45,7 @@ fn are_digits(digits: &[u8]) -> bool
 }
 
 /// Makes the call of a row of a table, and says the answer.
-pub fn titles(said: &mut Said, table: &mut Translations, row: &str) {
+pub fn titles(said: &mut Said, table: &mut Titles, row: &str) {
     let mut buffer = [0; 64];
     let digits = digits(word(row, 5), &mut buffer);
     match (word(row, 1), key(row)) {
@@ -66,7 +66,7 @@ pub fn titles(said: &mut Said, table: &mut Translations, row: &str) {
 }
 
 /// Adds a row, with the change of titles that its words name, if any.
-fn add(said: &mut Said, table: &mut Translations, key: TitleKey, digits: &[u8], row: &str) {
+fn add(said: &mut Said, table: &mut Titles, key: TitleKey, digits: &[u8], row: &str) {
     match (
         new_row(key, digits, word(row, 6), word(row, 7)),
         change(row),
@@ -132,7 +132,7 @@ fn backed_up(row: TitleRow, backup: &str) -> TitleRow {
 }
 
 /// Adds rows of all translation types and of all two digits until one is refused, and says how many were added.
-fn fill(said: &mut Said, table: &mut Translations, key: TitleKey) {
+fn fill(said: &mut Said, table: &mut Titles, key: TitleKey) {
     for number in 0..=u16::MAX {
         let [translation, last] = number.to_be_bytes();
         let key = TitleKey { translation, ..key };
@@ -145,13 +145,14 @@ fn fill(said: &mut Said, table: &mut Translations, key: TitleKey) {
 
 /// Relays a field at point 1, which has subsystem 8 and whose links lead to these points, and says what goes on, or is
 /// returned. It relays extended messages and answers tests, or does neither.
-pub fn relayed(said: &mut Said, table: &Translations, points: &[u16], sif: &[u8], extended: bool) {
+pub fn relayed(said: &mut Said, table: &Titles, points: &[u16], sif: &[u8], extended: bool) {
     let mut field = [0xee; Limits::SIF_OCTETS];
     let own = Own {
         point: PointCode::of_low_bits(1),
         subsystems: &[8],
         extended,
         answers_tests: extended,
+        hears_statuses: false,
         ways: Reached { points },
     };
     if sif.len() < 4 {
@@ -160,6 +161,7 @@ pub fn relayed(said: &mut Said, table: &Translations, points: &[u16], sif: &[u8]
     match relay(sif, table, &own, &mut field) {
         Relayed::Delivered => said.say("delivered"),
         Relayed::Onward(count) => said.octets(field.get(..count).unwrap_or(&[])),
+        Relayed::Heard(_) => said.say("heard"),
         Relayed::Refused(cause) => {
             said.fault(cause.number(), &cause);
             let returned = returned(sif, cause, table, &own, &mut field);

@@ -173,4 +173,4 @@ title_text points row =
 
 -- the line of row k, in the order of the rows
 abbrev pub title_line : {Q : Type 0} → PointFormat → State Q → ℕ → Option (List ℕ)
-title_line points s k = option_map (title_text points) (slice_get s.node.parts.titles k)
+title_line points s k = option_map (title_text points) (slice_get s.node.parts.titles.rows k)

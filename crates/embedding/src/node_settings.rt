@@ -35,6 +35,7 @@ pub(crate) fn draft(alloc: Global) -> Result<Draft, AllocError> {
         extended_unitdata: false,
         subsystem_tests: false,
         user_part_unavailable: false,
+        processor_outage: false,
         timers: timers(),
         sets,
         links,
@@ -70,5 +71,8 @@ fn timers() -> TimersDraft {
         t6: 4,
         t8: 5,
         t10: 150,
+        link_tests: None,
+        l4e: None,
+        sst: None,
     }
 }

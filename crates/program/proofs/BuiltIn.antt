@@ -66,6 +66,7 @@ settings-meant d h =
       h.extended_unitdata,
       h.subsystem_tests,
       h.user_part_unavailable,
+      h.processor_outage,
       h.timers,
       sets-meant d.sets.items h.sets,
       links-meant d.sets.items d.links.items h.sets h.links,

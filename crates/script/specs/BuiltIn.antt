@@ -23,6 +23,9 @@ built_in_ticks = record {
   t6 = pos 4;
   t8 = pos 3;
   t10 = pos 8;
+  link_tests = None;
+  l4e = None;
+  sst = None;
 }
 
 -- one set, `east`, to point 2
@@ -57,6 +60,7 @@ pub record IsBuiltIn (d : Draft) : Type 0 where
   pub extended_unitdata : d.extended_unitdata ≡ false
   pub subsystem_tests : d.subsystem_tests ≡ false
   pub user_part_unavailable : d.user_part_unavailable ≡ false
+  pub processor_outage : d.processor_outage ≡ false
   pub timers : d.timers ≡ built_in_ticks
   pub sets : IsSets d.sets.items
   pub links : IsLinks d.links.items
@@ -75,6 +79,7 @@ built_in_settings = record {
   extended_unitdata = false;
   subsystem_tests = false;
   user_part_unavailable = false;
+  processor_outage = false;
   timers = record {
     l1 = 10;
     l2 = 10;
@@ -89,6 +94,9 @@ built_in_settings = record {
     t6 = 4;
     t8 = 3;
     t10 = 8;
+    link_tests = None;
+    l4e = None;
+    sst = None;
   };
   sets = record { name = codes "east"; adjacent = 2 } ∷ [];
   links = record { name = codes "e0"; set = 0; slc = 0; share = None } ∷ [];

@@ -18,7 +18,7 @@ line_of q Flags s k = flag_line s k
 abbrev pub most_lines : {Q : Type 0} → Show → State Q → ℕ
 most_lines Links s = length s.settings.links
 most_lines (Routes points) s = length s.settings.destinations
-most_lines (Titles points) s = length s.node.parts.titles
+most_lines (Titles points) s = length s.node.parts.titles.rows
 most_lines (Notices points) s = length s.node.parts.notices.last
 most_lines Flags s = FLAGS
 

@@ -28,6 +28,7 @@ pub fn built_in(alloc: Global) -> Result<Draft, AllocError>
         extended_unitdata: false,
         subsystem_tests: false,
         user_part_unavailable: false,
+        processor_outage: false,
         timers: timers(),
         sets: sets(alloc)?,
         links: links(alloc)?,
@@ -62,6 +63,9 @@ fn timers() -> TimersDraft
         t6: 4,
         t8: 3,
         t10: 8,
+        link_tests: None,
+        l4e: None,
+        sst: None,
     }
 }
 

@@ -5,7 +5,7 @@ use Rattle.signalling_types.specs.Causes.{cause_number}
 use Rattle.signalling_types.specs.Message.{Message, is_management}
 use Rattle.signalling_types.specs.declared.notice.FailureReason.{FailureReason}
 use Rattle.signalling_types.specs.declared.notice.FailureReason.TheVariants.{Association, Timer, Sequence, Status}
-use Rattle.signalling_types.specs.declared.notice.FailureReason.TheVariants.{Length, Changeover, Operator}
+use Rattle.signalling_types.specs.declared.notice.FailureReason.TheVariants.{Length, Changeover, Operator, Test}
 use Rattle.signalling_types.specs.declared.outcome.Outcome.{Outcome}
 use Rattle.signalling_types.specs.declared.outcome.Outcome.TheVariants.{Queued, Held, Local, Handled, Ignored, Refused}
 use Rattle.trace.specs.Observed.{message_in}
@@ -53,6 +53,7 @@ reason_number Status = 3
 reason_number Length = 4
 reason_number Changeover = 5
 reason_number Operator = 6
+reason_number Test = 7
 
 -- a count of 64 bits and this many more, which stays at its greatest value
 abbrev pub saturated : ℕ → ℕ

@@ -31,7 +31,7 @@ pub enum Counter {
 
 impl Counter {
     /// All counters, in the order in which they are shown.
-    pub const ALL: [Counter; 38] = [
+    pub const ALL: [Counter; 40] = [
         Counter::FramesIn,
         Counter::OctetsIn,
         Counter::FramesOut,
@@ -62,6 +62,7 @@ impl Counter {
         Counter::Refused(Cause::NoSuchName),
         Counter::Refused(Cause::HopCounter),
         Counter::Refused(Cause::ShareFull),
+        Counter::Refused(Cause::SubsystemProhibited),
         Counter::Failed(FailureReason::Association),
         Counter::Failed(FailureReason::Timer),
         Counter::Failed(FailureReason::Sequence),
@@ -69,15 +70,16 @@ impl Counter {
         Counter::Failed(FailureReason::Length),
         Counter::Failed(FailureReason::Changeover),
         Counter::Failed(FailureReason::Operator),
+        Counter::Failed(FailureReason::Test),
         Counter::Retries,
     ];
 }
 
 /// Causes of refusals.
-pub(crate) const CAUSES: usize = 24;
+pub(crate) const CAUSES: usize = 25;
 
 /// Reasons of failures.
-pub(crate) const REASONS: usize = 7;
+pub(crate) const REASONS: usize = 8;
 
 /// The index of a cause among all.
 pub(crate) fn cause_place(cause: Cause) -> usize
@@ -100,5 +102,6 @@ pub(crate) fn reason_place(reason: FailureReason) -> usize
         FailureReason::Length => 4,
         FailureReason::Changeover => 5,
         FailureReason::Operator => 6,
+        FailureReason::Test => 7,
     }
 }

@@ -9,10 +9,11 @@ use Rattle.signalling_types.specs.declared.cause.Cause.TheVariants.{LostUnconfir
 use Rattle.signalling_types.specs.declared.cause.Cause.TheVariants.{NotFromAdjacent, LinkNotReady}
 use Rattle.signalling_types.specs.declared.cause.Cause.TheVariants.{ChangeoverPending, NoMemory, TableFull}
 use Rattle.signalling_types.specs.declared.cause.Cause.TheVariants.{DuplicateRow, NoSuchName, HopCounter, ShareFull}
+use Rattle.signalling_types.specs.declared.cause.Cause.TheVariants.{SubsystemProhibited}
 use Rattle.signalling_types.specs.declared.notice.FailureReason.{FailureReason}
 use Rattle.signalling_types.specs.declared.notice.FailureReason.TheVariants.{Association, Timer, Sequence}
 use Rattle.signalling_types.specs.declared.notice.FailureReason.TheVariants.{Status, Length, Changeover}
-use Rattle.signalling_types.specs.declared.notice.FailureReason.TheVariants.{Operator}
+use Rattle.signalling_types.specs.declared.notice.FailureReason.TheVariants.{Operator, Test}
 use Rattle.served_link.specs.declared.counter.Counter.{Counter}
 use Rattle.served_link.specs.declared.counter.Counter.TheVariants as counting
 use Rattle.status_page.specs.declared.family.Kind.{Kind}
@@ -116,10 +117,10 @@ causes =
     WrongNetwork ∷ NoLabel ∷ UnknownDestination ∷ NoRoute ∷ PoolFull ∷ NoUserPart ∷ NotInProfile ∷
     BadManagement ∷ BadSccp ∷ NoNature ∷ NoDigits ∷ Unequipped ∷ TooLong ∷ LostUnconfirmed ∷ ManagementFull ∷
     NotFromAdjacent ∷ LinkNotReady ∷ ChangeoverPending ∷ NoMemory ∷ TableFull ∷ DuplicateRow ∷ NoSuchName
-    ∷ HopCounter ∷ ShareFull ∷ []
+    ∷ HopCounter ∷ ShareFull ∷ SubsystemProhibited ∷ []
 
 abbrev pub reasons : List FailureReason
-reasons = Association ∷ Timer ∷ Sequence ∷ Status ∷ Length ∷ Changeover ∷ Operator ∷ []
+reasons = Association ∷ Timer ∷ Sequence ∷ Status ∷ Length ∷ Changeover ∷ Operator ∷ Test ∷ []
 
 -- the kinds of notices
 abbrev pub notice_kinds : List NoticeKind

@@ -242,7 +242,7 @@ const NOTICES: [Metric; NOTICE_KINDS] = [
 ];
 
 /// Frames that were refused, by each cause.
-const REFUSED: [Metric; 24] = [
+const REFUSED: [Metric; 25] = [
     Metric::Link(LinkMetric::Counted(Counter::Refused(Cause::WrongNetwork))),
     Metric::Link(LinkMetric::Counted(Counter::Refused(Cause::NoLabel))),
     Metric::Link(LinkMetric::Counted(Counter::Refused(Cause::UnknownDestination))),
@@ -267,10 +267,11 @@ const REFUSED: [Metric; 24] = [
     Metric::Link(LinkMetric::Counted(Counter::Refused(Cause::NoSuchName))),
     Metric::Link(LinkMetric::Counted(Counter::Refused(Cause::HopCounter))),
     Metric::Link(LinkMetric::Counted(Counter::Refused(Cause::ShareFull))),
+    Metric::Link(LinkMetric::Counted(Counter::Refused(Cause::SubsystemProhibited))),
 ];
 
 /// Failures, by each reason.
-const FAILURES: [Metric; 7] = [
+const FAILURES: [Metric; 8] = [
     Metric::Link(LinkMetric::Counted(Counter::Failed(FailureReason::Association))),
     Metric::Link(LinkMetric::Counted(Counter::Failed(FailureReason::Timer))),
     Metric::Link(LinkMetric::Counted(Counter::Failed(FailureReason::Sequence))),
@@ -278,4 +279,5 @@ const FAILURES: [Metric; 7] = [
     Metric::Link(LinkMetric::Counted(Counter::Failed(FailureReason::Length))),
     Metric::Link(LinkMetric::Counted(Counter::Failed(FailureReason::Changeover))),
     Metric::Link(LinkMetric::Counted(Counter::Failed(FailureReason::Operator))),
+    Metric::Link(LinkMetric::Counted(Counter::Failed(FailureReason::Test))),
 ];

@@ -29,7 +29,7 @@ const TOTALS: [Counter; 7] = [
 ];
 
 /// Refusals, by each cause.
-const REFUSALS: [Counter; 24] = [
+const REFUSALS: [Counter; 25] = [
     Counter::Refused(Cause::WrongNetwork),
     Counter::Refused(Cause::NoLabel),
     Counter::Refused(Cause::UnknownDestination),
@@ -54,10 +54,11 @@ const REFUSALS: [Counter; 24] = [
     Counter::Refused(Cause::NoSuchName),
     Counter::Refused(Cause::HopCounter),
     Counter::Refused(Cause::ShareFull),
+    Counter::Refused(Cause::SubsystemProhibited),
 ];
 
 /// Failures, by each reason.
-const FAILURES: [Counter; 7] = [
+const FAILURES: [Counter; 8] = [
     Counter::Failed(FailureReason::Association),
     Counter::Failed(FailureReason::Timer),
     Counter::Failed(FailureReason::Sequence),
@@ -65,6 +66,7 @@ const FAILURES: [Counter; 7] = [
     Counter::Failed(FailureReason::Length),
     Counter::Failed(FailureReason::Changeover),
     Counter::Failed(FailureReason::Operator),
+    Counter::Failed(FailureReason::Test),
 ];
 
 /// Appends the object of a link; nothing if there is no such link.
