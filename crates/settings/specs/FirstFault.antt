@@ -7,11 +7,11 @@ use Rattle.std.specs.Str.{bytes_eq}
 use Rattle.std.specs.Ordering.{int_eq}
 use Rattle.settings.specs.Checks.{natural, first_of, fault_unless, range_fault, has_repeat, far_point_fault}
 use Rattle.settings.specs.Checks.{entries_fault, numbers_fault, count_fault, name_fault, optional_fault}
-use Rattle.settings.specs.Checks.{digits_fault, added_fault, route_fault, ssn_fault}
-use Rattle.settings.specs.Meaning.{is_by_title, set_place, points_of}
+use Rattle.settings.specs.Meaning.{set_place, points_of}
+use Rattle.settings.specs.TitleFaults.{titles_fault}
 use Rattle.settings_rows.specs.Names.{is_name}
 use Rattle.settings_rows.specs.declared.fault.DraftFault.{DraftFault}
-use Rattle.settings_rows.specs.declared.fault.FaultKind.TheVariants.{Range, Duplicate, UnknownName, TooMany}
+use Rattle.settings_rows.specs.declared.fault.FaultKind.TheVariants.{Range, Duplicate, UnknownName}
 use Rattle.settings_rows.specs.declared.key.TimerKey.{TimerKey}
 use Rattle.settings_rows.specs.declared.key.TimerKey.TheVariants.{L1, L2, L3, L4, L6, L7, T1, T2, T3, T4, T6, T8, T10}
 use Rattle.settings_rows.specs.declared.key.TimerKey.TheVariants.{Slt1, Slt2, L4e, Sst}
@@ -20,11 +20,9 @@ use Rattle.settings_rows.specs.declared.key.Key.TheVariants.{Own, Network, Windo
 use Rattle.settings_rows.specs.declared.key.Key.TheVariants.{SetName, SetAdjacent, Link, LinkName, LinkSet, LinkSlc}
 use Rattle.settings_rows.specs.declared.key.Key.TheVariants.{LinkShare}
 use Rattle.settings_rows.specs.declared.key.Key.TheVariants.{Destination, DestinationPoint, DestinationSets}
-use Rattle.settings_rows.specs.declared.key.Key.TheVariants.{DestinationJoined, Title, TitleTranslation, TitlePlan}
-use Rattle.settings_rows.specs.declared.key.Key.TheVariants.{TitleNature, TitleDigits, TitlePoint, TitleBackup}
-use Rattle.settings_rows.specs.declared.key.Key.TheVariants.{TitleRoute, TitleSsn, TitleNewPlan, TitleNewNature, TitleRemove, TitleAdd}
-use Rattle.signalling_types.specs.declared.limits.TheConstants.Limits.{WINDOW, POOL, TICKS, LINKS, SETS, TITLES}
-use Rattle.signalling_types.specs.declared.limits.TheConstants.Limits.{DESTINATIONS, SETS_PER_DESTINATION, TITLE_DIGITS}
+use Rattle.settings_rows.specs.declared.key.Key.TheVariants.{DestinationJoined}
+use Rattle.signalling_types.specs.declared.limits.TheConstants.Limits.{WINDOW, POOL, TICKS, LINKS, SETS}
+use Rattle.signalling_types.specs.declared.limits.TheConstants.Limits.{DESTINATIONS, SETS_PER_DESTINATION}
 use Rattle.settings.specs.declared.timers.Written.{Written}
 use Rattle.settings_rows.specs.declared.draft.Draft.{Draft}
 use Rattle.settings_rows.specs.declared.draft.TimersDraft.{TimersDraft}
@@ -32,8 +30,6 @@ use Rattle.settings_rows.specs.declared.draft.LinkTestsDraft.{LinkTestsDraft}
 use Rattle.settings_rows.specs.declared.draft.SetDraft.{SetDraft}
 use Rattle.settings_rows.specs.declared.draft.LinkDraft.{LinkDraft}
 use Rattle.settings_rows.specs.declared.draft.DestinationDraft.{DestinationDraft}
-use Rattle.settings_rows.specs.declared.draft.TitleDraft.{TitleDraft}
-use Rattle.settings_rows.specs.declared.draft.ChangeDraft.{ChangeDraft}
 
 -- whether a set of this name is among these
 abbrev pub has_set_named : List SetDraft → List ℕ → Bool
@@ -180,57 +176,6 @@ destination_fault own sets earlier d = first_of (
     ∷ joined_fault earlier d
     ∷ [])
 
--- whether two translation rows have one key and the same digits
-abbrev pub is_same_title : TitleDraft → TitleDraft → Bool
-is_same_title t e =
-    int_eq t.translation e.translation
-    && (int_eq t.plan e.plan
-    && (int_eq t.nature e.nature
-    && bytes_eq (string_bytes t.digits) (string_bytes e.digits)))
-
--- the digits of a translation row: well formed, and no row before it has the same key and digits
-abbrev pub title_digits_fault : List TitleDraft → TitleDraft → Option DraftFault
-title_digits_fault earlier t = first_of (
-    digits_fault (TitleDigits (length earlier)) (string_bytes t.digits)
-    ∷ fault_unless (not (list_any (is_same_title t) earlier)) Duplicate (TitleDigits (length earlier))
-    ∷ [])
-
--- the numbers of a translation row at this index: its translation type, numbering plan and nature of address
-abbrev pub title_numbers_fault : ℕ → TitleDraft → Option DraftFault
-title_numbers_fault place t = first_of (
-    range_fault 0 255 (TitleTranslation place) t.translation
-    ∷ range_fault 0 15 (TitlePlan place) t.plan
-    ∷ range_fault 0 127 (TitleNature place) t.nature
-    ∷ [])
-
--- where a translation row at this index leads to: its point, its backup, its route and its subsystem number
-abbrev pub title_target_fault : ℕ → TitleDraft → Option DraftFault
-title_target_fault place t = first_of (
-    range_fault 0 16383 (TitlePoint place) t.point
-    ∷ optional_fault 0 16383 (TitleBackup place) t.backup
-    ∷ route_fault (TitleRoute place) (string_bytes t.route)
-    ∷ ssn_fault (is_by_title t) (TitleSsn place) t.ssn
-    ∷ [])
-
--- how a translation row at this index changes titles: the numbering plan and the nature of address that they get, and
--- the digits that are taken off and put on
-abbrev pub title_change_fault : ℕ → ChangeDraft → Option DraftFault
-title_change_fault place c = first_of (
-    optional_fault 0 15 (TitleNewPlan place) c.plan
-    ∷ optional_fault 0 127 (TitleNewNature place) c.nature
-    ∷ range_fault 0 TITLE_DIGITS (TitleRemove place) c.removed
-    ∷ added_fault (TitleAdd place) (string_bytes c.added)
-    ∷ [])
-
--- the first fault of a translation row, after the rows before it
-abbrev pub title_fault : List TitleDraft → TitleDraft → Option DraftFault
-title_fault earlier t = first_of (
-    title_numbers_fault (length earlier) t
-    ∷ title_digits_fault earlier t
-    ∷ title_target_fault (length earlier) t
-    ∷ title_change_fault (length earlier) t.change
-    ∷ [])
-
 -- whether the first of these names is this one
 abbrev pub is_first_name : List ℕ → List (String Global) → Bool
 is_first_name name [] = false
@@ -269,13 +214,6 @@ unfoldable pub destinations_fault : ℕ → List SetDraft → List DestinationDr
 destinations_fault own sets destinations = first_of (
     count_fault DESTINATIONS Destination (length destinations)
     ∷ entries_fault (destination_fault own sets) [] destinations
-    ∷ [])
-
--- the translation rows: as many as there may be, or none, and each without a fault
-unfoldable pub titles_fault : List TitleDraft → Option DraftFault
-titles_fault titles = first_of (
-    fault_unless (nat_le (length titles) TITLES) TooMany Title
-    ∷ entries_fault title_fault [] titles
     ∷ [])
 
 -- the numbers that settings begin with

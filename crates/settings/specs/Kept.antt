@@ -11,4 +11,4 @@ configuration_of s = configuration_in s.checked
 -- the limits are kept, and the index has the destinations' point codes in their order
 pub record IsKept (s : Inside) : Type 0 where
   pub well : IsWell (configuration_of s)
-  pub indexed : s.checked.points ≡ map (λ d. d.point) s.checked.destinations.items
+  pub indexed : s.checked.arrays.tables.points ≡ map (λ d. d.point) s.checked.arrays.tables.destinations.items

@@ -1,6 +1,7 @@
 pub mod Checks
 pub mod Meaning
 pub mod Titles
+pub mod TitleFaults
 pub mod FirstFault
 pub mod Checked
 pub mod Indexed

@@ -4,7 +4,7 @@ ghost use Rattle.std.specs.Option.{option_map};
 ghost use Rattle.std.specs.Prelude.{◌≡◌, ◌<◌, ◌≤◌, ◌^◌, None, Some, IfOk, IfSome, OnOk, IfErr};
 ghost use Rattle.settings.specs.Checks.{natural, optional_fault};
 ghost use Rattle.settings.specs.Meaning.{change_of};
-ghost use Rattle.settings.specs.FirstFault.{title_change_fault};
+ghost use Rattle.settings.specs.TitleFaults.{title_change_fault};
 
 use crate::digits::added_digits;
 use crate::numbers::{number, optional_number};

@@ -1,7 +1,7 @@
 //! The check of settings: from what was written to rows of checked settings, or to the first fault.
 
 ghost use Rattle.std.specs.Prelude.{◌≡◌, ◌<◌, ◌≤◌, ◌⊎◌, None, Some, length, map, IfOk, OnOk, IfErr};
-ghost use Rattle.settings.specs.Checked.{configuration_in};
+ghost use Rattle.settings.specs.Checked.{configuration_in, services_in};
 ghost use Rattle.settings.specs.Checks.{natural};
 ghost use Rattle.settings.specs.Meaning.{settings_of, set_of, link_of, destination_of, title_of};
 ghost use Rattle.settings.specs.FirstFault.{scalars_fault, tables_fault, arrays_fault, first_fault};
@@ -27,40 +27,21 @@ const FIRST_USER: u8 = 4;
 
 const LAST_USER: u8 = 15;
 
-/// What settings without a fault say: their numbers, and the rows of their arrays.
+/// What settings without a fault say: their numbers, what they ask for, and the rows of their arrays.
 #[derive(Drop)]
 pub struct Checked {
-    /// The node's own point code.
-    pub own: PointCode,
-    /// The network indicator.
-    pub network: u8,
-    /// Messages that may be sent on a link before one is confirmed.
-    pub window: u16,
-    /// User messages that the node may keep.
-    pub pool: u16,
+    /// The numbers that they begin with.
+    pub scalars: Scalars,
     /// Service indicators of the user parts.
     pub users: Vec<u8>,
     /// Numbers of the subsystems.
     pub subsystems: Vec<u8>,
-    /// Whether extended unitdata (XUDT, XUDTS) are relayed.
-    pub extended_unitdata: bool,
-    /// Whether a test of a subsystem on this node (SST) is answered.
-    pub subsystem_tests: bool,
-    /// Whether the sender of a message for a user part that isn't on this node is told so (UPU).
-    pub user_part_unavailable: bool,
-    pub processor_outage: bool,
+    /// What they ask for.
+    pub services: Services,
     /// How long each timer runs.
     pub timers: TimerTicks,
-    /// The link sets.
-    pub sets: Vec<SetRow>,
-    /// The links.
-    pub links: Vec<LinkRow>,
-    /// The destinations.
-    pub destinations: Vec<DestinationRow>,
-    /// The translation rows.
-    pub titles: Vec<TitleRow>,
-    /// The point codes of the destinations, in their order.
-    pub points: PointIndex,
+    /// The rows of their arrays.
+    pub arrays: Arrays,
 }
 
 /// Checks settings as they were written.
@@ -70,7 +51,8 @@ pub struct Checked {
 /// returned instead.
 pub fn check_draft(alloc: Global, draft: &Draft) -> Result<Checked, DraftFault>
     ensures settings { IfOk result (λ c. configuration_in c ≡ settings_of draft.now) }
-    ensures points { IfOk result (λ c. c.points ≡ map (λ d. d.point) c.destinations.items) }
+    ensures points { IfOk result (λ c.
+        c.arrays.tables.points ≡ map (λ d. d.point) c.arrays.tables.destinations.items) }
     ensures well { OnOk result (first_fault draft.now ≡ None) }
     ensures fault { IfErr result (λ fault.
         (fault ≡ DraftFault.NoMemory) ⊎ (first_fault draft.now ≡ Some fault)) }
@@ -80,43 +62,27 @@ pub fn check_draft(alloc: Global, draft: &Draft) -> Result<Checked, DraftFault>
     let subsystems = distinct_numbers(alloc, &draft.subsystems, 1, u8::MAX, Key::Subsystems)?;
     let timers = timer_ticks(&draft.timers)?;
     let arrays = checked_arrays(alloc, scalars.own, draft)?;
-    let Arrays {
-        sets,
-        links,
-        tables,
-    } = arrays;
-    let Tables {
-        destinations,
-        points,
-        titles,
-    } = tables;
     Ok(Checked {
-        own: scalars.own,
-        network: scalars.network as u8,
-        window: scalars.window,
-        pool: scalars.pool,
+        scalars,
         users,
         subsystems,
-        extended_unitdata: draft.extended_unitdata,
-        subsystem_tests: draft.subsystem_tests,
-        user_part_unavailable: draft.user_part_unavailable,
-        processor_outage: draft.processor_outage,
+        services: Services::asked(draft),
         timers,
-        sets,
-        links,
-        destinations,
-        titles,
-        points,
+        arrays,
     })
 }
 
 /// The numbers that settings begin with.
 #[derive(Clone, Copy)]
-struct Scalars {
-    own: PointCode,
-    network: u16,
-    window: u16,
-    pool: u16,
+pub struct Scalars {
+    /// The node's own point code.
+    pub own: PointCode,
+    /// The network indicator.
+    pub network: u8,
+    /// Messages that may be sent on a link before one is confirmed.
+    pub window: u16,
+    /// User messages that the node may keep.
+    pub pool: u16,
 }
 
 /// The numbers that settings begin with.
@@ -132,18 +98,51 @@ fn checked_scalars(draft: &Draft) -> Result<Scalars, DraftFault>
 {
     Ok(Scalars {
         own: point(draft.own, Key::Own)?,
-        network: number(draft.network, 0, LAST_NETWORK, Key::Network)?,
+        network: number(draft.network, 0, LAST_NETWORK, Key::Network)? as u8,
         window: number(draft.window, 1, Limits::WINDOW as u16, Key::Window)?,
         pool: number(draft.pool, 1, Limits::POOL as u16, Key::Pool)?,
     })
 }
 
+/// What settings ask for about subsystems, user parts and processors.
+#[derive(Clone, Copy)]
+pub struct Services {
+    /// Whether extended unitdata (XUDT, XUDTS) are relayed.
+    pub extended_unitdata: bool,
+    /// Whether a test of a subsystem on this node (SST) is answered.
+    pub subsystem_tests: bool,
+    /// Whether the sender of a message for a user part that isn't on this node is told so (UPU).
+    pub user_part_unavailable: bool,
+    /// Whether a link stays in service while its peer's processor is out (Q.703 §8).
+    pub processor_outage: bool,
+    /// Whether a link sends Out of Service before Alignment as its association comes up (RFC 4165 §5.1).
+    pub out_of_service: bool,
+}
+
+impl Services {
+    /// What these settings ask for: none of it can be wrong.
+    fn asked(draft: &Draft) -> Services
+        ensures { result ≡ services_in draft.now }
+    {
+        Services {
+            extended_unitdata: draft.extended_unitdata,
+            subsystem_tests: draft.subsystem_tests,
+            user_part_unavailable: draft.user_part_unavailable,
+            processor_outage: draft.processor_outage,
+            out_of_service: draft.out_of_service,
+        }
+    }
+}
+
 /// The destinations of settings, their points, and the translation rows.
 #[derive(Drop)]
-struct Tables {
-    destinations: Vec<DestinationRow>,
-    points: PointIndex,
-    titles: Vec<TitleRow>,
+pub struct Tables {
+    /// The destinations.
+    pub destinations: Vec<DestinationRow>,
+    /// The point codes of the destinations, in their order.
+    pub points: PointIndex,
+    /// The translation rows.
+    pub titles: Vec<TitleRow>,
 }
 
 /// The destinations and the translation rows of settings.
@@ -176,10 +175,13 @@ fn checked_tables(alloc: Global, own: PointCode, draft: &Draft) -> Result<Tables
 
 /// The arrays of settings.
 #[derive(Drop)]
-struct Arrays {
-    sets: Vec<SetRow>,
-    links: Vec<LinkRow>,
-    tables: Tables,
+pub struct Arrays {
+    /// The link sets.
+    pub sets: Vec<SetRow>,
+    /// The links.
+    pub links: Vec<LinkRow>,
+    /// The destinations and the translation rows.
+    pub tables: Tables,
 }
 
 /// The arrays of settings.

@@ -68,7 +68,7 @@ impl Settings {
     pub fn own(&self) -> PointCode
         ensures { result ≡ self.now.own }
     {
-        self.checked.own
+        self.checked.scalars.own
     }
 
     /// The network indicator of the node's messages, 0 to 3 (Q.704 §14.2.2).
@@ -76,7 +76,7 @@ impl Settings {
         ensures value { result ≡ self.now.network }
         ensures fits { self.now.network < 4 }
     {
-        self.checked.network
+        self.checked.scalars.network
     }
 
     /// How many messages may be sent on a link without being confirmed.
@@ -85,7 +85,7 @@ impl Settings {
         ensures above { 1 ≤ self.now.window }
         ensures fits { self.now.window ≤ Limits.WINDOW }
     {
-        self.checked.window as usize
+        self.checked.scalars.window as usize
     }
 
     /// How many user messages the node may keep.
@@ -94,7 +94,7 @@ impl Settings {
         ensures above { 1 ≤ self.now.pool }
         ensures fits { self.now.pool ≤ Limits.POOL }
     {
-        self.checked.pool as usize
+        self.checked.scalars.pool as usize
     }
 
     /// Whether this node has a user part with this service indicator.
@@ -116,28 +116,35 @@ impl Settings {
     pub fn extended_unitdata(&self) -> bool
         ensures { result ≡ self.now.extended_unitdata }
     {
-        self.checked.extended_unitdata
+        self.checked.services.extended_unitdata
     }
 
     /// Whether this node answers a test of a subsystem that it has (SST).
     pub fn subsystem_tests(&self) -> bool
         ensures { result ≡ self.now.subsystem_tests }
     {
-        self.checked.subsystem_tests
+        self.checked.services.subsystem_tests
     }
 
     /// Whether this node tells the sender of a message for a user part that it doesn't have so (UPU, Q.704 §11.2.7).
     pub fn user_part_unavailable(&self) -> bool
         ensures { result ≡ self.now.user_part_unavailable }
     {
-        self.checked.user_part_unavailable
+        self.checked.services.user_part_unavailable
     }
 
     /// Whether a link stays in service while its peer's processor is out (Q.703 §8), or fails by that status.
     pub fn processor_outage(&self) -> bool
         ensures { result ≡ self.now.processor_outage }
     {
-        self.checked.processor_outage
+        self.checked.services.processor_outage
+    }
+
+    /// Whether a link sends Out of Service before Alignment as its association comes up (RFC 4165 §5.1).
+    pub fn out_of_service(&self) -> bool
+        ensures { result ≡ self.now.out_of_service }
+    {
+        self.checked.services.out_of_service
     }
 
     /// How many ticks each timer runs: 1 to 65,535. A timer that is left out has none.
@@ -155,7 +162,7 @@ impl Settings {
         ensures fits { length self.now.sets ≤ Limits.SETS }
         ensures well { All (IsSet self.now.own) self.now.sets }
     {
-        &self.checked.sets
+        &self.checked.arrays.sets
     }
 
     /// The links, in the order of the settings.
@@ -165,7 +172,7 @@ impl Settings {
         ensures fits { length self.now.links ≤ Limits.LINKS }
         ensures well { All (IsLink (length self.now.sets)) self.now.links }
     {
-        &self.checked.links
+        &self.checked.arrays.links
     }
 
     /// The destinations, in the order of the settings.
@@ -175,7 +182,7 @@ impl Settings {
         ensures fits { length self.now.destinations ≤ Limits.DESTINATIONS }
         ensures well { All (IsDestination self.now.own (length self.now.sets)) self.now.destinations }
     {
-        &self.checked.destinations
+        &self.checked.arrays.tables.destinations
     }
 
     /// The translation rows, in the order of the settings.
@@ -185,7 +192,7 @@ impl Settings {
         ensures well { All IsTitle self.now.titles }
         ensures differ { IsDistinct is_same_row self.now.titles }
     {
-        &self.checked.titles
+        &self.checked.arrays.tables.titles
     }
 
     /// How many links there are.
@@ -193,7 +200,7 @@ impl Settings {
         ensures value { result ≡ length self.now.links }
         ensures fits { length self.now.links ≤ Limits.LINKS }
     {
-        self.checked.links.len()
+        self.checked.arrays.links.len()
     }
 
     /// The name of a link, or `None` if no link has this number.
@@ -201,7 +208,7 @@ impl Settings {
         ensures name { option_copied result ≡ option_map (λ row. row.name) (slice_get self.now.links link) }
         ensures fits { IfSome result (λ name. length name.now ≤ Limits.NAME_OCTETS) }
     {
-        let row = self.checked.links.get(link.index())?;
+        let row = self.checked.arrays.links.get(link.index())?;
         Some(row.name())
     }
 
@@ -209,7 +216,7 @@ impl Settings {
     pub fn link_named(&self, name: &[u8]) -> Option<LinkId>
         ensures { result ≡ link_place self.now name.now }
     {
-        let place = link_position(&self.checked.links, name)?;
+        let place = link_position(&self.checked.arrays.links, name)?;
         Some(LinkId::new(place as u8))
     }
 
@@ -217,17 +224,17 @@ impl Settings {
     pub fn destination(&self, point: PointCode) -> Option<usize>
         ensures { result ≡ destination_place self.now point }
     {
-        self.checked.points.place(point)
+        self.checked.arrays.tables.points.place(point)
     }
 
     /// The set whose links lead to this point. It costs the same however many sets there are.
     pub fn set_to(&self, point: PointCode) -> Option<SetId>
         ensures { result ≡ set_place self.now point }
     {
-        let checked = &self.checked;
+        let arrays = &self.checked.arrays;
         let place = self.destination(point)?;
-        let destination = &checked.destinations[place];
-        first_to(&checked.sets, destination.sets(), point)
+        let destination = &arrays.tables.destinations[place];
+        first_to(&arrays.sets, destination.sets(), point)
     }
 }
 

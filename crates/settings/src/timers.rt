@@ -4,7 +4,7 @@ ghost use Rattle.std.specs.Prelude.{◌≡◌, [], None, Some, map, IfOk, OnOk, 
 ghost use Rattle.std.specs.Option.{option_map};
 ghost use Rattle.settings.specs.Checks.{natural, entries_fault, optional_fault};
 ghost use Rattle.settings.specs.Meaning.{ticks_of, test_ticks_of};
-ghost use Rattle.settings.specs.FirstFault.{timers_written, ticks_fault, link_tests_fault, timers_fault};
+ghost use Rattle.settings.specs.FirstFault.{written, timers_written, ticks_fault, link_tests_fault, timers_fault};
 ghost use Rattle.settings_rows.specs.declared.key.Key.TheVariants.{Timer};
 ghost use Rattle.signalling_types.specs.declared.limits.TheConstants.Limits.{TICKS};
 
@@ -22,6 +22,15 @@ const TIMERS: usize = 13;
 struct Written {
     timer: TimerKey,
     ticks: i64,
+}
+
+impl Written {
+    /// This timer, with the ticks that were written for it.
+    fn of(timer: TimerKey, ticks: i64) -> Written
+        ensures { result ≡ written timer ticks }
+    {
+        Written { timer, ticks }
+    }
 }
 
 /// The ticks that the timers run.
@@ -60,58 +69,19 @@ fn all_written(timers: &TimersDraft) -> [Written; TIMERS]
     ensures { result ≡ timers_written timers.now }
 {
     [
-        Written {
-            timer: TimerKey::L1,
-            ticks: timers.l1,
-        },
-        Written {
-            timer: TimerKey::L2,
-            ticks: timers.l2,
-        },
-        Written {
-            timer: TimerKey::L3,
-            ticks: timers.l3,
-        },
-        Written {
-            timer: TimerKey::L4,
-            ticks: timers.l4,
-        },
-        Written {
-            timer: TimerKey::L6,
-            ticks: timers.l6,
-        },
-        Written {
-            timer: TimerKey::L7,
-            ticks: timers.l7,
-        },
-        Written {
-            timer: TimerKey::T1,
-            ticks: timers.t1,
-        },
-        Written {
-            timer: TimerKey::T2,
-            ticks: timers.t2,
-        },
-        Written {
-            timer: TimerKey::T3,
-            ticks: timers.t3,
-        },
-        Written {
-            timer: TimerKey::T4,
-            ticks: timers.t4,
-        },
-        Written {
-            timer: TimerKey::T6,
-            ticks: timers.t6,
-        },
-        Written {
-            timer: TimerKey::T8,
-            ticks: timers.t8,
-        },
-        Written {
-            timer: TimerKey::T10,
-            ticks: timers.t10,
-        },
+        Written::of(TimerKey::L1, timers.l1),
+        Written::of(TimerKey::L2, timers.l2),
+        Written::of(TimerKey::L3, timers.l3),
+        Written::of(TimerKey::L4, timers.l4),
+        Written::of(TimerKey::L6, timers.l6),
+        Written::of(TimerKey::L7, timers.l7),
+        Written::of(TimerKey::T1, timers.t1),
+        Written::of(TimerKey::T2, timers.t2),
+        Written::of(TimerKey::T3, timers.t3),
+        Written::of(TimerKey::T4, timers.t4),
+        Written::of(TimerKey::T6, timers.t6),
+        Written::of(TimerKey::T8, timers.t8),
+        Written::of(TimerKey::T10, timers.t10),
     ]
 }
 

@@ -9,8 +9,8 @@ ghost use Rattle.settings.specs.Checks.{natural, fault_unless, optional_fault, e
 ghost use Rattle.settings.specs.Meaning.{title_of, digit_of, route_of};
 ghost use Rattle.settings_rows.specs.Configuration.{unchanged};
 ghost use Rattle.settings.specs.Titles.{title_key};
-ghost use Rattle.settings.specs.FirstFault.{title_numbers_fault, title_digits_fault, title_target_fault};
-ghost use Rattle.settings.specs.FirstFault.{title_fault, titles_fault};
+ghost use Rattle.settings.specs.TitleFaults.{title_numbers_fault, title_digits_fault, title_target_fault};
+ghost use Rattle.settings.specs.TitleFaults.{title_fault, titles_fault};
 
 use crate::changes::title_change;
 use crate::digits::{Digits, digits};
@@ -223,7 +223,7 @@ fn title_rows(alloc: Global, titles: &[TitleDraft]) -> Result<Vec<TitleRow>, Dra
 }
 
 /// The translation rows, as many as there may be.
-#[tactic(auto, unfolding(crate::specs::FirstFault::titles_fault))]
+#[tactic(auto, unfolding(crate::specs::TitleFaults::titles_fault))]
 pub(crate) fn checked_titles(
     alloc: Global,
     titles: &[TitleDraft],

@@ -95,19 +95,22 @@ numbers_at t =
     Ok (record { version = version; own = own; network = network; window = window; pool = pool }))))))
 
 -- what a file asks for, if its version has these keys: that extended unitdata are relayed, that a test of a subsystem
--- is answered, that it is told where a user part isn't here, and that links outlive outages of their peers' processors
+-- is answered, that it is told where a user part isn't here, that links outlive outages of their peers' processors, and
+-- that they send Out of Service before Alignment
 unfoldable pub services_at : (has_keys : Bool) → Members → Result Services SettingsFault
 services_at has_keys t =
     and_then (truth_at has_keys (codes "extended_unitdata") key.ExtendedUnitdata t) (λ extended_unitdata.
     and_then (truth_at has_keys (codes "subsystem_tests") key.SubsystemTests t) (λ subsystem_tests.
     and_then (truth_at has_keys (codes "user_part_unavailable") key.UserPartUnavailable t) (λ user_part_unavailable.
     and_then (truth_at has_keys (codes "processor_outage") key.ProcessorOutage t) (λ processor_outage.
+    and_then (truth_at has_keys (codes "out_of_service") key.OutOfService t) (λ out_of_service.
     Ok (record {
       extended_unitdata = extended_unitdata;
       subsystem_tests = subsystem_tests;
       user_part_unavailable = user_part_unavailable;
       processor_outage = processor_outage;
-    })))))
+      out_of_service = out_of_service;
+    }))))))
 
 -- what a document says: the version of its format, and settings
 pub record Document : Type 0 where
@@ -138,6 +141,7 @@ document t =
         subsystem_tests = services.subsystem_tests;
         user_part_unavailable = services.user_part_unavailable;
         processor_outage = services.processor_outage;
+        out_of_service = services.out_of_service;
         timers = timers;
         sets = sets;
         links = links;

@@ -33,8 +33,8 @@ abbrev pub top_keys : (may_have_extensions : Bool) → List (List ℕ)
 top_keys true =
     codes "version" ∷ codes "own" ∷ codes "network" ∷ codes "window" ∷ codes "pool" ∷ codes "users"
     ∷ codes "subsystems" ∷ codes "extended_unitdata" ∷ codes "subsystem_tests" ∷ codes "user_part_unavailable"
-    ∷ codes "processor_outage" ∷ codes "timers" ∷ codes "set" ∷ codes "link" ∷ codes "destination" ∷ codes "title"
-    ∷ codes "serve" ∷ []
+    ∷ codes "processor_outage" ∷ codes "out_of_service" ∷ codes "timers" ∷ codes "set" ∷ codes "link"
+    ∷ codes "destination" ∷ codes "title" ∷ codes "serve" ∷ []
 top_keys false =
     codes "version" ∷ codes "own" ∷ codes "network" ∷ codes "window" ∷ codes "pool" ∷ codes "users"
     ∷ codes "subsystems" ∷ codes "timers" ∷ codes "set" ∷ codes "link" ∷ codes "destination" ∷ codes "title"

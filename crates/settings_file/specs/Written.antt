@@ -52,6 +52,7 @@ pub record Written : Type 0 where
   pub subsystem_tests : Bool
   pub user_part_unavailable : Bool
   pub processor_outage : Bool
+  pub out_of_service : Bool
   pub timers : TimersDraft
   pub sets : List WrittenSet
   pub links : List WrittenLink
@@ -99,6 +100,7 @@ written d = record {
   subsystem_tests = d.subsystem_tests;
   user_part_unavailable = d.user_part_unavailable;
   processor_outage = d.processor_outage;
+  out_of_service = d.out_of_service;
   timers = d.timers;
   sets = map set_written d.sets.items;
   links = map link_written d.links.items;

@@ -63,6 +63,8 @@ pub(crate) struct Services {
     pub user_part_unavailable: bool,
     /// Whether a link stays in service while its peer's processor is out.
     pub processor_outage: bool,
+    /// Whether a link sends Out of Service before Alignment as its association comes up (RFC 4165 §5.1).
+    pub out_of_service: bool,
 }
 
 /// What a document says: the version of its format, and settings.
@@ -112,6 +114,7 @@ fn asked_services(has_keys: bool, table: &Table) -> Result<Services, SettingsFau
             Key::UserPartUnavailable,
         )?,
         processor_outage: truth(has_keys, table, "processor_outage", Key::ProcessorOutage)?,
+        out_of_service: truth(has_keys, table, "out_of_service", Key::OutOfService)?,
     })
 }
 
@@ -143,6 +146,7 @@ fn contents(alloc: Global, table: &Table) -> Result<Document, SettingsFault>
             subsystem_tests: services.subsystem_tests,
             user_part_unavailable: services.user_part_unavailable,
             processor_outage: services.processor_outage,
+            out_of_service: services.out_of_service,
             timers,
             sets,
             links,

@@ -1,6 +1,7 @@
 //! The keys of a settings file: where each is, and what its value must be.
 
 ghost use Rattle.std.specs.Prelude.{◌≡◌, None, Some, []};
+ghost use Rattle.settings_rows.specs.Keys.{key_index};
 ghost use Rattle.settings_file.specs.Sentences.{key_place, row_place};
 
 use settings::Key;
@@ -58,35 +59,18 @@ pub(crate) fn key_row(key: Key) -> KeyRow
     ensures { row_place result ≡ key_place key }
 {
     match key {
-        Key::Version => lone_key("version", INTEGER, "1, 2 or 3"),
-        Key::Own => lone_key("own", INTEGER, POINT),
-        Key::Network => lone_key("network", INTEGER, "0 to 3"),
-        Key::Window => lone_key("window", INTEGER, "1 to 16384"),
-        Key::Pool => lone_key("pool", INTEGER, "1 to 65535"),
-        Key::Users => lone_key("users", INTEGERS, "numbers from 4 to 15"),
-        Key::Subsystems => lone_key("subsystems", INTEGERS, "numbers from 1 to 255"),
-        Key::ExtendedUnitdata => lone_key("extended_unitdata", TRUTH, ""),
-        Key::SubsystemTests => lone_key("subsystem_tests", TRUTH, ""),
-        Key::UserPartUnavailable => lone_key("user_part_unavailable", TRUTH, ""),
-        Key::ProcessorOutage => lone_key("processor_outage", TRUTH, ""),
-        Key::Timers => lone_key("timers", TABLE, ""),
-        Key::Timer(timer) => lone_key(timer.path(), INTEGER, TICKS),
-        Key::Set => lone_key("set", TABLES, "1 to 32"),
         Key::SetEntry(i) => entry_key("set", i, "", TABLE, ""),
         Key::SetName(i) => entry_key("set", i, "name", TEXT, NAME),
         Key::SetAdjacent(i) => entry_key("set", i, "adjacent", INTEGER, FAR_POINT),
-        Key::Link => lone_key("link", TABLES, "1 to 64"),
         Key::LinkEntry(i) => entry_key("link", i, "", TABLE, ""),
         Key::LinkName(i) => entry_key("link", i, "name", TEXT, NAME),
         Key::LinkSet(i) => entry_key("link", i, "set", TEXT, NAME),
         Key::LinkSlc(i) => entry_key("link", i, "slc", INTEGER, "0 to 15"),
         Key::LinkShare(i) => entry_key("link", i, "share", INTEGER, "1 to 65535"),
-        Key::Destination => lone_key("destination", TABLES, "1 to 4096"),
         Key::DestinationEntry(i) => entry_key("destination", i, "", TABLE, ""),
         Key::DestinationPoint(i) => entry_key("destination", i, "point", INTEGER, FAR_POINT),
         Key::DestinationSets(i) => entry_key("destination", i, "sets", TEXTS, SET_NAMES),
         Key::DestinationJoined(i) => entry_key("destination", i, "joined", TRUTH, ALONE),
-        Key::Title => lone_key("title", TABLES, "at most 65535"),
         Key::TitleEntry(i) => entry_key("title", i, "", TABLE, ""),
         Key::TitleTranslation(i) => entry_key("title", i, "translation", INTEGER, "0 to 255"),
         Key::TitlePlan(i) => entry_key("title", i, "plan", INTEGER, PLAN),
@@ -100,6 +84,35 @@ pub(crate) fn key_row(key: Key) -> KeyRow
         Key::TitleNewNature(i) => entry_key("title", i, "new_nature", INTEGER, NATURE),
         Key::TitleRemove(i) => entry_key("title", i, "remove", INTEGER, "0 to 32"),
         Key::TitleAdd(i) => entry_key("title", i, "add", TEXT, ADDED_DIGITS),
+        _ => lone_row(key),
+    }
+}
+
+/// The row of a key that is in no entry of an array.
+fn lone_row(key: Key) -> KeyRow
+    requires { key_index key ≡ None }
+    ensures { row_place result ≡ key_place key }
+{
+    match key {
+        Key::Version => lone_key("version", INTEGER, "1, 2 or 3"),
+        Key::Own => lone_key("own", INTEGER, POINT),
+        Key::Network => lone_key("network", INTEGER, "0 to 3"),
+        Key::Window => lone_key("window", INTEGER, "1 to 16384"),
+        Key::Pool => lone_key("pool", INTEGER, "1 to 65535"),
+        Key::Users => lone_key("users", INTEGERS, "numbers from 4 to 15"),
+        Key::Subsystems => lone_key("subsystems", INTEGERS, "numbers from 1 to 255"),
+        Key::ExtendedUnitdata => lone_key("extended_unitdata", TRUTH, ""),
+        Key::SubsystemTests => lone_key("subsystem_tests", TRUTH, ""),
+        Key::UserPartUnavailable => lone_key("user_part_unavailable", TRUTH, ""),
+        Key::ProcessorOutage => lone_key("processor_outage", TRUTH, ""),
+        Key::OutOfService => lone_key("out_of_service", TRUTH, ""),
+        Key::Timers => lone_key("timers", TABLE, ""),
+        Key::Timer(timer) => lone_key(timer.path(), INTEGER, TICKS),
+        Key::Set => lone_key("set", TABLES, "1 to 32"),
+        Key::Link => lone_key("link", TABLES, "1 to 64"),
+        Key::Destination => lone_key("destination", TABLES, "1 to 4096"),
+        // no other is left than `title`
+        _ => lone_key("title", TABLES, "at most 65535"),
     }
 }
 

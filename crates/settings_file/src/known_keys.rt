@@ -38,6 +38,7 @@ const TOP_OF_THREE: &[&str] = &[
     "subsystem_tests",
     "user_part_unavailable",
     "processor_outage",
+    "out_of_service",
     "timers",
     "set",
     "link",

@@ -36,8 +36,8 @@ pub(crate) fn has_joined(version: i64) -> bool
 }
 
 /// Whether a file of this version has the keys `extended_unitdata`, `subsystem_tests`, `user_part_unavailable`,
-/// `processor_outage`, `share`, `backup`, `new_plan`, `new_nature`, `remove`, `add`, and of `timers` `slt1`, `slt2`, `l4e`
-/// and `sst`.
+/// `processor_outage`, `out_of_service`, `share`, `backup`, `new_plan`, `new_nature`, `remove`, `add`, and of `timers`
+/// `slt1`, `slt2`, `l4e` and `sst`.
 pub(crate) fn has_extensions(version: i64) -> bool
     ensures { result ≡ has_extensions version }
 {

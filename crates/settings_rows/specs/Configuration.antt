@@ -50,7 +50,9 @@ pub record TitleEntry : Type 0 where
 
 -- all settings of a node, its sets, links and destinations by number in the order of the settings; among them whether
 -- it relays extended unitdata (XUDT, XUDTS), whether it answers a test of a subsystem that it has (SST), and whether it
--- tells the sender of a message for a user part that it doesn't have so (UPU, Q.704 §11.2.7)
+-- tells the sender of a message for a user part that it doesn't have so (UPU, Q.704 §11.2.7); whether a link stays in
+-- service while its peer's processor is out (Q.703 §8), and whether it sends Out of Service before Alignment as its
+-- association comes up (RFC 4165 §5.1)
 pub record Configuration : Type 0 where
   pub own : ℕ
   pub network : ℕ
@@ -62,6 +64,7 @@ pub record Configuration : Type 0 where
   pub subsystem_tests : Bool
   pub user_part_unavailable : Bool
   pub processor_outage : Bool
+  pub out_of_service : Bool
   pub timers : TimerTicks
   pub sets : List SetEntry
   pub links : List LinkEntry

@@ -27,6 +27,8 @@ pub struct Draft {
     pub user_part_unavailable: bool,
     /// Whether a link stays in service while its peer's processor is out (Q.703 §8).
     pub processor_outage: bool,
+    /// Whether a link sends Out of Service before Alignment as its association comes up (RFC 4165 §5.1).
+    pub out_of_service: bool,
     /// How long each timer runs.
     pub timers: TimersDraft,
     /// The link sets.

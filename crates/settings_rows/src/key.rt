@@ -97,6 +97,8 @@ pub enum Key {
     UserPartUnavailable,
     /// `processor_outage`.
     ProcessorOutage,
+    /// `out_of_service`.
+    OutOfService,
     /// `timers`, the table itself.
     Timers,
     /// A key of `timers`.
@@ -178,6 +180,7 @@ impl Key {
             Key::SubsystemTests => "subsystem_tests",
             Key::UserPartUnavailable => "user_part_unavailable",
             Key::ProcessorOutage => "processor_outage",
+            Key::OutOfService => "out_of_service",
             Key::Timers => "timers",
             Key::Timer(timer) => timer.path(),
             Key::Set | Key::SetEntry(_) | Key::SetName(_) | Key::SetAdjacent(_) => "set",
@@ -192,20 +195,7 @@ impl Key {
             | Key::DestinationPoint(_)
             | Key::DestinationSets(_)
             | Key::DestinationJoined(_) => "destination",
-            Key::Title
-            | Key::TitleEntry(_)
-            | Key::TitleTranslation(_)
-            | Key::TitlePlan(_)
-            | Key::TitleNature(_)
-            | Key::TitleDigits(_)
-            | Key::TitlePoint(_)
-            | Key::TitleBackup(_)
-            | Key::TitleRoute(_)
-            | Key::TitleSsn(_)
-            | Key::TitleNewPlan(_)
-            | Key::TitleNewNature(_)
-            | Key::TitleRemove(_)
-            | Key::TitleAdd(_) => "title",
+            _ => "title",
         }
     }
 

@@ -12,4 +12,4 @@ position-map p f xs = rw (prefix_len-map (λ y. not (p y)) f xs, length-map xs f
 
 pub returns : goal.returns
 returns c =
-    rw (c.place.ensures, c.self.invariant.indexed, ← c.self.view_is) (position-map (nat_eq c.args.point) (λ d. d.point) c.self.inside.checked.destinations.items)
+    rw (c.place.ensures, c.self.invariant.indexed, ← c.self.view_is) (position-map (nat_eq c.args.point) (λ d. d.point) c.self.inside.checked.arrays.tables.destinations.items)
