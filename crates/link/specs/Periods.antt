@@ -12,8 +12,8 @@ use Rattle.link.specs.declared.period.Period.{Period}
 use Rattle.link.specs.declared.period.Period.TheVariants.{Fixed, Normal, Emergency}
 use Rattle.link.specs.Table.{action_at, period_after, proving_status}
 
--- two ends tell each other how they want to be proved: then both are proved for the same period, that of emergency if
--- either wants it
+-- two ends whose periods aren't fixed tell each other how they want to be proved: then both are proved for the same
+-- period, that of emergency if either wants it
 abbrev pub both_ends_are_proved_alike : Type 0
 both_ends_are_proved_alike =
     (one other : Period) → one ≢ Fixed → other ≢ Fixed →

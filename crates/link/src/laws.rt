@@ -9,8 +9,9 @@ pub fn search_finds_the_named_count()
     ensures { search_finds_named }
 {}
 
-/// Emergency proving (Q.703 §7.3): both ends of a link are proved for the same period, a peer that asks for it gets it,
-/// and nothing else changes the period of a link. A peer that aligns anew while a link is proved finds it aligned.
+/// Emergency proving (Q.703 §7.3), of a link whose period isn't fixed: a peer that asks for it gets it, and nothing
+/// else changes the period. If that is so of both ends, they are proved for the same period. A peer that aligns anew
+/// while such a link is proved finds it aligned.
 pub fn links_are_proved_as_either_end_asks()
     ensures alike { both_ends_are_proved_alike }
     ensures asks { emergency_proving_begins_when_the_peer_asks }

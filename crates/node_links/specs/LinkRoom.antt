@@ -11,22 +11,24 @@ link_state_in s = record {
   period = s.period;
   association = s.association;
   active = s.active;
+  emergency = s.emergency;
   waiting = s.waiting.items;
   peer_busy = s.peer_busy;
   peer_outage = s.peer_outage;
   acknowledgement_owed = s.acknowledgement_owed;
   test_failed = s.test_failed;
+  untested = s.untested;
 }
 
--- how many statuses were sent on the way into a state, at most: Alignment, Proving, Ready; a link that begins anew drops
--- those before
+-- how many statuses were sent on the way into a state, at most: Out of Service, Alignment, Proving, Ready; a link that
+-- begins anew drops those before, and Ready after an outage waits only by itself
 abbrev pub sent_by : Alignment → ℕ
 sent_by Down = 0
-sent_by NotAligned = 1
-sent_by Aligned = 2
-sent_by (Proving ready) = 2
-sent_by AlignedReady = 3
-sent_by InService = 3
+sent_by NotAligned = 2
+sent_by Aligned = 3
+sent_by (Proving ready) = 3
+sent_by AlignedReady = 4
+sent_by InService = 4
 
 -- how many of these may still wait as a step is taken
 abbrev pub left_by : (anew : Bool) → Alignment → ℕ

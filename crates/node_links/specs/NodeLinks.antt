@@ -1,6 +1,7 @@
 -- TLAC, link availability control (Q.704 §3.2): the state of a link, apart from its queue.
-use Rattle.std.specs.Prelude.{Bool, List, true, false, [], ◌++◌, ℕ, map, length, replicate, slice_index_or, slice_set}
+use Rattle.std.specs.Prelude.{◌≡◌, Bool, List, true, false, [], ◌∷◌, ◌++◌, ℕ, map, length, replicate, slice_index_or, slice_set, ◌&&◌, not}
 use Rattle.m2pa_codec.specs.declared.status.LinkStatus.{LinkStatus}
+use Rattle.m2pa_codec.specs.declared.status.LinkStatus.TheVariants.{OutOfService, Ready}
 use Rattle.link.specs.declared.alignment.Alignment.{Alignment}
 use Rattle.std.specs.Option.{option_to_list}
 use Rattle.link.specs.declared.alignment.Alignment.TheVariants.{Down, NotAligned, Aligned, Proving, AlignedReady, InService}
@@ -25,6 +26,8 @@ pub record Link : Type 0 where
   pub association : Bool
   -- whether the operator lets it open
   pub active : Bool
+  -- whether the operator asked for emergency proving with that
+  pub emergency : Bool
   -- the statuses that wait to go out, the oldest first
   pub waiting : List LinkStatus
   -- whether its peer takes no messages for now
@@ -35,6 +38,8 @@ pub record Link : Type 0 where
   pub acknowledgement_owed : Bool
   -- whether its last test failed (Q.707 §2.2)
   pub test_failed : Bool
+  -- whether it has yet to pass a test before it carries traffic
+  pub untested : Bool
 
 -- ---- The state of one link, apart from its queue.
 
@@ -45,11 +50,13 @@ down_link = record {
   period = Fixed;
   association = false;
   active = true;
+  emergency = false;
   waiting = [];
   peer_busy = false;
   peer_outage = false;
   acknowledgement_owed = false;
   test_failed = false;
+  untested = false;
 }
 
 -- what a link does about an input
@@ -75,8 +82,8 @@ after_action Ignored l = l
 after_action Fail l = l
 after_action (Go step) l = stepped step l
 
--- a link that failed: no status waits, and Busy, an outage, an acknowledgement that was owed and a test that failed are
--- forgotten
+-- a link that failed: no status waits, and Busy, an outage, an acknowledgement that was owed, and what its tests said
+-- are forgotten
 abbrev pub after_failure : Link → Link
 after_failure l = record l {
   alignment = Down;
@@ -85,11 +92,33 @@ after_failure l = record l {
   peer_outage = false;
   acknowledgement_owed = false;
   test_failed = false;
+  untested = false;
 }
 
+-- the statuses that go out before a link aligns: its peer may be told first that the link is out of service (RFC 4165
+-- §4.1.3, §5.1)
+abbrev pub sent_first : (tells_out : Bool) → List LinkStatus
+sent_first true = OutOfService ∷ []
+sent_first false = []
+
 -- a link that got an association restarts, with a proving period
-abbrev pub opened : Period → Link → Link
-opened period l = stepped (opening period) (record (after_failure l) { association = true })
+abbrev pub opened : (tells_out : Bool) → Period → Link → Link
+opened tells_out period l =
+    stepped (opening period) (record (after_failure l) { association = true; waiting = sent_first tells_out })
+
+-- Ready waits to go out, unless a status waits still: in service that is Ready too, or Ready is behind it
+abbrev pub with_ready : List LinkStatus → List LinkStatus
+with_ready [] = Ready ∷ []
+with_ready (status ∷ others) = status ∷ others
+
+-- the processor of a link's peer recovered: the outage is over, and Ready answers that (RFC 4165 §4.1.4)
+abbrev pub recovered : Link → Link
+recovered l = record l { peer_outage = false; waiting = with_ready l.waiting }
+
+-- what the operator ordered of a link stays
+pub record IsOrderedAlike (l m : Link) : Type 0 where
+  pub active : m.active ≡ l.active
+  pub emergency : m.emergency ≡ l.emergency
 
 -- a link that is down takes no frames
 abbrev pub is_down : Alignment → Bool
@@ -100,7 +129,7 @@ is_down (Proving ready) = false
 is_down AlignedReady = false
 is_down InService = false
 
--- a link in service carries messages
+-- a link in service sends and takes messages
 abbrev pub is_in_service : Alignment → Bool
 is_in_service Down = false
 is_in_service NotAligned = false
@@ -109,6 +138,10 @@ is_in_service (Proving ready) = false
 is_in_service AlignedReady = false
 is_in_service InService = true
 
+-- it carries traffic, unless it has yet to pass a test (Q.707 §2.2)
+abbrev pub carries_traffic : Link → Bool
+carries_traffic l = is_in_service l.alignment && not l.untested
+
 -- ---- The links of a node, the links of each set, and the routes to each destination.
 
 pub record Network : Type 0 where
@@ -116,11 +149,11 @@ pub record Network : Type 0 where
   pub sets : List (List ℕ)
   pub routes : List (List Route)
 
--- for each link, whether it is in service
+-- for each link, whether it carries traffic
 abbrev pub serving : List Link → List Bool
-serving links = map (λ l. is_in_service l.alignment) links
+serving links = map carries_traffic links
 
--- what is known of routes
+-- what is known of routes: of the links, those count as in service that carry traffic
 abbrev pub facts_of : Network → Facts
 facts_of n = record { sets = n.sets; in_service = serving n.links; routes = n.routes }
 

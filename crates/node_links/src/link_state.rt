@@ -1,8 +1,8 @@
 //! The state of a link, apart from its queue.
 
-ghost use Rattle.std.specs.Prelude.{◌≡◌, ◌+◌, ◌≤◌, false, drop, length, slice_get};
+ghost use Rattle.std.specs.Prelude.{◌≡◌, ◌+◌, ◌≤◌, true, false, drop, length, slice_get};
 ghost use Rattle.std.specs.Option.{option_to_list};
-ghost use Rattle.node_links.specs.NodeLinks.{acts_on, down_link, stepped, after_action, opened, after_failure, is_down, is_in_service};
+ghost use Rattle.node_links.specs.NodeLinks.{acts_on, down_link, stepped, after_action, opened, after_failure, recovered, is_down, is_in_service, carries_traffic};
 ghost use Rattle.node_links.specs.LinkRoom.{left_by, sent_by};
 
 use arrayvec::ArrayVec;
@@ -10,8 +10,9 @@ use link::{Action, Alignment, Input, Period, Transition};
 use m2pa_codec::LinkStatus;
 use std::marker::Model;
 
-/// How many statuses may wait: Alignment, Proving and Ready each go out once, until the peer begins anew.
-const STATUSES: usize = 3;
+/// How many statuses may wait: Out of Service, Alignment, Proving and Ready each go out once, until the peer begins
+/// anew; and Ready after an outage waits only by itself.
+const STATUSES: usize = 4;
 
 /// The state of a link, apart from its queue.
 #[derive(Drop)]
@@ -20,11 +21,13 @@ pub struct LinkState {
     period: Period,
     association: bool,
     active: bool,
+    emergency: bool,
     waiting: ArrayVec<LinkStatus, STATUSES>,
     peer_busy: bool,
     peer_outage: bool,
     acknowledgement_owed: bool,
     test_failed: bool,
+    untested: bool,
 }
 
 impl Model for LinkState {
@@ -49,11 +52,13 @@ impl LinkState {
             period: Period::Fixed,
             association: false,
             active: true,
+            emergency: false,
             waiting: ArrayVec::new(),
             peer_busy: false,
             peer_outage: false,
             acknowledgement_owed: false,
             test_failed: false,
+            untested: false,
         }
     }
 
@@ -71,11 +76,18 @@ impl LinkState {
         matches!(self.alignment, Alignment::Down)
     }
 
-    /// Whether it carries messages.
+    /// Whether it is in service: it sends and takes messages.
     pub fn is_in_service(&self) -> bool
         ensures { result ≡ is_in_service self.now.alignment }
     {
         matches!(self.alignment, Alignment::InService)
+    }
+
+    /// Whether it carries traffic: it is in service, and has no test to pass before (Q.707 §2.2).
+    pub fn carries_traffic(&self) -> bool
+        ensures { result ≡ carries_traffic self.now }
+    {
+        self.is_in_service() && !self.untested
     }
 
     /// Whether it has an association.
@@ -90,6 +102,13 @@ impl LinkState {
         ensures { result ≡ self.now.active }
     {
         self.active
+    }
+
+    /// Whether the operator asked for emergency proving with that (Q.703 §7.1).
+    pub fn is_emergency_ordered(&self) -> bool
+        ensures { result ≡ self.now.emergency }
+    {
+        self.emergency
     }
 
     /// Whether its peer takes no messages for now.
@@ -154,13 +173,19 @@ impl LinkState {
         }
     }
 
-    /// Begins to align, with an association.
-    pub fn open(&mut self, period: Period)
-        ensures { self.new ≡ opened period self.old }
+    /// Begins to align, with an association and a proving period. Its peer may be told first that the link is out of
+    /// service (RFC 4165 §5.1). `untested` says whether it has to pass a test before it carries traffic
+    /// (Q.707 §2.2).
+    pub fn open(&mut self, tells_out: bool, period: Period, untested: bool)
+        ensures { self.new ≡ record (opened tells_out period self.old) { untested = untested } }
     {
         self.fail();
         self.association = true;
+        self.untested = untested;
         self.take_step(Alignment::open(period));
+        if tells_out {
+            self.waiting.insert(0, LinkStatus::OutOfService);
+        }
     }
 
     /// Fails. The association stays.
@@ -173,6 +198,7 @@ impl LinkState {
         self.peer_outage = false;
         self.acknowledgement_owed = false;
         self.test_failed = false;
+        self.untested = false;
     }
 
     /// Loses its association.
@@ -182,11 +208,20 @@ impl LinkState {
         self.association = false;
     }
 
-    /// Sets whether it may open.
-    pub fn allow(&mut self, active: bool)
-        ensures { self.new ≡ record self.old { active = active } }
+    /// Lets it open, with emergency proving if the operator asks for that.
+    pub fn allow(&mut self, emergency: bool)
+        ensures { self.new ≡ record self.old { active = true; emergency = emergency } }
     {
-        self.active = active;
+        self.active = true;
+        self.emergency = emergency;
+    }
+
+    /// Keeps it from opening.
+    pub fn forbid(&mut self)
+        ensures { self.new ≡ record self.old { active = false; emergency = false } }
+    {
+        self.active = false;
+        self.emergency = false;
     }
 
     /// Sets whether its peer counts as busy.
@@ -196,11 +231,22 @@ impl LinkState {
         self.peer_busy = busy;
     }
 
-    /// Sets whether its peer's processor counts as out.
-    pub fn set_peer_outage(&mut self, out: bool)
-        ensures { self.new ≡ record self.old { peer_outage = out } }
+    /// The processor of its peer is out (RFC 4165 §4.1.4).
+    pub fn put_out(&mut self)
+        ensures { self.new ≡ record self.old { peer_outage = true } }
     {
-        self.peer_outage = out;
+        self.peer_outage = true;
+    }
+
+    /// The processor of its peer recovered: Ready answers that, unless a status waits still (RFC 4165 §4.1.4).
+    pub fn recover(&mut self)
+        requires { is_in_service self.old.alignment ≡ true }
+        ensures { self.new ≡ recovered self.old }
+    {
+        self.peer_outage = false;
+        if self.waiting.is_empty() {
+            self.waiting.push(LinkStatus::Ready);
+        }
     }
 
     /// Sets whether it owes an acknowledgement.
@@ -215,6 +261,14 @@ impl LinkState {
         ensures { self.new ≡ record self.old { test_failed = failed } }
     {
         self.test_failed = failed;
+    }
+
+    /// Passes a test: it has failed none, and has none to pass before it carries traffic.
+    pub fn pass_test(&mut self)
+        ensures { self.new ≡ record self.old { test_failed = false; untested = false } }
+    {
+        self.test_failed = false;
+        self.untested = false;
     }
 
     /// Forgets the status that waited longest, if one waits.

@@ -1,8 +1,8 @@
 //! The links of a node, and the routes that they open.
 
-ghost use Rattle.std.specs.Prelude.{◌≡◌, ◌<◌, ◌≤◌, false, drop, length, replicate, slice_set, nat_lt, IfOk, IfSome};
+ghost use Rattle.std.specs.Prelude.{◌≡◌, ◌<◌, ◌≤◌, true, false, drop, length, replicate, slice_set, nat_lt, IfOk, IfSome};
 ghost use Rattle.routes.specs.Routes.{with_link, chosen_link};
-ghost use Rattle.node_links.specs.NodeLinks.{acts_on, after_action, down_link, after_failure, opened, facts_of, first_network, link_in, serving, with_state};
+ghost use Rattle.node_links.specs.NodeLinks.{acts_on, after_action, down_link, after_failure, opened, recovered, facts_of, first_network, is_in_service, link_in, serving, with_state};
 ghost use Rattle.node_links.specs.FormerLink.{former_link};
 
 mod statuses;
@@ -16,10 +16,10 @@ use signalling_types::{Limits, LinkId, SetId, Sls};
 use std::alloc::{AllocError, Global};
 use std::marker::Model;
 
-/// The state of each link, and the routes, which always know which links are in service.
+/// The state of each link, and the routes, which always know which links carry traffic.
 ///
 /// All room is made by `new`. The link of each flow is in a table (`Routes`): `link_of` is one look-up, and when a link
-/// enters or leaves service, or a status changes, the flows that this may move are looked at again.
+/// begins or ceases to carry traffic, or a status changes, the flows that this may move are looked at again.
 #[derive(Drop)]
 pub struct NodeLinks {
     states: Vec<LinkState>,
@@ -80,14 +80,14 @@ impl NodeLinks {
         self.routes.facts()
     }
 
-    /// What would be known of routes with these links in service.
+    /// What would be known of routes if these links carried traffic.
     pub fn facts_by<'a>(&'a self, in_service: &'a [bool]) -> RouteFacts<'a>
         ensures { result ≡ record (facts_of self.now) { in_service = in_service.now } }
     {
         self.routes.facts_by(in_service)
     }
 
-    /// Which links would be in service without a link.
+    /// Which links would carry traffic without a link.
     pub fn in_service_without(&self, link: LinkId) -> ArrayVec<bool, { Limits::LINKS }>
         ensures { result.items ≡ slice_set (serving self.now.links) link false }
     {
@@ -95,8 +95,8 @@ impl NodeLinks {
     }
 
     /// The link of a flow, by the number of its destination and its selection. Messages to that destination take the
-    /// sets of one group. Of the links in service in these sets, it is the one that the selection tries first (Q.704
-    /// §4.2).
+    /// sets of one group. Of the links in these sets that carry traffic, it is the one that the selection tries first
+    /// (Q.704 §4.2).
     pub fn link_of(&self, destination: usize, sls: Sls) -> Option<LinkId>
         ensures link { result ≡ chosen_link (facts_of self.now) destination sls }
         ensures fits { IfSome result (λ link. link < length self.now.links) }
@@ -104,7 +104,7 @@ impl NodeLinks {
         self.routes.link_of(destination, sls)
     }
 
-    /// The link that a flow, which goes by this link, would take if this link were out of service, as in `before`
+    /// The link that a flow, which goes by this link, would take if this link carried no traffic, as in `before`
     /// (Q.704 §6.2). `None` if it doesn't go by this link, or would have no other. It costs one look-up, and for a flow
     /// that goes by this link the sets that lead to its destination and their links.
     pub fn former_link(
@@ -128,7 +128,7 @@ impl NodeLinks {
         }
     }
 
-    /// The link that a flow would take if a link weren't in service.
+    /// The link that a flow would take if a link carried no traffic.
     fn link_before(
         &self,
         before: &RouteFacts<'_>,
@@ -153,17 +153,20 @@ impl NodeLinks {
     {
         let state = &mut self.states[link.index()];
         let action = state.on(input);
-        self.routes.set_link(link, state.is_in_service());
+        self.routes.set_link(link, state.carries_traffic());
         action
     }
 
-    /// A link begins to align, with an association and a proving period.
+    /// A link begins to align, with an association and a proving period. Its peer may be told first that the link is
+    /// out of service (RFC 4165 §5.1). `untested` says whether it has to pass a test
+    /// before it carries traffic (Q.707 §2.2).
     #[tactic(auto, using(crate::proofs::Serving::kept))]
-    pub fn open(&mut self, link: LinkId, period: Period)
+    pub fn open(&mut self, link: LinkId, tells_out: bool, period: Period, untested: bool)
         requires { link < length self.old.links }
-        ensures { self.new ≡ with_state self.old link (opened period (link_in self.old.links link)) }
+        ensures { self.new ≡ with_state self.old link
+            (record (opened tells_out period (link_in self.old.links link)) { untested = untested }) }
     {
-        self.states[link.index()].open(period);
+        self.states[link.index()].open(tells_out, period, untested);
         self.routes.set_link(link, false);
     }
 
@@ -185,12 +188,22 @@ impl NodeLinks {
         self.states[link.index()].lose_association();
     }
 
-    /// Sets whether a link may open.
-    pub fn allow(&mut self, link: LinkId, active: bool)
+    /// A link may open, with emergency proving if the operator asks for that.
+    pub fn allow(&mut self, link: LinkId, emergency: bool)
         requires { link < length self.old.links }
-        ensures { self.new ≡ with_state self.old link (record (link_in self.old.links link) { active = active }) }
+        ensures { self.new ≡ with_state self.old link
+            (record (link_in self.old.links link) { active = true; emergency = emergency }) }
     {
-        self.states[link.index()].allow(active);
+        self.states[link.index()].allow(emergency);
+    }
+
+    /// A link may not open.
+    pub fn forbid(&mut self, link: LinkId)
+        requires { link < length self.old.links }
+        ensures { self.new ≡ with_state self.old link
+            (record (link_in self.old.links link) { active = false; emergency = false }) }
+    {
+        self.states[link.index()].forbid();
     }
 
     /// Sets whether a link's peer counts as busy.
@@ -201,12 +214,21 @@ impl NodeLinks {
         self.states[link.index()].set_peer_busy(busy);
     }
 
-    /// Sets whether the processor of a link's peer counts as out.
-    pub fn set_peer_outage(&mut self, link: LinkId, out: bool)
+    /// The processor of a link's peer is out (RFC 4165 §4.1.4).
+    pub fn put_out(&mut self, link: LinkId)
         requires { link < length self.old.links }
-        ensures { self.new ≡ with_state self.old link (record (link_in self.old.links link) { peer_outage = out }) }
+        ensures { self.new ≡ with_state self.old link (record (link_in self.old.links link) { peer_outage = true }) }
     {
-        self.states[link.index()].set_peer_outage(out);
+        self.states[link.index()].put_out();
+    }
+
+    /// The processor of a link's peer recovered: Ready answers that, unless a status waits still (RFC 4165 §4.1.4).
+    pub fn recover(&mut self, link: LinkId)
+        requires there { link < length self.old.links }
+        requires serves { is_in_service (link_in self.old.links link).alignment ≡ true }
+        ensures { self.new ≡ with_state self.old link (recovered (link_in self.old.links link)) }
+    {
+        self.states[link.index()].recover();
     }
 
     /// Sets whether a link owes an acknowledgement.
@@ -224,6 +246,19 @@ impl NodeLinks {
         ensures { self.new ≡ with_state self.old link (record (link_in self.old.links link) { test_failed = failed }) }
     {
         self.states[link.index()].set_test_failed(failed);
+    }
+
+    /// A link passes a test: it has failed none, and in service it carries traffic from now on.
+    #[tactic(auto, using(crate::proofs::Serving::kept))]
+    pub fn pass_test(&mut self, link: LinkId)
+        requires { link < length self.old.links }
+        ensures { self.new ≡ with_state self.old link
+            (record (link_in self.old.links link) { test_failed = false; untested = false }) }
+    {
+        let state = &mut self.states[link.index()];
+        state.pass_test();
+        let carries = state.carries_traffic();
+        self.routes.set_link(link, carries);
     }
 
     /// A link forgets the status that waited longest, if one waits.

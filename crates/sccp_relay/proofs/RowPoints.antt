@@ -8,7 +8,7 @@ use Rattle.signalling_types.specs.declared.cause.Cause.TheVariants.{SubsystemPro
 use Rattle.sccp_relay.specs.Points.{OwnValue, is_backup_open, is_barred, is_open, point_by, point_or, unless_barred}
 use Rattle.sccp_relay.specs.Led.{IsLedTo}
 use Rattle.sccp_relay.specs.Ways.{IsRow}
-use Rattle.sccp_relay.specs.declared.subsystem.Subsystem.{Subsystem}
+use Rattle.sccp_relay.specs.declared.subsystem.ProhibitedSubsystem.{ProhibitedSubsystem}
 
 record IsChosen (first second : Bool) (point other : ℕ) : Type 0 where
   pub first_reached : first ≡ true → (if not first && second then other else point) ≡ point
@@ -24,7 +24,7 @@ not-barred : (b : Bool) (found : Result TitleEntry Cause) (row : TitleEntry) →
 not-barred true found row e = absurd cc
 not-barred false found row e = e
 
-module _ (own : OwnValue) (prohibited : List Subsystem) (sender : Option ℕ) (sls : ℕ) where
+module _ (own : OwnValue) (prohibited : List ProhibitedSubsystem) (sender : Option ℕ) (sls : ℕ) where
   led-by : (row : TitleEntry) (backup : Option ℕ) → row.backup ≡ backup → IsLedTo own prohibited sender sls row (point_or own prohibited sender sls row.route row.point backup)
   led-by row None e = record { alone = λ n. refl; first = λ r. refl; backup = λ other s no yes. absurd cc; neither = λ other s no. refl }
   led-by row (Some backup) e =
@@ -49,7 +49,7 @@ either-fits : (b : Bool) (point other : ℕ) → point < 2 ^ 14 → other < 2 ^ 
 either-fits true point other h k = k
 either-fits false point other h k = h
 
-module _ (own : OwnValue) (prohibited : List Subsystem) (sender : Option ℕ) (sls : ℕ) where
+module _ (own : OwnValue) (prohibited : List ProhibitedSubsystem) (sender : Option ℕ) (sls : ℕ) where
   or-fits : (to : TitleRoute) (point : ℕ) (backup : Option ℕ) → point < 2 ^ 14 → IfSome backup (λ other. other < 2 ^ 14) → point_or own prohibited sender sls to point backup < 2 ^ 14
   or-fits to point None h k = h
   or-fits to point (Some backup) h k = either-fits (not (is_open own prohibited sls to point) && is_backup_open own prohibited sender sls to backup) point backup h k

@@ -107,7 +107,7 @@ pub is-type : (kind : ExtendedKind) → (type_of kind == 17 || type_of kind == 1
 is-type (Xudt class_octet) = refl
 is-type (Xudts return_cause) = refl
 
-octets-back : (extended : Bool) (m : SccpValue) → IsReadHere extended m → IsSccpValue m → read_sccp extended (sccp_octets m) ≡ Ok m
+pub octets-back : (extended : Bool) (m : SccpValue) → IsReadHere extended m → IsSccpValue m → read_sccp extended (sccp_octets m) ≡ Ok m
 octets-back false (Plain u) r h = ap as_plain (read_unitdata-spelled u h)
 octets-back true (Plain (UdtValue class_octet parts)) r h = ap as_plain (read_unitdata-spelled (UdtValue class_octet parts) h)
 octets-back true (Plain (UdtsValue return_cause parts)) r h = ap as_plain (read_unitdata-spelled (UdtsValue return_cause parts) h)

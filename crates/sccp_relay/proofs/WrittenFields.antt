@@ -14,7 +14,7 @@ use Rattle.sccp_codec.specs.Extended.{after_parts, extended_octets, optional_poi
 use Rattle.sccp_relay.specs.Sccp.{SccpValue, Plain, Extended, sccp_parts, with_new_parts, read_sccp, lowered, is_sccp_writable, sccp_octets}
 use Rattle.sccp_relay.specs.Points.{OwnValue, point_by, unless_barred}
 use Rattle.sccp_relay.specs.Statuses.{TitlesValue}
-use Rattle.sccp_relay.specs.declared.subsystem.Subsystem.{Subsystem}
+use Rattle.sccp_relay.specs.declared.subsystem.ProhibitedSubsystem.{ProhibitedSubsystem}
 use Rattle.sccp_relay.specs.Relay.{Onward, relay, row_of, label_to, written, led_on, allowed, translated}
 use Rattle.sccp_relay.specs.Returning.{return_cause, service, return_by, return_by_row, returned, sent_back, led_back}
 use Rattle.sccp_relay.proofs.SaidMessages.{written-text}
@@ -68,7 +68,7 @@ onward-fits own titles text sif e =
 
 -- ---- what is returned
 
-row-fits : (own : OwnValue) (prohibited : List Subsystem) (label : Label) (number : ℕ) (came : SccpValue) (found : Result TitleEntry Cause) (field : List ℕ) → return_by_row own prohibited label number came found ≡ Some field → Fits field
+row-fits : (own : OwnValue) (prohibited : List ProhibitedSubsystem) (label : Label) (number : ℕ) (came : SccpValue) (found : Result TitleEntry Cause) (field : List ℕ) → return_by_row own prohibited label number came found ≡ Some field → Fits field
 row-fits own prohibited label number came (Err cause) field e = absurd cc
 row-fits own prohibited label number came (Ok row) field e =
     let point = point_by own prohibited None label.sls row in

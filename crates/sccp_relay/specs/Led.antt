@@ -17,7 +17,7 @@ use Rattle.sccp_relay.specs.Relay.{Onward, relay, row_of, ssn_by, is_equipped, m
 use Rattle.sccp_relay.specs.Returning.{return_cause, returned_parameters, returned}
 use Rattle.sccp_relay.specs.Statuses.{TitlesValue}
 use Rattle.sccp_relay.specs.Ways.{IsRow}
-use Rattle.sccp_relay.specs.declared.subsystem.Subsystem.{Subsystem}
+use Rattle.sccp_relay.specs.declared.subsystem.ProhibitedSubsystem.{ProhibitedSubsystem}
 
 -- ---- the fields of a message
 
@@ -46,9 +46,9 @@ pub record SameTitle (a b : AddressValue) : Type 0 where
   pub title_indicator : b.title_indicator ≡ a.title_indicator
   pub title : b.title ≡ a.title
 
--- A title that a row changes reads as one of the same translation type, with the plan and the nature of the change where
--- it has them, and with the digits that the change puts on before those that it leaves. There is one digit at least, the
--- encoding scheme says whether they are odd or even in number, and filler and spare bits are 0.
+-- A title that a row changes reads as one of the same translation type, with the plan and the nature of the change
+-- where it has them, and with the digits that the change puts on before those that it leaves. There is one digit at
+-- least, the encoding scheme says whether they are odd or even in number, and filler and spare bits are 0.
 pub record IsChanged (change : ChangeEntry) (a b : AddressValue) : Type 0 where
   pub came : TitleValue
   pub reads : read_title a.title_indicator a.title ≡ Ok came
@@ -76,8 +76,8 @@ pub record IsLed (row : TitleEntry) (a b : AddressValue) : Type 0 where
 
 -- the point that a row leads a message of a link selection to, which came from this sender, if from any: its own; but
 -- its backup, if it has one, while that can be led to, and the first can't
-pub record IsLedTo (own : OwnValue) (prohibited : List Subsystem) (sender : Option ℕ) (sls : ℕ) (row : TitleEntry)
-    (point : ℕ) : Type 0 where
+pub record IsLedTo (own : OwnValue) (prohibited : List ProhibitedSubsystem) (sender : Option ℕ) (sls : ℕ)
+    (row : TitleEntry) (point : ℕ) : Type 0 where
   pub alone : row.backup ≡ None → point ≡ row.point
   pub first : is_open own prohibited sls row.route row.point ≡ true → point ≡ row.point
   pub backup : (backup : ℕ) → row.backup ≡ Some backup → is_open own prohibited sls row.route row.point ≡ false
@@ -107,8 +107,8 @@ abbrev pub IsLowered : Option ℕ → Option ℕ → Type 0
 IsLowered None after = after ≡ None
 IsLowered (Some hops) after = (2 ≤ hops) × (hops ≤ 15) × (after ≡ Some (hops - 1))
 
--- a message goes on to where the row that its title finds leads it: of its type, with its class or return cause, its data
--- and its optional parameters
+-- a message goes on to where the row that its title finds leads it: of its type, with its class or return cause, its
+-- data and its optional parameters
 pub record GoesOn (own : OwnValue) (titles : TitlesValue) (sif field : List ℕ) : Type 0 where
   pub came : SccpValue
   pub reads : read_sccp own.extended (drop 4 sif) ≡ Ok came

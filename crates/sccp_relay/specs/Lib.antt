@@ -4,6 +4,7 @@ pub mod Sccp
 pub mod Statuses
 pub mod ProhibitedRoom
 pub mod Points
+pub mod SubsystemTests
 pub mod Relay
 pub mod Returning
 pub mod Values

@@ -23,7 +23,7 @@ use Rattle.sccp_codec.specs.Titles.{TitleValue, read_title, digits_in}
 use Rattle.sccp_relay.specs.Changing.{title_after}
 use Rattle.sccp_relay.specs.Points.{OwnValue, point_by, unless_barred}
 use Rattle.sccp_relay.specs.Statuses.{TitlesValue}
-use Rattle.sccp_relay.specs.declared.subsystem.Subsystem.{Subsystem}
+use Rattle.sccp_relay.specs.declared.subsystem.ProhibitedSubsystem.{ProhibitedSubsystem}
 use Rattle.sccp_relay.specs.declared.subsystem.SubsystemNews.{SubsystemNews}
 use Rattle.sccp_relay.specs.Translation.{translation}
 use Rattle.sccp_relay.specs.Sccp.{SccpValue, Plain, Extended, sccp_parts, with_new_parts, read_sccp, is_connectionless, has_valid_hops, lowered, is_spent, is_sccp_writable, sccp_octets}
@@ -141,14 +141,17 @@ management_address = record {
   title = [];
 }
 
--- the answer: an SSA about the same subsystem, from SCCP management here to that of the sender, in a UDT of class 0; its
--- multiplicity indicator, and the spare bits there, are 0
-abbrev pub allowed : ManagementValue → SccpValue
-allowed test = Plain (UdtValue 0 (record {
+-- what SCCP management here says to that of another point, in a UDT of class 0; the spare bits are 0
+abbrev pub said : ManagementValue → SccpValue
+said about = Plain (UdtValue 0 (record {
   called = management_address;
   calling = management_address;
-  «data» = management_octets 0 (record test { kind = SubsystemAllowed; multiplicity = 0 });
+  «data» = management_octets 0 about;
 }))
+
+-- the answer: an SSA about the same subsystem; its multiplicity indicator, and the spare bits there, are 0
+abbrev pub allowed : ManagementValue → SccpValue
+allowed test = said (record test { kind = SubsystemAllowed; multiplicity = 0 })
 
 -- the field of the answer to what was read, if it is answered
 abbrev pub answer_to : OwnValue → Label → Result ManagementValue SccpFault → Option (List ℕ)
@@ -219,7 +222,8 @@ lead_on own label message point (Ok called) =
     (with_new_parts (lowered message) (led_on called label.opc (sccp_parts message))))
 
 -- a message whose called address is by title, by the row of that title
-abbrev pub relay_by_row : OwnValue → List Subsystem → Label → SccpValue → Result TitleEntry Cause → RelayedValue
+abbrev pub relay_by_row : OwnValue → List ProhibitedSubsystem → Label → SccpValue → Result TitleEntry Cause
+    → RelayedValue
 relay_by_row own prohibited label message (Err cause) = Refused cause
 relay_by_row own prohibited label message (Ok row) =
     if nat_eq (point_by own prohibited (Some label.opc) label.sls row) own.point

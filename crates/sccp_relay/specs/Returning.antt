@@ -15,7 +15,7 @@ use Rattle.sccp_relay.specs.Points.{OwnValue, point_by, unless_barred}
 use Rattle.sccp_relay.specs.Relay.{row_of, translated, written}
 use Rattle.sccp_relay.specs.Sccp.{SccpValue, Plain, Extended, sccp_parts, read_sccp, asks_for_return}
 use Rattle.sccp_relay.specs.Statuses.{TitlesValue}
-use Rattle.sccp_relay.specs.declared.subsystem.Subsystem.{Subsystem}
+use Rattle.sccp_relay.specs.declared.subsystem.ProhibitedSubsystem.{ProhibitedSubsystem}
 
 -- the return cause (Q.713 §3.12); nothing is returned for any other refusal
 abbrev pub return_cause : Cause → Option ℕ
@@ -69,7 +69,8 @@ return_led own label number message point (Err cause) = None
 return_led own label number message point (Ok calling) =
     return_to own.point label point (service number message (led_back calling (sccp_parts message)))
 
-abbrev pub return_by_row : OwnValue → List Subsystem → Label → ℕ → SccpValue → Result TitleEntry Cause → Option (List ℕ)
+abbrev pub return_by_row : OwnValue → List ProhibitedSubsystem → Label → ℕ → SccpValue → Result TitleEntry Cause
+    → Option (List ℕ)
 return_by_row own prohibited label number message (Err cause) = None
 return_by_row own prohibited label number message (Ok row) =
     return_led own label number message (point_by own prohibited None label.sls row)

@@ -105,7 +105,24 @@ fn write_allowed<W: Ways>(
         multiplicity: 0,
         ..*test
     };
-    let octets = allowed.write();
+    write_said(label.opc, own.point, label, &allowed, field)
+}
+
+/// Writes what SCCP management of this point says to that of another one, in a UDT of class 0, at the front of the
+/// field, after a label with the same link selection as this one, and returns how many octets it has.
+pub(crate) fn write_said(
+    point: PointCode,
+    own: PointCode,
+    label: Label,
+    about: &SubsystemManagement,
+    field: &mut Field,
+) -> Option<usize>
+    ensures text { written_in result field.new
+        ≡ rule.written point own label (rule.said (management_of about.now)) }
+    ensures label { IfSome result (λ count. 4 ≤ count) }
+    ensures fits { IfSome result (λ count. count ≤ Limits.SIF_OCTETS) }
+{
+    let octets = about.write();
     let udt = Udt {
         class_octet: 0,
         parts: Parts {
@@ -114,8 +131,7 @@ fn write_allowed<W: Ways>(
             data: &octets,
         },
     };
-    let label = label_to(label.opc, own.point, label).write();
-    udt.write(label, field).ok()
+    udt.write(label_to(point, own, label).write(), field).ok()
 }
 
 /// The address of SCCP management: its subsystem number alone.

@@ -36,7 +36,8 @@ pub struct Own<'a, W> {
     pub answers_tests: bool,
     /// Whether it is heard which subsystems other points say to be prohibited and allowed (Q.714 §5.3.2, §5.3.3).
     pub hears_statuses: bool,
-    /// The points that its links lead to. It is asked only of a row with a backup, or whose subsystem is prohibited.
+    /// The points that its links lead to. It is asked only of a row with a backup or whose subsystem is prohibited,
+    /// and of each prohibited subsystem as a tick passes.
     pub ways: W,
 }
 
@@ -159,7 +160,7 @@ impl<W: Ways> Own<'_, W> {
     }
 
     /// Whether messages of this link selection reach a point: it is this one, or a link leads to it.
-    fn reaches(&self, point: PointCode, sls: Sls) -> bool
+    pub(crate) fn reaches(&self, point: PointCode, sls: Sls) -> bool
         ensures { result ≡ is_reached (own_value W.leads self.now) sls point }
     {
         point == self.point || self.ways.lead_to(point, sls)

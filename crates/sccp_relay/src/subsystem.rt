@@ -17,12 +17,48 @@ pub struct Subsystem {
     pub ssn: u8,
 }
 
+/// Fills the room of a list that isn't taken.
+impl Default for Subsystem {
+    fn default() -> Subsystem {
+        Subsystem {
+            point: PointCode::of_low_bits(0),
+            ssn: 0,
+        }
+    }
+}
+
 impl Subsystem {
     /// Whether it is this one: at the same point, with the same number.
     pub(crate) fn is(&self, other: &Subsystem) -> bool
         ensures { result ≡ rule.is_same self.now other.now }
     {
         self.point == other.point && self.ssn == other.ssn
+    }
+}
+
+/// A subsystem that is prohibited.
+#[derive(Clone, Copy)]
+pub struct ProhibitedSubsystem {
+    /// The subsystem.
+    pub subsystem: Subsystem,
+    /// The ticks that are left until its next test; if none is left, a test is due (Q.714 §5.3.4).
+    pub ticks: u16,
+}
+
+impl ProhibitedSubsystem {
+    /// Whether a test of it is due.
+    pub fn is_due(&self) -> bool
+        ensures { result ≡ rule.is_due self.now }
+    {
+        self.ticks == 0
+    }
+
+    /// A tick passes. If a test was due, the next one is due `sst` ticks after it.
+    pub(crate) fn count(&mut self, sst: u16)
+        ensures { self.new ≡ rule.counted sst self.old }
+    {
+        let left = if self.is_due() { sst } else { self.ticks };
+        self.ticks = left.saturating_sub(1);
     }
 }
 

@@ -4,11 +4,15 @@ ghost use Rattle.std.specs.Prelude.{◌≡◌, ◌≤◌, length, slice_get, Som
 ghost use Rattle.std.specs.List.{IsDistinct};
 ghost use Rattle.sccp_relay.specs.Rows.{IsOrdered, place_of, has_row, with_row, without_row, add_refusal, is_same_place};
 ghost use Rattle.sccp_relay.specs.Statuses as rule;
+ghost use Rattle.sccp_relay.specs.SubsystemTests.{due_tests, ticked};
 ghost use Rattle.sccp_relay.specs.Translation.{translation};
+ghost use Rattle.sccp_relay.specs.Values.{own_value};
 
 use crate::Translations;
+use crate::own::{Own, Ways};
 use crate::prohibited::Prohibited;
-use crate::subsystem::{Subsystem, SubsystemNews};
+use crate::subsystem::{PROHIBITED_SUBSYSTEMS, ProhibitedSubsystem, Subsystem, SubsystemNews};
+use arrayvec::ArrayVec;
 use sccp_codec::TitleKey;
 use settings_rows::TitleRow;
 use signalling_types::{Cause, Limits};
@@ -108,37 +112,67 @@ impl Titles {
     }
 
     /// The prohibited subsystem of this number, from 0, in the order in which they were heard of. None past the last.
-    pub fn prohibited(&self, index: usize) -> Option<Subsystem>
+    pub fn prohibited(&self, index: usize) -> Option<ProhibitedSubsystem>
         ensures { result ≡ slice_get self.now.prohibited index }
     {
         self.prohibited.get(index)
     }
 
+    /// How many subsystems are prohibited.
+    pub fn prohibited_len(&self) -> usize
+        ensures { result ≡ length self.now.prohibited }
+    {
+        self.prohibited.len()
+    }
+
+    /// The subsystems of which a test is due, in the order in which they were heard of. It looks at each that is
+    /// prohibited.
+    pub fn due_tests(&self) -> ArrayVec<Subsystem, PROHIBITED_SUBSYSTEMS>
+        ensures { result.items ≡ due_tests self.now }
+    {
+        self.prohibited.due()
+    }
+
+    /// A tick passes: each prohibited subsystem has one tick less until its next test, `sst` ticks after the last one.
+    /// Those whose point isn't reached are allowed again, and, as a test of them comes due, those to which no row
+    /// leads. It looks at each of them, and at all rows for those, and allocates nothing (Q.714 §5.2.2, §5.2.3,
+    /// §5.3.4).
+    pub fn tick<W: Ways>(&mut self, sst: u16, own: &Own<'_, W>)
+        ensures { self.new ≡ ticked (own_value W.leads own.now) sst self.old }
+    {
+        self.prohibited.count(sst);
+        self.prohibited.keep(own, &self.translations);
+    }
+
     /// Hears what an SSP or an SSA says of a subsystem. It has an effect only if the point of the subsystem says it;
-    /// then an SSA ends that the subsystem is prohibited, and after an SSP it is, if a row leads to it. Beyond 256
-    /// nothing more is. It walks over all rows at most, and allocates nothing (Q.714 §5.3.2, §5.3.3).
-    pub fn hear(&mut self, news: &SubsystemNews)
-        ensures { self.new ≡ rule.heard news.now self.old }
+    /// then an SSA ends that the subsystem is prohibited, and after an SSP it is, if a row leads to it, and is tested
+    /// after `sst` ticks. Beyond 256 nothing more is. It walks over all rows at most, and allocates nothing (Q.714
+    /// §5.3.2, §5.3.3).
+    pub fn hear(&mut self, sst: u16, news: &SubsystemNews)
+        ensures { self.new ≡ rule.heard sst news.now self.old }
     {
         if news.sender != news.subsystem.point {
             return;
         }
         if news.is_prohibited {
-            self.prohibit(&news.subsystem);
+            self.prohibit(sst, &news.subsystem);
         } else {
             self.prohibited.remove(&news.subsystem);
         }
     }
 
     /// One more subsystem is prohibited, if a row leads to it and there is room.
-    fn prohibit(&mut self, subsystem: &Subsystem)
-        ensures { self.new ≡ rule.prohibit subsystem.now self.old }
+    fn prohibit(&mut self, sst: u16, subsystem: &Subsystem)
+        ensures { self.new ≡ rule.prohibit sst subsystem.now self.old }
     {
         if self.prohibited.has(subsystem) || self.prohibited.is_full() {
             return;
         }
         if self.translations.lead_to(subsystem) {
-            self.prohibited.add(*subsystem);
+            self.prohibited.add(ProhibitedSubsystem {
+                subsystem: *subsystem,
+                ticks: sst,
+            });
         }
     }
 }

@@ -15,11 +15,11 @@ pub use Rattle.timers.specs.Moments.{left_in, IsTree}
 pub use Rattle.timers.specs.Timers.{has_name, is_of_set, is_same, is_before, AreInOrder, count_of, key_of, each, each_in_rows, names_by_kind, Key, key, is_key_before, is_same_key, Running, is_running, ticked, no_tick_left, is_due, one_less, running_with, none_running}
 unfoldable pub use Rattle.timers.specs.Timers.{names_of, set_timer, start_unless_running, clear_timer, due_name, after_due, clear_set, due_count}
 pub use Rattle.timers.specs.OneMap.{one_map, name_of_key, name-key}
-pub use Rattle.timers.specs.Places.{named_sets, place_in, place_of, name_at, name_of_route, codes_from, destinations_from, t8_from, t10_from, slt1_from, slt2_from, sst_from, link_name, code_name, route_name, test_name}
+pub use Rattle.timers.specs.Places.{named_sets, place_in, place_of, name_at, name_of_route, codes_from, destinations_from, t8_from, t10_from, slt1_from, slt2_from, link_name, code_name, route_name, test_name}
 pub use Rattle.timers.specs.Table.{Table, has_place, IsWhole, table_in}
 unfoldable pub use Rattle.timers.specs.Table.{left_to, map_of}
 pub use Rattle.timers.specs.Tree.{never, has_come, at, first_below, count_below, IsBounded, AreBounded, left_at, rebased, least, IsBoundedBut}
 pub use Rattle.timers.specs.declared.name.NodeCounts.{NodeCounts}
 pub use Rattle.timers.specs.declared.name.RouteTimer.{RouteTimer}
 pub use Rattle.timers.specs.declared.name.TimerName.{TimerName}
-pub use Rattle.timers.specs.declared.name.TimerName.TheVariants.{T8, T10, T4, L1, L2, L3, L4, L6, L7, T1, T2, T3, T6, Slt1, Slt2, Sst}
+pub use Rattle.timers.specs.declared.name.TimerName.TheVariants.{T8, T10, T4, L1, L2, L3, L4, L6, L7, T1, T2, T3, T6, Slt1, Slt2}

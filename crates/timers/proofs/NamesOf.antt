@@ -1,5 +1,5 @@
 -- The names of a node: each that exists is in their list, and no other.
-use Rattle.timers.proofs.Basics.{◌≡◌, ℕ, zero, suc, nat_lt, ◌+◌, ◌<◌, ◌≤◌, ◌||◌, true, false, List, [], ◌∷◌, ◌++◌, length, map, get_or, inl, inr, refl, sym, ap, subst, ◌∙◌, arith, cases_order, ◌&&◌, AllByRecursion, list_any, flat_map, range_with_len, TimerName, L1, L2, L3, L4, L6, L7, T1, T2, T3, T4, T6, T8, T10, Slt1, Slt2, Sst, NodeCounts, is_same, has_name, each, each_in_rows, names_by_kind, names_of, or-true, ltb-true, lt-ltb}
+use Rattle.timers.proofs.Basics.{◌≡◌, ℕ, zero, suc, nat_lt, ◌+◌, ◌<◌, ◌≤◌, ◌||◌, true, false, List, [], ◌∷◌, ◌++◌, length, map, get_or, inl, inr, refl, sym, ap, subst, ◌∙◌, arith, cases_order, ◌&&◌, AllByRecursion, list_any, flat_map, range_with_len, TimerName, L1, L2, L3, L4, L6, L7, T1, T2, T3, T4, T6, T8, T10, Slt1, Slt2, NodeCounts, is_same, has_name, each, each_in_rows, names_by_kind, names_of, or-true, ltb-true, lt-ltb}
 use Rattle.std.proofs.lemmas.List.Folds.{list_any-append}
 use Rattle.timers.proofs.Elements.{all-append, two_below, two_under}
 use Rattle.timers.proofs.Same.{same_is, is_itself}
@@ -86,7 +86,7 @@ pub is_in : (n : NodeCounts) (name : TimerName) → has_name n name ≡ true →
 unfolding names_of
 is_in n name h = at name h
   where
-    piece : (name : TimerName) (k : ℕ) → k < 16 → IsIn name (get_or (names_by_kind n) k []) → IsIn name (joined (names_by_kind n))
+    piece : (name : TimerName) (k : ℕ) → k < 15 → IsIn name (get_or (names_by_kind n) k []) → IsIn name (joined (names_by_kind n))
     piece name k l h = in-joined name (names_by_kind n) k l h
 
     at : (name : TimerName) → has_name n name ≡ true → IsIn name (joined (names_by_kind n))
@@ -105,7 +105,6 @@ is_in n name h = at name h
     at (T10 set destination) h = piece (T10 set destination) 12 (omega arith) (one_of_rows (λ set destination. T10 set destination) set destination n.sets n.destinations h)
     at (Slt1 link) h = piece (Slt1 link) 13 (omega arith) (one_of (λ link. Slt1 link) link n.links h)
     at (Slt2 link) h = piece (Slt2 link) 14 (omega arith) (one_of (λ link. Slt2 link) link n.links h)
-    at Sst h = piece Sst 15 (omega arith) refl
 
 -- ---- and no other does
 
@@ -137,7 +136,6 @@ names-exist n = all-joined (λ x. has_name n x ≡ true) (names_by_kind n) all
         & all_rows_exist n (λ set destination. T10 set destination) n.sets n.destinations (λ i j. refl)
         & all_exist n (λ link. Slt1 link) n.links (λ i. refl)
         & all_exist n (λ link. Slt2 link) n.links (λ i. refl)
-        & (refl, tt)
         & tt
 
 -- what holds of each holds of one that occurs there

@@ -1,5 +1,5 @@
 -- The names of a node rise: each occurs once in their list.
-use Rattle.timers.proofs.Basics.{◌≡◌, ℕ, zero, suc, ◌+◌, ◌<◌, ◌≤◌, true, List, [], ◌∷◌, ◌++◌, map, refl, ap, ◌∙◌, arith, nat_tests, AllByRecursion, range_with_len, TimerName, L1, L2, L3, L4, L6, L7, T1, T2, T3, T4, T6, T8, T10, Slt1, Slt2, Sst, NodeCounts, Key, key, key_of, is_key_before, is_before, each, each_in_rows, names_by_kind, names_of, AreInOrder}
+use Rattle.timers.proofs.Basics.{◌≡◌, ℕ, zero, suc, ◌+◌, ◌<◌, ◌≤◌, true, List, [], ◌∷◌, ◌++◌, map, refl, ap, ◌∙◌, arith, nat_tests, AllByRecursion, range_with_len, TimerName, L1, L2, L3, L4, L6, L7, T1, T2, T3, T4, T6, T8, T10, Slt1, Slt2, NodeCounts, Key, key, key_of, is_key_before, is_before, each, each_in_rows, names_by_kind, names_of, AreInOrder}
 use Rattle.timers.proofs.Elements.{all-append, all-weaker}
 use Rattle.timers.proofs.NamesOf.{◌&◌, all-each, all-rows, rows, joined}
 
@@ -90,7 +90,6 @@ in_pieces n =
     & of_rows (λ set destination. T10 set destination) 12 n.sets n.destinations (λ i j. refl)
     & of_each (λ link. Slt1 link) 13 n.links (λ i. refl)
     & of_each (λ link. Slt2 link) 14 n.links (λ i. refl)
-    & record { rise = (tt, tt); kind_is = (refl, tt) }
     & tt
 
 pub names-rise : (n : NodeCounts) → AreInOrder (names_of n)

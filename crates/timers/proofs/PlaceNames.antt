@@ -1,5 +1,5 @@
 -- The name at a place, and the place of a name.
-use Rattle.timers.proofs.Basics.{◌≡◌, ℕ, zero, suc, nat_lt, ◌+◌, ◌-◌, ◌*◌, ◌/◌, ◌%◌, ◌<◌, ◌≤◌, ◌⊎◌, inl, inr, true, false, refl, sym, ap, subst, ◌∙◌, arith, div-add-mod, mod-lt, div-lt_iff_lt-mul, mul_comm, div-mul-add, mod-mul-add, nat_tests, TimerName, L1, L2, L3, L4, L6, L7, T1, T2, T3, T4, T6, T8, T10, Slt1, Slt2, Sst, NodeCounts, has_name, count_of, codes_from, destinations_from, t8_from, t10_from, slt1_from, slt2_from, sst_from, place_in, link_name, code_name, route_name, test_name, name_at, ltb-true}
+use Rattle.timers.proofs.Basics.{◌≡◌, ℕ, zero, suc, nat_lt, ◌+◌, ◌-◌, ◌*◌, ◌/◌, ◌%◌, ◌<◌, ◌≤◌, ◌⊎◌, inl, inr, true, false, refl, sym, ap, subst, ◌∙◌, arith, div-add-mod, mod-lt, div-lt_iff_lt-mul, mul_comm, div-mul-add, mod-mul-add, nat_tests, TimerName, L1, L2, L3, L4, L6, L7, T1, T2, T3, T4, T6, T8, T10, Slt1, Slt2, NodeCounts, has_name, count_of, codes_from, destinations_from, t8_from, t10_from, slt1_from, slt2_from, place_in, link_name, code_name, route_name, test_name, name_at, ltb-true}
 use Rattle.timers.proofs.Elements.{two_below, two_under, in_table}
 
 under : {a b : ℕ} → a < b → nat_lt a b ≡ true
@@ -48,13 +48,8 @@ at_tests n p h =
 at_slt1 : (n : NodeCounts) (p : ℕ) → p < slt2_from n → test_name n p ≡ Slt1 (p - slt1_from n)
 at_slt1 n p h = rw (under h) refl
 
-at_slt2 : (n : NodeCounts) (p : ℕ) → slt2_from n ≤ p → p < sst_from n → test_name n p ≡ Slt2 (p - slt2_from n)
-at_slt2 n p h k = rw (over h, under k) refl
-
-at_sst : (n : NodeCounts) (p : ℕ) → sst_from n ≤ p → test_name n p ≡ Sst
-at_sst n p h =
-    let before : slt2_from n ≤ p = omega (arith, h) in
-    rw (over before, over h) refl
+at_slt2 : (n : NodeCounts) (p : ℕ) → slt2_from n ≤ p → test_name n p ≡ Slt2 (p - slt2_from n)
+at_slt2 n p h = rw (over h) refl
 
 -- ---- the name at the place of a name is that name
 
@@ -102,10 +97,8 @@ name-place n (Slt1 link) h =
     let p = place_in n (Slt1 link) in
     at_tests n p (omega arith) ∙ at_slt1 n p (omega (arith, l)) ∙ ap (λ i. Slt1 i) (past (slt1_from n) link)
 name-place n (Slt2 link) h =
-    let l = ltb-true link n.links h in
     let p = place_in n (Slt2 link) in
-    at_tests n p (omega arith) ∙ at_slt2 n p (omega arith) (omega (arith, l)) ∙ ap (λ i. Slt2 i) (past (slt2_from n) link)
-name-place n Sst h = at_tests n (place_in n Sst) (omega arith) ∙ at_sst n (place_in n Sst) (omega arith)
+    at_tests n p (omega arith) ∙ at_slt2 n p (omega arith) ∙ ap (λ i. Slt2 i) (past (slt2_from n) link)
 
 -- ---- the name at an index exists, and is there
 
@@ -166,17 +159,14 @@ named-t10 n p h k =
 named-slt1 : (n : NodeCounts) (p : ℕ) → slt1_from n ≤ p → p < slt2_from n → IsNamed n p (Slt1 (p - slt1_from n))
 named-slt1 n p h k = record { has = under (omega (arith, h, k)); place = omega (arith, h) }
 
-named-slt2 : (n : NodeCounts) (p : ℕ) → slt2_from n ≤ p → p < sst_from n → IsNamed n p (Slt2 (p - slt2_from n))
+named-slt2 : (n : NodeCounts) (p : ℕ) → slt2_from n ≤ p → p < count_of n → IsNamed n p (Slt2 (p - slt2_from n))
 named-slt2 n p h k = record { has = under (omega (arith, h, k)); place = omega (arith, h) }
 
 named-test : (n : NodeCounts) (p : ℕ) → slt1_from n ≤ p → p < count_of n → IsNamed n p (test_name n p)
 named-test n p h f =
     elim (sides p (slt2_from n)) [
       | inl k ↦ subst (IsNamed n p) (sym (at_slt1 n p k)) (named-slt1 n p h k)
-      | inr k ↦ elim (sides p (sst_from n)) [
-        | inl l ↦ subst (IsNamed n p) (sym (at_slt2 n p k l)) (named-slt2 n p k l)
-        | inr l ↦ subst (IsNamed n p) (sym (at_sst n p l)) (record { has = refl; place = omega (arith, l, f) })
-      ]
+      | inr k ↦ subst (IsNamed n p) (sym (at_slt2 n p k)) (named-slt2 n p k f)
     ]
 
 pub named : (n : NodeCounts) (p : ℕ) → p < count_of n → IsNamed n p (name_at n p)

@@ -1,12 +1,12 @@
 -- The indices of a node's timers rise in the order of names, and there are as many as names.
-use Rattle.timers.proofs.Basics.{◌≡◌, ℕ, zero, suc, ◌+◌, ◌*◌, ◌<◌, ◌≤◌, true, List, [], ◌∷◌, take, get_or, inl, inr, refl, ap, ◌∙◌, arith, mul-le-mul_right, cases_order, nat_tests, TimerName, L1, L2, L3, L4, L6, L7, T1, T2, T3, T4, T6, T8, T10, Slt1, Slt2, Sst, NodeCounts, Key, key, key_of, is_key_before, is_before, has_name, count_of, place_in, ltb-true}
+use Rattle.timers.proofs.Basics.{◌≡◌, ℕ, zero, suc, ◌+◌, ◌*◌, ◌<◌, ◌≤◌, true, List, [], ◌∷◌, take, get_or, inl, inr, refl, ap, ◌∙◌, arith, mul-le-mul_right, cases_order, nat_tests, TimerName, L1, L2, L3, L4, L6, L7, T1, T2, T3, T4, T6, T8, T10, Slt1, Slt2, NodeCounts, Key, key, key_of, is_key_before, is_before, has_name, count_of, place_in, ltb-true}
 use Rattle.timers.proofs.Elements.{two_below, in_table}
 
 -- how many names each kind has, and how many columns its table of names has
 abbrev pub sizes : NodeCounts → List ℕ
 sizes n =
     n.links ∷ n.links ∷ n.links ∷ n.links ∷ n.links ∷ n.links ∷ n.links ∷ n.links ∷ n.links
-    ∷ n.sets * 16 ∷ n.destinations ∷ n.sets * n.destinations ∷ n.sets * n.destinations ∷ n.links ∷ n.links ∷ 1 ∷ []
+    ∷ n.sets * 16 ∷ n.destinations ∷ n.sets * n.destinations ∷ n.sets * n.destinations ∷ n.links ∷ n.links ∷ []
 
 -- the sum of a list
 abbrev pub total : List ℕ → ℕ
@@ -14,7 +14,7 @@ total [] = 0
 total (x ∷ xs) = x + total xs
 
 abbrev pub widths : NodeCounts → List ℕ
-widths n = 1 ∷ 1 ∷ 1 ∷ 1 ∷ 1 ∷ 1 ∷ 1 ∷ 1 ∷ 1 ∷ 16 ∷ 1 ∷ n.destinations ∷ n.destinations ∷ 1 ∷ 1 ∷ 1 ∷ []
+widths n = 1 ∷ 1 ∷ 1 ∷ 1 ∷ 1 ∷ 1 ∷ 1 ∷ 1 ∷ 1 ∷ 16 ∷ 1 ∷ n.destinations ∷ n.destinations ∷ 1 ∷ 1 ∷ []
 
 abbrev pub front : NodeCounts → Key → ℕ
 front n k = total (take k.kind (sizes n))
@@ -26,7 +26,7 @@ abbrev pub number_of : NodeCounts → Key → ℕ
 number_of n k = front n k + (k.row * width n k + k.column)
 
 pub record IsWithin (n : NodeCounts) (k : Key) : Type 0 where
-  pub kind : k.kind < 16
+  pub kind : k.kind < 15
   pub column : k.column < width n k
   pub place : k.row * width n k + k.column < get_or (sizes n) k.kind 0
 
@@ -59,12 +59,12 @@ total-front (x ∷ xs) (suc k) (suc m) h =
     let goal : (x + total (take k xs)) + get_or xs k 0 ≤ x + total (take m xs) = omega arith in
     goal
 
-all_sizes : (n : NodeCounts) → total (take 16 (sizes n)) ≡ count_of n
+all_sizes : (n : NodeCounts) → total (take 15 (sizes n)) ≡ count_of n
 all_sizes n = omega arith
 
 -- ---- names
 
-of_link : (n : NodeCounts) (kind link : ℕ) → kind < 16 → link < n.links → get_or (widths n) kind 0 ≡ 1 → get_or (sizes n) kind 0 ≡ n.links → IsWithin n (key kind link 0)
+of_link : (n : NodeCounts) (kind link : ℕ) → kind < 15 → link < n.links → get_or (widths n) kind 0 ≡ 1 → get_or (sizes n) kind 0 ≡ n.links → IsWithin n (key kind link 0)
 of_link n kind link k h w s =
     let m : link * get_or (widths n) kind 0 ≡ link = ap (λ x. link * x) w ∙ omega arith in
     record { kind = omega arith; column = omega (arith, w); place = omega (arith, m, s) }
@@ -93,7 +93,6 @@ within n (T10 set destination) h =
     record { kind = omega arith; column = p.1; place = in_table set destination n.sets n.destinations p.0 p.1 }
 within n (Slt1 link) h = of_link n 13 link (omega arith) (ltb-true link n.links h) refl refl
 within n (Slt2 link) h = of_link n 14 link (omega arith) (ltb-true link n.links h) refl refl
-within n Sst h = record { kind = omega arith; column = omega arith; place = omega arith }
 
 -- ---- the order of names is that of their numbers
 
@@ -137,7 +136,7 @@ place-fits n name h =
     let w = within n name h in
     let k = (key_of name).kind in
     let row = w.place in
-    omega (arith, row, total-front (sizes n) k 16 w.kind, all_sizes n, place-number n name)
+    omega (arith, row, total-front (sizes n) k 15 w.kind, all_sizes n, place-number n name)
 
 pub place-rises : (n : NodeCounts) (x y : TimerName) → has_name n x ≡ true → has_name n y ≡ true → is_before x y ≡ true → place_in n x < place_in n y
 place-rises n x y h k before =

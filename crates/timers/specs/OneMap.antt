@@ -10,7 +10,7 @@ use mathlib.Core.HLevel.{Σ_prop_path}
 use Rattle.signalling_types.specs.declared.limits.TheConstants.Limits.{CHANGEBACK_CODES}
 use Rattle.timers.specs.declared.name.TimerName.{TimerName}
 use Rattle.timers.specs.declared.name.TimerName.TheVariants.{L1, L2, L3, L4, L6, L7, T1, T2, T3, T4, T6, T8, T10}
-use Rattle.timers.specs.declared.name.TimerName.TheVariants.{Slt1, Slt2, Sst}
+use Rattle.timers.specs.declared.name.TimerName.TheVariants.{Slt1, Slt2}
 use Rattle.timers.specs.declared.name.NodeCounts.{NodeCounts}
 use Rattle.timers.specs.Timers.{Key, key_of, has_name, Running}
 
@@ -50,8 +50,7 @@ name_with kind row column =
     else if kind == 11 then T8 row column
     else if kind == 12 then T10 row column
     else if kind == 13 then Slt1 row
-    else if kind == 14 then Slt2 row
-    else Sst
+    else Slt2 row
 
 abbrev pub name_of_key : Key → TimerName
 name_of_key k = name_with k.kind k.row k.column
@@ -63,13 +62,13 @@ name-key name = refl
 -- ---- what is left, as a list for each kind, row and column
 
 abbrev rows : NodeCounts → ℕ
-rows n = n.links + n.sets + n.destinations + 1
+rows n = n.links + n.sets + n.destinations
 
 abbrev columns : NodeCounts → ℕ
 columns n = CHANGEBACK_CODES + n.destinations
 
 record IsWithin (n : NodeCounts) (k : Key) : Type 0 where
-  kind : k.kind < 16
+  kind : k.kind < 15
   row : k.row < rows n
   column : k.column < columns n
 
@@ -79,14 +78,14 @@ below a b h = grind (arith, nat_tests, h)
 both_below : (a b c d : ℕ) → (nat_lt a b && nat_lt c d) ≡ true → (a < b) × (c < d)
 both_below a b c d h = (grind (arith, nat_tests, h), grind (arith, nat_tests, h))
 
-of_link : (n : NodeCounts) (k : Key) → k.kind < 16 → nat_lt k.row n.links ≡ true → k.column ≡ 0 → IsWithin n k
+of_link : (n : NodeCounts) (k : Key) → k.kind < 15 → nat_lt k.row n.links ≡ true → k.column ≡ 0 → IsWithin n k
 of_link n k kind link column = record {
   kind = omega (arith, kind);
   row = omega (arith, below k.row n.links link);
   column = omega (arith, column);
 }
 
-of_set : (n : NodeCounts) (k : Key) (width : ℕ) → k.kind < 16 → (nat_lt k.row n.sets && nat_lt k.column width) ≡ true
+of_set : (n : NodeCounts) (k : Key) (width : ℕ) → k.kind < 15 → (nat_lt k.row n.sets && nat_lt k.column width) ≡ true
     → (width < columns n + 1) → IsWithin n k
 of_set n k width kind set fits =
     let b = both_below k.row n.sets k.column width set in
@@ -112,7 +111,6 @@ within n (T8 set destination) h = of_set n (key_of (T8 set destination)) n.desti
 within n (T10 set destination) h = of_set n (key_of (T10 set destination)) n.destinations (omega arith) h (omega arith)
 within n (Slt1 link) h = of_link n (key_of (Slt1 link)) (omega arith) h refl
 within n (Slt2 link) h = of_link n (key_of (Slt2 link)) (omega arith) h refl
-within n Sst h = record { kind = omega arith; row = omega arith; column = omega arith }
 
 abbrev tabled : {A : Type 0} → ℕ → (ℕ → A) → List A
 tabled count f = map f (range_with_len 0 count)
@@ -149,7 +147,7 @@ counts_code =
     (λ p. record { links = p.0; sets = p.1.0; destinations = p.1.1 }) (λ _. refl)
 
 abbrev pub listed : Running → NodeCounts × Lefts
-listed r = (r.counts, lefts 16 (rows r.counts) (columns r.counts) r.left)
+listed r = (r.counts, lefts 15 (rows r.counts) (columns r.counts) r.left)
 
 pub listed-one : (r s : Running) → listed r ≡ listed s → r ≡ s
 listed-one r s e = one_map r s counts (λ name. at name (has_name r.counts name) refl)
@@ -161,7 +159,7 @@ listed-one r s e = one_map r s counts (λ name. at name (has_name r.counts name)
         → entry (key_of name) (listed t).1 ≡ t.left name
     table t name h =
         let w = within t.counts name h in
-        entry-left 16 (rows t.counts) (columns t.counts) (key_of name) t.left w.kind w.row w.column
+        entry-left 15 (rows t.counts) (columns t.counts) (key_of name) t.left w.kind w.row w.column
         ∙ ap t.left (name-key name)
 
     at : (name : TimerName) (has : Bool) → has_name r.counts name ≡ has → r.left name ≡ s.left name

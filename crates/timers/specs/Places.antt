@@ -4,7 +4,7 @@ use Rattle.std.specs.Prelude.{ℕ, ◌+◌, ◌-◌, ◌*◌, ◌/◌, ◌%◌, 
 use Rattle.signalling_types.specs.declared.limits.TheConstants.Limits.{CHANGEBACK_CODES}
 use Rattle.timers.specs.declared.name.TimerName.{TimerName}
 use Rattle.timers.specs.declared.name.TimerName.TheVariants.{L1, L2, L3, L4, L6, L7, T1, T2, T3, T4, T6, T8, T10}
-use Rattle.timers.specs.declared.name.TimerName.TheVariants.{Slt1, Slt2, Sst}
+use Rattle.timers.specs.declared.name.TimerName.TheVariants.{Slt1, Slt2}
 use Rattle.timers.specs.declared.name.NodeCounts.{NodeCounts}
 use Rattle.timers.specs.declared.name.RouteTimer.{RouteTimer}
 use Rattle.timers.specs.declared.name.RouteTimer.TheVariants as route
@@ -33,9 +33,6 @@ slt1_from n = t10_from n + n.sets * n.destinations
 abbrev pub slt2_from : NodeCounts → ℕ
 slt2_from n = slt1_from n + n.links
 
-abbrev pub sst_from : NodeCounts → ℕ
-sst_from n = slt2_from n + n.links
-
 abbrev pub place_in : NodeCounts → TimerName → ℕ
 place_in n (L1 link) = 0 * n.links + link
 place_in n (L2 link) = 1 * n.links + link
@@ -52,7 +49,6 @@ place_in n (T8 set destination) = t8_from n + (set * n.destinations + destinatio
 place_in n (T10 set destination) = t10_from n + (set * n.destinations + destination)
 place_in n (Slt1 link) = slt1_from n + link
 place_in n (Slt2 link) = slt2_from n + link
-place_in n Sst = sst_from n
 
 -- nothing for a name that the node doesn't have
 abbrev pub place_of : NodeCounts → TimerName → Option ℕ
@@ -84,8 +80,7 @@ name_of_route route.T10 set destination = T10 set destination
 abbrev pub test_name : NodeCounts → ℕ → TimerName
 test_name n place =
     if nat_lt place (slt2_from n) then Slt1 (place - slt1_from n)
-    else if nat_lt place (sst_from n) then Slt2 (place - slt2_from n)
-    else Sst
+    else Slt2 (place - slt2_from n)
 
 -- the name of the timer at a place
 abbrev pub name_at : NodeCounts → ℕ → TimerName

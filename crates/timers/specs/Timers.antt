@@ -1,10 +1,10 @@
--- The names of timers (Q.703 §12.3, Q.704 §16.8, Q.707 §5.5, Q.714 §5.3.4): their order, and which of them a node has.
+-- The names of timers (Q.703 §12.3, Q.704 §16.8, Q.707 §5.5): their order, and which of them a node has.
 use Rattle.std.specs.Prelude.{◌≡◌, ℕ, ◌+◌, ◌*◌, ◌==◌, nat_lt, Bool, true, false, ◌&&◌, ◌||◌, List, [], ◌∷◌, map, ◌-◌, max, if◌then◌else◌, Option, None, Some, length, filter, find, is_some}
 use Rattle.std.specs.List.{AllByRecursion, flat_map, range_with_len}
 use Rattle.signalling_types.specs.declared.limits.TheConstants.Limits.{CHANGEBACK_CODES}
 use Rattle.timers.specs.declared.name.TimerName.{TimerName}
 use Rattle.timers.specs.declared.name.TimerName.TheVariants.{L1, L2, L3, L4, L6, L7, T1, T2, T3, T4, T6, T8, T10}
-use Rattle.timers.specs.declared.name.TimerName.TheVariants.{Slt1, Slt2, Sst}
+use Rattle.timers.specs.declared.name.TimerName.TheVariants.{Slt1, Slt2}
 use Rattle.timers.specs.declared.name.RouteTimer.{RouteTimer}
 use Rattle.timers.specs.declared.name.RouteTimer.TheVariants as route
 use Rattle.timers.specs.declared.name.NodeCounts.{NodeCounts}
@@ -38,7 +38,6 @@ key_of (T8 set destination) = key 11 set destination
 key_of (T10 set destination) = key 12 set destination
 key_of (Slt1 link) = key 13 link 0
 key_of (Slt2 link) = key 14 link 0
-key_of Sst = key 15 0 0
 
 abbrev pub is_key_before : Key → Key → Bool
 is_key_before x y =
@@ -74,12 +73,11 @@ has_name n (T8 set destination) = nat_lt set n.sets && nat_lt destination n.dest
 has_name n (T10 set destination) = nat_lt set n.sets && nat_lt destination n.destinations
 has_name n (Slt1 link) = nat_lt link n.links
 has_name n (Slt2 link) = nat_lt link n.links
-has_name n Sst = true
 
 -- how many names those are: eleven for each link, one for each set and changeback code, one for each
--- destination, two for each set and destination, and one of the node
+-- destination, and two for each set and destination
 abbrev pub count_of : NodeCounts → ℕ
-count_of n = 11 * n.links + CHANGEBACK_CODES * n.sets + n.destinations + 2 * (n.sets * n.destinations) + 1
+count_of n = 11 * n.links + CHANGEBACK_CODES * n.sets + n.destinations + 2 * (n.sets * n.destinations)
 
 -- this many names of one kind
 abbrev pub each : (ℕ → TimerName) → ℕ → List TimerName
@@ -106,7 +104,6 @@ names_by_kind n =
     ∷ each_in_rows T10 n.sets n.destinations
     ∷ each Slt1 n.links
     ∷ each Slt2 n.links
-    ∷ (Sst ∷ [])
     ∷ []
 
 -- all names that a node has, in order

@@ -38,8 +38,6 @@ pub enum TimerName {
     Slt1(LinkId),
     /// T2 of the link's test: the next one will go out on the link (Q.707 §5.5).
     Slt2(LinkId),
-    /// The node will test again whether the subsystems that it knows to be prohibited are still so (Q.714 §5.3.4).
-    Sst,
 }
 
 /// A timer that a set has for each destination (Q.704 §16.8).

@@ -3,7 +3,7 @@
 ghost use Rattle.std.specs.Prelude.{◌≡◌, ◌≤◌, ◌<◌, ◌+◌, ◌*◌, ◌^◌, ◌/◌, ◌%◌, ◌&&◌, nat_lt, if◌then◌else◌, Some, None};
 ghost use Rattle.timers.specs.declared.name.TimerName.TheVariants.{T8, T10, Slt1, Slt2};
 ghost use Rattle.timers.specs.Timers.{has_name, count_of};
-ghost use Rattle.timers.specs.Places.{named_sets, codes_from, destinations_from, t8_from, t10_from, slt1_from, slt2_from, sst_from, place_of, link_name, code_name, route_name, test_name, name_at};
+ghost use Rattle.timers.specs.Places.{named_sets, codes_from, destinations_from, t8_from, t10_from, slt1_from, slt2_from, place_of, link_name, code_name, route_name, test_name, name_at};
 
 use crate::name::{NodeCounts, TimerName};
 use signalling_types::{Limits, LinkId, SetId};
@@ -52,7 +52,6 @@ pub(crate) fn place_of(counts: NodeCounts, name: TimerName) -> Option<usize>
         }
         TimerName::Slt1(link) => test_place(counts, slt1_from(counts), link),
         TimerName::Slt2(link) => test_place(counts, slt2_from(counts), link),
-        TimerName::Sst => Some(sst_from(counts)),
     }
 }
 
@@ -171,20 +170,12 @@ fn slt2_from(counts: NodeCounts) -> usize
     slt1_from(counts) + usize::from(counts.links)
 }
 
-/// Where the timer of subsystem tests is, the last of all.
-fn sst_from(counts: NodeCounts) -> usize
-    ensures value { result ≡ sst_from counts }
-    ensures fits { result < 2 ^ 36 }
-{
-    slt2_from(counts) + usize::from(counts.links)
-}
-
 /// How many places there are.
 pub(crate) fn count_of(counts: NodeCounts) -> usize
     ensures count { result ≡ count_of counts }
     ensures fits { result < 2 ^ 48 }
 {
-    sst_from(counts) + 1
+    slt2_from(counts) + usize::from(counts.links)
 }
 
 pub(crate) fn name_at(counts: NodeCounts, place: usize) -> TimerName
@@ -217,10 +208,8 @@ fn test_name(counts: NodeCounts, place: usize) -> TimerName
 {
     if place < slt2_from(counts) {
         TimerName::Slt1(LinkId::new((place - slt1_from(counts)) as u8))
-    } else if place < sst_from(counts) {
-        TimerName::Slt2(LinkId::new((place - slt2_from(counts)) as u8))
     } else {
-        TimerName::Sst
+        TimerName::Slt2(LinkId::new((place - slt2_from(counts)) as u8))
     }
 }
 

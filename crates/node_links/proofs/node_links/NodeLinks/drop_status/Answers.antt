@@ -1,10 +1,10 @@
--- The link carries messages as before.
-use Rattle.node_links.proofs.Basics.{◌∙◌, sym, ap, Link, is_in_service}
+-- The link carries traffic as before.
+use Rattle.node_links.proofs.Basics.{◌∙◌, sym, ap, carries_traffic}
 use Rattle.node_links.proofs.Serving.{serving_alike}
 use Rattle.node_links.proofs.node_links.NodeLinks.drop_status.Goals as goal
 
 pub invariant_of-self : goal.invariant_of-self
 invariant_of-self c = record {
   serving = c.self.invariant.serving ∙ sym (serving_alike c.self.inside.states.items c.index.result c.index_mut.result.now c.drop_status.new.self
-      (ap (λ (l : Link). is_in_service l.alignment) c.drop_status.ensures ∙ ap (λ (l : Link). is_in_service l.alignment) c.index_mut.ensures.value));
+      (ap carries_traffic c.drop_status.ensures ∙ ap carries_traffic c.index_mut.ensures.value));
 }

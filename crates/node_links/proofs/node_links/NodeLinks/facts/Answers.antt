@@ -1,4 +1,4 @@
--- The routes know which links are in service.
+-- The routes know which links carry traffic.
 use Rattle.node_links.proofs.Basics.{ap, ◌∙◌, facts_of}
 use Rattle.node_links.proofs.Chosen.{facts_kept}
 use Rattle.node_links.proofs.node_links.NodeLinks.facts.Goals as goal

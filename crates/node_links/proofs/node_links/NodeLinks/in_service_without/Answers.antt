@@ -1,4 +1,4 @@
--- The routes know which links are in service.
+-- The routes know which links carry traffic.
 use Rattle.node_links.proofs.Basics.{ap, ◌∙◌, false, List, Bool, slice_set}
 use Rattle.node_links.specs.NodeLinks.{Network, serving}
 use Rattle.node_links.proofs.node_links.NodeLinks.in_service_without.Goals as goal

@@ -1,4 +1,4 @@
--- A link that is in service is there.
+-- A link that carries traffic is there.
 use Rattle.node_links.proofs.Basics.{ap, ◌∙◌}
 use Rattle.routes.specs.Routes.{Facts, chosen_link}
 use Rattle.node_links.proofs.Chosen.{other_is_there}

@@ -1,4 +1,4 @@
--- The routes know which links are in service, and a link that is in service is there.
+-- The routes know which links carry traffic, and a link that carries traffic is there.
 use Rattle.node_links.proofs.Basics.{ap, ◌∙◌, Facts, chosen_link, facts_of}
 use Rattle.node_links.proofs.Chosen.{facts_kept, answer_is_there}
 use Rattle.node_links.proofs.node_links.NodeLinks.link_of.Goals as goal

@@ -6,4 +6,4 @@ use Rattle.sccp_relay.proofs.prohibited.Prohibited.remove.Goals as goal
 
 pub returns : goal.returns
 returns c = rw (← c.self.view_is)
-    (filter_same _ (λ other. not (is_same c.args.subsystem.now other)) _ (λ x b f' k. search rules) _ _ c.retain.ensures.filtered)
+    (filter_same _ (λ other. not (is_same c.args.subsystem.now other.subsystem)) _ (λ x b f' k. search rules) _ _ c.retain.ensures.filtered)
