@@ -24,7 +24,7 @@ pub use Rattle.exchange.specs.Calls.{asked, asked_each, happened, is_memory_refu
 pub use Rattle.exchange.specs.Carried.{carrying}
 pub use Rattle.exchange.specs.Counting.{behind_number, kept_behind_number}
 pub use Rattle.exchange.specs.Draining.{Fate, GoesTo, IsDropped, anew, drained, fate_on, first_gone, gone, gone_by, lose_first, lose_one, lose_users, onward, onward_by, placed, placed_each, spliced_queues, without_first}
-pub use Rattle.exchange.specs.Entering.{entered, is_first_in, stepped_by}
+pub use Rattle.exchange.specs.Entering.{entered, is_first_in, stepped_by, taken_back_if}
 pub use Rattle.exchange.specs.Head.{with_head, with_holds}
 pub use Rattle.exchange.specs.KeptQueues.{KeptQueues, counts_at, held_lane, kept, lane_of, link_lane, without_lane}
 pub use Rattle.exchange.specs.Pending.{OwesNone, OwesNoneBefore, OwesNoneBetween, OwesNoneBut}
@@ -60,6 +60,7 @@ unfoldable pub use Rattle.exchange_rules.specs.Exchange.{apply}
 pub use Rattle.exchange_rules.specs.Telling.{unsent}
 pub use Rattle.exchange_rules.specs.Routing.{first_network_of}
 pub use Rattle.exchange_rules.specs.State.{State}
+pub use Rattle.exchange_rules.specs.Opening.{opened_by}
 pub use Rattle.exchange_rules.specs.Frames.{act_by}
 unfoldable pub use Rattle.exchange_rules.specs.Telling.{tell_owed}
 pub use Rattle.exchange_rules.specs.declared.wants.Wants.{Wants}
@@ -71,7 +72,7 @@ pub use Rattle.link.specs.Counts.{Counts, counts_of, kept_after_answer, kept_emp
 pub use Rattle.link.specs.Queue.{named_count}
 pub use Rattle.link.specs.declared.alignment.Alignment.TheVariants.{Aligned, AlignedReady, Down, InService, NotAligned, Proving}
 pub use Rattle.node_links.proofs.Serving.{facts_alike}
-pub use Rattle.node_links.specs.NodeLinks.{after_action, Network, facts_of, link_in, serving, with_state, with_route_status}
+pub use Rattle.node_links.specs.NodeLinks.{carries_traffic, after_action, Network, facts_of, link_in, serving, with_state, with_route_status}
 pub use Rattle.route_management.proofs.Listing.{still}
 pub use Rattle.route_management.proofs.Owing.{after_status, none_owed, once, owed_by}
 pub use Rattle.route_management.proofs.Settled.{nothing_is_listed, owes_nothing_from_none}

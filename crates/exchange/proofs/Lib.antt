@@ -2,6 +2,7 @@ pub mod Basics
 pub mod KeptQueues
 pub mod Settling
 pub mod Telling
+pub mod SubsystemTests
 pub mod Rooms
 pub mod Draining
 pub mod Suspending

@@ -1,6 +1,6 @@
 -- What an exchange keeps still has its room, and nothing is owed but what may be pending, as links and what was told
 -- change.
-use Rattle.exchange.proofs.Basics.{◌≡◌, ◌<◌, ◌+◌, ℕ, Bool, true, false, ◌||◌, not, length, replicate, List, refl, ap, sym, subst, ◌∙◌, map, [], ◌∷◌, slice_index_or, if◌then◌else◌, Option, Some, None, length-set, get_or-set_same, RouteStatus, Facts, with_status_over, Link, is_in_service, down_link, Network, facts_of, link_in, with_state, serving, with_route_status, facts_alike, Running, lane_at, Procedure, HoldSet, Codes, FlowChange, with_change, held_by, ToldTable, shape_of, with_told, status_to_advertise, told_shape, State, KeptQueues, held_lane, all_wait, facts, Updates, with_all, with_destination, OwesNoneBut, HasRoom, kept_in, HasHoldsFor, HasCodes, with_hold-fits, Configuration, Inside}
+use Rattle.exchange.proofs.Basics.{◌≡◌, ◌<◌, ◌+◌, ℕ, Bool, true, false, ◌||◌, not, length, replicate, List, refl, ap, sym, subst, ◌∙◌, map, [], ◌∷◌, slice_index_or, if◌then◌else◌, Option, Some, None, length-set, get_or-set_same, RouteStatus, Facts, with_status_over, Link, carries_traffic, down_link, Network, facts_of, link_in, with_state, serving, with_route_status, facts_alike, Running, lane_at, Procedure, HoldSet, Codes, FlowChange, with_change, held_by, ToldTable, shape_of, with_told, status_to_advertise, told_shape, State, KeptQueues, held_lane, all_wait, facts, Updates, with_all, with_destination, OwesNoneBut, HasRoom, kept_in, HasHoldsFor, HasCodes, with_hold-fits, Configuration, Inside}
 use Rattle.exchange.proofs.Pending.{all_may_be, status_owes, told_owes_no_more}
 
 -- nothing is owed but what may be pending
@@ -110,32 +110,32 @@ link_room e n link state pending h same owes =
     (changed_room e (with_state e.links link state) e.told e.timers pending h (length-set e.links.links link state) refl refl refl owes)
 
 -- whatever changes, what was owed nothing is owed nothing
-still : (e : Inside) (link : ℕ) (state : Link) → is_in_service state.alignment ≡ is_in_service (link_in e.links.links link).alignment
+still : (e : Inside) (link : ℕ) (state : Link) → carries_traffic state ≡ carries_traffic (link_in e.links.links link)
     → HasRoom e → Owes e e.pending (facts_of (with_state e.links link state)) e.told
 still e link state serves h = subst (λ (f : Facts). Owes e e.pending f e.told) (sym (facts_alike e.links link state serves)) h.pending
 
--- neither in service before nor now, or both
+-- it carries traffic neither before nor now, or both
 pub still_room : (e : Inside) (n : Network) (link : ℕ) (state : Link) → HasRoom e → n ≡ with_state e.links link state
-    → is_in_service state.alignment ≡ is_in_service (link_in e.links.links link).alignment
+    → carries_traffic state ≡ carries_traffic (link_in e.links.links link)
     → HasRoom (record e { links = n })
 still_room e n link state h same serves = link_room e n link state e.pending h same (still e link state serves h)
 
--- where it was in service and is no more, anything may be pending
-left-by : (e : Inside) (link : ℕ) (state : Link) (served : Bool) → is_in_service (link_in e.links.links link).alignment ≡ served → is_in_service state.alignment ≡ false
+-- where it carried traffic and does no more, anything may be pending
+left-by : (e : Inside) (link : ℕ) (state : Link) (served : Bool) → carries_traffic (link_in e.links.links link) ≡ served → carries_traffic state ≡ false
     → HasRoom e → Owes e (if served then with_all e.pending else e.pending) (facts_of (with_state e.links link state)) e.told
 left-by e link state true was out h = all_may_be (length e.settings.destinations) e.pending (facts_of (with_state e.links link state)) e.told h.pending.marks
 left-by e link state false was out h = still e link state (out ∙ sym was) h
 
 pub left_room : (e : Inside) (n : Network) (link : ℕ) (state : Link) (served : Bool) (pending : Updates) → HasRoom e → n ≡ with_state e.links link state
-    → served ≡ is_in_service (link_in e.links.links link).alignment → is_in_service state.alignment ≡ false
+    → served ≡ carries_traffic (link_in e.links.links link) → carries_traffic state ≡ false
     → pending ≡ (if served then with_all e.pending else e.pending)
     → HasRoom (record e { links = n; pending = pending })
 left_room e n link state served pending h same was out is =
     link_room e n link state pending h same
     (subst (λ (p : Updates). Owes e p (facts_of (with_state e.links link state)) e.told) (sym is) (left-by e link state served (sym was) out h))
 
--- where it entered or left service, anything may be pending
-moved-by : (e : Inside) (link : ℕ) (state : Link) (before now : Bool) → is_in_service (link_in e.links.links link).alignment ≡ before → is_in_service state.alignment ≡ now
+-- where it began or ceased to carry traffic, anything may be pending
+moved-by : (e : Inside) (link : ℕ) (state : Link) (before now : Bool) → carries_traffic (link_in e.links.links link) ≡ before → carries_traffic state ≡ now
     → HasRoom e → Owes e (if (if before then not now else now) then with_all e.pending else e.pending) (facts_of (with_state e.links link state)) e.told
 moved-by e link state true true was is h = still e link state (is ∙ sym was) h
 moved-by e link state true false was is h = all_may_be (length e.settings.destinations) e.pending (facts_of (with_state e.links link state)) e.told h.pending.marks
@@ -144,12 +144,12 @@ moved-by e link state false false was is h = still e link state (is ∙ sym was)
 
 pub moved_room : (e : Inside) (n : Network) (link : ℕ) (state : Link) (before now changed : Bool) (pending : Updates) → HasRoom e
     → n ≡ with_state e.links link state
-    → before ≡ is_in_service (link_in e.links.links link).alignment → now ≡ is_in_service (link_in n.links link).alignment
+    → before ≡ carries_traffic (link_in e.links.links link) → now ≡ carries_traffic (link_in n.links link)
     → changed ≡ (if before then not now else now) → pending ≡ (if changed then with_all e.pending else e.pending) → link < length e.links.links
     → HasRoom (record e { links = n; pending = pending })
 moved_room e n link state before now changed pending h same was is differs may there =
-    let now_is : now ≡ is_in_service state.alignment =
-    is ∙ ap (λ (l : Link). is_in_service l.alignment)
+    let now_is : now ≡ carries_traffic state =
+    is ∙ ap carries_traffic
     (ap (λ (m : Network). link_in m.links link) same ∙ get_or-set_same e.links.links link state down_link there) in
     let whole : pending ≡ (if (if before then not now else now) then with_all e.pending else e.pending) =
     may ∙ ap (λ (b : Bool). if b then with_all e.pending else e.pending) differs in

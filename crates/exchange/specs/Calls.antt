@@ -42,7 +42,7 @@ is_memory_refused outcome = false
 
 -- what an order tells of
 abbrev pub ordered : Order → (lacks_memory : Bool) → Happening
-ordered (Activate link) lacks_memory = Activated link
+ordered (Activate link emergency) lacks_memory = Activated link emergency
 ordered (Deactivate link) lacks_memory = Deactivated link
 ordered (AddTitle row) lacks_memory = TitleAdded row lacks_memory
 ordered (RemoveTitle key digits) lacks_memory = TitleRemoved key digits.items

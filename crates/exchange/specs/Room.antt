@@ -35,8 +35,8 @@ kept_in e = record {
 
 -- Held and each link have their list; each link has its numbers, its state and its changeover; links and sets are those
 -- of the settings. The pool and the notices have their room. For each set it is known what its point was told of each
--- destination. Links, routes, codes, holds and counts have their places. Unless a release is due, each message of Held waits.
--- No adjacent point is owed anything except what may be pending
+-- destination. Links, routes, codes, holds and counts have their places. Unless a release is due, each message of Held
+-- waits. No adjacent point is owed anything except what may be pending
 pub record HasRoom (e : Inside) : Type 0 where
   pub lanes : length e.lanes.lists ≡ length e.links.links + 1
   pub sequences : vec_len e.sequences ≡ length e.links.links

@@ -12,8 +12,14 @@ pub type TitleDigits = ArrayVec<u8, { Limits::TITLE_DIGITS }>;
 /// An operator's order.
 #[derive(Drop)]
 pub enum Order {
-    /// The link may open.
-    Activate(LinkId),
+    /// The link may open. With `emergency` it is proved for the emergency period each time that it opens, until the
+    /// next order about it; that has no effect if the settings have no such period (`l4e`).
+    Activate {
+        /// The link.
+        link: LinkId,
+        /// Whether emergency proving is asked for.
+        emergency: bool,
+    },
     /// The link fails unless it is down, and can't open until it is activated.
     Deactivate(LinkId),
     /// The translation row is added.

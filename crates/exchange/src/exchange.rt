@@ -34,6 +34,7 @@ mod rerouting;
 mod runs;
 mod sending;
 mod statuses;
+mod subsystems;
 mod suspending;
 mod telling;
 mod ticking;
@@ -199,7 +200,7 @@ impl Exchange {
             Event::Frame(link, octets) => self.receive(*link, octets),
             Event::Tick => self.tick(),
             Event::Submit(message) => self.submit(*message),
-            Event::Order(Order::Activate(link)) => self.activate(*link),
+            Event::Order(Order::Activate { link, emergency }) => self.activate(*link, *emergency),
             Event::Order(Order::Deactivate(link)) => self.deactivate(*link),
             Event::Order(Order::AddTitle(row)) => self.add_title(*row),
             Event::Order(Order::RemoveTitle(key, digits)) => self.remove_title(

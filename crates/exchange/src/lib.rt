@@ -18,7 +18,7 @@ pub use m2pa_codec::{BUFFER_OCTETS, Frame, Framer, Next, decode};
 pub use memory::NoMemory;
 pub use mtp3_codec::Label;
 pub use routes::RouteStatus;
-pub use sccp_relay::{Subsystem, TitleKey, Titles};
+pub use sccp_relay::{ProhibitedSubsystem, Subsystem, TitleKey, Titles};
 pub use settings::{
     Cause, ChangeDraft, ChangeoverTimer, DestinationDraft, Draft, DraftFault, FailureReason,
     FaultKind, FrameFault, Key, LateTimer, Limits, LinkDraft, LinkId, Msu, MsuRef, Notice, Outcome,

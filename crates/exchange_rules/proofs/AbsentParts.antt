@@ -4,8 +4,7 @@ use Rattle.exchange_rules.proofs.Definitions.{Done, Message, flow_of, is_managem
 use Rattle.signalling_types.specs.declared.cause.Cause.TheVariants as causes
 use Rattle.settings_rows.specs.Configuration.{DestinationEntry}
 use Rattle.mtp3_codec.proofs.Reading.{its-label, message-back}
-use Rattle.exchange_rules.specs.LawsOfUserParts.{lacks_part, count_from, is_sender_told, lacking_is_refused, told_by_one, else_counted, else_untouched, counts_modulo_eight, upu_reads_back, parts_get_their_messages, silent, others_go_the_same, submissions_tell_nobody, none_is_counted_at_first, takes_count_none}
-use Rattle.signalling_types.specs.declared.outcome.Outcome.{Outcome}
+use Rattle.exchange_rules.specs.LawsOfUserParts.{lacks_part, count_from, is_sender_told, lacking_is_refused, told_by_one, else_counted, else_untouched, counts_modulo_eight, upu_reads_back, parts_get_their_messages, silent, others_go_the_same, submissions_tell_nobody, submissions_are_their_parts, none_is_counted_at_first, takes_count_none}
 use Rattle.signalling_types.specs.declared.outcome.Outcome.TheVariants.{Refused}
 use Rattle.exchange_rules.specs.Sending.{Outgoing, SendsStatus, SendsMessage, Acknowledges, SendsNothing, goes_out, after_sending}
 
@@ -154,7 +153,10 @@ the-same c link m n e f =
     user e f = ap (λ (b : Bool). not b && not (nat_eq (service_indicator m) sccp || is_user c (service_indicator m))) (sym e) ∙ f
 
 pub nobody : submissions_tell_nobody
-nobody c m n e =
+nobody c m n = refl
+
+pub as-given : submissions_are_their_parts
+as-given c m n e =
     but-sccp c 0 m n (nat_eq (service_indicator m) sccp) (if is_user c (service_indicator m) then answer Local n else refuse causes.NoUserPart n) e
 
 pub refused : lacking_is_refused

@@ -1,6 +1,6 @@
 -- A link that returns leaves Held as it is, and holds flows beside those that were held: what waited still waits.
 use Rattle.exchange_rules.proofs.Basics.{◌≡◌, ℕ, zero, suc, Bool, true, false, ◌&&◌, not, List, [], ◌∷◌, length, Option, Some, None, refl, ap, ◌∙◌, if◌then◌else◌, and_from as pair}
-use Rattle.exchange_rules.proofs.Definitions.{take_step, test_if, queue_if, send_test, awaiting_test, link_test, tests_links, no_room, in_service, Cause, Message, flow_of, is_management, Configuration, destination_place, Transition, Facts, HoldSet, is_held, Parts, Node, with_parts, WholeQueues, whole, facts, is_held_at, is_flow_held, waits, all_wait, loses_flows, code_for, declare_by, hold_flows, take_back_each, change_back, has_other, enters, begun_anew_if, moved_on, return_if, advance, step_on}
+use Rattle.exchange_rules.proofs.Definitions.{enters_traffic, take_step, test_if, queue_if, send_test, awaiting_test, link_test, tests_links, no_room, in_service, Cause, Message, flow_of, is_management, Configuration, destination_place, Transition, Facts, HoldSet, is_held, Parts, Node, with_parts, WholeQueues, whole, facts, is_held_at, is_flow_held, waits, all_wait, loses_flows, code_for, declare_by, hold_flows, take_back_each, change_back, has_other, enters, begun_anew_if, moved_on, return_if, advance, step_on}
 use Rattle.exchange_rules.proofs.TakenPairs.{flows_stay_held}
 
 -- ---- holds are added
@@ -95,5 +95,5 @@ module _ (c : Configuration) where
       → all_wait c (advance whole c link step n).parts.holds (advance whole c link step n).queues.held ≡ true
   advance-waits link step n w =
       tested-waits (enters link step n.parts) link (take_step whole c link step n) (
-      return_if-waits (enters link step n.parts) link (facts c n.parts) (with_parts n (moved_on c link step n.parts))
-      (anew-waits (enters link step n.parts && not (has_other c link n.parts)) link (step_on c link step n.parts) n.queues.held w))
+      return_if-waits (enters_traffic link step n.parts) link (facts c n.parts) (with_parts n (moved_on c link step n.parts))
+      (anew-waits (enters_traffic link step n.parts && not (has_other c link n.parts)) link (step_on c link step n.parts) n.queues.held w))

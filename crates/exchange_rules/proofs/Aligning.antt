@@ -260,8 +260,8 @@ module _ (l : ℕ) where
       timed = λ r n e k. alike n _ (record { links = refl; counts = e.timed.counts; timers = e.links });
       rerouted = λ routes n e k. same n _ refl refl;
       told = λ t n e. same n _ refl refl;
-      titled = λ rows n. same n _ refl refl;
-      unequipped = λ counts n e. same n _ refl refl;
+      titled = λ rows n may. same n _ refl refl;
+      unequipped = λ counts n e may. same n _ refl refl;
       linked = λ link x n e o.
           on-link link x n _ (is-set n.parts.links link x down_link) (same-for link n.parts.timers) (λ h. waits-linked link (link_at n.parts link) x n.parts.timers e.alignment e.association e.busy h.waits);
       parted = λ link n e.
@@ -272,6 +272,7 @@ module _ (l : ℕ) where
       stepped = λ link input step n own e k.
           on-link link _ n _ (is-set n.parts.links link _ down_link) (timed-for link c step n.parts.timers)
           (λ h. waits-stepped link c (link_at n.parts link) n.parts.timers input step h.named e h.waits);
+      passed = λ link n e k. on-link link _ n _ (is-set n.parts.links link _ down_link) (same-for link n.parts.timers) (λ h. waits-linked link (link_at n.parts link) _ n.parts.timers refl refl refl h.waits);
       busied = λ link n own e f.
           on-link link _ n _ (is-set n.parts.links link _ down_link) (timed_busy-for link c n.parts.timers) (λ h. waits-busied link c (link_at n.parts link) n.parts.timers h.named e h.waits);
       resumed = λ link n own e f o.

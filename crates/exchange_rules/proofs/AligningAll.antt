@@ -1,6 +1,6 @@
 -- Through ticks, too: a timer that runs out takes its link out of the state in which it runs.
 use Rattle.exchange_rules.proofs.Basics.{◌≡◌, ◌≢◌, ◌<◌, ◌≤◌, ℕ, Bool, true, false, ◌&&◌, not, nat_lt, length, Option, Some, None, refl, ap, sym, subst, ◌∙◌, arith, ⊎_elim, cases_eq, cases_lt, is_some, nat_tests, get_or_past, length-replicate}
-use Rattle.exchange_rules.proofs.Definitions.{Period, paced, Configuration, Alignment, Action, Expiry, Fail, Go, Transition, action_at, is_in_service, LinkTimer, TimerName, NodeCounts, Running, one_less, due_name, after_due, after-clear, after-none, due-left, counts-clear, left-clear_other, left-clear, left-ticked, left-none, clear_timer, timer_name, timed, with_timer_if, enters, has_other, begun_anew_if, return_if, advance, act_by_timer, run_out, links_with, stepped, Link, down_link, Node, with_parts, link_at, in_service, facts, with_timers, run_timer, run_due, first_state, counts_in, after_each, HasAllPlaces, WholeQueues, whole, test_if}
+use Rattle.exchange_rules.proofs.Definitions.{enters_traffic, Period, paced, Configuration, Alignment, Action, Expiry, Fail, Go, Transition, action_at, is_in_service, LinkTimer, TimerName, NodeCounts, Running, one_less, due_name, after_due, after-clear, after-none, due-left, counts-clear, left-clear_other, left-clear, left-ticked, left-none, clear_timer, timer_name, timed, with_timer_if, enters, has_other, begun_anew_if, return_if, advance, act_by_timer, run_out, links_with, stepped, Link, down_link, Node, with_parts, link_at, in_service, facts, with_timers, run_timer, run_due, first_state, counts_in, after_each, HasAllPlaces, WholeQueues, whole, test_if}
 use Rattle.timers.specs.OneMap.{one_map}
 use Rattle.timers.specs.declared.name.TimerName.TheVariants as name
 use Rattle.link.specs.declared.action.LinkTimer.TheVariants as timer
@@ -86,8 +86,8 @@ module _ (c : Configuration) (l : ℕ) where
       goes_on : Running → Node WholeQueues
       goes_on r =
           test_if whole c (enters l step n.parts) l
-          (return_if whole c (enters l step n.parts) l (facts c n.parts)
-          (with_parts n (begun_anew_if (enters l step n.parts && not (has_other c l n.parts)) c l
+          (return_if whole c (enters_traffic l step n.parts) l (facts c n.parts)
+          (with_parts n (begun_anew_if (enters_traffic l step n.parts && not (has_other c l n.parts)) c l
           (record n.parts { links = links_with n.parts l (stepped step (link_at n.parts l)); timers = r }))))
 
       same : (stop : Option LinkTimer) → stop ≡ Some timer.L4
@@ -177,7 +177,6 @@ module _ (c : Configuration) (l : ℕ) where
   runs_out-keeps (name.T10 set destination) n e = no-link (name.T10 set destination) n refl
   runs_out-keeps (name.Slt1 link) n e = no-link (name.Slt1 link) n refl
   runs_out-keeps (name.Slt2 link) n e = no-link (name.Slt2 link) n refl
-  runs_out-keeps name.Sst n e = no-link name.Sst n refl
 
   due-keeps : (due : Option TimerName) (n : Node WholeQueues) → due_name n.parts.timers ≡ due → Keeps l n (run_due whole c due (with_timers n (after_due n.parts.timers)))
   due-keeps None n e = alike l n _ (same-alike n _ refl (after-none n.parts.timers e))

@@ -1,18 +1,23 @@
 -- What an event may do, and what it does by this alone: a relation that holds of each rule, given what that event may
 -- do, and of each change of timers, holds between the node before it and the node after.
 use Rattle.exchange_rules.proofs.Basics.{◌≡◌, ◌⊎◌, inl, inr, refl, ◌∙◌, Ok, ℕ, zero, suc, true, ap, subst}
-use Rattle.exchange_rules.proofs.Definitions.{Configuration, LinkStatus, StatusFrame, TimerName, Running, is_due, ticked, after_due, due_name, due_count, due-left, no_tick_left, Node, with_timers, run_next, run_times, tick, Happening, CameUp, Ticked, WholeQueues, whole, apply, Abstract}
+use Rattle.exchange_rules.proofs.Definitions.{Configuration, LinkStatus, StatusFrame, TimerName, Running, is_due, ticked, after_due, due_name, due_count, due-left, no_tick_left, Node, with_timers, run_next, run_times, tick, Happening, CameUp, Ticked, WholeQueues, whole, apply, Abstract, run_all, subsystems_ticked}
 use Rattle.exchange_rules.specs.LawsOfCauses.{EndsByWord, EndsByTimer, EndsByRecovery, MayFail}
+use Rattle.exchange_rules.specs.LawsOfUserParts.{brings_lacking}
+use Rattle.exchange_rules.specs.LawsOfSubsystems.{changes_titles}
 use Rattle.m2pa_codec.specs.declared.status.LinkStatus.TheVariants.{ProcessorRecovered}
 use Rattle.exchange_rules.proofs.Asked.{any}
 use Rattle.exchange_rules.proofs.Outages.{recovery-is, recovers-says, recovery-out}
 use Rattle.exchange_rules.proofs.DueTimers.{next-dues}
-use Rattle.exchange_rules.proofs.Steps.{Deed, LinkOpens, LinkFails, HoldsEnd, IsOfDeeds}
+use Rattle.exchange_rules.proofs.Steps.{Deed, LinkOpens, LinkFails, HoldsEnd, Lacking, IsOfDeeds, TitlesChange, SetReturns}
 use Rattle.exchange_rules.proofs.SteppingEvents.{AllowsTimer, AllowsEvent, run_due-deeds, apply-deeds}
 
 abbrev pub Cause : Happening → Abstract → Deed → Type 0
 Cause what a (LinkOpens link) = what ≡ CameUp link
+Cause what a (SetReturns set) = Unit {0}
 Cause what a (LinkFails link why) = MayFail why link what a
+Cause what a Lacking = brings_lacking what a ≡ true
+Cause what a TitlesChange = changes_titles what a ≡ true
 Cause what a (HoldsEnd procedure) = EndsByWord procedure what a ⊎ (EndsByTimer procedure what a ⊎ EndsByRecovery procedure what a)
 
 allows-event : (what : Happening) (c : Configuration) (n : Node WholeQueues) → AllowsEvent c (Cause what (record { settings = c; node = n })) what n
@@ -23,6 +28,7 @@ allows-event what c n = record {
   frame = λ link text e. record {
     wrong = λ f. (text, e, f);
     length = λ f. (text, e, f);
+    returns = tt;
     status = λ bsn fsn status f. record {
       fails = λ none g. (status, record { text = text; bsn = bsn; fsn = fsn; came = e; reads = f }, none, g);
       recovers = λ g.
@@ -36,20 +42,22 @@ allows-event what c n = record {
     };
   };
   words = λ word e. record { ends = λ procedure f. inl (record { word = word; heard = e; ends = f }); fails = λ link f. (word, e, f) };
+  lacking = λ e. e;
+  titles = λ e. e;
 }
 
 allows-timer : (what : Happening) (c : Configuration) (n : Node WholeQueues) → what ≡ Ticked → (timer : TimerName) → is_due (ticked n.parts.timers) timer ≡ true
     → AllowsTimer (Cause what (record { settings = c; node = n })) timer
 allows-timer what c n is timer due = record {
   ends = λ procedure e. inr (inl (record { timer = timer; runs_out = (is, due); ends = e }));
-  fails = λ link its e. (its, (is, subst (λ (x : TimerName). is_due (ticked n.parts.timers) x ≡ true) e due));
+  fails = λ link its e f. (its, f, (is, subst (λ (x : TimerName). is_due (ticked n.parts.timers) x ≡ true) e due));
   tests = λ link e. (is, subst (λ (x : TimerName). is_due (ticked n.parts.timers) x ≡ true) e due);
 }
 
 module _ {c : Configuration} {May : Deed → Type 0} {R : Node WholeQueues → Node WholeQueues → Type 0} (s : IsOfDeeds c any any May R)
     (timers : (r : Running) (n : Node WholeQueues) → R n (with_timers n r)) where
   -- of a tick that began with these timers due: none becomes due in the midst of it
-  times-deeds : (r : Running) (many : ℕ) (n : Node WholeQueues) → ((its : TimerName) → is_due n.parts.timers its ≡ true → is_due r its ≡ true)
+  pub times-deeds : (r : Running) (many : ℕ) (n : Node WholeQueues) → ((its : TimerName) → is_due n.parts.timers its ≡ true → is_due r its ≡ true)
       → ((its : TimerName) → is_due r its ≡ true → AllowsTimer May its) → R n (run_times whole c many n)
   times-deeds r zero n dues may = s.sends.none n
   times-deeds r (suc more) n dues may =
@@ -59,12 +67,15 @@ module _ {c : Configuration} {May : Deed → Type 0} {R : Node WholeQueues → N
       (λ its e. may its (dues its (ap no_tick_left (due-left its n.parts.timers e))))))
       (times-deeds r more (run_next whole c n) (λ its e. dues its (next-dues c n its e)) may)
 
-  tick-deeds : (n : Node WholeQueues) → ((its : TimerName) → is_due (ticked n.parts.timers) its ≡ true → AllowsTimer May its) → R n (tick whole c n).left
-  tick-deeds n may =
-      s.sends.both _ _ _ (timers (ticked n.parts.timers) n)
-      (times-deeds (ticked n.parts.timers) (due_count (ticked n.parts.timers)) (with_timers n (ticked n.parts.timers)) (λ its e. e) may)
+  tick-deeds : (n : Node WholeQueues) → ((its : TimerName) → is_due (ticked n.parts.timers) its ≡ true → AllowsTimer May its) → May TitlesChange → R n (tick whole c n).left
+  tick-deeds n may changes =
+      let ran : Node WholeQueues = run_all whole c (with_timers n (ticked n.parts.timers)) in
+      s.sends.both _ _ _
+      (s.sends.both _ _ _ (timers (ticked n.parts.timers) n)
+      (times-deeds (ticked n.parts.timers) (due_count (ticked n.parts.timers)) (with_timers n (ticked n.parts.timers)) (λ its e. e) may))
+      (s.titled (subsystems_ticked c ran.parts).titles ran changes)
 
 pub event-deeds : (what : Happening) (c : Configuration) (n : Node WholeQueues) (R : Node WholeQueues → Node WholeQueues → Type 0)
     → IsOfDeeds c any any (Cause what (record { settings = c; node = n })) R → ((r : Running) (m : Node WholeQueues) → R m (with_timers m r)) → R n (apply whole c what n).left
 event-deeds what c n R s timers =
-    apply-deeds s what n (λ link own. tt) (λ link own. tt) (allows-event what c n) (λ is. tick-deeds s timers n (allows-timer what c n is))
+    apply-deeds s what n (λ link own. tt) (λ link own. tt) (allows-event what c n) (λ is. tick-deeds s timers n (allows-timer what c n is) (ap (λ (w : Happening). changes_titles w (record { settings = c; node = n })) is))

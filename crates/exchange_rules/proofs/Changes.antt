@@ -1,6 +1,6 @@
 -- Rules that make only management, or change no queue: there are as many user messages after each as before.
 use Rattle.exchange_rules.proofs.Basics.{Bool, Err, List, None, Ok, Option, Result, Some, [], false, length, nat_lt, not, refl, suc, true, zero, ℕ, ◌&&◌, ◌∙◌, ◌∷◌, ◌≡◌, if◌then◌else◌}
-use Rattle.exchange_rules.proofs.Definitions.{is_outstanding, managements_of, acts_on, Action, Expiry, Status, LinkTimer, Transition, Queue, appended, LinkStatus, LinkTestValue, MgmtFault, TestKind, Acknowledgement, Test, Management, ChangebackDeclaration, ExtendedChangeoverOrder, RouteSetTestProhibited, RouteSetTestRestricted, Owed, owed, Heard, RouteTest, Facts, status_of, RouteStatus, Allowed, Prohibited, Restricted, Configuration, Message, flow_of, is_management, Cause, FailureReason, FrameFault, Outcome, Handled, Ignored, code_for, code_in_use, declaration, freed, hold_flows, loses_flows, on_changeback_acknowledgement, take_back_each, fail_by_order, send_each, standing, begin, begin_by_peer, change_over, changing, fail, fail_by_peer, has_other, make_unavailable, leave_aside, down, in_service, is_link, link_at, do_kind, do_test, test_answer, management_to, send, send_anew, send_routed, activate, association_down, deactivate, end_association, fail_if_up, set_active, adjacent_of, entry_of, peer_of, point_of, set_of, no_room, queue_on, WholeQueues, queue_at, whole, apply_route_status, ask_again, ask_by, on_route_status, with_next_test, facts, link_of, Done, Node, answer, refuse, with_parts, act_by_status, act_by_timer, advance, enters, moved_on, on_link_status, return_if, run_out, serve_status, answer_no_route, answered_parts, inhibited, is_inhibited, may_tell, on_route_test, prohibit, send_route_status, tell_each, tell_if, tell_owed, telling, told_parts, answer_no_user_part, is_unequipped_told, tell_unavailable, unavailable, unequipped_counted, UserPartUnavailable, Unequipped, opc_of, service_indicator, tells_outage, tells_recovery, begin_outage, hear_outage, end_outage, take_step, test_if, queue_if, send_test, begin_test, repeat_test, test_unanswered, with_test_failed, awaiting_test, link_test, tests_links, passes_test, test_passed}
+use Rattle.exchange_rules.proofs.Definitions.{enters_traffic, is_first_test, pass_test, begun_anew, is_outstanding, managements_of, acts_on, Action, Expiry, Status, LinkTimer, Transition, Queue, appended, LinkStatus, LinkTestValue, MgmtFault, TestKind, Acknowledgement, Test, Management, ChangebackDeclaration, ExtendedChangeoverOrder, RouteSetTestProhibited, RouteSetTestRestricted, Owed, owed, Heard, RouteTest, Facts, status_of, RouteStatus, Allowed, Prohibited, Restricted, Configuration, Message, flow_of, is_management, Cause, FailureReason, FrameFault, Outcome, Handled, Ignored, code_for, code_in_use, declaration, freed, hold_flows, loses_flows, on_changeback_acknowledgement, take_back_each, fail_by_order, send_each, standing, begin, begin_by_peer, change_over, changing, fail, fail_by_peer, has_other, make_unavailable, leave_aside, down, in_service, is_link, link_at, do_kind, do_test, test_answer, management_to, send, send_anew, send_routed, activate, association_down, deactivate, end_association, fail_if_up, set_active, adjacent_of, entry_of, peer_of, point_of, set_of, no_room, queue_on, WholeQueues, queue_at, whole, apply_route_status, ask_again, ask_by, on_route_status, with_next_test, facts, link_of, Done, Node, answer, refuse, with_parts, act_by_status, act_by_timer, advance, enters, moved_on, on_link_status, return_if, run_out, serve_status, answer_no_route, answered_parts, inhibited, is_inhibited, may_tell, on_route_test, prohibit, send_route_status, tell_each, tell_if, tell_owed, telling, told_parts, answer_no_user_part, is_unequipped_told, tell_unavailable, unavailable, unequipped_counted, UserPartUnavailable, Unequipped, opc_of, service_indicator, tells_outage, tells_recovery, begin_outage, hear_outage, end_outage, take_step, test_if, queue_if, send_test, begin_test, repeat_test, test_unanswered, with_test_failed, awaiting_test, link_test, tests_links, passes_test, test_passed}
 use Rattle.exchange_rules.proofs.OwnManagement.{made-management, answer-management, test-management}
 use Rattle.exchange_rules.proofs.Tallies.{no-user-behind, queue-same}
 use Rattle.link.specs.declared.action.Action.TheVariants as act
@@ -166,12 +166,12 @@ module _ (of : Message → Bool) (c : Configuration) where
       either_done-stand (is_link n.parts link) (if (link_at n.parts link).association then ended else answer Ignored n) (refuse causes.NoSuchName n) (stands of n)
       (either_done-stand (link_at n.parts link).association ended (answer Ignored n) (stands of n) (fail_if_up-stand link reasons.Association n) refl) refl
 
-  pub activate-stand : (link : ℕ) (n : Node WholeQueues) → stands of (activate whole c link n).left ≡ stands of n
-  activate-stand link n = either_done-stand (is_link n.parts link) (answer Handled (set_active whole c true link n)) (refuse causes.NoSuchName n) (stands of n) refl refl
+  pub activate-stand : (emergency : Bool) (link : ℕ) (n : Node WholeQueues) → stands of (activate whole c emergency link n).left ≡ stands of n
+  activate-stand emergency link n = either_done-stand (is_link n.parts link) (answer Handled (set_active whole c true emergency link n)) (refuse causes.NoSuchName n) (stands of n) refl refl
 
   pub deactivate-stand : (link : ℕ) (n : Node WholeQueues) → stands of (deactivate whole c link n).left ≡ stands of n
   deactivate-stand link n =
-      either_done-stand (is_link n.parts link) (answer Handled (set_active whole c false link (fail_if_up whole c link reasons.Operator n))) (refuse causes.NoSuchName n) (stands of n)
+      either_done-stand (is_link n.parts link) (answer Handled (set_active whole c false false link (fail_if_up whole c link reasons.Operator n))) (refuse causes.NoSuchName n) (stands of n)
       (fail_if_up-stand link reasons.Operator n) refl
 
   -- ---- links return
@@ -223,7 +223,7 @@ module _ (of : Message → Bool) (c : Configuration) where
   pub advance-stand : (link : ℕ) (step : Transition) (n : Node WholeQueues) → stands of (advance whole c link step n) ≡ stands of n
   advance-stand link step n =
       test_if-stand (enters link step n.parts) link (take_step whole c link step n)
-      ∙ return-stand (enters link step n.parts) link (facts c n.parts) (with_parts n (moved_on c link step n.parts))
+      ∙ return-stand (enters_traffic link step n.parts) link (facts c n.parts) (with_parts n (moved_on c link step n.parts))
 
   -- ---- statuses and timers of links
 
@@ -280,7 +280,8 @@ module _ (of : Message → Bool) (c : Configuration) where
       let m : Message = test_answer c point test in
       send-stand (no_room whole c m n.queues) (Some link) m n (answer-management c point test)
   do_kind-stand Acknowledgement link point test n =
-      either_done-stand (passes_test c link point test n.parts) (answer Handled (with_parts n (test_passed c link n.parts))) (answer Ignored n) (stands of n) refl refl
+      either_done-stand (passes_test c link point test n.parts) (answer Handled (pass_test whole c link n)) (answer Ignored n) (stands of n)
+      (return-stand (is_first_test link n.parts) link (facts c n.parts) (with_parts n (begun_anew (is_first_test link n.parts) c link n.parts (test_passed c link n.parts)))) refl
 
   pub do_test-stand : (r : Result LinkTestValue MgmtFault) (link point : ℕ) (n : Node WholeQueues) → stands of (do_test whole c r link point n).left ≡ stands of n
   do_test-stand (Err fault) link point n = refl

@@ -207,7 +207,7 @@ module _ (of : Message → Bool) (a : Abstract) where
   rule-moves (Submitted m) f h =
       let d : Done WholeQueues = submit whole set m was in
       came-alone of set (stands of was) (stands of d.left) (users_that of (brought_to (whither_goes set m) d.outcome set m was)) (submit-brings of set m was f)
-  rule-moves (Activated link) f h = quiet (activate-stand of set link was)
+  rule-moves (Activated link emergency) f h = quiet (activate-stand of set emergency link was)
   rule-moves (Deactivated link) f h = quiet (deactivate-stand of set link was)
   rule-moves (TitleAdded row refused) f h = quiet (titled-stand (title_refusal was.parts.titles.rows row refused) row)
   rule-moves (TitleRemoved key digits) f h =

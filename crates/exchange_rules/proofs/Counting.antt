@@ -120,10 +120,11 @@ makes-steps c = record {
   dropped = λ link why n e. record { made = notices.Failed link why ∷ []; by = refl };
   completed = λ link number st n e f. same-makes n _ refl;
   answered = λ link st n e f w. same-makes n _ refl;
-  linked = λ link x n e. same-makes n _ refl;
+  linked = λ link x n e o. same-makes n _ refl;
   parted = λ link n e. same-makes n _ refl;
   opened = λ link n own e f g. same-makes n _ refl;
   stepped = λ link input step n own e. same-makes n _ refl;
+  passed = λ link n e. same-makes n _ refl;
   busied = λ link n own e f. same-makes n _ refl;
   resumed = λ link n own e f. same-makes n _ refl;
   accepted = λ link d confirmed n own e f. same-makes n _ refl;

@@ -141,7 +141,6 @@ module _ (of : Message → Bool) (c : Configuration) where
   timer-lets (Some (name.T10 set destination)) n f = none-let (ask_again-stand of c set destination n)
   timer-lets (Some (name.Slt1 link)) n f = none-let (test_unanswered-stand of c link n)
   timer-lets (Some (name.Slt2 link)) n f = none-let (begin_test-stand of c link n)
-  timer-lets (Some name.Sst) n f = none-more (stands of n)
 
   later-let : (n m o g h b : ℕ) → n ≡ m + g → m ≡ o + h → b ≡ g + h → n ≡ o + b
   later-let n m o g h b e f i = omega (arith, e, f, i)

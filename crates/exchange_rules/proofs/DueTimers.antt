@@ -45,10 +45,11 @@ dues-steps c = record {
   dropped = λ link why n e. (let t = without_timers-for link n.parts.timers in record { counts = t.counts; due = t.due });
   completed = λ link number st n e f. same-dues n _ refl;
   answered = λ link st n e f w. same-dues n _ refl;
-  linked = λ link x n e. same-dues n _ refl;
+  linked = λ link x n e o. same-dues n _ refl;
   parted = λ link n e. same-dues n _ refl;
   opened = λ link n own there e f. (let t = timed-for link c (opening (period_of c link n.parts)) n.parts.timers in record { counts = t.counts; due = t.due });
   stepped = λ link input step n own e. (let t = timed-for link c step n.parts.timers in record { counts = t.counts; due = t.due });
+  passed = λ link n e. same-dues n _ refl;
   busied = λ link n own e f. (let t = timed_busy-for link c n.parts.timers in record { counts = t.counts; due = t.due });
   resumed = λ link n own e f. (let t = timed_busy_ended-for link c (whole.outstanding n.queues link) n.parts.timers in record { counts = t.counts; due = t.due });
   accepted = λ link d confirmed n own e f.

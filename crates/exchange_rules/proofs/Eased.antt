@@ -21,7 +21,6 @@ is_waited_for (name.L2 link) = false
 is_waited_for (name.L3 link) = false
 is_waited_for (name.T8 set destination) = false
 is_waited_for (name.T10 set destination) = false
-is_waited_for name.Sst = false
 is_waited_for _ = true
 
 pub link-waited : (timer : TimerName) → takes_links timer ≡ true → is_waited_for timer ≡ true
@@ -40,7 +39,6 @@ link-waited (name.T8 set destination) e = absurd cc
 link-waited (name.T10 set destination) e = absurd cc
 link-waited (name.Slt1 link) e = absurd cc
 link-waited (name.Slt2 link) e = absurd cc
-link-waited name.Sst e = absurd cc
 
 pub moved-waited : (timer : TimerName) → moves_links timer ≡ true → is_waited_for timer ≡ true
 moved-waited (name.L4 link) e = refl
@@ -58,7 +56,6 @@ moved-waited (name.T8 set destination) e = absurd cc
 moved-waited (name.T10 set destination) e = absurd cc
 moved-waited (name.Slt1 link) e = refl
 moved-waited (name.Slt2 link) e = refl
-moved-waited name.Sst e = absurd cc
 
 -- none of these is set
 abbrev pub Less : (r s : Running) → Type 0
@@ -266,4 +263,3 @@ module _ (c : Configuration) where
   ran-eased (name.T10 set destination) n e = asks-eased (nat_lt set (length c.sets) && nat_lt destination (length c.destinations)) set destination n
   ran-eased (name.Slt1 link) n e = absurd cc
   ran-eased (name.Slt2 link) n e = absurd cc
-  ran-eased name.Sst n e = eased-none n

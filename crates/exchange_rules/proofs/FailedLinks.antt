@@ -1,6 +1,6 @@
 -- Each link that goes down is named as failed, and none is named without a cause.
 use Rattle.exchange_rules.proofs.Basics.{◌≡◌, ◌≢◌, ◌<◌, ◌≤◌, ◌⊎◌, inl, inr, ℕ, Bool, true, false, List, [], ◌∷◌, ◌++◌, length, Option, Some, None, refl, ap, sym, ◌∙◌, subst, arith, ⊎_elim, cases_eq, cases_lt, get_or_past, get_or-set_same, get_or-set_other, if◌then◌else◌, length-set, count_by}
-use Rattle.exchange_rules.proofs.Definitions.{period_of, Period, Configuration, Message, flow_of, LostUnconfirmed, Notice, note, noted_all, FailureReason, ChangeoverTimer, Input, Go, Transition, action_at, Alignment, state_number, Link, down_link, is_down, stepped, opened, after_failure, Facts, completed, Parts, Node, with_parts, link_at, links_with, in_service, is_link, down, has_other, set_of, suspended, Found, fail_link, make_unavailable, change_over, begin, changing, changeover_order, begin_by_peer, fail, fail_by_peer, fail_by_order, complete_if, concluded, lose, lose_each, judged, complete_by_order, on_changeover_order, on_changeover_acknowledgement, on_changeover_timer, changeover_acknowledgement, changeover_of, with_changeover, with_changeover_acknowledged, with_expiry, without_tests, answer, Handled, Ignored, hold_flows, held_by_rerouting, WholeQueues, whole, apply, Happening, CameUp, FrameCame, Ticked, Abstract}
+use Rattle.exchange_rules.proofs.Definitions.{period_of, Period, Configuration, Message, flow_of, LostUnconfirmed, Notice, note, noted_all, FailureReason, ChangeoverTimer, Input, Go, Transition, action_at, Alignment, state_number, Link, down_link, is_down, stepped, opened_by, after_failure, Facts, completed, Parts, Node, with_parts, link_at, links_with, in_service, is_link, down, has_other, set_of, suspended, Found, fail_link, make_unavailable, change_over, begin, changing, changeover_order, begin_by_peer, fail, fail_by_peer, fail_by_order, complete_if, concluded, lose, lose_each, judged, complete_by_order, on_changeover_order, on_changeover_acknowledgement, on_changeover_timer, changeover_acknowledgement, changeover_of, with_changeover, with_changeover_acknowledged, with_expiry, without_tests, answer, Handled, Ignored, hold_flows, held_by_rerouting, WholeQueues, whole, apply, Happening, CameUp, FrameCame, Ticked, Abstract}
 use Rattle.std.specs.Prelude.{Contains}
 use Rattle.std.proofs.lemmas.List.Elements.{Contains-append_left, Contains-append_right, Contains-append_cases, Contains-push, Contains-push_cases}
 use Rattle.link.specs.declared.alignment.Alignment.TheVariants.{Down, NotAligned, Aligned, Proving, AlignedReady, InService}
@@ -364,12 +364,13 @@ module _ (May : Deed → Type 0) where
       timed = λ r n e k. same n _ refl refl;
       rerouted = λ routes n e k. same n _ refl refl;
       told = λ t n e. same n _ refl refl;
-      titled = λ rows n. same n _ refl refl;
-      unequipped = λ counts n e. same n _ refl refl;
+      titled = λ rows n may. same n _ refl refl;
+      unequipped = λ counts n e may. same n _ refl refl;
       linked = λ link x n e o. alike link x n _ refl refl (ap is_down e.alignment);
       parted = λ link n e. alike link _ n _ refl refl refl;
-      opened = λ link n own there e f may. opening link (opened (period_of c link n.parts) (link_at n.parts link)) n _ refl refl refl may;
+      opened = λ link n own there e f may. opening link (opened_by c (period_of c link n.parts) (link_at n.parts link)) n _ refl refl refl may;
       stepped = λ link input step n own e k. alike link (stepped step (link_at n.parts link)) n _ refl refl (stepped-up (link_at n.parts link).period (link_at n.parts link).alignment input step e ∙ sym (goes-up (link_at n.parts link).period (link_at n.parts link).alignment input step e));
+      passed = λ link n e k. alike link _ n _ refl refl refl;
       busied = λ link n own e f. alike link _ n _ refl refl refl;
       resumed = λ link n own e f o. alike link _ n _ refl refl refl;
       accepted = λ link d confirmed n own e f. same n _ refl refl;
@@ -392,7 +393,7 @@ no-failure what a its link why is h = by why (subst (λ (w : Happening). MayFail
   where
     by : (w : FailureReason) → MayFail w link (CameUp its) a → ⊥
     by reasons.Association e = cc
-    by reasons.Timer e = (let no : CameUp its ≡ Ticked = e.1.0 in cc)
+    by reasons.Timer e = (let no : CameUp its ≡ Ticked = e.2.0 in cc)
     by reasons.Sequence e = (let no : CameUp its ≡ FrameCame link e.0 = e.1 in cc)
     by reasons.Status e = (let no : CameUp its ≡ FrameCame link e.1.text = e.1.came in cc)
     by reasons.Length e = (let no : CameUp its ≡ FrameCame link e.0 = e.1 in cc)

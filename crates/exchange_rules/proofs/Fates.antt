@@ -8,7 +8,7 @@ use Rattle.mtp3_codec.specs.declared.discrimination.Discrimination.TheVariants a
 use Rattle.std.specs.Prelude.{drop, is_some}
 use Rattle.mtp3_codec.specs.Headings.{label_at}
 use Rattle.sccp_relay.specs.Sccp.{read_sccp}
-use Rattle.exchange_rules.specs.LawsOfMessages.{is_heard, says_status}
+use Rattle.exchange_rules.specs.LawsOfMessages.{goes_here, is_heard, is_heard_here, says_status}
 use Rattle.exchange_rules.proofs.Saying.{heard-said, is_said}
 
 module _ (c : Configuration) (n : Node WholeQueues) where
@@ -52,13 +52,13 @@ module _ (c : Configuration) (n : Node WholeQueues) where
   local-fate : (from : Option ℕ) (m : Message) → has_fate (nat_eq (service_indicator m) sccp && is_status m) (local whole c from m n).outcome ≡ true
   local-fate from m = own-fate from m (nat_eq (service_indicator m) sccp)
 
-  here-fate : (link : ℕ) (m : Message) → is_management m ≡ false → has_fate (is_heard c m) (distribute whole c link m n).outcome ≡ true
-  here-fate link m e = ap (λ (b : Bool). has_fate (is_heard c m) (if b then manage whole c link m n else local whole c (Some link) m n).outcome) e ∙ local-fate (Some link) m
+  here-fate : (link : ℕ) (m : Message) → is_management m ≡ false → has_fate (is_heard_here c m) (distribute whole c link m n).outcome ≡ true
+  here-fate link m e = ap (λ (b : Bool). has_fate (is_heard_here c m) (if b then manage whole c link m n else local whole c (Some link) m n).outcome) e ∙ local-fate (Some link) m
 
-  deliver_to-fate : (d : Discrimination) (link : ℕ) (m : Message) → is_management m ≡ false → has_fate (is_heard c m) (deliver_to whole c d link m n).outcome ≡ true
+  deliver_to-fate : (d : Discrimination) (link : ℕ) (m : Message) → is_management m ≡ false → has_fate (goes_here d && is_heard_here c m) (deliver_to whole c d link m n).outcome ≡ true
   deliver_to-fate (whither.Refused cause) link m e = refl
   deliver_to-fate (whither.Here label) link m e = here-fate link m e
-  deliver_to-fate (whither.Transfer label) link m e = transfer-fate (is_heard c m) (Some link) m
+  deliver_to-fate (whither.Transfer label) link m e = transfer-fate false (Some link) m
 
   carry-fate : (o : Option Message) (link : ℕ) (m : Message) → o ≡ Some m → is_management m ≡ false → has_fate (is_heard c m) (carry whole c link o n).outcome ≡ true
   carry-fate None link m e f = absurd cc
@@ -74,10 +74,10 @@ module _ (c : Configuration) (n : Node WholeQueues) where
       some-of : (x m : Message) → Some x ≡ Some m → x ≡ m
       some-of x m g = ap (as_message x) g
 
-  submit_to-fate : (d : Discrimination) (m : Message) → has_fate (is_heard c m) (submit_to whole c d m n).outcome ≡ true
+  submit_to-fate : (d : Discrimination) (m : Message) → has_fate (goes_here d && is_heard_here c m) (submit_to whole c d m n).outcome ≡ true
   submit_to-fate (whither.Refused cause) m = refl
-  submit_to-fate (whither.Here label) m = either-fate (is_heard c m) (is_management m) (refuse causes.NotInProfile n) (local whole c None m n) refl (local-fate None m)
-  submit_to-fate (whither.Transfer label) m = either-fate (is_heard c m) (is_management m) (refuse causes.NotInProfile n) (transfer whole c None m n) refl (transfer-fate (is_heard c m) None m)
+  submit_to-fate (whither.Here label) m = either-fate (is_heard_here c m) (is_management m) (refuse causes.NotInProfile n) (local whole c None m n) refl (local-fate None m)
+  submit_to-fate (whither.Transfer label) m = either-fate false (is_management m) (refuse causes.NotInProfile n) (transfer whole c None m n) refl (transfer-fate false None m)
 
 -- ---- frames
 

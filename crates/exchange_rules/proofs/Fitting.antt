@@ -64,10 +64,11 @@ fit-steps c =
           queues-fit c n _ (s.completed link number st n e f)
           (λ h. with-held c _ _ (with-one c link (emptied (queue_at n.queues link)) n.queues (λ q. sound-emptied c.window (queue_at n.queues link) q.limit) h));
       answered = λ link st n e f w. parts-fit c n _ (s.answered link st n e f w) refl;
-      linked = λ link x n e. parts-fit c n _ (s.linked link x n e) refl;
+      linked = λ link x n e o. parts-fit c n _ (s.linked link x n e o) refl;
       parted = λ link n e. parts-fit c n _ (s.parted link n e) refl;
       opened = λ link n own e f g. queues-fit c n _ (s.opened link n own e f g) (with-one c link first_queue n.queues (λ q. sound-first c.window q.limit));
       stepped = λ link input step n own e. parts-fit c n _ (s.stepped link input step n own e) refl;
+      passed = λ link n e. parts-fit c n _ (s.passed link n e) refl;
       busied = λ link n own e f. parts-fit c n _ (s.busied link n own e f) refl;
       resumed = λ link n own e f. parts-fit c n _ (s.resumed link n own e f) refl;
       accepted = λ link d confirmed n own e f.

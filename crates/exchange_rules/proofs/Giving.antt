@@ -1,48 +1,49 @@
--- If a rule puts a message on the queue of a link, that link is in service.
-use Rattle.exchange_rules.proofs.Basics.{and_parts, ◌&&◌, Bool, List, None, Option, Some, [], ap, false, inl, inr, length, refl, subst, suc, sym, true, zero, ℕ, ◌∙◌, ◌∷◌, ◌≡◌, ◌≢◌, ◌⊎◌, ⊎_elim, cases_eq, get_or-set_other, if◌then◌else◌}
-use Rattle.exchange_rules.proofs.Definitions.{take_step, test_if, queue_if, send_test, awaiting_test, link_test, tests_links, Transition, Queue, appended, emptied, first_queue, Link, is_in_service, Owed, owed, Facts, Configuration, Message, flow_of, Cause, LostUnconfirmed, code_for, declaration, hold_flows, loses_flows, take_back_each, complete_if, concluded, judged, lifted_parts, lose, lose_each, send_each, waits, GivesInService, declared_in_service, queued_anew_in_service, routed_in_service, settled_in_service, in_service, send, send_anew, send_routed, no_room, queue_on, WholeQueues, queue_at, whole, go, go_by, go_each, go_on, release, facts, link_of, Found, Node, Parts, with_parts, advance, enters, moved_on, return_if, may_tell, route_message, tell_each, tell_if, tell_owed, told_parts}
+-- If a rule puts a message on the queue of a link, that link carries traffic.
+use Rattle.exchange_rules.proofs.Basics.{and_parts, ◌&&◌, not, Bool, List, None, Option, Some, [], ap, false, inl, inr, length, refl, subst, suc, sym, true, zero, ℕ, ◌∙◌, ◌∷◌, ◌≡◌, ◌≢◌, ◌⊎◌, ⊎_elim, cases_eq, get_or-set_other, if◌then◌else◌}
+use Rattle.exchange_rules.proofs.Definitions.{take_step, test_if, queue_if, send_test, awaiting_test, link_test, tests_links, test_passed, is_first_test, pass_test, step_on, begun_anew, begin_traffic, has_other, link_at, down_link, carries_traffic, declared_by_test_in_traffic, tested_in_service, Transition, Queue, appended, emptied, first_queue, Link, is_in_service, Owed, owed, Facts, Configuration, Message, flow_of, Cause, LostUnconfirmed, code_for, declaration, hold_flows, loses_flows, take_back_each, complete_if, concluded, judged, lifted_parts, lose, lose_each, send_each, waits, GivesInTraffic, declared_in_traffic, queued_anew_in_traffic, routed_in_traffic, settled_in_traffic, in_service, in_traffic, send, send_anew, send_routed, no_room, queue_on, WholeQueues, queue_at, whole, go, go_by, go_each, go_on, release, facts, link_of, Found, Node, Parts, with_parts, advance, enters, enters_traffic, moved_on, return_if, may_tell, route_message, tell_each, tell_if, tell_owed, told_parts}
 use Rattle.exchange_rules.proofs.Combining.{changed}
-use Rattle.exchange_rules.proofs.LeavingMessages.{chosen_serves}
-use Rattle.exchange_rules.proofs.SteppingLinks.{moved-at, stepped-other}
+use Rattle.exchange_rules.proofs.LeavingMessages.{chosen_carries}
+use Rattle.exchange_rules.proofs.SteppingLinks.{stepped-other, tested-links}
+use Rattle.exchange_rules.proofs.SteppingEntries.{anew-link}
 use Rattle.exchange_rules.proofs.SteppingReturns.{Went, all-went}
 use Rattle.exchange_rules.proofs.TakenBack.{went}
 use Rattle.exchange_rules.proofs.TakenPairs.{take_back_each-alike}
 use Rattle.exchange_rules.specs.Telling as telling
 
--- a link is in service as before, and its queue is as it was unless it is in service
+-- a link carries traffic as before, and its queue is as it was unless it does
 record Gives (l : ℕ) (n m : Node WholeQueues) : Type 0 where
-  same : in_service m.parts l ≡ in_service n.parts l
-  queue : (queue_at m.queues l ≡ queue_at n.queues l) ⊎ (in_service n.parts l ≡ true)
+  same : in_traffic m.parts l ≡ in_traffic n.parts l
+  queue : (queue_at m.queues l ≡ queue_at n.queues l) ⊎ (in_traffic n.parts l ≡ true)
 
 module _ (l : ℕ) where
   none-gives : (n m : Node WholeQueues) → m.parts.links ≡ n.parts.links → m.queues.links ≡ n.queues.links → Gives l n m
   none-gives n m e f = record {
-    same = ap (λ (links : List Link). in_service (record n.parts { links = links }) l) e;
+    same = ap (λ (links : List Link). in_traffic (record n.parts { links = links }) l) e;
     queue = inl (ap (λ (qs : List Queue). queue_at (record n.queues { links = qs }) l) f);
   }
 
   both-give : (n m o : Node WholeQueues) → Gives l n m → Gives l m o → Gives l n o
   both-give n m o e f = record { same = f.same ∙ e.same; queue = by e.queue f.queue }
     where
-      by : (queue_at m.queues l ≡ queue_at n.queues l) ⊎ (in_service n.parts l ≡ true) → (queue_at o.queues l ≡ queue_at m.queues l) ⊎ (in_service m.parts l ≡ true)
-          → (queue_at o.queues l ≡ queue_at n.queues l) ⊎ (in_service n.parts l ≡ true)
+      by : (queue_at m.queues l ≡ queue_at n.queues l) ⊎ (in_traffic n.parts l ≡ true) → (queue_at o.queues l ≡ queue_at m.queues l) ⊎ (in_traffic m.parts l ≡ true)
+          → (queue_at o.queues l ≡ queue_at n.queues l) ⊎ (in_traffic n.parts l ≡ true)
       by (inl g) (inl h) = inl (h ∙ g)
       by (inl g) (inr h) = inr (sym e.same ∙ h)
       by (inr g) h = inr g
 
-  in-the-end : (n m : Node WholeQueues) → Gives l n m → GivesInService l n m
+  in-the-end : (n m : Node WholeQueues) → Gives l n m → GivesInTraffic l n m
   in-the-end n m g changed = g.same ∙ by g.queue
     where
-      by : (queue_at m.queues l ≡ queue_at n.queues l) ⊎ (in_service n.parts l ≡ true) → in_service n.parts l ≡ true
+      by : (queue_at m.queues l ≡ queue_at n.queues l) ⊎ (in_traffic n.parts l ≡ true) → in_traffic n.parts l ≡ true
       by (inl same) = absurd (changed same)
       by (inr serves) = serves
 
   module _ (c : Configuration) where
-    queued-gives : (k : ℕ) (m : Message) (n : Node WholeQueues) → in_service n.parts k ≡ true → Gives l n (queue_on whole c k m n)
+    queued-gives : (k : ℕ) (m : Message) (n : Node WholeQueues) → in_traffic n.parts k ≡ true → Gives l n (queue_on whole c k m n)
     queued-gives k m n e = record {
       same = refl;
       queue = ⊎_elim
-          (λ (its : l ≡ k). inr (subst (λ (i : ℕ). in_service n.parts i ≡ true) (sym its) e))
+          (λ (its : l ≡ k). inr (subst (λ (i : ℕ). in_traffic n.parts i ≡ true) (sym its) e))
           (λ (d : l ≢ k). inl (get_or-set_other n.queues.links k l (appended (queue_at n.queues k) m) first_queue d))
           (cases_eq l k);
     }
@@ -50,7 +51,7 @@ module _ (l : ℕ) where
     send-gives : (room : Option Cause) (link : Option ℕ) (m : Message) (n : Node WholeQueues) → link_of c n.parts (flow_of m) ≡ link → Gives l n (send whole c room link m n)
     send-gives (Some cause) link m n e = none-gives n _ refl refl
     send-gives None None m n e = none-gives n _ refl refl
-    send-gives None (Some link) m n e = queued-gives link m n (chosen_serves c n.parts (flow_of m) link e)
+    send-gives None (Some link) m n e = queued-gives link m n (chosen_carries c n.parts (flow_of m) link e)
 
     routed-gives : (m : Message) (n : Node WholeQueues) → Gives l n (send_routed whole c m n)
     routed-gives m n = send-gives (no_room whole c m n.queues) (link_of c n.parts (flow_of m)) m n refl
@@ -63,7 +64,7 @@ module _ (l : ℕ) where
     -- ---- a release, and what is told
 
     go_on-gives : (link : Option ℕ) (m : Message) (n : Node WholeQueues) → link_of c n.parts (flow_of m) ≡ link → Gives l n (go_on whole c link m n)
-    go_on-gives (Some link) m n e = queued-gives link m n (chosen_serves c n.parts (flow_of m) link e)
+    go_on-gives (Some link) m n e = queued-gives link m n (chosen_carries c n.parts (flow_of m) link e)
     go_on-gives None m n e = none-gives n _ refl refl
 
     go_by-gives : (waiting : Bool) (m : Message) (n : Node WholeQueues) → Gives l n (go_by whole c waiting m n)
@@ -112,7 +113,7 @@ module _ (l : ℕ) where
         let done : Node WholeQueues = record { queues = whole.completed n.queues failed number; parts = concluded failed found n.parts } in
         both-give n done _
         (record {
-          same = ap (λ (links : List Link). in_service (record n.parts { links = links }) l)
+          same = ap (λ (links : List Link). in_traffic (record n.parts { links = links }) l)
               (judged-links found.is_reasonable failed (lose_each found.lost n.parts) ∙ lose_each-links found.lost n.parts);
           queue = inl (get_or-set_other n.queues.links failed l (emptied (queue_at n.queues failed)) first_queue d);
         })
@@ -147,48 +148,90 @@ module _ (l : ℕ) where
           (λ (w : Went link before l). inr w)
           (take_back_each-declares other n)
 
-    return-gives : (entered : Bool) (link : ℕ) (before : Parts) (n : Node WholeQueues) → (Went link before l → in_service n.parts l ≡ true)
-        → Gives l n (return_if whole c entered link (facts c before) n)
+    return-gives : (begins : Bool) (link : ℕ) (before : Parts) (n : Node WholeQueues) → (Went link before l → in_traffic n.parts l ≡ true)
+        → Gives l n (return_if whole c begins link (facts c before) n)
     return-gives true link before n went = record {
-      same = ap (λ (links : List Link). in_service (record n.parts { links = links }) l) (take_back_each-alike whole c (facts c before) (facts c n.parts) link (length c.links) n).links;
+      same = ap (λ (links : List Link). in_traffic (record n.parts { links = links }) l) (take_back_each-alike whole c (facts c before) (facts c n.parts) link (length c.links) n).links;
       queue = ⊎_elim (λ e. inl e) (λ (w : Went link before l). inr (went w)) (take_back_each-declares link before (facts c n.parts) (length c.links) n);
     }
     return-gives false link before n went = none-gives n n refl refl
 
-    -- a test goes out
-    queue_if-gives : (room : Option Cause) (link : ℕ) (n : Node WholeQueues) → in_service n.parts link ≡ true → Gives l n (queue_if whole c room link (link_test c link) n)
-    queue_if-gives (Some cause) link n e = none-gives n n refl refl
-    queue_if-gives None link n e = queued-gives link (link_test c link) n e
+    -- links that didn't change carry traffic as before, as one begins to
+    begun-gives : (begins : Bool) (link : ℕ) (new : Parts) (n : Node WholeQueues) → ((other : ℕ) → other ≢ link → link_at new other ≡ link_at n.parts other)
+        → Gives l (with_parts n (begun_anew begins c link n.parts new)) (begin_traffic whole c begins link new n)
+    begun-gives begins link new n others =
+        return-gives begins link n.parts (with_parts n (begun_anew begins c link n.parts new))
+        (λ (w : Went link n.parts l).
+        ap carries_traffic (anew-link (begins && not (has_other c link n.parts)) c link l new ∙ others l w.apart) ∙ w.carried)
 
-    begun-gives : (begins : Bool) (link : ℕ) (n : Node WholeQueues) → (begins ≡ true → in_service n.parts link ≡ true) → Gives l n (if begins then send_test whole c link n else n)
-    begun-gives true link n e =
+    -- a test goes out on its link, and on no other
+    queue_if-other : (room : Option Cause) (link : ℕ) (n : Node WholeQueues) → l ≢ link → Gives l n (queue_if whole c room link (link_test c link) n)
+    queue_if-other (Some cause) link n d = none-gives n n refl refl
+    queue_if-other None link n d = record { same = refl; queue = inl (get_or-set_other n.queues.links link l (appended (queue_at n.queues link) (link_test c link)) first_queue d) }
+
+    probed-other : (begins : Bool) (link : ℕ) (n : Node WholeQueues) → l ≢ link → Gives l n (if begins then send_test whole c link n else n)
+    probed-other true link n d =
         let next : Node WholeQueues = with_parts n (awaiting_test c link n.parts) in
-        both-give n next _ (none-gives n next refl refl) (queue_if-gives (no_room whole c (link_test c link) n.queues) link next (e refl))
-    begun-gives false link n e = none-gives n n refl refl
+        both-give n next _ (none-gives n next refl refl) (queue_if-other (no_room whole c (link_test c link) n.queues) link next d)
+    probed-other false link n d = none-gives n n refl refl
 
-    tested-gives : (entered : Bool) (link : ℕ) (n : Node WholeQueues) → Gives l n (test_if whole c entered link n)
-    tested-gives true link n = begun-gives (tests_links c && in_service n.parts link) link n (λ e. (and_parts (tests_links c) (in_service n.parts link) e).1)
-    tested-gives false link n = none-gives n n refl refl
+    tested-other : (entered : Bool) (link : ℕ) (n : Node WholeQueues) → l ≢ link → Gives l n (test_if whole c entered link n)
+    tested-other true link n d = probed-other (tests_links c && in_service n.parts link) link n d
+    tested-other false link n d = none-gives n n refl refl
 
-    -- the link that takes a step may enter service by it; the others stay as they are
-    advance-serves-others : (link : ℕ) (step : Transition) (n : Node WholeQueues) → GivesInService l n (advance whole c link step n)
-    advance-serves-others link step n =
+    advance-gives : (link : ℕ) (step : Transition) (n : Node WholeQueues) → l ≢ link → GivesInTraffic l n (advance whole c link step n)
+    advance-gives link step n d =
         let next : Node WholeQueues = with_parts n (moved_on c link step n.parts) in
-        let took : Node WholeQueues = take_step whole c link step n in
         in-the-end next (advance whole c link step n)
-        (both-give next took _ (return-gives (enters link step n.parts) link n.parts next
-        (λ (w : Went link n.parts l). ap (λ (x : Link). is_in_service x.alignment) (moved-at c link l step n.parts ∙ stepped-other c link l step n.parts w.apart) ∙ w.served))
-        (tested-gives (enters link step n.parts) link took))
+        (both-give next (take_step whole c link step n) _
+        (begun-gives (enters_traffic link step n.parts) link (step_on c link step n.parts) n (λ other apart. stepped-other c link other step n.parts apart))
+        (tested-other (enters link step n.parts) link (take_step whole c link step n) d))
 
-pub routed-serve : routed_in_service
+    passed-gives : (link : ℕ) (n : Node WholeQueues) → GivesInTraffic l n (pass_test whole c link n)
+    passed-gives link n =
+        in-the-end (with_parts n (begun_anew (is_first_test link n.parts) c link n.parts (test_passed c link n.parts))) (pass_test whole c link n)
+        (begun-gives (is_first_test link n.parts) link (test_passed c link n.parts) n
+        (λ other apart. get_or-set_other n.parts.links link other (record (link_at n.parts link) { test_failed = false; untested = false }) down_link apart))
+
+-- ---- the link's own queue
+
+module _ (c : Configuration) (its : ℕ) where
+  own-returned : (begins : Bool) (before : Parts) (n : Node WholeQueues) → queue_at (return_if whole c begins its (facts c before) n).queues its ≡ queue_at n.queues its
+  own-returned true before n =
+      ⊎_elim (λ e. e) (λ (w : Went its before its). absurd (w.apart refl)) (take_back_each-declares its c its before (facts c n.parts) (length c.links) n)
+  own-returned false before n = refl
+
+  own-probed : (begins : Bool) (n : Node WholeQueues) → (begins ≡ true → in_service n.parts its ≡ true) → queue_at (if begins then send_test whole c its n else n).queues its ≢ queue_at n.queues its
+      → in_service n.parts its ≡ true
+  own-probed true n serves changed = serves refl
+  own-probed false n serves changed = absurd (changed refl)
+
+  own-tested : (entered : Bool) (n : Node WholeQueues) → queue_at (test_if whole c entered its n).queues its ≢ queue_at n.queues its → in_service n.parts its ≡ true
+  own-tested true n changed = own-probed (tests_links c && in_service n.parts its) n (λ e. (and_parts (tests_links c) (in_service n.parts its) e).1) changed
+  own-tested false n changed = absurd (changed refl)
+
+  own-advanced : (step : Transition) (n : Node WholeQueues) → queue_at (advance whole c its step n).queues its ≢ queue_at n.queues its → in_service (advance whole c its step n).parts its ≡ true
+  own-advanced step n changed =
+      let took : Node WholeQueues = take_step whole c its step n in
+      ap (λ (links : List Link). in_service (record n.parts { links = links }) its) (tested-links (enters its step n.parts) c its took)
+      ∙ own-tested (enters its step n.parts) took
+      (λ same. changed (same ∙ own-returned (enters_traffic its step n.parts) n.parts (with_parts n (moved_on c its step n.parts))))
+
+pub routed-serve : routed_in_traffic
 routed-serve c m n link = in-the-end link n (send_routed whole c m n) (routed-gives link c m n)
 
-pub declared-serve : declared_in_service
-declared-serve c its step n link = advance-serves-others link c its step n
+pub declared-serve : declared_in_traffic
+declared-serve c its step n link d = advance-gives link c its step n d
 
-pub anew-serve : queued_anew_in_service
+pub test-declares : declared_by_test_in_traffic
+test-declares c its n link = passed-gives link c its n
+
+pub tested-serve : tested_in_service
+tested-serve c its step n changed = own-advanced c its step n changed
+
+pub anew-serve : queued_anew_in_traffic
 anew-serve c failed number n link d = in-the-end link n (complete_if whole c true failed number n) (completed-gives link c failed number n d)
 
-pub settled-serve : settled_in_service
+pub settled-serve : settled_in_traffic
 settled-serve c n link =
     in-the-end link n (tell_owed whole c (release whole c n)) (both-give link n (release whole c n) _ (release-gives link c n) (tell_owed-gives link c (release whole c n)))

@@ -26,7 +26,7 @@ begins (CameUp link) y l = record { left = y; is = refl; ticks = omega arith }
 begins (WentDown link) y l = record { left = y; is = refl; ticks = omega arith }
 begins (FrameCame link text) y l = record { left = y; is = refl; ticks = omega arith }
 begins (Submitted m) y l = record { left = y; is = refl; ticks = omega arith }
-begins (Activated link) y l = record { left = y; is = refl; ticks = omega arith }
+begins (Activated link emergency) y l = record { left = y; is = refl; ticks = omega arith }
 begins (Deactivated link) y l = record { left = y; is = refl; ticks = omega arith }
 begins (TitleAdded row refused) y l = record { left = y; is = refl; ticks = omega arith }
 begins (TitleRemoved key digits) y l = record { left = y; is = refl; ticks = omega arith }

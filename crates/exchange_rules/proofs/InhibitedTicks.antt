@@ -1,6 +1,6 @@
 -- Over ticks and all events T8 of a set and a destination runs until it runs out, or its set comes back.
 use Rattle.exchange_rules.proofs.Basics.{◌≡◌, ◌≢◌, ◌⊎◌, inl, inr, ℕ, zero, suc, Bool, true, false, List, Option, Some, None, refl, ap, sym, subst, ◌∙◌, ⊎_elim, cases_eq, is_some, get_or-set_other, false_from_ne_true as not-so, if◌then◌else◌}
-use Rattle.exchange_rules.proofs.Definitions.{Period, Configuration, Action, Alignment, Expiry, action_at, acts_on, LinkTimer, TimerName, Running, Link, down_link, is_in_service, Node, with_parts, is_link, link_at, down, in_service, set_of, facts, moved_on, enters, advance, start_unless_running, is_running, is_due, ticked, due_name, after_due, due_count, after-clear, after-none, due-left, left-clear, left-clear_other, left-set_other, left-ticked, one_less, set_timer, clear_timer, L7, after_failure, act_by_timer, run_out, read_frame, receive, with_timers, run_timer, run_due, run_next, run_times, tick, Outgoing, SendsMessage, SendsStatus, Acknowledges, SendsNothing, after_sending, goes_out, Happening, CameUp, WentDown, FrameCame, Ticked, Submitted, Activated, Deactivated, TitleAdded, TitleRemoved, apply, association_up, release, tell_owed, WholeQueues, whole}
+use Rattle.exchange_rules.proofs.Definitions.{Period, Configuration, Action, Alignment, Expiry, action_at, acts_on, LinkTimer, TimerName, Running, Link, down_link, carries_traffic, Node, with_parts, is_link, link_at, down, in_traffic, set_of, facts, moved_on, enters, advance, start_unless_running, is_running, is_due, ticked, due_name, after_due, due_count, after-clear, after-none, due-left, left-clear, left-clear_other, left-set_other, left-ticked, one_less, set_timer, clear_timer, L7, after_failure, act_by_timer, run_out, read_frame, receive, with_timers, run_timer, run_due, run_next, run_times, tick, Outgoing, SendsMessage, SendsStatus, Acknowledges, SendsNothing, after_sending, goes_out, Happening, CameUp, WentDown, FrameCame, Ticked, Submitted, Activated, Deactivated, TitleAdded, TitleRemoved, apply, association_up, release, tell_owed, WholeQueues, whole}
 use Rattle.signalling_types.specs.declared.notice.FailureReason.TheVariants as reasons
 use Rattle.link.specs.declared.action.Action.TheVariants as act
 use Rattle.link.specs.declared.action.LinkTimer.TheVariants as timer
@@ -15,42 +15,43 @@ use Rattle.exchange_rules.specs.LawsOfAnswers.{ComesBack, t8_runs_its_time, take
 use Rattle.exchange_rules.specs.Testing.{serves_set}
 use Rattle.exchange_rules.proofs.DueTimers.{next-dues, ran-dues, was-due}
 use Rattle.exchange_rules.proofs.ProvedAll.{due-climbs, no-link}
-use Rattle.exchange_rules.proofs.SteppingEvents.{IsOf, apply-steps, run_timer-steps, settled-steps}
+use Rattle.exchange_rules.proofs.SteppingEvents.{IsOf, AllowsEvent, apply-deeds, run_timer-deeds, settled-steps}
+use Rattle.node_links.proofs.Chosen.{carrying-serves}
 use Rattle.exchange_rules.proofs.SteppingFailures.{fail-links}
 use Rattle.exchange_rules.proofs.SteppingLinks.{association_up-steps, moved-at, advance-links, stepped-other}
 use Rattle.exchange_rules.proofs.Serving.{fails-up}
 use Rattle.exchange_rules.proofs.Steps.{is_of_link}
 use Rattle.exchange_rules.proofs.Tested.{serves-before}
 use Rattle.exchange_rules.proofs.TimerSettings.{cases-name}
-use Rattle.exchange_rules.proofs.Inhibited.{no-way, serving-is, by-timer, Runs, rules, runs-on, Enters, advance-runs, Returns, receive-runs}
+use Rattle.exchange_rules.proofs.Inhibited.{no-way, serving-is, by-timer, Runs, Kept, rules, runs-on, Enters, advance-runs, Returns, receive-runs}
 
 module _ (c : Configuration) where
-  -- L1 to L4 take no link out of service
-  out-serves : (link other : ℕ) (its : LinkTimer) (n : Node WholeQueues) → ((period : Period) → action_at period InService (Expiry its) ≡ act.Ignored) → in_service n.parts other ≡ true
-      → in_service (run_out whole c link its n).parts other ≡ true
+  -- L1 to L4 take no traffic from a link
+  out-serves : (link other : ℕ) (its : LinkTimer) (n : Node WholeQueues) → ((period : Period) → action_at period InService (Expiry its) ≡ act.Ignored) → in_traffic n.parts other ≡ true
+      → in_traffic (run_out whole c link its n).parts other ≡ true
   out-serves link other its n idle h = by (acts_on (link_at n.parts link) (Expiry its)) refl (cases_eq other link)
     where
       here : (a : Action) → acts_on (link_at n.parts link) (Expiry its) ≡ a → other ≡ link → a ≡ act.Ignored
       here a e same =
-          sym e ∙ ap (λ (x : Alignment). action_at (link_at n.parts link).period x (Expiry its)) (serving-is (state_of n.parts link) (subst (λ (k : ℕ). in_service n.parts k ≡ true) same h)) ∙ idle (link_at n.parts link).period
+          sym e ∙ ap (λ (x : Alignment). action_at (link_at n.parts link).period x (Expiry its)) (serving-is (state_of n.parts link) (carrying-serves (link_at n.parts link) (subst (λ (k : ℕ). in_traffic n.parts k ≡ true) same h))) ∙ idle (link_at n.parts link).period
 
-      by : (a : Action) → acts_on (link_at n.parts link) (Expiry its) ≡ a → (other ≡ link) ⊎ (other ≢ link) → in_service (act_by_timer whole c a link n).parts other ≡ true
+      by : (a : Action) → acts_on (link_at n.parts link) (Expiry its) ≡ a → (other ≡ link) ⊎ (other ≢ link) → in_traffic (act_by_timer whole c a link n).parts other ≡ true
       by act.Ignored e cases = h
       by act.Fail e (inl same) = (let no : act.Fail ≡ act.Ignored = here act.Fail e same in absurd cc)
       by act.Fail e (inr apart) =
-          ap (λ (links : List Link). is_in_service (link_in links other).alignment) (fail-links c link reasons.Timer n)
-          ∙ ap (λ (l : Link). is_in_service l.alignment) (get_or-set_other n.parts.links link other (after_failure (link_at n.parts link)) down_link apart)
+          ap (λ (links : List Link). carries_traffic (link_in links other)) (fail-links c link reasons.Timer n)
+          ∙ ap carries_traffic (get_or-set_other n.parts.links link other (after_failure (link_at n.parts link)) down_link apart)
           ∙ h
       by (act.Go step) e (inl same) = (let no : act.Go step ≡ act.Ignored = here (act.Go step) e same in absurd cc)
       by (act.Go step) e (inr apart) =
-          ap (λ (links : List Link). is_in_service (link_in links other).alignment)
+          ap (λ (links : List Link). carries_traffic (link_in links other))
           (advance-links c link step n)
-          ∙ ap (λ (l : Link). is_in_service l.alignment) (moved-at c link other step n.parts ∙ stepped-other c link other step n.parts apart)
+          ∙ ap carries_traffic (moved-at c link other step n.parts ∙ stepped-other c link other step n.parts apart)
           ∙ h
 
   -- nor does what runs out before an L4, in the order of names
-  next-serves : (its : TimerName) (link other : ℕ) (n : Node WholeQueues) → is_before its (name.L4 link) ≡ true → in_service n.parts other ≡ true
-      → in_service (run_timer whole c its n).parts other ≡ true
+  next-serves : (its : TimerName) (link other : ℕ) (n : Node WholeQueues) → is_before its (name.L4 link) ≡ true → in_traffic n.parts other ≡ true
+      → in_traffic (run_timer whole c its n).parts other ≡ true
   next-serves (name.L1 its) link other n e h = out-serves its other timer.L1 n (λ period. refl) h
   next-serves (name.L2 its) link other n e h = out-serves its other timer.L2 n (λ period. refl) h
   next-serves (name.L3 its) link other n e h = out-serves its other timer.L3 n (λ period. refl) h
@@ -66,7 +67,6 @@ module _ (c : Configuration) where
   next-serves (name.T10 set destination) link other n e h = absurd cc
   next-serves (name.Slt1 its) link other n e h = absurd cc
   next-serves (name.Slt2 its) link other n e h = absurd cc
-  next-serves name.Sst link other n e h = absurd cc
 
 module _ (c : Configuration) (s d : ℕ) (first : Node WholeQueues) where
   -- ---- a tick that began like this
@@ -79,14 +79,14 @@ module _ (c : Configuration) (s d : ℕ) (first : Node WholeQueues) where
     ready : state_of first.parts link ≡ Proving true
     none : serves_set c first.parts s ≡ false
 
-  -- in the midst of it: links that are to enter service were to do so before, and while L4 is due none left service
+  -- in the midst of it: links that are to enter service were to do so before, and while L4 is due none ceased to carry traffic
   record Midst (n : Node WholeQueues) : Type 0 where
     proving : (link : ℕ) → state_of n.parts link ≡ Proving true → state_of first.parts link ≡ Proving true
     dues : (its : TimerName) → is_due n.parts.timers its ≡ true → is_due first.parts.timers its ≡ true
-    serving : (link : ℕ) → is_due n.parts.timers (name.L4 link) ≡ true → (other : ℕ) → in_service first.parts other ≡ true → in_service n.parts other ≡ true
+    serving : (link : ℕ) → is_due n.parts.timers (name.L4 link) ≡ true → (other : ℕ) → in_traffic first.parts other ≡ true → in_traffic n.parts other ≡ true
     due : is_due n.parts.timers (T8 s d) ≡ false
 
-  none-before : (n : Node WholeQueues) → ((other : ℕ) → in_service first.parts other ≡ true → in_service n.parts other ≡ true) → serves_set c n.parts s ≡ false
+  none-before : (n : Node WholeQueues) → ((other : ℕ) → in_traffic first.parts other ≡ true → in_traffic n.parts other ≡ true) → serves_set c n.parts s ≡ false
       → serves_set c first.parts s ≡ false
   none-before n h e = not-so (serves_set c first.parts s) (λ f. no-way (serves_set c n.parts s) (serves-before c n.parts first.parts s h f) e)
 
@@ -115,7 +115,7 @@ module _ (c : Configuration) (s d : ℕ) (first : Node WholeQueues) where
     out-runs link its due r = own-runs (acts_on (link_at n.parts link) (Expiry its)) link its due refl r
 
     rest-runs : (its : TimerName) → is_of_link its ≡ false → Runs c s d handed → Runs c s d (run_timer whole c its handed) ⊎ Proved
-    rest-runs its none r = inl (runs-on c s d handed _ (run_timer-steps (rules c s d) its handed (λ link t e. absurd (no-link its link t none e))) r)
+    rest-runs its none r = inl (runs-on c s d handed _ (run_timer-deeds (rules c s d) its handed (λ link t e. absurd (no-link its link t none e)) (record { ends = λ procedure e. tt; fails = λ link t e f. tt; tests = λ link e. tt })) r)
 
     due-runs : (due : Option TimerName) → due_name n.parts.timers ≡ due → Runs c s d handed → Runs c s d (run_due whole c due handed) ⊎ Proved
     due-runs None e r = inl r
@@ -134,7 +134,6 @@ module _ (c : Configuration) (s d : ℕ) (first : Node WholeQueues) where
     due-runs (Some (name.T10 set destination)) e r = rest-runs (name.T10 set destination) refl r
     due-runs (Some (name.Slt1 link)) e r = rest-runs (name.Slt1 link) refl r
     due-runs (Some (name.Slt2 link)) e r = rest-runs (name.Slt2 link) refl r
-    due-runs (Some name.Sst) e r = rest-runs name.Sst refl r
 
     -- T8 isn't due, so it isn't the timer that is handed out
     handed-runs : (due : Option TimerName) → due_name n.parts.timers ≡ due → Runs c s d n → Runs c s d handed
@@ -150,8 +149,8 @@ module _ (c : Configuration) (s d : ℕ) (first : Node WholeQueues) where
     next-runs : Runs c s d n → Runs c s d (run_next whole c n) ⊎ Proved
     next-runs r = due-runs (due_name n.parts.timers) refl (handed-runs (due_name n.parts.timers) refl r)
 
-    served : (due : Option TimerName) → due_name n.parts.timers ≡ due → (link : ℕ) → is_due handed.parts.timers (name.L4 link) ≡ true → (other : ℕ) → in_service n.parts other ≡ true
-        → in_service (run_due whole c due handed).parts other ≡ true
+    served : (due : Option TimerName) → due_name n.parts.timers ≡ due → (link : ℕ) → is_due handed.parts.timers (name.L4 link) ≡ true → (other : ℕ) → in_traffic n.parts other ≡ true
+        → in_traffic (run_due whole c due handed).parts other ≡ true
     served None e link f other g = g
     served (Some its) e link f other g =
         next-serves c its link other handed
@@ -196,7 +195,7 @@ module _ (c : Configuration) (s d : ℕ) (n : Node WholeQueues) where
   tick-runs false e r =
       let begun : Node WholeQueues = with_timers n (ticked n.parts.timers) in
       ⊎_elim (λ (k : Runs c s d (tick whole c n).left). inl (settled-runs (tick whole c n).left k))
-      (λ (p : Proved c s d begun). inr (inr (record { link = p.link; of_set = p.of_set; enters = inl ((refl, p.due), p.ready); first = p.none })))
+      (λ (p : Proved c s d begun). inr (inr (record { link = p.link; of_set = p.of_set; begins = inl (inl ((refl, p.due), p.ready)); first = p.none })))
       (times-run c s d begun (due_count (ticked n.parts.timers)) begun (record { proving = λ link f. f; dues = λ its f. f; serving = λ link f other g. g; due = e })
       (ap is_some (left-ticked (T8 s d) n.parts.timers) ∙ still-running (n.parts.timers.left (T8 s d)) ∙ r))
 
@@ -205,15 +204,26 @@ module _ (c : Configuration) (s d : ℕ) (n : Node WholeQueues) where
   frame-runs link text r =
       ⊎_elim (λ (k : Runs c s d (receive whole c link text n).left). inl (settled-runs (receive whole c link text n).left k))
       (λ (b : Returns c s d link text n).
-      inr (inr (record { link = link; of_set = b.of_set; enters = inr (b.said, b.ready); first = ap (serves_set c n.parts) (sym b.of_set) ∙ b.first })))
+      inr (inr (record { link = link; of_set = b.of_set; begins = ⊎_elim (λ h. inl (inr h)) (λ h. inr h) b.said; first = ap (serves_set c n.parts) (sym b.of_set) ∙ b.first })))
       (receive-runs c s d link text (is_link n.parts link) (down n.parts link) (read_frame text) n refl refl r)
 
   up-runs : (link : ℕ) → Runs c s d n → Runs c s d (apply whole c (CameUp link) n).left
   unfolding apply
   up-runs link r = settled-runs (association_up whole c link n).left (runs-on c s d n _ (association_up-steps (rules c s d) link n tt tt) r)
 
+  allowed : (what : Happening) → ((link : ℕ) → IsOf what link → ⊥) → AllowsEvent c (Kept c s d) what n
+  allowed what none = record {
+    opens = λ link e. tt;
+    lost = λ link e. tt;
+    ordered = λ link e. tt;
+    frame = λ link text e. absurd (none link (subst (λ (w : Happening). IsOf w link) (sym e) refl));
+    words = λ word e. record { ends = λ procedure f. tt; fails = λ link f. tt };
+    lacking = λ e. tt;
+    titles = λ e. tt;
+  }
+
   other-runs : (what : Happening) → ((link : ℕ) → IsOf what link → ⊥) → (what ≡ Ticked → ⊥) → Runs c s d n → Runs c s d (apply whole c what n).left
-  other-runs what none unlike r = runs-on c s d n _ (apply-steps (rules c s d) what n (λ link is. absurd (none link is)) (λ link is. tt) (λ is. absurd (unlike is))) r
+  other-runs what none unlike r = runs-on c s d n _ (apply-deeds (rules c s d) what n (λ link is. absurd (none link is)) (λ link is. tt) (allowed what none) (λ is. absurd (unlike is))) r
 
   event-runs : (what : Happening) → Runs c s d n → Runs c s d (apply whole c what n).left ⊎ Ends what
   event-runs Ticked r = tick-runs (is_due (ticked n.parts.timers) (T8 s d)) refl r
@@ -221,7 +231,7 @@ module _ (c : Configuration) (s d : ℕ) (n : Node WholeQueues) where
   event-runs (CameUp link) r = inl (up-runs link r)
   event-runs (WentDown link) r = inl (other-runs (WentDown link) (λ k is. is) (λ no. cc) r)
   event-runs (Submitted m) r = inl (other-runs (Submitted m) (λ k is. is) (λ no. cc) r)
-  event-runs (Activated link) r = inl (other-runs (Activated link) (λ k is. is) (λ no. cc) r)
+  event-runs (Activated link emergency) r = inl (other-runs (Activated link emergency) (λ k is. is) (λ no. cc) r)
   event-runs (Deactivated link) r = inl (other-runs (Deactivated link) (λ k is. is) (λ no. cc) r)
   event-runs (TitleAdded row refused) r = inl (other-runs (TitleAdded row refused) (λ k is. is) (λ no. cc) r)
   event-runs (TitleRemoved key digits) r = inl (other-runs (TitleRemoved key digits) (λ k is. is) (λ no. cc) r)

@@ -94,7 +94,7 @@ module _ {P Q : Type 0} (p : QueueKind P) (q : QueueKind Q) (h : P → Q) (IsFit
   handle_event-kept (FrameCame link text) n f = receive-kept link text n f
   handle_event-kept Ticked n f = tick-kept p q h IsFit c k n f
   handle_event-kept (Submitted message) n f = submit_to-kept p q h IsFit c k (whither_goes c message) message n f
-  handle_event-kept (Activated link) n f = activate-kept p q h IsFit c k link n f
+  handle_event-kept (Activated link emergency) n f = activate-kept p q h IsFit c k emergency link n f
   handle_event-kept (Deactivated link) n f = deactivate-kept p q h IsFit c k link n f
   handle_event-kept (TitleAdded row lacking) n f = add_title-kept row lacking n f
   handle_event-kept (TitleRemoved key digits) n f = remove_title-kept key digits n f

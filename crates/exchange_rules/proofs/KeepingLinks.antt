@@ -1,7 +1,7 @@
 -- Associations and orders, statuses and timers of links: what is kept of the node that a rule leaves is what the rule
 -- leaves of what was kept, and it stays sound. Over any two kinds of queues P and Q of which h keeps one as the other.
-use Rattle.exchange_rules.proofs.Basics.{ℕ, zero, suc, true, false, Option, Some, None, refl, ap, if◌then◌else◌, List, ◌∙◌}
-use Rattle.exchange_rules.proofs.Definitions.{Configuration, Handled, Ignored, FailureReason, LinkStatus, Action, Status, Expiry, LinkTimer, Transition, acts_on, TimerName, ticked, due_name, due_count, after_due, may_restart, Node, Done, QueueKind, keep, with_parts, answer, refuse, is_link, link_at, down, may_open, begun, open_link, association_up, fail_if_up, end_association, association_down, with_active, set_active, activate, deactivate, without_association, changeover_of, fail, advance, end_busy, serve_status, step_by_status, act_by_status, on_link_status, act_by_timer, run_out, with_timers, run_timer, run_due, run_next, run_times, tick, tells_outage, tells_recovery, begin_outage, hear_outage, end_outage, hear_busy_ended, put_out, become_busy, let_back, Message}
+use Rattle.exchange_rules.proofs.Basics.{ℕ, Bool, zero, suc, true, false, Option, Some, None, refl, ap, if◌then◌else◌, List, ◌∙◌}
+use Rattle.exchange_rules.proofs.Definitions.{Configuration, Handled, Ignored, FailureReason, LinkStatus, Action, Status, Expiry, LinkTimer, Transition, acts_on, TimerName, ticked, due_name, due_count, after_due, may_restart, Node, Done, QueueKind, keep, with_parts, answer, refuse, is_link, link_at, down, may_open, begun, open_link, association_up, fail_if_up, end_association, association_down, with_active, set_active, activate, deactivate, without_association, changeover_of, fail, advance, end_busy, serve_status, step_by_status, act_by_status, on_link_status, act_by_timer, run_out, with_timers, run_timer, run_due, run_next, run_times, tick, tells_outage, tells_recovery, begin_outage, hear_outage, end_outage, hear_busy_ended, put_out, become_busy, let_back, Message, run_all, count_subsystems}
 use Rattle.signalling_types.specs.declared.cause.Cause.TheVariants as causes
 use Rattle.signalling_types.specs.declared.notice.FailureReason.TheVariants as reasons
 use Rattle.m2pa_codec.specs.declared.status.LinkStatus.TheVariants as says
@@ -39,14 +39,14 @@ module _ {P Q : Type 0} (p : QueueKind P) (q : QueueKind Q) (h : P → Q) (IsFit
       (answered _ _ _ (parts-kept (without_association l) _ _ (fail_if_up-kept l reasons.Association n f))) (parted _ n.parts n.queues f))
       (parted _ n.parts n.queues f)
 
-  pub activate-kept : (l : ℕ) (n : Node P) → IsFit n.queues → Keeps h IsFit (activate q c l (keep h n)) (activate p c l n)
-  activate-kept l n f =
-      either (is_link n.parts l) _ _ (answer Handled (set_active p c true l n)) (refuse causes.NoSuchName n) (parted _ _ n.queues f) (parted _ n.parts n.queues f)
+  pub activate-kept : (emergency : Bool) (l : ℕ) (n : Node P) → IsFit n.queues → Keeps h IsFit (activate q c emergency l (keep h n)) (activate p c emergency l n)
+  activate-kept emergency l n f =
+      either (is_link n.parts l) _ _ (answer Handled (set_active p c true emergency l n)) (refuse causes.NoSuchName n) (parted _ _ n.queues f) (parted _ n.parts n.queues f)
 
   pub deactivate-kept : (l : ℕ) (n : Node P) → IsFit n.queues → Keeps h IsFit (deactivate q c l (keep h n)) (deactivate p c l n)
   deactivate-kept l n f =
-      either (is_link n.parts l) _ _ (answer Handled (set_active p c false l (fail_if_up p c l reasons.Operator n))) (refuse causes.NoSuchName n)
-      (answered _ _ _ (parts-kept (with_active false l) _ _ (fail_if_up-kept l reasons.Operator n f))) (parted _ n.parts n.queues f)
+      either (is_link n.parts l) _ _ (answer Handled (set_active p c false false l (fail_if_up p c l reasons.Operator n))) (refuse causes.NoSuchName n)
+      (answered _ _ _ (parts-kept (with_active false false l) _ _ (fail_if_up-kept l reasons.Operator n f))) (parted _ n.parts n.queues f)
 
   -- ---- statuses and timers
 
@@ -119,7 +119,6 @@ module _ {P Q : Type 0} (p : QueueKind P) (q : QueueKind Q) (h : P → Q) (IsFit
   run_timer-kept (name.T10 s d) n f = ask_again-kept p q h IsFit c k s d n f
   run_timer-kept (name.Slt1 l) n f = test_unanswered-kept p q h IsFit c k l n f
   run_timer-kept (name.Slt2 l) n f = begin_test-kept p q h IsFit c k l n f
-  run_timer-kept name.Sst n f = record { same = refl; fit = f }
 
   run_due-kept : (due : Option TimerName) (n : Node P) → IsFit n.queues → KeepsNode h IsFit (run_due q c due (keep h n)) (run_due p c due n)
   run_due-kept None n f = record { same = refl; fit = f }
@@ -137,4 +136,6 @@ module _ {P Q : Type 0} (p : QueueKind P) (q : QueueKind Q) (h : P → Q) (IsFit
   pub tick-kept : (n : Node P) → IsFit n.queues → Keeps h IsFit (tick q c (keep h n)) (tick p c n)
   tick-kept n f =
       let m : Node P = with_timers n (ticked n.parts.timers) in
-      answered _ _ _ (run_times-kept (due_count m.parts.timers) m f)
+      let e : KeepsNode h IsFit (run_all q c (keep h m)) (run_all p c m) = run_times-kept (due_count m.parts.timers) m f in
+      answered _ _ _
+      (behind_node (λ (z : Node Q). count_subsystems c z) (count_subsystems c (run_all p c m)) _ (run_all p c m) e.same (record { same = refl; fit = e.fit }))

@@ -1,6 +1,6 @@
 -- Whatever an exchange is asked, every hold has its timer or its word.
 use Rattle.exchange_rules.proofs.Basics.{◌≡◌, ◌≢◌, inl, inr, ◌<◌, ◌≤◌, ℕ, Bool, true, false, List, [], ◌∷◌, length, Option, Some, None, refl, ap, sym, ◌∙◌, subst, arith, ⊎_elim, cases_lt, get_or-replicate, get_or_past, length-replicate, replicate, slice_index_or, is_some, nat_lt, if◌then◌else◌, ◌&&◌, not, and_parts, and_from, get_or-set_same, get_or-set_other}
-use Rattle.exchange_rules.proofs.Definitions.{period_of, Period, acts_on, Configuration, Facts, ChangeoverTimer, Procedure, Code, Time, Reroute, HoldSet, holds, lifted, flows_leave, none_at_first, Standing, no_changeover, TimerName, Running, NodeCounts, is_running, has_name, set_timer, clear_timer, ticked, due_name, after_due, one_less, left-set_other, left-clear_other, left-ticked, counts-set, link_at, after-clear, after-none, due-left, Parts, Node, with_parts, in_service, is_link, changeover_of, set_of, complete_if, on_changeover_timer, with_expiry, is_taken_back, hold_flows, held_by_rerouting, opening, carries, with_timers, run_due, run_timer, counts-after, first_state, WholeQueues, whole, HasAllPlaces, Link, down_link, Alignment, Input, Go, Transition, action_at, stepped, opened, may_open, is_down, is_in_service, without_owed, Changeover, is_failed, facts, in_outage, put_out, let_back}
+use Rattle.exchange_rules.proofs.Definitions.{recovered, period_of, Period, acts_on, Configuration, Facts, ChangeoverTimer, Procedure, Code, Time, Reroute, HoldSet, holds, lifted, flows_leave, none_at_first, Standing, no_changeover, TimerName, Running, NodeCounts, is_running, has_name, set_timer, clear_timer, ticked, due_name, after_due, one_less, left-set_other, left-clear_other, left-ticked, counts-set, link_at, after-clear, after-none, due-left, Parts, Node, with_parts, in_service, is_link, changeover_of, set_of, complete_if, on_changeover_timer, with_expiry, is_taken_back, hold_flows, held_by_rerouting, opening, carries, with_timers, run_due, run_timer, counts-after, first_state, WholeQueues, whole, HasAllPlaces, Link, down_link, Alignment, Input, Go, Transition, stepped, opened_by, may_open, is_down, is_in_service, without_owed, Changeover, is_failed, facts, in_outage, put_out, let_back}
 use Rattle.std.proofs.lemmas.Bool.{lt-ltb, ltb-true}
 use Rattle.flow_hold.proofs.Pairing.{ends_its_own}
 use Rattle.timers.proofs.Maps.{exists}
@@ -32,14 +32,17 @@ linked-as l x e o = record {
   out = λ h out. o ∙ out;
 }
 
+passed-as : (l : Link) → LinkAs l (record l { test_failed = false; untested = false })
+passed-as l = record { passes = λ h. record { watched = h.watched; alone = h.alone }; out = λ h o. o }
+
 parted-as : (l : Link) → is_down l.alignment ≡ true → LinkAs l (record l { association = false })
 parted-as l e = record { passes = λ h. record { watched = h.watched; alone = λ f. e }; out = λ h o. o }
 
 down-idle : (a : Alignment) → is_down a ≡ true → is_in_service a ≡ false
 down-idle a e = ap is_in_service (down-is a e)
 
-opened-as : (period : Period) (l : Link) → may_open l ≡ true → LinkAs l (opened period l)
-opened-as period l e = record {
+opened-as : (c : Configuration) (period : Period) (l : Link) → may_open l ≡ true → LinkAs l (opened_by c period l)
+opened-as c period l e = record {
   passes = λ h. record { watched = λ o. absurd cc; alone = λ f. absurd cc };
   out = λ h o. no-way (is_in_service l.alignment) (down-idle l.alignment (h.alone (unassociated l.association l.active e))) (and_parts (is_in_service l.alignment) l.peer_busy (h.watched o)).0;
 }
@@ -77,7 +80,7 @@ module _ (c : Configuration) where
       closed link q
       (but-moved link n.parts q
       (λ procedure destination sls apart held.
-      sym (flows_leave n.parts.holds (Changeover link) procedure (is_failed c (facts c (outed link true n.parts)) link (whole.unconfirmed n.queues link)) destination sls apart) ∙ held)
+      sym (flows_leave n.parts.holds (Changeover link) procedure (is_failed c (facts c (outed link n.parts)) link (whole.unconfirmed n.queues link)) destination sls apart) ∙ held)
       (λ other apart. refl) (λ timer ends out. refl)
       (λ other apart. subst (LinkAs (link_at n.parts other)) (sym (get_or-set_other n.parts.links link other x down_link apart)) (link-same (link_at n.parts other))) (but-of link n.parts a))
       (λ destination sls held. inr (and_from (in_service q link) (link_at q link).peer_outage (ap (λ (l : Link). is_in_service l.alignment) is ∙ e) (ap (λ (l : Link). l.peer_outage) is)))
@@ -106,7 +109,7 @@ module _ (c : Configuration) where
       (subst WillPass (sym is) (record { watched = λ o. absurd cc; alone = (a.outages link).alone }))
     where
       x : Link
-      x = record (link_at n.parts link) { peer_outage = false }
+      x = recovered (link_at n.parts link)
 
       q : Parts
       q = let_back link n.parts
@@ -164,14 +167,15 @@ module _ (c : Configuration) where
     timed = λ r n e k. same-ends c n _ ((places c).timed r n e k) refl refl e.endings (λ link. link-same (link_at n.parts link));
     rerouted = λ routes n e k. same-parts c n _ ((places c).rerouted routes n e k) refl refl refl refl;
     told = λ t n e. same-parts c n _ ((places c).told t n e) refl refl refl refl;
-    titled = λ rows n. same-parts c n _ ((places c).titled rows n) refl refl refl refl;
-    unequipped = λ counts n e. same-parts c n _ ((places c).unequipped counts n e) refl refl refl refl;
+    titled = λ rows n may. same-parts c n _ ((places c).titled rows n may) refl refl refl refl;
+    unequipped = λ counts n e may. same-parts c n _ ((places c).unequipped counts n e tt) refl refl refl refl;
     linked = λ link x n e o. same-ends c n _ ((places c).linked link x n e o) refl refl (λ timer ends. refl) (link-set n.parts link x (linked-as (link_at n.parts link) x e o));
     parted = λ link n e. same-ends c n _ ((places c).parted link n e) refl refl (λ timer ends. refl) (link-set n.parts link _ (parted-as (link_at n.parts link) e));
     opened = λ link n own there e f may. same-ends c n _ ((places c).opened link n own there e f tt) refl refl (timed-for link c (opening (period_of c link n.parts)) n.parts.timers).endings
-        (link-set n.parts link (opened (period_of c link n.parts) (link_at n.parts link)) (opened-as (period_of c link n.parts) (link_at n.parts link) e));
+        (link-set n.parts link (opened_by c (period_of c link n.parts) (link_at n.parts link)) (opened-as c (period_of c link n.parts) (link_at n.parts link) e));
     stepped = λ link input step n own e k. same-ends c n _ ((places c).stepped link input step n own e k) refl refl (timed-for link c step n.parts.timers).endings
         (link-set n.parts link (stepped step (link_at n.parts link)) (stepped-as (link_at n.parts link) input step e));
+    passed = λ link n e k. same-ends c n _ ((places c).passed link n e k) refl refl (λ timer ends. refl) (link-set n.parts link _ (passed-as (link_at n.parts link)));
     busied = λ link n own e f. same-ends c n _ ((places c).busied link n own e f) refl refl (timed_busy-for link c n.parts.timers).endings
         (link-set n.parts link (record (link_at n.parts link) { peer_busy = true }) (busied-as (link_at n.parts link)));
     resumed = λ link n own e f o. same-ends c n _ ((places c).resumed link n own e f o) refl refl (timed_busy_ended-for link c (whole.outstanding n.queues link) n.parts.timers).endings
@@ -254,7 +258,6 @@ module _ (c : Configuration) where
   ran (name.T10 set destination) n due h a = quiet (name.T10 set destination) n due refl h a
   ran (name.Slt1 link) n due h a = quiet (name.Slt1 link) n due refl h a
   ran (name.Slt2 link) n due h a = quiet (name.Slt2 link) n due refl h a
-  ran name.Sst n due h a = quiet name.Sst n due refl h a
 
   next-by : (due : Option TimerName) (n : Node WholeQueues) → due_name n.parts.timers ≡ due → HasAllPlaces c n → AllWillEnd n.parts
       → AllWillEnd (run_due whole c due (with_timers n (after_due n.parts.timers))).parts

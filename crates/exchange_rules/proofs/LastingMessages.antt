@@ -111,10 +111,11 @@ module _ (c : Configuration) where
         queue-keeps n _ (moved (queue_at n.queues link) number ++ n.queues.held) link (emptied (queue_at n.queues link)) refl
         (λ h. joined c (moved (queue_at n.queues link) number) n.queues.held (moved-onward c (queue_at n.queues link) number (h.links link)) h.held) (λ h. refl);
     answered = λ link st n e f w. same-queues n _ refl;
-    linked = λ link x n e. same-queues n _ refl;
+    linked = λ link x n e o. same-queues n _ refl;
     parted = λ link n e. same-queues n _ refl;
     opened = λ link n own e f g. queue-keeps n _ n.queues.held link first_queue refl (λ h. h.held) (λ h. refl);
     stepped = λ link input step n own e. same-queues n _ refl;
+    passed = λ link n e. same-queues n _ refl;
     busied = λ link n own e f. same-queues n _ refl;
     resumed = λ link n own e f. same-queues n _ refl;
     accepted = λ link d confirmed n own e f.

@@ -230,11 +230,12 @@ places-steps c = record {
   completed = λ link number st n e f.
       both-keep c _ _ _ (queue-keeps c (whole.completed n.queues link number).held link (emptied (queue_at n.queues link)) n) (changeover-keeps c link st _);
   answered = λ link st n e f w. changeover-keeps c link st n;
-  linked = λ link x n e. link-keeps c link x n.parts.timers n refl;
+  linked = λ link x n e o. link-keeps c link x n.parts.timers n refl;
   parted = λ link n e. link-keeps c link (record (link_at n.parts link) { association = false }) n.parts.timers n refl;
   opened = λ link n own e f g.
       both-keep c _ _ _ (queue-keeps c n.queues.held link first_queue n) (link-keeps c link _ _ _ (timed-for link c (opening (period_of c link n.parts)) n.parts.timers).counts);
   stepped = λ link input step n own e. link-keeps c link _ _ n (timed-for link c step n.parts.timers).counts;
+  passed = λ link n e. link-keeps c link _ n.parts.timers n refl;
   busied = λ link n own e f. link-keeps c link _ _ n (timed_busy-for link c n.parts.timers).counts;
   resumed = λ link n own e f. link-keeps c link _ _ n (timed_busy_ended-for link c (whole.outstanding n.queues link) n.parts.timers).counts;
   accepted = λ link d confirmed n own e f.

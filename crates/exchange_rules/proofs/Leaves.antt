@@ -1,14 +1,14 @@
 -- What a rule leaves if it refuses, by the cause of the refusal, and which link it queues on: for plain answers, and
 -- for tests between two.
 use Rattle.exchange_rules.proofs.Basics.{◌≡◌, ℕ, Bool, true, false, Option, Some, None, refl, ap, ◌∙◌, ◌&&◌, ◌||◌, not, if◌then◌else◌, nat_le, option_or}
-use Rattle.exchange_rules.proofs.Definitions.{Message, flow_of, is_management, Configuration, Cause, MANAGEMENT_MESSAGES, Outcome, Queued, Held, Local, Handled, Ignored, Refused, MgmtFault, Node, Done, answer, refuse, in_service, link_of, waits, no_room, is_share_full, no_room_on, no_room_for, cause_of, WholeQueues, whole}
+use Rattle.exchange_rules.proofs.Definitions.{Message, flow_of, is_management, Configuration, Cause, MANAGEMENT_MESSAGES, Outcome, Queued, Held, Local, Handled, Ignored, Refused, MgmtFault, Node, Done, answer, refuse, in_traffic, link_of, waits, no_room, is_share_full, no_room_on, no_room_for, cause_of, WholeQueues, whole}
 use Rattle.signalling_types.specs.declared.cause.Cause.TheVariants as causes
 use Rattle.mtp3_codec.specs.declared.fault.MgmtFault.TheVariants as mgmt
 
 -- where a rule refuses, it leaves the node of the cause; where it queues a message, it does so on a link in service
 pub record Leaves (d : Done WholeQueues) (by : Cause → Node WholeQueues) : Type 0 where
   pub left : (cause : Cause) → d.outcome ≡ Refused cause → d.left ≡ by cause
-  pub served : (l : ℕ) → d.outcome ≡ Queued l → in_service d.left.parts l ≡ true
+  pub served : (l : ℕ) → d.outcome ≡ Queued l → in_traffic d.left.parts l ≡ true
 
 -- the link that an outcome names
 abbrev pub queued_on : Outcome → Option ℕ

@@ -1,6 +1,6 @@
 -- A refused event leaves what it is to leave, and a message is queued on a link in service.
 use Rattle.exchange_rules.proofs.Basics.{◌≡◌, ℕ, Bool, true, false, List, [], ◌∷◌, Option, Some, None, Result, Ok, Err, refl, ap, ◌∙◌, if◌then◌else◌}
-use Rattle.exchange_rules.proofs.Definitions.{Message, flow_of, Configuration, Cause, Queued, Ignored, Refused, FrameFault, FrameValue, read_frame, Owed, owed, facts, Action, UserData, acts_on, count_confirmed, Node, Done, with_node, with_parts, answer, refuse, is_link, link_at, down, in_service, link_of, no_room, send, route_message, told_parts, may_tell, tell_if, tell_each, tell_owed, whither_goes, submit, advance, Carrying, data_of, numbers, accept, read, CameUp, WentDown, FrameCame, Ticked, Submitted, Activated, Deactivated, TitleAdded, TitleRemoved, WholeQueues, whole, waits, all_wait, go_on, go_by, go, go_each, release, settled, apply, accept_data, accept_frame, accept_text, carried_message, answered, refusals_leave, queued_in_service, Abstract, IsSound}
+use Rattle.exchange_rules.proofs.Definitions.{Message, flow_of, Configuration, Cause, Queued, Ignored, Refused, FrameFault, FrameValue, read_frame, Owed, owed, facts, Action, UserData, acts_on, count_confirmed, Node, Done, with_node, with_parts, answer, refuse, is_link, link_at, down, in_traffic, link_of, no_room, send, route_message, told_parts, may_tell, tell_if, tell_each, tell_owed, whither_goes, submit, advance, Carrying, data_of, numbers, accept, read, CameUp, WentDown, FrameCame, Ticked, Submitted, Activated, Deactivated, TitleAdded, TitleRemoved, WholeQueues, whole, waits, all_wait, go_on, go_by, go, go_each, release, settled, apply, accept_data, accept_frame, accept_text, carried_message, answered, refusals_leave, queued_in_traffic, Abstract, IsSound}
 use Rattle.signalling_types.specs.declared.cause.Cause.TheVariants as causes
 use Rattle.link.specs.declared.action.Action.TheVariants as act
 use Rattle.exchange_rules.specs.Telling as telling
@@ -15,41 +15,41 @@ use Rattle.exchange_rules.proofs.LeavingFrames.{left_of_text, up_leaves}
 -- ---- the end of an event after a rule
 
 -- a release changes no link
-go_on-serves : (c : Configuration) (link : Option ℕ) (m : Message) (n : Node WholeQueues) (l : ℕ) → in_service (go_on whole c link m n).parts l ≡ in_service n.parts l
+go_on-serves : (c : Configuration) (link : Option ℕ) (m : Message) (n : Node WholeQueues) (l : ℕ) → in_traffic (go_on whole c link m n).parts l ≡ in_traffic n.parts l
 go_on-serves c (Some link) m n l = refl
 go_on-serves c None m n l = refl
 
-go_by-serves : (c : Configuration) (b : Bool) (m : Message) (n : Node WholeQueues) (l : ℕ) → in_service (go_by whole c b m n).parts l ≡ in_service n.parts l
+go_by-serves : (c : Configuration) (b : Bool) (m : Message) (n : Node WholeQueues) (l : ℕ) → in_traffic (go_by whole c b m n).parts l ≡ in_traffic n.parts l
 go_by-serves c true m n l = refl
 go_by-serves c false m n l = go_on-serves c (link_of c n.parts (flow_of m)) m n l
 
-go_each-serves : (c : Configuration) (ms : List Message) (n : Node WholeQueues) (l : ℕ) → in_service (go_each whole c ms n).parts l ≡ in_service n.parts l
+go_each-serves : (c : Configuration) (ms : List Message) (n : Node WholeQueues) (l : ℕ) → in_traffic (go_each whole c ms n).parts l ≡ in_traffic n.parts l
 go_each-serves c [] n l = refl
 go_each-serves c (m ∷ ms) n l = go_each-serves c ms (go whole c m n) l ∙ go_by-serves c (waits c n.parts.holds m) m n l
 
-release-serves : (c : Configuration) (n : Node WholeQueues) (l : ℕ) → in_service (release whole c n).parts l ≡ in_service n.parts l
+release-serves : (c : Configuration) (n : Node WholeQueues) (l : ℕ) → in_traffic (release whole c n).parts l ≡ in_traffic n.parts l
 release-serves c n l = go_each-serves c n.queues.held (record n { queues = whole.without_held n.queues }) l
 
 -- nor does what adjacent points are told
 send-serves : (c : Configuration) (room : Option Cause) (link : Option ℕ) (m : Message) (n : Node WholeQueues) (l : ℕ)
-    → in_service (send whole c room link m n).parts l ≡ in_service n.parts l
+    → in_traffic (send whole c room link m n).parts l ≡ in_traffic n.parts l
 send-serves c (Some cause) link m n l = refl
 send-serves c None None m n l = refl
 send-serves c None (Some link) m n l = refl
 
 tell_if-serves : (c : Configuration) (b : Bool) (o : Owed) (n : Node WholeQueues) (l : ℕ)
-    → in_service (if b then telling.tell whole c o n else n).parts l ≡ in_service n.parts l
+    → in_traffic (if b then telling.tell whole c o n else n).parts l ≡ in_traffic n.parts l
 tell_if-serves c true o n l =
     let m : Message = route_message c o.set o.destination o.status in
     let next : Node WholeQueues = with_parts n (told_parts c o n.parts) in
     send-serves c (no_room whole c m n.queues) (link_of c next.parts (flow_of m)) m next l
 tell_if-serves c false o n l = refl
 
-tell_each-serves : (c : Configuration) (os : List Owed) (n : Node WholeQueues) (l : ℕ) → in_service (tell_each whole c os n).parts l ≡ in_service n.parts l
+tell_each-serves : (c : Configuration) (os : List Owed) (n : Node WholeQueues) (l : ℕ) → in_traffic (tell_each whole c os n).parts l ≡ in_traffic n.parts l
 tell_each-serves c [] n l = refl
 tell_each-serves c (o ∷ os) n l = tell_each-serves c os (tell_if whole c o n) l ∙ tell_if-serves c (may_tell whole c n) o n l
 
-tell_owed-serves : (c : Configuration) (n : Node WholeQueues) (l : ℕ) → in_service (tell_owed whole c n).parts l ≡ in_service n.parts l
+tell_owed-serves : (c : Configuration) (n : Node WholeQueues) (l : ℕ) → in_traffic (tell_owed whole c n).parts l ≡ in_traffic n.parts l
 unfolding tell_owed
 tell_owed-serves c n l = tell_each-serves c (owed (facts c n.parts) n.parts.told) n l
 
@@ -100,7 +100,7 @@ received_left false d by a cause f w s e = settled-so a (refuse causes.NoSuchNam
 
 received_served : (t : Bool) (d : Done WholeQueues) (by : Cause → Node WholeQueues) (a : Abstract) (l : ℕ) → Leaves d by
     → (if t then d else refuse causes.NoSuchName a.node).outcome ≡ Queued l
-    → in_service (if t then d else refuse causes.NoSuchName a.node).left.parts l ≡ true
+    → in_traffic (if t then d else refuse causes.NoSuchName a.node).left.parts l ≡ true
 received_served true d by a l f e = f.served l e
 received_served false d by a l f e = cc
 
@@ -121,7 +121,7 @@ unfolding apply
 refused_leaves (CameUp link) a cause s e = left-so a _ cause s (association_up-leaves a.settings a.node (as_it_was a) (unchanged a) link) e
 refused_leaves (WentDown link) a cause s e = left-so a _ cause s (association_down-leaves a.settings a.node (as_it_was a) (unchanged a) link) e
 refused_leaves Ticked a cause s e = cc
-refused_leaves (Activated link) a cause s e = left-so a _ cause s (activate-leaves a.settings a.node (as_it_was a) (unchanged a) link) e
+refused_leaves (Activated link emergency) a cause s e = left-so a _ cause s (activate-leaves a.settings a.node (as_it_was a) (unchanged a) emergency link) e
 refused_leaves (Deactivated link) a cause s e = left-so a _ cause s (deactivate-leaves a.settings a.node (as_it_was a) (unchanged a) link) e
 refused_leaves (TitleAdded row lacking) a cause s e = left-so a _ cause s (add_title-leaves row lacking a.node) e
 refused_leaves (TitleRemoved key digits) a cause s e = left-so a _ cause s (remove_title-leaves key digits a.node) e
@@ -138,18 +138,18 @@ refused_leaves (FrameCame link text) a cause s e =
     (accept_text-waits link (read_frame text) a s.waiting)) s e
 
 -- a link that a rule leaves in service is so at the end of the event
-still : (a : Abstract) (d : Done WholeQueues) (l : ℕ) → in_service d.left.parts l ≡ true → in_service (settled whole a.settings d).left.parts l ≡ true
+still : (a : Abstract) (d : Done WholeQueues) (l : ℕ) → in_traffic d.left.parts l ≡ true → in_traffic (settled whole a.settings d).left.parts l ≡ true
 still a d l e = tell_owed-serves a.settings (release whole a.settings d.left) l ∙ release-serves a.settings d.left l ∙ e
 
-served-so : (a : Abstract) (d : Done WholeQueues) (l : ℕ) → Leaves d (as_it_was a) → d.outcome ≡ Queued l → in_service (settled whole a.settings d).left.parts l ≡ true
+served-so : (a : Abstract) (d : Done WholeQueues) (l : ℕ) → Leaves d (as_it_was a) → d.outcome ≡ Queued l → in_traffic (settled whole a.settings d).left.parts l ≡ true
 served-so a d l f e = still a d l (f.served l e)
 
-pub queued_served : queued_in_service
+pub queued_served : queued_in_traffic
 unfolding apply
 queued_served (CameUp link) a l e = served-so a _ l (association_up-leaves a.settings a.node (as_it_was a) (unchanged a) link) e
 queued_served (WentDown link) a l e = served-so a _ l (association_down-leaves a.settings a.node (as_it_was a) (unchanged a) link) e
 queued_served Ticked a l e = cc
-queued_served (Activated link) a l e = served-so a _ l (activate-leaves a.settings a.node (as_it_was a) (unchanged a) link) e
+queued_served (Activated link emergency) a l e = served-so a _ l (activate-leaves a.settings a.node (as_it_was a) (unchanged a) emergency link) e
 queued_served (Deactivated link) a l e = served-so a _ l (deactivate-leaves a.settings a.node (as_it_was a) (unchanged a) link) e
 queued_served (Submitted message) a l e =
     still a (submit whole a.settings message a.node) l ((submit_to-leaves a.settings a.node (whither_goes a.settings message) message).served l e)

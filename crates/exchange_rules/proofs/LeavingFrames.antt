@@ -1,7 +1,7 @@
 -- A frame whose message is refused leaves the node that had accepted it, with its notice; a message in a frame is
 -- queued on a link in service.
 use Rattle.exchange_rules.proofs.Basics.{◌≡◌, ℕ, Bool, true, false, Option, Some, None, Result, Ok, Err, refl, ap, ◌∙◌, if◌then◌else◌}
-use Rattle.exchange_rules.proofs.Definitions.{Message, Configuration, Cause, Outcome, Queued, Held, Local, Handled, Ignored, Refused, FrameFault, FrameValue, EmptyFrame, MessageFrame, StatusFrame, LinkStatus, Action, Status, UserData, acts_on, count_confirmed, SeqFault, Parts, Node, Done, with_parts, answer, link_at, in_service, note_outcome, note_refusal, whither_goes, deliver_to, advance, act_by_status, Carrying, data_of, numbers, accept, carry, handle_by, act_by_data, receive_frame, leave_aside, read, WholeQueues, whole, accept_data, accept_frame, accept_text, carried_message, answered, Abstract, tells_outage, tells_recovery, hear_outage, end_outage}
+use Rattle.exchange_rules.proofs.Definitions.{Message, Configuration, Cause, Outcome, Queued, Held, Local, Handled, Ignored, Refused, FrameFault, FrameValue, EmptyFrame, MessageFrame, StatusFrame, LinkStatus, Action, Status, UserData, acts_on, count_confirmed, SeqFault, Parts, Node, Done, with_parts, answer, link_at, in_traffic, note_outcome, note_refusal, whither_goes, deliver_to, advance, act_by_status, Carrying, data_of, numbers, accept, carry, handle_by, act_by_data, receive_frame, leave_aside, read, WholeQueues, whole, accept_data, accept_frame, accept_text, carried_message, answered, Abstract, tells_outage, tells_recovery, hear_outage, end_outage}
 use Rattle.signalling_types.specs.declared.notice.FrameFault.TheVariants as faults
 use Rattle.link.specs.declared.action.Action.TheVariants as act
 use Rattle.exchange_rules.specs.Laws.{noted}
@@ -10,7 +10,7 @@ use Rattle.exchange_rules.proofs.LeavingMessages.{deliver_to-leaves}
 
 -- ---- a refusal in a frame is noted
 
-noted-serves : (link : ℕ) (o : Outcome) (p : Parts) (l : ℕ) → in_service (note_outcome link o p) l ≡ in_service p l
+noted-serves : (link : ℕ) (o : Outcome) (p : Parts) (l : ℕ) → in_traffic (note_outcome link o p) l ≡ in_traffic p l
 noted-serves link (Queued other) p l = refl
 noted-serves link Held p l = refl
 noted-serves link Local p l = refl

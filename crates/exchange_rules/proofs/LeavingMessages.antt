@@ -1,14 +1,14 @@
 -- A message or a command that is refused leaves what its cause is to leave, and a message is queued on a link in
 -- service.
 use Rattle.exchange_rules.proofs.Basics.{◌≡◌, ℕ, Bool, true, false, List, Option, Some, None, Result, Ok, Err, refl, ap, sym, ◌∙◌, ◌&&◌, arith, if◌then◌else◌, nat_tests, option_and_then}
-use Rattle.exchange_rules.proofs.Definitions.{Message, dpc_of, opc_of, flow_of, is_management, service_indicator, Configuration, TitleEntry, Cause, Outcome, Local, Handled, Ignored, destination_place, set_place, RouteStatus, Allowed, Restricted, Prohibited, Heard, RouteTest, chosen_link, facts, MgmtFault, TestKind, Test, Acknowledgement, Management, TrafficRestartAllowed, TransferProhibited, TransferRestricted, TransferAllowed, RouteSetTestProhibited, RouteSetTestRestricted, ChangebackDeclaration, ChangebackAcknowledgement, ExtendedChangeoverOrder, ExtendedChangeoverAcknowledgement, EmergencyChangeoverOrder, EmergencyChangeoverAcknowledgement, LinkTestValue, read_link_test, read_management, label_at, Discrimination, Parts, Node, Done, with_parts, answer, refuse, is_link, link_at, in_service, network_of, link_of, no_room_for, is_destination, offer, transfer, send_on, send_routed, route_about, apply_route_status, on_route_status, answer_no_route, send_route_status, answer_route_test, on_route_test, changeback_acknowledgement, freed, on_changeback_acknowledgement, is_outstanding, sccp, is_user, is_adjacent, cause_of, test_answer, link_with_code, local, do_order, do_acknowledgement, do_management, do_kind, do_test, manage, distribute, deliver_to, submit_to, TitleKey, place_of, has_row, without_row, RelayedValue, relay, own_of, in_place_of, return_unitdata, return_outcome, relay_by, on_unitdata, with_rows, title_refusal, add_title_unless, add_title, remove_title, answered_by, may_open, open_link, association_up, fail_if_up, end_association, association_down, set_active, activate, deactivate, WholeQueues, whole, waits, on_changeover_acknowledgement, complete_if, with_changeover_acknowledged, fail_by_order, complete_by_order, acknowledge_changeover, changeover_of, may_restart, answer_no_user_part, no_part_answered, UserPartUnavailable, Refused, from_afar, says_unavailable, passes_test, test_passed}
+use Rattle.exchange_rules.proofs.Definitions.{Message, dpc_of, opc_of, flow_of, is_management, service_indicator, Configuration, TitleEntry, Cause, Outcome, Local, Handled, Ignored, destination_place, set_place, RouteStatus, Allowed, Restricted, Prohibited, Heard, RouteTest, chosen_link, facts, MgmtFault, TestKind, Test, Acknowledgement, Management, TrafficRestartAllowed, TransferProhibited, TransferRestricted, TransferAllowed, RouteSetTestProhibited, RouteSetTestRestricted, ChangebackDeclaration, ChangebackAcknowledgement, ExtendedChangeoverOrder, ExtendedChangeoverAcknowledgement, EmergencyChangeoverOrder, EmergencyChangeoverAcknowledgement, LinkTestValue, read_link_test, read_management, label_at, Discrimination, Parts, Node, Done, with_parts, answer, refuse, is_link, link_at, in_service, link_at, in_traffic, network_of, link_of, no_room_for, is_destination, offer, transfer, send_on, send_routed, route_about, apply_route_status, on_route_status, answer_no_route, send_route_status, answer_route_test, on_route_test, changeback_acknowledgement, freed, on_changeback_acknowledgement, is_outstanding, sccp, is_user, is_adjacent, cause_of, test_answer, link_with_code, local, do_order, do_acknowledgement, do_management, do_kind, do_test, manage, distribute, deliver_to, submit_to, TitleKey, place_of, has_row, without_row, RelayedValue, relay, own_of, in_place_of, return_unitdata, return_outcome, relay_by, on_unitdata, with_rows, title_refusal, add_title_unless, add_title, remove_title, answered_by, may_open, open_link, association_up, fail_if_up, end_association, association_down, set_active, activate, deactivate, WholeQueues, whole, waits, on_changeover_acknowledgement, complete_if, with_changeover_acknowledged, fail_by_order, complete_by_order, acknowledge_changeover, changeover_of, may_restart, answer_no_user_part, no_part_answered, UserPartUnavailable, Refused, from_afar, says_unavailable, passes_test, pass_test}
 use Rattle.std.specs.Prelude.{nat_eq, nat_lt}
 use Rattle.signalling_types.specs.declared.point.Flow.{Flow}
 use Rattle.signalling_types.specs.declared.cause.Cause.TheVariants as causes
 use Rattle.route_management.specs.declared.heard.Heard.TheVariants as hears
 use Rattle.route_management.specs.declared.heard.RouteTest.TheVariants as tests
 use Rattle.route_management.specs.Told as hearing
-use Rattle.node_links.proofs.Chosen.{chosen_serving}
+use Rattle.node_links.proofs.Chosen.{chosen_carrying, carrying-serves}
 use Rattle.mtp3_codec.specs.declared.discrimination.Discrimination.TheVariants as whither
 use Rattle.signalling_types.specs.declared.notice.FailureReason.TheVariants as reasons
 use Rattle.sccp_relay.specs.Relay as relays
@@ -17,12 +17,15 @@ use Rattle.exchange_rules.proofs.Leaves.{Leaves, queued_on, is_other, refuses_ot
 -- ---- links
 
 chosen_at : (c : Configuration) (p : Parts) (place : Option ℕ) (selection l : ℕ)
-    → option_and_then (λ d. chosen_link (facts c p) d selection) place ≡ Some l → in_service p l ≡ true
+    → option_and_then (λ d. chosen_link (facts c p) d selection) place ≡ Some l → in_traffic p l ≡ true
 chosen_at c p None selection l e = absurd cc
-chosen_at c p (Some d) selection l e = chosen_serving (network_of c p) d selection l e
+chosen_at c p (Some d) selection l e = chosen_carrying (network_of c p) d selection l e
+
+pub chosen_carries : (c : Configuration) (p : Parts) (f : Flow) (l : ℕ) → link_of c p f ≡ Some l → in_traffic p l ≡ true
+chosen_carries c p f l e = chosen_at c p (destination_place c f.point) f.sls l e
 
 pub chosen_serves : (c : Configuration) (p : Parts) (f : Flow) (l : ℕ) → link_of c p f ≡ Some l → in_service p l ≡ true
-chosen_serves c p f l e = chosen_at c p (destination_place c f.point) f.sls l e
+chosen_serves c p f l e = carrying-serves (link_at p l) (chosen_carries c p f l e)
 
 -- ---- messages and commands
 
@@ -31,7 +34,7 @@ module _ (c : Configuration) (n : Node WholeQueues) (by : Cause → Node WholeQu
   refused cause e = left_by cause n by (s.others cause e)
 
   offer-leaves : (room : Option Cause) (is_waiting : Bool) (link from : Option ℕ) (m : Message) → refuses_other room ≡ true
-      → ((l : ℕ) → link ≡ Some l → in_service n.parts l ≡ true) → answer_no_route whole c from (destination_place c (dpc_of m)) n ≡ by causes.NoRoute
+      → ((l : ℕ) → link ≡ Some l → in_traffic n.parts l ≡ true) → answer_no_route whole c from (destination_place c (dpc_of m)) n ≡ by causes.NoRoute
       → Leaves (offer whole c room is_waiting link from m n) by
   offer-leaves (Some cause) w link from m o f away = refused cause o
   offer-leaves None true link from m o f away = waited _ by
@@ -43,13 +46,13 @@ module _ (c : Configuration) (n : Node WholeQueues) (by : Cause → Node WholeQu
       let held : Bool = waits c n.parts.holds m in
       let link : Option ℕ = link_of c n.parts (flow_of m) in
       either (is_destination c (dpc_of m)) (offer whole c (no_room_for whole c m n) held link from m n) (refuse causes.UnknownDestination n) by
-      (offer-leaves (no_room_for whole c m n) held link from m (room_for_so c m n) (λ l e. chosen_serves c n.parts (flow_of m) l e) away) (refused _ refl)
+      (offer-leaves (no_room_for whole c m n) held link from m (room_for_so c m n) (λ l e. chosen_carries c n.parts (flow_of m) l e) away) (refused _ refl)
 
   do_kind-leaves : (t : TestKind) (link z : ℕ) (v : LinkTestValue) → Leaves (do_kind whole c t link z v n) by
   do_kind-leaves Test link z v = handled (send_on whole c link (test_answer c z v) n) by
   do_kind-leaves Acknowledgement link z v =
-      either (passes_test c link z v n.parts) (answer Handled (with_parts n (test_passed c link n.parts))) (answer Ignored n) by
-      (handled (with_parts n (test_passed c link n.parts)) by) (ignored n by)
+      either (passes_test c link z v n.parts) (answer Handled (pass_test whole c link n)) (answer Ignored n) by
+      (handled (pass_test whole c link n) by) (ignored n by)
 
   do_test-leaves : (r : Result LinkTestValue MgmtFault) (link z : ℕ) → Leaves (do_test whole c r link z n) by
   do_test-leaves (Err fault) link z = refused (cause_of fault) (fault_so fault)
@@ -137,13 +140,13 @@ module _ (c : Configuration) (n : Node WholeQueues) (by : Cause → Node WholeQu
       either (is_link n.parts link) (if (link_at n.parts link).association then gone else answer Ignored n) (refuse causes.NoSuchName n) by
       (either (link_at n.parts link).association gone (answer Ignored n) by (handled _ by) (ignored n by)) (refused _ refl)
 
-  pub activate-leaves : (link : ℕ) → Leaves (activate whole c link n) by
-  activate-leaves link =
-      either (is_link n.parts link) (answer Handled (set_active whole c true link n)) (refuse causes.NoSuchName n) by (handled _ by) (refused _ refl)
+  pub activate-leaves : (emergency : Bool) (link : ℕ) → Leaves (activate whole c emergency link n) by
+  activate-leaves emergency link =
+      either (is_link n.parts link) (answer Handled (set_active whole c true emergency link n)) (refuse causes.NoSuchName n) by (handled _ by) (refused _ refl)
 
   pub deactivate-leaves : (link : ℕ) → Leaves (deactivate whole c link n) by
   deactivate-leaves link =
-      either (is_link n.parts link) (answer Handled (set_active whole c false link (fail_if_up whole c link reasons.Operator n))) (refuse causes.NoSuchName n) by (handled _ by) (refused _ refl)
+      either (is_link n.parts link) (answer Handled (set_active whole c false false link (fail_if_up whole c link reasons.Operator n))) (refuse causes.NoSuchName n) by (handled _ by) (refused _ refl)
 
 -- ---- messages by where they go
 
@@ -174,7 +177,7 @@ module _ (c : Configuration) (n : Node WholeQueues) where
         left = λ cause e.
             ap (λ (o : Outcome). return_outcome whole c o m d.left) e
             ∙ ap (λ (x : Node WholeQueues). return_unitdata whole c cause m x) (f.left cause e);
-        served = λ l e. ap (λ (o : Outcome). in_service (return_outcome whole c o m d.left).parts l) e ∙ f.served l e;
+        served = λ l e. ap (λ (o : Outcome). in_traffic (return_outcome whole c o m d.left).parts l) e ∙ f.served l e;
       }
 
   -- what answers a message for this point

@@ -1,6 +1,6 @@
 -- Every event leaves the links that it isn't about, and every take the queues of other links.
 use Rattle.exchange_rules.proofs.Basics.{◌≡◌, ◌≢◌, ℕ, zero, suc, Bool, true, false, ◌||◌, nat_eq, Some, None, refl, ap, sym, subst, ◌∙◌, arith, list_any, nat_tests, get_or-set_other}
-use Rattle.exchange_rules.proofs.Definitions.{flow_of, Configuration, LinkTimer, first_queue, sent_one, TimerName, Running, is_due, no_tick_left, ticked, due_name, after_due, due_count, due-left, after-clear, after-none, Parts, Node, timer_name, with_timers, run_next, run_times, tick, Happening, CameUp, WentDown, FrameCame, Ticked, Submitted, Activated, Deactivated, TitleAdded, TitleRemoved, Outgoing, SendsStatus, SendsMessage, Acknowledges, SendsNothing, goes_out, after_sending, WholeQueues, queue_at, whole}
+use Rattle.exchange_rules.proofs.Definitions.{flow_of, Configuration, LinkTimer, first_queue, sent_one, TimerName, Running, is_due, no_tick_left, ticked, due_name, after_due, due_count, due-left, after-clear, after-none, Parts, Node, timer_name, with_timers, run_next, run_times, tick, Happening, CameUp, WentDown, FrameCame, Ticked, Submitted, Activated, Deactivated, TitleAdded, TitleRemoved, Outgoing, SendsStatus, SendsMessage, Acknowledges, SendsNothing, goes_out, after_sending, WholeQueues, queue_at, whole, run_all, subsystems_ticked}
 use Rattle.link.specs.declared.action.LinkTimer.TheVariants as timer
 use Rattle.exchange_rules.specs.Touching.{link_timers, runs_out, some_runs_out, is_about, other_links_are_left, takes_leave_other_queues}
 use Rattle.exchange_rules.proofs.LeavingMessages.{chosen_serves}
@@ -41,10 +41,11 @@ module _ (dues : Bool) (c : Configuration) (l : ℕ) where
     dropped = λ link why n e. dropped-left dues l link why n e;
     completed = λ link number st n e f. completed-left dues l link number st n e f;
     answered = λ link st n e f w. answered-left dues l link st n e f;
-    linked = λ link x n e. linked-left dues l link x n e.alignment;
+    linked = λ link x n e o. linked-left dues l link x n e.alignment;
     parted = λ link n e. linked-left dues l link _ n refl;
     opened = λ link n own there e f. other-left dues l link _ _ _ n _ (opened-on link c n) own;
     stepped = λ link input step n own e. other-left dues l link _ _ _ n _ (link-on link _ _ n (timed-for link c step n.parts.timers)) own;
+    passed = λ link n e. linked-left dues l link _ n refl;
     busied = λ link n own e f. other-left dues l link _ _ _ n _ (link-on link _ _ n (timed_busy-for link c n.parts.timers)) own;
     resumed = λ link n own e f.
         other-left dues l link _ _ _ n _ (link-on link _ _ n (timed_busy_ended-for link c (whole.outstanding n.queues link) n.parts.timers)) own;
@@ -104,7 +105,10 @@ module _ (c : Configuration) (l : ℕ) where
       let begun : Node WholeQueues = with_timers n (ticked n.parts.timers) in
       let ran : Left true l begun (run_times whole c (due_count begun.parts.timers) begun) =
       run_times-left begun (none-runs (runs_out n.parts l) e) (due_count begun.parts.timers) begun ((left-steps true c l).none begun) in
-      record { due = λ x. absurd cc; left = both-left l n begun _ (same-left l n begun refl refl refl) ran.left }
+      let timed : Node WholeQueues = run_all whole c begun in
+      let counted : Left true l begun (tick whole c n).left =
+      both-lefts true l begun timed _ ran ((left-steps true c l).titled (subsystems_ticked c timed.parts).titles timed) in
+      record { due = λ x. absurd cc; left = both-left l n begun _ (same-left l n begun refl refl refl) counted.left }
 
 -- ---- events
 
@@ -117,7 +121,7 @@ not-about (FrameCame its text) p l e link of same = not-its its l e (sym of ∙ 
 not-about (WentDown its) p l e link of same = of
 not-about Ticked p l e link of same = of
 not-about (Submitted message) p l e link of same = of
-not-about (Activated its) p l e link of same = of
+not-about (Activated its emergency) p l e link of same = of
 not-about (Deactivated its) p l e link of same = of
 not-about (TitleAdded row refused) p l e link of same = of
 not-about (TitleRemoved key digits) p l e link of same = of

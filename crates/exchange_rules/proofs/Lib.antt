@@ -44,6 +44,7 @@ pub mod Rules
 pub mod Outages
 pub mod SteppingLinks
 pub mod SteppingRelaying
+pub mod SteppingEntries
 pub mod SteppingTests
 pub mod SteppingLocal
 pub mod SteppingEvents
@@ -69,6 +70,7 @@ pub mod WithoutShares
 pub mod LastingMessages
 pub mod LastingRoutes
 pub mod LoneRoutes
+pub mod OutLinks
 pub mod WillEnding
 pub mod EndingProcedures
 pub mod EndingChangeovers
@@ -80,6 +82,8 @@ pub mod LinkTimes
 pub mod LinkTurns
 pub mod NoTests
 pub mod LinkTests
+pub mod CalmTests
+pub mod UntestedLinks
 pub mod UnansweredTests
 pub mod TickingAlone
 pub mod Receiving
@@ -93,6 +97,7 @@ pub mod Departing
 pub mod Conserved
 pub mod Naming
 pub mod QuietMessages
+pub mod QuietReturns
 pub mod QuietLinks
 pub mod NamedLosses
 pub mod NamedAll
@@ -111,6 +116,8 @@ pub mod Giving
 pub mod Saying
 pub mod Fates
 pub mod Subsystems
+pub mod KeptTitles
+pub mod SubsystemTests
 pub mod NamedLinks
 pub mod FacingNodes
 pub mod SharingNodes
@@ -118,6 +125,7 @@ pub mod MadeManagement
 pub mod HeardManagement
 pub mod CarriedMessages
 pub mod RuleExamples
+pub mod LeadingCells
 pub mod ProvedFirst
 pub mod ProvedKeeps
 pub mod ProvedAll
@@ -127,7 +135,13 @@ pub mod InhibitedTicks
 pub mod InhibitedRuns
 pub mod Causes
 pub mod EndedHolds
+pub mod Unasked
+pub mod Uncounted
 pub mod NamedOnce
 pub mod FailedLinks
 pub mod KeptFacts
+pub mod OutageChanges
 pub mod OutageLaws
+pub mod OpeningLaws
+pub mod UnaskedOutages
+pub mod ReadyLast

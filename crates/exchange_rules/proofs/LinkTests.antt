@@ -1,6 +1,6 @@
 -- What a node's own link tests do.
 use Rattle.exchange_rules.proofs.Basics.{◌≡◌, ℕ, Bool, true, false, ◌&&◌, List, [], ◌∷◌, ◌++◌, Option, Some, None, Ok, refl, ap, sym, ◌∙◌, subst, arith, nat_tests, nat_eq, and_parts, and_from, if◌then◌else◌, is_some, false_from_ne_true as not-so, ⊎_elim, ◌<◌, ◌≤◌, ◌^◌, cases_lt, get_or_past, ◌*◌}
-use Rattle.exchange_rules.proofs.Definitions.{Configuration, IsWell, LinkEntry, IsLink, IsFarPoint, Cause, Handled, Ignored, Message, opc_of, dpc_of, service_indicator, Transition, LinkTestValue, read_link_test, label_at, label_octets, own_pattern, own_test, link_test, tests_links, is_test_awaited, answers_test, passes_test, awaiting_test, test_passed, with_test_failed, queue_if, begin_test, repeat_test, on_test_answer, entry_of, set_of, peer_of, Asking, first_state, after_each, no_room, Node, with_parts, link_at, in_service, answer, enters, take_step, test_if, advance, run_timer, WholeQueues, whole}
+use Rattle.exchange_rules.proofs.Definitions.{pass_test, begin_traffic, is_first_test, Configuration, IsWell, LinkEntry, IsLink, IsFarPoint, Cause, Handled, Ignored, Message, opc_of, dpc_of, service_indicator, Transition, LinkTestValue, read_link_test, label_at, label_octets, own_pattern, own_test, link_test, tests_links, is_test_awaited, answers_test, passes_test, awaiting_test, test_passed, with_test_failed, queue_if, begin_test, repeat_test, on_test_answer, entry_of, set_of, peer_of, Asking, first_state, after_each, no_room, Node, with_parts, link_at, in_service, answer, enters, take_step, test_if, advance, run_timer, WholeQueues, whole}
 use Rattle.std.specs.Prelude.{slice_index_or, length}
 use Rattle.mtp3_codec.specs.Headings.{IsLabel, kind_heading}
 use Rattle.mtp3_codec.specs.Management.{test_in}
@@ -112,14 +112,19 @@ is-answer c link point test e =
     record { from = equal-number _ _ one.0; code = equal-number _ _ two.0; pattern = are-same test.pattern own_pattern two.1 }
 
 by-answer : (c : Configuration) (b wanted : Bool) (link : ℕ) (n : Node WholeQueues) → b ≡ wanted
-    → (if b then answer Handled (with_parts n (test_passed c link n.parts)) else answer Ignored n) ≡ (if wanted then answer Handled (with_parts n (test_passed c link n.parts)) else answer Ignored n)
-by-answer c b wanted link n e = ap (λ (x : Bool). if x then answer Handled (with_parts n (test_passed c link n.parts)) else answer Ignored n) e
+    → (if b then answer Handled (pass_test whole c link n) else answer Ignored n) ≡ (if wanted then answer Handled (pass_test whole c link n) else answer Ignored n)
+by-answer c b wanted link n e = ap (λ (x : Bool). if x then answer Handled (pass_test whole c link n) else answer Ignored n) e
 
 pub passes : answers_pass
 passes c link point test node on awaited is =
+    let done : on_test_answer whole c link point test node ≡ answer Handled (pass_test whole c link node) =
     by-answer c (passes_test c link point test node.parts) true link node
     (and_from (tests_links c) (is_test_awaited link node.parts && answers_test c link point test) on
-    (and_from (is_test_awaited link node.parts) (answers_test c link point test) awaited (its-answer c link point test is)))
+    (and_from (is_test_awaited link node.parts) (answers_test c link point test) awaited (its-answer c link point test is))) in
+    record {
+      first = λ e. done ∙ ap (λ (b : Bool). answer Handled (begin_traffic whole c b link (test_passed c link node.parts) node)) e;
+      later = λ e. done ∙ ap (λ (b : Bool). answer Handled (begin_traffic whole c b link (test_passed c link node.parts) node)) e;
+    }
 
 pub ignores : other_answers_are_ignored
 ignores c link point test node other =

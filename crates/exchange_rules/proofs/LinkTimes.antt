@@ -1,7 +1,7 @@
 -- Of the timers that may take a link into service or out of it, no failure, changeover or return sets one, and no step of
 -- an alignment any but one of a test.
 use Rattle.exchange_rules.proofs.Basics.{◌≡◌, ℕ, zero, suc, Bool, true, false, ◌&&◌, not, List, [], ◌∷◌, length, Option, Some, None, refl, ap, sym, ◌∙◌, if◌then◌else◌}
-use Rattle.exchange_rules.proofs.Definitions.{without_timers, take_step, test_if, queue_if, send_test, begin_test, repeat_test, test_unanswered, with_test_failed, awaiting_test, answer_ticks, link_test, tests_links, Cause, link_at, Message, flow_of, Configuration, FailureReason, Facts, Transition, TimerName, Running, set_timer, left-set_other, left-clear_set_other, is_of_set, clear_set, Parts, Node, with_parts, answer, Handled, Ignored, in_service, down, set_of, facts, suspended, fail_link, has_other, without_tests, make_unavailable, changing, begin, change_over, begin_by_peer, fail_by_peer, fail_by_order, complete_by_order, complete_if, completed, changeover_of, with_changeover, changeover_order, send_routed, changeover_acknowledgement, on_changeover_order, with_changeover_acknowledged, no_room, link_of, loses_flows, code_for, hold_flows, take_back_each, held_by_rerouting, step_on, enters, begun_anew_if, moved_on, return_if, advance, WholeQueues, whole}
+use Rattle.exchange_rules.proofs.Definitions.{enters_traffic, without_timers, take_step, test_if, queue_if, send_test, begin_test, repeat_test, test_unanswered, with_test_failed, awaiting_test, answer_ticks, link_test, tests_links, Cause, link_at, Message, flow_of, Configuration, FailureReason, Facts, Transition, TimerName, Running, set_timer, left-set_other, left-clear_set_other, is_of_set, clear_set, Parts, Node, with_parts, answer, Handled, Ignored, in_service, down, set_of, facts, suspended, fail_link, has_other, without_tests, make_unavailable, changing, begin, change_over, begin_by_peer, fail_by_peer, fail_by_order, complete_by_order, complete_if, completed, changeover_of, with_changeover, changeover_order, send_routed, changeover_acknowledgement, on_changeover_order, with_changeover_acknowledged, no_room, link_of, loses_flows, code_for, hold_flows, take_back_each, held_by_rerouting, step_on, enters, begun_anew_if, moved_on, return_if, advance, WholeQueues, whole}
 use Rattle.timers.proofs.Maps.{left-clear_set}
 use Rattle.timers.specs.declared.name.TimerName.TheVariants as name
 use Rattle.timers.specs.declared.name.RouteTimer.{RouteTimer}
@@ -60,7 +60,6 @@ turns-move (name.T8 set destination) e = absurd cc
 turns-move (name.T10 set destination) e = absurd cc
 turns-move (name.Slt1 link) e = absurd cc
 turns-move (name.Slt2 link) e = absurd cc
-turns-move name.Sst e = absurd cc
 
 pub record Turned (n m : Node WholeQueues) : Type 0 where
   pub timers : (timer : TimerName) → takes_links timer ≡ true → (x : ℕ) → m.parts.timers.left timer ≡ Some x → n.parts.timers.left timer ≡ Some x
@@ -216,5 +215,5 @@ module _ (c : Configuration) where
       let stepped : Node WholeQueues = with_parts n (step_on c link step n.parts) in
       let moved : Node WholeQueues = with_parts n (moved_on c link step n.parts) in
       let took : Node WholeQueues = take_step whole c link step n in
-      turned-both n took _ (turned-both n moved took (turned-both n stepped moved e (turned-of stepped _ (anew-kept (enters link step n.parts && not (has_other c link n.parts)) link stepped)))
-      (turned-of moved _ (returned-kept (enters link step n.parts) link (facts c n.parts) moved))) (tested-turned (enters link step n.parts) link took)
+      turned-both n took _ (turned-both n moved took (turned-both n stepped moved e (turned-of stepped _ (anew-kept (enters_traffic link step n.parts && not (has_other c link n.parts)) link stepped)))
+      (turned-of moved _ (returned-kept (enters_traffic link step n.parts) link (facts c n.parts) moved))) (tested-turned (enters link step n.parts) link took)

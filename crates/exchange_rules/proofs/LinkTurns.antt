@@ -34,7 +34,6 @@ taking-link (name.T8 set destination) e = absurd cc
 taking-link (name.T10 set destination) e = absurd cc
 taking-link (name.Slt1 link) e = absurd cc
 taking-link (name.Slt2 link) e = absurd cc
-taking-link name.Sst e = absurd cc
 
 -- ---- by the table of the alignment: as L6 or L7 runs out, nothing happens or a link fails; as L4 does, one goes on,
 -- and no such timer starts
@@ -106,7 +105,6 @@ module _ (c : Configuration) where
   turns-kept (name.T10 set destination) n e = absurd cc
   turns-kept (name.Slt1 link) n e = test_unanswered-turned c link n
   turns-kept (name.Slt2 link) n e = begin_test-turned c link n
-  turns-kept name.Sst n e = absurd cc
 
   ran-kept : (moves : Bool) (its : TimerName) (n : Node WholeQueues) → moves_links its ≡ moves → Turned n (run_timer whole c its n)
   ran-kept true its n e = turns-kept its n e
@@ -218,12 +216,13 @@ module _ (c : Configuration) where
     timed = λ r n e k. record { stay = λ w. record { each = λ its t x h. w.each its t x (sym (e.links its (taking-link its t)) ∙ h) } };
     rerouted = λ routes n e k. bounds-as n _ refl;
     told = λ t n e. bounds-as n _ refl;
-    titled = λ rows n. bounds-as n _ refl;
-    unequipped = λ counts n e. bounds-as n _ refl;
+    titled = λ rows n may. bounds-as n _ refl;
+    unequipped = λ counts n e may. bounds-as n _ refl;
     linked = λ link x n e o. bounds-as n _ refl;
     parted = λ link n e. bounds-as n _ refl;
     opened = λ link n own there e f may. record { stay = timed-within link (opening (period_of c link n.parts)) n.parts.timers };
     stepped = λ link input step n own e k. record { stay = timed-within link step n.parts.timers };
+    passed = λ link n e k. bounds-as n _ refl;
     busied = λ link n own e f. record { stay = λ w. set-within link timer.L6 (without_timer link timer.L7 n.parts.timers) (stopped-within link timer.L7 n.parts.timers w) };
     resumed = λ link n own e f o. record { stay = resumed-within link (whole.outstanding n.queues link) n.parts.timers };
     accepted = λ link d confirmed n own e f. record {

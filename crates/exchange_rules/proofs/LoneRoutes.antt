@@ -11,7 +11,7 @@ use Rattle.link.specs.Queue.{accept_answer, to_send}
 use Rattle.routes.specs.declared.link_group.Member.{Member}
 use Rattle.routes.specs.declared.route.RouteStatus.TheVariants.{Restricted}
 use Rattle.routes.specs.Routes.{members_of, preference, serves, is_in_service, has_link, set_at, links_of, is_open, allowed_or, Choice, choice_among, members, sets_of, taken_by, link_by}
-use Rattle.node_links.specs.NodeLinks.{Link, down_link, is_in_service as is_link_in_service}
+use Rattle.node_links.specs.NodeLinks.{Link, down_link, carries_traffic}
 use Rattle.routes.proofs.Preference.{preference_permutes}
 use Rattle.route_management.specs.Told.{adjacent_place}
 use Rattle.settings.specs.Sharing.{sets_to, LeadsAlone}
@@ -168,9 +168,9 @@ pub set-decides : the_set_decides_its_flows
 set-decides c p q set destination sls e h alike =
     ap (λ (rs : List Route). link_by (facts c p) (choice_among (facts c p) rs) sls) e
     ∙ links-same (facts c p) (facts c q) set refl
-    (λ l i. get_or-map (λ (x : Link). is_link_in_service x.alignment) p.links l down_link
+    (λ l i. get_or-map carries_traffic p.links l down_link
     ∙ alike l (set-exact c.links (length c.sets) set l i).of_set
-    ∙ sym (get_or-map (λ (x : Link). is_link_in_service x.alignment) q.links l down_link)) sls
+    ∙ sym (get_or-map carries_traffic q.links l down_link)) sls
     ∙ ap (λ (rs : List Route). link_by (facts c q) (choice_among (facts c q) rs) sls) (sym h)
 
 -- ---- the route
@@ -332,10 +332,11 @@ module _ (c : Configuration) (set point destination : ℕ) (leads : LeadsAlone c
     dropped = λ link why n e. same-lone n _ refl refl refl;
     completed = λ link number st n e f. queue-lone n _ link (emptied (queue_at n.queues link)) refl refl refl (λ h away. refl);
     answered = λ link st n e f w. same-lone n _ refl refl refl;
-    linked = λ link x n e. same-lone n _ refl refl refl;
+    linked = λ link x n e o. same-lone n _ refl refl refl;
     parted = λ link n e. same-lone n _ refl refl refl;
     opened = λ link n own e f g. queue-lone n _ link first_queue refl refl refl (λ h away. refl);
     stepped = λ link input step n own e. same-lone n _ refl refl refl;
+    passed = λ link n e. same-lone n _ refl refl refl;
     busied = λ link n own e f. same-lone n _ refl refl refl;
     resumed = λ link n own e f. same-lone n _ refl refl refl;
     accepted = λ link d confirmed n own e f.

@@ -107,7 +107,7 @@ module _ (a : Abstract) where
       accepted-names (confirmed link text a) _ (3 * 1) was _ (more-names _ 3 (3 * 1) was _ (omega arith) (receive-names (is_link was.parts link) (down was.parts link) link (read_frame text)))
   rule-names Ticked = tick-names set was
   rule-names (Submitted m) = some 2 _ (omega arith) (submit-quiet set m was)
-  rule-names (Activated link) = some 0 _ (omega arith) (activate-quiet set link was)
+  rule-names (Activated link emergency) = some 0 _ (omega arith) (activate-quiet set emergency link was)
   rule-names (Deactivated link) = some 2 _ (omega arith) (deactivate-quiet set link was)
   rule-names (TitleAdded row refused) = some 0 _ (omega arith) (titled-quiet (title_refusal was.parts.titles.rows row refused) row)
   rule-names (TitleRemoved key digits) =

@@ -1,7 +1,7 @@
 -- Changeovers that are completed, by the peer's messages and by timers, and the release: what each loses is named and
 -- counted.
 use Rattle.exchange_rules.proofs.Basics.{Bool, Err, List, None, Ok, Option, Result, Some, [], ap, append-nil, arith, false, filter, filter_agree, is_some, length, length-append, map, nat_eq, not, refl, suc, sym, true, zero, ℕ, ◌&&◌, ◌*◌, ◌+◌, ◌++◌, ◌∙◌, ◌∷◌, ◌≡◌, ◌≤◌, if◌then◌else◌, count_by}
-use Rattle.exchange_rules.proofs.Definitions.{AreAccounted, counted, names_a_message, names_none, note, tells_of_lateness, tells_of_loss, naming, LostUnconfirmed, completed, changeover_of, complete_by_order, concluded, judged, lose, lose_each, changeover_acknowledgement, changeback_acknowledgement, on_changeover_order, on_changeover_timer, with_changeover, with_changeover_acknowledged, with_expiry, complete_if, fail_by_order, read_link_test, read_management, MgmtFault, Management, ChangebackAcknowledgement, ChangebackDeclaration, EmergencyChangeoverAcknowledgement, EmergencyChangeoverOrder, ExtendedChangeoverAcknowledgement, ExtendedChangeoverOrder, RouteSetTestProhibited, RouteSetTestRestricted, TrafficRestartAllowed, TransferAllowed, TransferProhibited, TransferRestricted, Allowed, Prohibited, Restricted, Configuration, Message, flow_of, is_management, opc_of, service_indicator, ChangeoverTimer, Handled, Ignored, destination_place, set_place, after_due, due_count, due_name, ticked, TimerName, Gone, both_gone, gone_by_answer, gone_by_completion, gone_by_expiry, gone_by_message, gone_by_order, gone_by_tick, gone_by_timer, gone_by_timers, gone_by_word, is_stranded, nothing_gone, only_accepted, waits, is_link, do_acknowledgement, do_management, do_order, do_test, is_adjacent, link_with_code, local, manage, testing, deliver_to, route_about, WholeQueues, whole, go, go_by, go_each, go_on, link_of, Found, Node, Parts, Done, answer, with_parts, run_due, run_next, run_times, tick, with_timers, Discrimination, from_afar, UserPartUnavailable}
+use Rattle.exchange_rules.proofs.Definitions.{AreAccounted, counted, names_a_message, names_none, note, tells_of_lateness, tells_of_loss, naming, LostUnconfirmed, completed, changeover_of, complete_by_order, concluded, judged, lose, lose_each, changeover_acknowledgement, changeback_acknowledgement, on_changeover_order, on_changeover_timer, with_changeover, with_changeover_acknowledged, with_expiry, complete_if, fail_by_order, read_link_test, read_management, MgmtFault, Management, ChangebackAcknowledgement, ChangebackDeclaration, EmergencyChangeoverAcknowledgement, EmergencyChangeoverOrder, ExtendedChangeoverAcknowledgement, ExtendedChangeoverOrder, RouteSetTestProhibited, RouteSetTestRestricted, TrafficRestartAllowed, TransferAllowed, TransferProhibited, TransferRestricted, Allowed, Prohibited, Restricted, Configuration, Message, flow_of, is_management, opc_of, service_indicator, ChangeoverTimer, Handled, Ignored, destination_place, set_place, after_due, due_count, due_name, ticked, TimerName, Gone, both_gone, gone_by_answer, gone_by_completion, gone_by_expiry, gone_by_message, gone_by_order, gone_by_tick, gone_by_timer, gone_by_timers, gone_by_word, is_stranded, nothing_gone, only_accepted, waits, is_link, do_acknowledgement, do_management, do_order, do_test, is_adjacent, link_with_code, local, manage, testing, deliver_to, route_about, WholeQueues, whole, go, go_by, go_each, go_on, link_of, Found, Node, Parts, Done, answer, with_parts, run_due, run_next, run_times, tick, with_timers, Discrimination, from_afar, UserPartUnavailable, run_all}
 use Rattle.std.proofs.lemmas.List.{map-append}
 use Rattle.exchange_rules.proofs.Departing.{go_by-strands}
 use Rattle.signalling_types.specs.declared.cause.Cause.TheVariants as causes
@@ -241,7 +241,6 @@ module _ (c : Configuration) where
   timer-names (Some (name.T10 set destination)) n = some-quiet 1 n _ (omega arith) (ask_again-quiet c set destination n)
   timer-names (Some (name.Slt1 link)) n = some-quiet 2 n _ (omega arith) (test_unanswered-quiet c link n)
   timer-names (Some (name.Slt2 link)) n = some-quiet 0 n _ (omega arith) (begin_test-quiet c link n)
-  timer-names (Some name.Sst) n = some-quiet 0 n n (omega arith) (any-quiet 0 n)
 
   timers-names : (many : ℕ) (n : Node WholeQueues) → NamesLate (gone_by_timers many c n) (late_by_timers many c n) (3 * many) n (run_times whole c many n)
   timers-names zero n = quiet-names (3 * zero) n n (any-quiet (3 * zero) n)
@@ -260,8 +259,12 @@ module _ (c : Configuration) where
   tick-names n =
       let begun : Node WholeQueues = with_timers n (ticked n.parts.timers) in
       let many : ℕ = 3 * due_count (ticked n.parts.timers) in
-      more-late (gone_by_tick c n) (late_by_tick c n) (0 + many) many n _ (omega arith)
-      (first-late (gone_by_tick c n) (late_by_tick c n) 0 many n begun _ (same-quiet n begun refl refl refl) (timers-names (due_count (ticked n.parts.timers)) begun))
+      let ran : Node WholeQueues = run_all whole c begun in
+      let g : Gone = gone_by_tick c n in
+      let late : List Notice = late_by_tick c n in
+      more-late g late (0 + (many + 0)) many n _ (omega arith)
+      (first-late g late 0 (many + 0) n begun _ (same-quiet n begun refl refl refl)
+      (then-late g late many 0 begun ran _ (timers-names (due_count (ticked n.parts.timers)) begun) (same-quiet ran _ refl refl refl)))
 
   -- ---- by the release
 

@@ -33,7 +33,6 @@ tests-move (name.T4 set code) e = absurd cc
 tests-move (name.T6 destination) e = absurd cc
 tests-move (name.T8 set destination) e = absurd cc
 tests-move (name.T10 set destination) e = absurd cc
-tests-move name.Sst e = absurd cc
 
 was-running : (o p : Option ℕ) → ((x : ℕ) → o ≡ Some x → p ≡ Some x) → is_some o ≡ true → is_some p ≡ true
 was-running None p f e = absurd cc
@@ -68,12 +67,13 @@ module _ (c : Configuration) (off : tests_links c ≡ false) where
     timed = λ r n e k. record { runs = e.tests off };
     rerouted = λ routes n e k. same-none n _ refl;
     told = λ t n e. same-none n _ refl;
-    titled = λ rows n. same-none n _ refl;
-    unequipped = λ counts n e. same-none n _ refl;
+    titled = λ rows n may. same-none n _ refl;
+    unequipped = λ counts n e may. same-none n _ refl;
     linked = λ link x n e o. same-none n _ refl;
     parted = λ link n e. same-none n _ refl;
     opened = λ link n own there e f may. for-none link n _ (timed-for link c (opening (period_of c link n.parts)) n.parts.timers);
     stepped = λ link input step n own e k. for-none link n _ (timed-for link c step n.parts.timers);
+    passed = λ link n e k. same-none n _ refl;
     busied = λ link n own e f. for-none link n _ (timed_busy-for link c n.parts.timers);
     resumed = λ link n own e f o. for-none link n _ (timed_busy_ended-for link c (whole.outstanding n.queues link) n.parts.timers);
     accepted = λ link d confirmed n own e f. for-none link n _

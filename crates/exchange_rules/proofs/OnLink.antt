@@ -1,6 +1,6 @@
 -- A change of one link: each other link keeps its state, its changeover, its queue and its L7.
 use Rattle.exchange_rules.proofs.Basics.{◌≡◌, ◌≢◌, ◌<◌, ℕ, List, length, Option, refl, slice_set, get_or-set_same, get_or-set_other, length-set}
-use Rattle.exchange_rules.proofs.Definitions.{period_of, Message, FailureReason, Configuration, opening, Queue, Sending, first_queue, emptied, Running, Link, down_link, opened, after_failure, Standing, no_changeover, Node, with_parts, link_at, queue_on, changeover_of, with_changeover, fail_link, Carrying, carries, open_link, SendsMessage, without_owed, after_sending, WholeQueues, queue_at, whole}
+use Rattle.exchange_rules.proofs.Definitions.{period_of, Message, FailureReason, Configuration, opening, Queue, Sending, first_queue, emptied, Running, Link, down_link, opened_by, after_failure, Standing, no_changeover, Node, with_parts, link_at, queue_on, changeover_of, with_changeover, fail_link, Carrying, carries, open_link, SendsMessage, without_owed, after_sending, WholeQueues, queue_at, whole}
 use Rattle.std.specs.Prelude.{get_or}
 use Rattle.link.specs.Queue as queue
 use Rattle.exchange_rules.proofs.LinkTimers.{AreTimedFor, same-for, without_timers-for, timed-for, timed_sending-for, timed_confirming-for}
@@ -91,9 +91,9 @@ module _ (k : ℕ) where
   }
 
   module _ (c : Configuration) where
-    pub opened-on : (n : Node WholeQueues) → OnLink k (opened (period_of c k n.parts) (link_at n.parts k)) (changeover_of n.parts k) first_queue n (open_link whole c k n)
+    pub opened-on : (n : Node WholeQueues) → OnLink k (opened_by c (period_of c k n.parts) (link_at n.parts k)) (changeover_of n.parts k) first_queue n (open_link whole c k n)
     opened-on n = record {
-      links = is-set n.parts.links k (opened (period_of c k n.parts) (link_at n.parts k)) down_link;
+      links = is-set n.parts.links k (opened_by c (period_of c k n.parts) (link_at n.parts k)) down_link;
       changeovers = is-same n.parts.changeovers k no_changeover;
       queues = is-set n.queues.links k first_queue first_queue;
       timers = timed-for k c (opening (period_of c k n.parts)) n.parts.timers;

@@ -1,9 +1,9 @@
 -- The link whose peer's processor is out: what the parts of an outage leave of the links.
 use Rattle.exchange_rules.proofs.Basics.{◌≡◌, ◌<◌, ◌≤◌, ℕ, Bool, true, false, length, refl, ap, sym, ◌∙◌, ⊎_elim, cases_lt, get_or_past, get_or-set_same, if◌then◌else◌, and_parts}
-use Rattle.exchange_rules.proofs.Definitions.{Configuration, LinkStatus, Link, down_link, is_in_service, Parts, link_at, in_service, end_busy, become_busy, is_outage, is_recovery, in_outage, tells_outage, tells_recovery, put_out, let_back}
+use Rattle.exchange_rules.proofs.Definitions.{Configuration, LinkStatus, Link, recovered, down_link, is_in_service, Parts, link_at, in_service, end_busy, become_busy, is_outage, is_recovery, in_outage, tells_outage, tells_recovery, let_back}
 use Rattle.m2pa_codec.specs.declared.status.LinkStatus.TheVariants as says
 use Rattle.exchange_rules.proofs.Lists.{alike-at}
-use Rattle.exchange_rules.proofs.Steps.{with_busy, without_busy, outed}
+use Rattle.exchange_rules.proofs.Steps.{with_busy, without_busy, outed, recovering}
 
 -- a link in service is there
 pub service-there : (p : Parts) (link : ℕ) → in_service p link ≡ true → link < length p.links
@@ -49,15 +49,18 @@ becomes-busy c link p e = by (link_at p link).peer_busy refl
     by true f = f
     by false f = ap (λ (l : Link). l.peer_busy) (get_or-set_same p.links link (record (link_at p link) { peer_busy = true }) down_link (service-there p link e))
 
-pub outed-serves : (link : ℕ) (out : Bool) (p : Parts) (other : ℕ) → in_service (outed link out p) other ≡ in_service p other
-outed-serves link out p other = alike-at serves p.links link other (record (link_at p link) { peer_outage = out }) down_link refl
+pub outed-serves : (link : ℕ) (p : Parts) (other : ℕ) → in_service (outed link p) other ≡ in_service p other
+outed-serves link p other = alike-at serves p.links link other (record (link_at p link) { peer_outage = true }) down_link refl
+
+pub recovering-serves : (link : ℕ) (p : Parts) (other : ℕ) → in_service (recovering link p) other ≡ in_service p other
+recovering-serves link p other = alike-at serves p.links link other (recovered (link_at p link)) down_link refl
 
 -- the end of an outage
 pub back-serves : (link : ℕ) (p : Parts) (other : ℕ) → in_service (let_back link p) other ≡ in_service p other
-back-serves link p other = alike-at serves p.links link other (record (link_at p link) { peer_outage = false }) down_link refl
+back-serves link p other = alike-at serves p.links link other (recovered (link_at p link)) down_link refl
 
 pub back-in : (link : ℕ) (p : Parts) → in_service p link ≡ true → (link_at (let_back link p) link).peer_outage ≡ false
-back-in link p e = ap (λ (l : Link). l.peer_outage) (get_or-set_same p.links link (record (link_at p link) { peer_outage = false }) down_link (service-there p link e))
+back-in link p e = ap (λ (l : Link). l.peer_outage) (get_or-set_same p.links link (recovered (link_at p link)) down_link (service-there p link e))
 
 -- ---- what a status tells
 

@@ -56,10 +56,11 @@ module _ (c : Configuration) (l : ℕ) where
     dropped = λ link why n e. down-keeps l link _ n _ refl refl;
     completed = λ link number st n e f. same-keeps l n _ refl;
     answered = λ link st n e f w. same-keeps l n _ refl;
-    linked = λ link x n e. alike-keeps l link x n _ refl e.alignment;
+    linked = λ link x n e o. alike-keeps l link x n _ refl e.alignment;
     parted = λ link n e. alike-keeps l link _ n _ refl refl;
     opened = λ link n own there e f. other-keeps l link _ n _ refl own;
     stepped = λ link input step n own e. other-keeps l link _ n _ refl own;
+    passed = λ link n e. alike-keeps l link _ n _ refl refl;
     busied = λ link n own e f. alike-keeps l link _ n _ refl refl;
     resumed = λ link n own e f. alike-keeps l link _ n _ refl refl;
     accepted = λ link d confirmed n own e f. same-keeps l n _ refl;
@@ -88,7 +89,7 @@ module _ (c : Configuration) (l : ℕ) where
       by : (link ≡ l) ⊎ (link ≢ l) → Climbing D n (run_out whole c link its n)
       by (inl same) =
           subst (λ (k : ℕ). Climbing D n (run_out whole c k its n)) (sym same) (run_own-climbs D (acts_on (link_at n.parts l) (Expiry its)) its n (d same) refl)
-      by (inr apart) = keeps-climbs D l n _ (run_out-steps keeps link its n apart tt)
+      by (inr apart) = keeps-climbs D l n _ (run_out-steps keeps link its n apart (λ e. tt))
 
   other-climbs : (D : Type 0) (due : TimerName) (n : Node WholeQueues) → is_of_link due ≡ false → Climbing D n (run_timer whole c due n)
   other-climbs D due n e = keeps-climbs D l n _ (run_timer-steps keeps due n (λ link its f. absurd (no-link due link its e f)))
@@ -110,7 +111,6 @@ module _ (c : Configuration) (l : ℕ) where
   due-climbs D (Some (name.T10 set destination)) n d = other-climbs D (name.T10 set destination) n refl
   due-climbs D (Some (name.Slt1 link)) n d = other-climbs D (name.Slt1 link) n refl
   due-climbs D (Some (name.Slt2 link)) n d = other-climbs D (name.Slt2 link) n refl
-  due-climbs D (Some name.Sst) n d = other-climbs D name.Sst n refl
 
   -- of a tick that began with these timers due: none becomes due in the midst of it
   pub times-climb : (r : Running) (many : ℕ) (n : Node WholeQueues) → ((its : TimerName) → is_due n.parts.timers its ≡ true → is_due r its ≡ true) → Climbing (is_due r (name.L4 l) ≡ true) n (run_times whole c many n)

@@ -1,6 +1,6 @@
 -- A link is proved before it enters service, whatever happens.
 use Rattle.exchange_rules.proofs.Basics.{◌≡◌, ◌≢◌, ◌<◌, ◌⊎◌, inl, inr, ℕ, Bool, true, false, List, Result, Ok, Err, refl, ap, sym, subst, ◌∙◌, arith, nat_tests, ⊎_elim, cases_eq, is_some, length, nat_lt, get_or-set_same, if◌then◌else◌}
-use Rattle.exchange_rules.proofs.Definitions.{period_of, Configuration, Alignment, Status, UserData, acts_on, LinkStatus, FrameFault, FrameValue, EmptyFrame, MessageFrame, StatusFrame, read_frame, Link, down_link, opened, Node, answer, refuse, Ignored, Handled, is_link, link_at, down, changeover_of, may_restart, may_open, open_link, is_due, ticked, due_count, empty_data, message_data, data_of, act_by_data, act_by_status, leave_aside, read, with_timers, tick, Happening, CameUp, WentDown, FrameCame, Ticked, Submitted, Activated, Deactivated, TitleAdded, TitleRemoved, apply, release, tell_owed, WholeQueues, whole, tells_outage, tells_recovery, on_link_status}
+use Rattle.exchange_rules.proofs.Definitions.{period_of, Configuration, Alignment, UserData, acts_on, LinkStatus, FrameFault, FrameValue, EmptyFrame, MessageFrame, StatusFrame, read_frame, Link, down_link, opened_by, Node, answer, refuse, Ignored, Handled, is_link, link_at, down, changeover_of, may_restart, may_open, open_link, is_due, ticked, due_count, empty_data, message_data, data_of, act_by_data, leave_aside, read, with_timers, tick, Happening, CameUp, WentDown, FrameCame, Ticked, Submitted, Activated, Deactivated, TitleAdded, TitleRemoved, apply, release, tell_owed, WholeQueues, whole, tells_outage, tells_recovery, on_link_status}
 use Rattle.signalling_types.specs.declared.cause.Cause.TheVariants as causes
 use Rattle.m2pa_codec.specs.Frames.{status_number}
 use Rattle.m2pa_codec.specs.declared.status.LinkStatus.TheVariants as says
@@ -19,7 +19,7 @@ pub says-of : (l : ℕ) (text : List ℕ) (bsn fsn : ℕ) (status its : LinkStat
 says-of l text bsn fsn status its e same =
     subst (λ (x : LinkStatus). Says l x (FrameCame l text)) (status-numbered status its same) (record { text = text; bsn = bsn; fsn = fsn; came = refl; reads = e })
 
-there-is : (a b : ℕ) → nat_lt a b ≡ true → a < b
+pub there-is : (a b : ℕ) → nat_lt a b ≡ true → a < b
 there-is a b e = grind (arith, nat_tests, e)
 
 module _ (c : Configuration) (l : ℕ) (n : Node WholeQueues) where
@@ -140,7 +140,7 @@ module _ (c : Configuration) (l : ℕ) (n : Node WholeQueues) where
   opened-first true true false e = kept-first (CameUp l) (settled n) (settled-steps (keeps c l) n)
   opened-first true true true e =
       let up : Node WholeQueues = open_link whole c l n in
-      let is : state_of up.parts l ≡ NotAligned = ap (λ (x : Link). x.alignment) (get_or-set_same n.parts.links l (opened (period_of c l n.parts) (link_at n.parts l)) down_link (there-is l (length n.parts.links) e)) in
+      let is : state_of up.parts l ≡ NotAligned = ap (λ (x : Link). x.alignment) (get_or-set_same n.parts.links l (opened_by c (period_of c l n.parts) (link_at n.parts l)) down_link (there-is l (length n.parts.links) e)) in
       begun-first (state_of (settled up).parts l)
       (subst (λ (x : Alignment). Climbs ⊥ x (state_of (settled up).parts l)) is (keeps-climbs ⊥ l up (settled up) (settled-steps (keeps c l) up)))
 
@@ -165,7 +165,7 @@ module _ (c : Configuration) (l : ℕ) (n : Node WholeQueues) where
       by (inr apart) = other-first (CameUp link) (λ k is same. apart (sym is ∙ same)) (λ no. absurd cc)
   event-first (WentDown link) = other-first (WentDown link) (λ k is. absurd is) (λ no. absurd cc)
   event-first (Submitted m) = other-first (Submitted m) (λ k is. absurd is) (λ no. absurd cc)
-  event-first (Activated link) = other-first (Activated link) (λ k is. absurd is) (λ no. absurd cc)
+  event-first (Activated link emergency) = other-first (Activated link emergency) (λ k is. absurd is) (λ no. absurd cc)
   event-first (Deactivated link) = other-first (Deactivated link) (λ k is. absurd is) (λ no. absurd cc)
   event-first (TitleAdded row refused) = other-first (TitleAdded row refused) (λ k is. absurd is) (λ no. absurd cc)
   event-first (TitleRemoved key digits) = other-first (TitleRemoved key digits) (λ k is. absurd is) (λ no. absurd cc)

@@ -1,6 +1,6 @@
 -- Links that fail and return lose nothing by this: how many notices each rule makes.
 use Rattle.exchange_rules.proofs.Basics.{Bool, None, Option, Some, arith, false, length, not, refl, suc, true, zero, ℕ, ◌&&◌, if◌then◌else◌}
-use Rattle.exchange_rules.proofs.Definitions.{acts_on, Action, Expiry, Status, LinkTimer, Transition, LinkStatus, Facts, Configuration, FailureReason, FrameFault, Handled, Ignored, changeover_order, code_for, fail_link, links_with, timed_busy, timed_busy_ended, hold_flows, loses_flows, suspended, take_back_each, without_tests, fail_by_order, begin, begin_by_peer, change_over, changing, fail, fail_by_peer, has_other, make_unavailable, leave_aside, down, in_service, is_link, link_at, activate, association_down, deactivate, end_association, fail_if_up, set_active, set_of, WholeQueues, whole, facts, Done, Node, Parts, answer, refuse, with_parts, act_by_status, act_by_timer, advance, begun_anew_if, enters, moved_on, step_on, on_link_status, return_if, run_out, serve_status, tells_outage, tells_recovery, begin_outage, hear_outage, end_outage, become_busy, end_busy, let_back, take_step, test_if, queue_if, send_test, begin_test, repeat_test, test_unanswered, with_test_failed, awaiting_test, link_test, tests_links, no_room, Cause}
+use Rattle.exchange_rules.proofs.Definitions.{enters_traffic, acts_on, Action, Expiry, Status, LinkTimer, Transition, LinkStatus, Facts, Configuration, FailureReason, FrameFault, Handled, Ignored, changeover_order, fail_link, links_with, timed_busy, timed_busy_ended, suspended, without_tests, fail_by_order, begin, begin_by_peer, change_over, changing, fail, fail_by_peer, has_other, make_unavailable, leave_aside, down, in_service, is_link, link_at, activate, association_down, deactivate, end_association, fail_if_up, set_active, set_of, WholeQueues, whole, facts, Done, Node, Parts, answer, refuse, with_parts, act_by_status, act_by_timer, advance, begun_anew_if, enters, moved_on, step_on, on_link_status, run_out, serve_status, tells_outage, tells_recovery, begin_outage, hear_outage, end_outage, become_busy, end_busy, let_back, take_step, test_if, queue_if, send_test, begin_test, repeat_test, test_unanswered, with_test_failed, awaiting_test, link_test, tests_links, no_room, Cause}
 use Rattle.link.specs.declared.action.Action.TheVariants as act
 use Rattle.signalling_types.specs.declared.cause.Cause.TheVariants as causes
 use Rattle.signalling_types.specs.declared.notice.FrameFault.TheVariants as faults
@@ -9,6 +9,7 @@ use Rattle.signalling_types.specs.declared.notice.FailureReason.TheVariants as r
 use Rattle.m2pa_codec.specs.declared.status.LinkStatus.TheVariants as says
 use Rattle.exchange_rules.proofs.Steps.{with_busy, without_busy}
 use Rattle.exchange_rules.proofs.Naming.{Quiet, any-quiet, both-quiet, either-quiet, either_done-quiet, more-quiet, one-quiet, same-quiet, then-quiet}
+use Rattle.exchange_rules.proofs.QuietReturns.{return-quiet}
 use Rattle.exchange_rules.proofs.QuietMessages.{routed-quiet}
 
 module _ (c : Configuration) where
@@ -65,34 +66,17 @@ module _ (c : Configuration) where
       (either_done-quiet 2 (link_at n.parts link).association n ended (answer Ignored n)
       (both-quiet 2 0 n failed _ (fail_if_up-quiet link reasons.Association n) (same-quiet failed _ refl refl refl)) (any-quiet 2 n)) (any-quiet 2 n)
 
-  pub activate-quiet : (link : ℕ) (n : Node WholeQueues) → Quiet 0 n (activate whole c link n).left
-  activate-quiet link n =
-      either_done-quiet 0 (is_link n.parts link) n (answer Handled (set_active whole c true link n)) (refuse causes.NoSuchName n) (same-quiet n _ refl refl refl) (any-quiet 0 n)
+  pub activate-quiet : (emergency : Bool) (link : ℕ) (n : Node WholeQueues) → Quiet 0 n (activate whole c emergency link n).left
+  activate-quiet emergency link n =
+      either_done-quiet 0 (is_link n.parts link) n (answer Handled (set_active whole c true emergency link n)) (refuse causes.NoSuchName n) (same-quiet n _ refl refl refl) (any-quiet 0 n)
 
   pub deactivate-quiet : (link : ℕ) (n : Node WholeQueues) → Quiet 2 n (deactivate whole c link n).left
   deactivate-quiet link n =
       let failed : Node WholeQueues = fail_if_up whole c link reasons.Operator n in
-      either_done-quiet 2 (is_link n.parts link) n (answer Handled (set_active whole c false link failed)) (refuse causes.NoSuchName n)
+      either_done-quiet 2 (is_link n.parts link) n (answer Handled (set_active whole c false false link failed)) (refuse causes.NoSuchName n)
       (both-quiet 2 0 n failed _ (fail_if_up-quiet link reasons.Operator n) (same-quiet failed _ refl refl refl)) (any-quiet 2 n)
 
-  -- ---- links return
-
-  hold_flows-quiet : (before after : Facts) (code : Option ℕ) (link other : ℕ) (n : Node WholeQueues) → Quiet 0 n (hold_flows whole c before after code link other n)
-  hold_flows-quiet before after (Some code) link other n = same-quiet n _ refl refl refl
-  hold_flows-quiet before after None link other n = same-quiet n _ refl refl refl
-
-  take_back_each-quiet : (before after : Facts) (link many : ℕ) (n : Node WholeQueues) → Quiet 0 n (take_back_each whole c before after link many n)
-  unfolding take_back_each
-  take_back_each-quiet before after link zero n = any-quiet 0 n
-  take_back_each-quiet before after link (suc other) n =
-      let one : Node WholeQueues = take_back_each whole c before after link other n in
-      let code : Option ℕ = code_for whole c link other one in
-      both-quiet 0 0 n one _ (take_back_each-quiet before after link other n)
-      (either-quiet 0 (loses_flows c before after other link) one (hold_flows whole c before after code link other one) one (hold_flows-quiet before after code link other one) (any-quiet 0 one))
-
-  return-quiet : (entered : Bool) (link : ℕ) (before : Facts) (n : Node WholeQueues) → Quiet 0 n (return_if whole c entered link before n)
-  return-quiet true link before n = take_back_each-quiet before (facts c n.parts) link (length c.links) n
-  return-quiet false link before n = any-quiet 0 n
+  -- ---- links enter service
 
   moved-quiet : (first : Bool) (link : ℕ) (step : Transition) (n : Node WholeQueues) → Quiet 0 n (with_parts n (begun_anew_if first c link (step_on c link step n.parts)))
   moved-quiet true link step n = same-quiet n _ refl refl refl
@@ -133,8 +117,8 @@ module _ (c : Configuration) where
       let moved : Node WholeQueues = with_parts n (moved_on c link step n.parts) in
       let took : Node WholeQueues = take_step whole c link step n in
       both-quiet 0 0 n took _
-      (both-quiet 0 0 n moved took (moved-quiet (enters link step n.parts && not (has_other c link n.parts)) link step n)
-      (return-quiet (enters link step n.parts) link (facts c n.parts) moved))
+      (both-quiet 0 0 n moved took (moved-quiet (enters_traffic link step n.parts && not (has_other c link n.parts)) link step n)
+      (return-quiet c (enters_traffic link step n.parts) link (facts c n.parts) moved))
       (test_if-quiet (enters link step n.parts) link took)
 
   -- ---- statuses, timers of links, and frames that can't be read

@@ -1,6 +1,6 @@
 -- Messages that are made here or go to other points lose nothing: how many notices each rule makes.
 use Rattle.exchange_rules.proofs.Basics.{Bool, Err, List, None, Ok, Option, Result, Some, [], arith, false, length, nat_eq, nat_lt, not, refl, true, ℕ, ◌&&◌, ◌+◌, ◌∷◌, ◌≡◌, if◌then◌else◌}
-use Rattle.exchange_rules.proofs.Definitions.{passes_test, test_passed, is_outstanding, LinkTestValue, MgmtFault, TestKind, Acknowledgement, Test, Owed, owed, Heard, RouteTest, status_of, RouteStatus, Allowed, Prohibited, Restricted, Configuration, Message, dpc_of, opc_of, flow_of, is_management, service_indicator, Cause, Outcome, Handled, Held, Ignored, Local, Queued, Refused, Discrimination, RelayedValue, relay, returned, destination_place, is_destination, offer, transfer, local, sccp, submit, submit_to, whither_goes, is_user, in_place_of, on_unitdata, own_of, relay_by, return_outcome, send_udts, waits, forced, freed, held_by_rerouting, on_changeback_acknowledgement, prohibited_test, restricted_test, route_message, timed_status, with_status_heard, send_each, do_kind, do_test, test_answer, send, send_anew, send_routed, set_of, no_room, no_room_for, WholeQueues, whole, apply_route_status, ask_again, ask_by, on_route_status, with_next_test, facts, link_of, Done, Node, Parts, answer, refuse, with_parts, answer_no_route, answer_no_user_part, is_unequipped_told, tell_unavailable, unavailable, unequipped_counted, answered_parts, inhibited, is_inhibited, may_tell, on_route_test, prohibit, send_route_status, tell_each, tell_if, tell_owed, told_parts}
+use Rattle.exchange_rules.proofs.Definitions.{pass_test, passes_test, test_passed, is_outstanding, LinkTestValue, MgmtFault, TestKind, Acknowledgement, Test, Owed, owed, Heard, RouteTest, status_of, RouteStatus, Allowed, Prohibited, Restricted, Configuration, Message, dpc_of, opc_of, flow_of, is_management, service_indicator, Cause, Outcome, Handled, Held, Ignored, Local, Queued, Refused, Discrimination, RelayedValue, relay, returned, destination_place, is_destination, offer, transfer, local, sccp, submit, submit_to, whither_goes, is_user, in_place_of, on_unitdata, own_of, relay_by, return_outcome, send_udts, waits, forced, freed, held_by_rerouting, on_changeback_acknowledgement, prohibited_test, restricted_test, route_message, timed_status, with_status_heard, send_each, do_kind, do_test, test_answer, send, send_anew, send_routed, set_of, no_room, no_room_for, WholeQueues, whole, apply_route_status, ask_again, ask_by, on_route_status, with_next_test, facts, link_of, Done, Node, Parts, answer, refuse, with_parts, answer_no_route, answer_no_user_part, is_unequipped_told, tell_unavailable, unavailable, unequipped_counted, answered_parts, inhibited, is_inhibited, may_tell, on_route_test, prohibit, send_route_status, tell_each, tell_if, tell_owed, told_parts}
 use Rattle.changeback.specs.Rerouting.{rerouted}
 use Rattle.signalling_types.specs.declared.cause.Cause.TheVariants as causes
 use Rattle.signalling_types.specs.declared.notice.Notice.TheVariants as notices
@@ -9,6 +9,7 @@ use Rattle.route_management.specs.declared.heard.Heard.TheVariants as hears
 use Rattle.exchange_rules.specs.Telling as telling
 use Rattle.sccp_relay.specs.Relay as relays
 use Rattle.mtp3_codec.specs.declared.discrimination.Discrimination.TheVariants as whither
+use Rattle.exchange_rules.proofs.QuietReturns.{passed-quiet}
 use Rattle.exchange_rules.proofs.Naming.{Quiet, any-quiet, both-quiet, either-quiet, either_done-quiet, more-quiet, one-quiet, same-quiet, then-quiet}
 
 module _ (c : Configuration) where
@@ -133,8 +134,8 @@ module _ (c : Configuration) where
       let m : Message = test_answer c point test in
       send-quiet (no_room whole c m n.queues) (Some link) m n
   do_kind-quiet Acknowledgement link point test n =
-      either_done-quiet 1 (passes_test c link point test n.parts) n (answer Handled (with_parts n (test_passed c link n.parts))) (answer Ignored n)
-      (more-quiet 0 1 n _ (omega arith) (same-quiet n _ refl refl refl)) (any-quiet 1 n)
+      either_done-quiet 1 (passes_test c link point test n.parts) n (answer Handled (pass_test whole c link n)) (answer Ignored n)
+      (more-quiet 0 1 n _ (omega arith) (passed-quiet c link n)) (any-quiet 1 n)
 
   pub do_test-quiet : (r : Result LinkTestValue MgmtFault) (link point : ℕ) (n : Node WholeQueues) → Quiet 1 n (do_test whole c r link point n).left
   do_test-quiet (Err fault) link point n = any-quiet 1 n

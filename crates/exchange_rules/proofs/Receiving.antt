@@ -61,10 +61,11 @@ module _ (l : ℕ) where
     dropped = λ link why n e. same-queues n _ refl;
     completed = λ link number st n e f. one-queue link (emptied (queue_at n.queues link)) n _ refl refl;
     answered = λ link st n e f w. same-queues n _ refl;
-    linked = λ link x n e. same-queues n _ refl;
+    linked = λ link x n e o. same-queues n _ refl;
     parted = λ link n e. same-queues n _ refl;
     opened = λ link n own e f g. other-queue link first_queue n _ own refl;
     stepped = λ link input step n own e. same-queues n _ refl;
+    passed = λ link n e. same-queues n _ refl;
     busied = λ link n own e f. same-queues n _ refl;
     resumed = λ link n own e f. same-queues n _ refl;
     accepted = λ link d confirmed n own e f. other-queue link (queue.accepted (queue_at n.queues link) d.fsn d.bsn (carries d)) n _ own refl;

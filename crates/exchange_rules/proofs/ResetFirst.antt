@@ -1,8 +1,9 @@
--- A link takes a step of its alignment, and what is known over its set is reset: whichever comes first, the node is the
--- same.
+-- A link takes a step of its alignment, or passes a test, and what is known over its set is reset: whichever comes
+-- first, the node is the same.
 use Rattle.exchange_rules.proofs.Basics.{◌≡◌, ◌≢◌, ℕ, Bool, true, false, Option, Some, None, refl, ap, sym, subst, ◌∙◌, ⊎_elim}
 use Rattle.settings_rows.specs.declared.timer_ticks.TimerTicks.{TimerTicks}
-use Rattle.exchange_rules.proofs.Definitions.{paced, Configuration, Transition, LinkTimer, TimerName, NodeCounts, Running, has_name, is_of_set, set_timer, clear_timer, clear_set, left-set, left-set_other, left-clear, left-clear_other, left-clear_set_other, counts-set, counts-clear, counts-clear_set, timer_name, ticks_of, without_timer_if, with_timer_if, timed, Parts, step_on, with_set_reset}
+use Rattle.exchange_rules.proofs.Definitions.{paced, Configuration, Transition, LinkTimer, TimerName, NodeCounts, Running, has_name, is_of_set, set_timer, clear_timer, clear_set, left-set, left-set_other, left-clear, left-clear_other, left-clear_set_other, counts-set, counts-clear, counts-clear_set, timer_name, ticks_of, without_timer_if, with_timer_if, timed, Parts, step_on, with_set_reset, test_passed, pause_ticks}
+use Rattle.timers.specs.declared.name.TimerName.TheVariants.{Slt1, Slt2}
 use Rattle.timers.proofs.Maps.{left-clear_set}
 use Rattle.timers.specs.OneMap.{one_map}
 use Rattle.timers.specs.declared.name.RouteTimer.{RouteTimer}
@@ -86,6 +87,19 @@ module _ (of : RouteTimer) (set : ℕ) where
 
     timed-cleared : (step : Transition) (r : Running) → clear_set of set (timed c link step r) ≡ timed c link step (clear_set of set r)
     timed-cleared step r = starts (paced step.period c.timers) step.start (without_timer_if link step.stop r) ∙ ap (with_timer_if (paced step.period c.timers) link step.start) (stops step.stop r)
+
+-- nor are those of a link's tests
+passed-cleared : (of : RouteTimer) (set : ℕ) (c : Configuration) (link : ℕ) (r : Running)
+    → clear_set of set (set_timer (Slt2 link) (pause_ticks c) (clear_timer (Slt1 link) r)) ≡ set_timer (Slt2 link) (pause_ticks c) (clear_timer (Slt1 link) (clear_set of set r))
+passed-cleared of_set.T8 set c link r =
+    cleared-set of_set.T8 set (Slt2 link) (pause_ticks c) (clear_timer (Slt1 link) r) refl ∙ ap (set_timer (Slt2 link) (pause_ticks c)) (cleared-clear of_set.T8 set (Slt1 link) r refl)
+passed-cleared of_set.T10 set c link r =
+    cleared-set of_set.T10 set (Slt2 link) (pause_ticks c) (clear_timer (Slt1 link) r) refl ∙ ap (set_timer (Slt2 link) (pause_ticks c)) (cleared-clear of_set.T10 set (Slt1 link) r refl)
+
+pub passed-first : (c : Configuration) (set link : ℕ) (p : Parts) → with_set_reset c set (test_passed c link p) ≡ test_passed c link (with_set_reset c set p)
+passed-first c set link p =
+    ap (λ (r : Running). record (test_passed c link (with_set_reset c set p)) { timers = r })
+    (ap (clear_set of_set.T10 set) (passed-cleared of_set.T8 set c link p.timers) ∙ passed-cleared of_set.T10 set c link (clear_set of_set.T8 set p.timers))
 
 pub reset-first : (c : Configuration) (set link : ℕ) (step : Transition) (p : Parts) → with_set_reset c set (step_on c link step p) ≡ step_on c link step (with_set_reset c set p)
 reset-first c set link step p =

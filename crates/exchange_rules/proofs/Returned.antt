@@ -1,12 +1,14 @@
 -- A return, by the procedure of each other link.
 use Rattle.exchange_rules.proofs.Basics.{◌≡◌, ◌≢◌, ◌<◌, ◌≤◌, ◌++◌, ℕ, suc, Bool, true, false, ◌&&◌, not, [], ◌∷◌, length, Option, Some, None, refl, ap, sym, ◌∙◌, subst, arith, inl, inr, ⊎_elim, cases_lt, cases_eq, get_or-set_same}
-use Rattle.exchange_rules.proofs.Definitions.{take_step, Message, Configuration, Queue, first_queue, appended, Facts, chosen_link, Procedure, Code, holds, IsAnyFlow, may_parts, is_outstanding, Parts, Node, with_parts, set_of, facts, WholeQueues, queue_at, whole, declaration, loses_flows, procedure_by, code_for, hold_flows, change_back, has_other, enters, moved_on, return_if, advance, HasPlacesFor, HasReturned, HasLost, IsChosen, IsReturn, flows_return_by_their_procedures, entries_are_returns}
+use Rattle.exchange_rules.proofs.Definitions.{HasAllPlaces, Link, Running, stepped, link_at, enters_traffic, is_first_test, test_passed, begun_anew, begin_traffic, step_on, take_step, Message, Configuration, Queue, first_queue, appended, Facts, chosen_link, Procedure, Code, holds, IsAnyFlow, may_parts, is_outstanding, Parts, Node, with_parts, set_of, facts, WholeQueues, queue_at, whole, declaration, loses_flows, procedure_by, code_for, hold_flows, change_back, has_other, enters, moved_on, return_if, advance, HasPlacesFor, HasReturned, HasLost, IsChosen, IsReturn, flows_return_by_their_procedures, entries_are_returns}
 use Rattle.exchange_rules.proofs.Belonging.{chosen_listed, chosen_there}
 use Rattle.exchange_rules.proofs.TakenPairs.{IsTakenFrom, pairs_stay, pair_was}
 use Rattle.exchange_rules.proofs.TakenBack.{taken-so, loses-so, went, other_loses, some_lost, taken_flow_held}
 use Rattle.exchange_rules.proofs.AwaitedCodes.{outstanding-own, codes-there}
 use Rattle.exchange_rules.proofs.TakenCodes.{at, at-first, at-next, at-same, awaits_later, queue_later, queue_before, queues_stay, IsUsable, is_usable, why_none, codes_at}
-use Rattle.exchange_rules.proofs.Attracted.{stepped-places}
+use Rattle.exchange_rules.proofs.Attracted.{begun-places}
+use Rattle.exchange_rules.proofs.Entering.{relinked}
+use Rattle.exchange_rules.specs.LawsOfReturns.{untested_entries_take_nothing, first_tests_are_returns}
 
 no : {A : Type 0} → false ≡ true → A
 no e = absurd cc
@@ -180,13 +182,31 @@ module _ (c : Configuration) (link : ℕ) (before : Parts) (node : Node WholeQue
 pub returned_so : flows_return_by_their_procedures
 returned_so c link before node h = (by c link before node h.parts h.queues, is_return c link before node h.parts h.queues)
 
-pub entered_so : entries_are_returns
-entered_so c link step node h entered =
-    let first : Bool = enters link step node.parts && not (has_other c link node.parts) in
-    let next : Node WholeQueues = with_parts node (moved_on c link step node.parts) in
-    let places : HasPlacesFor c next.parts = stepped-places c link step node.parts first h.parts in
-    let back : take_step whole c link step node ≡ change_back whole c link (facts c node.parts) next =
-    ap (λ (b : Bool). return_if whole c b link (facts c node.parts) next) entered in (
+-- a link begins to carry traffic
+begun_so : (c : Configuration) (begins : Bool) (link : ℕ) (x : Link) (r : Running) (node : Node WholeQueues) → HasAllPlaces c node → begins ≡ true
+    → (by : ℕ → Procedure) × IsReturn c link (facts c node.parts) (with_parts node (begun_anew begins c link node.parts (relinked link x r node.parts)))
+    (begin_traffic whole c begins link (relinked link x r node.parts) node) by
+begun_so c begins link x r node h e =
+    let next : Node WholeQueues = with_parts node (begun_anew begins c link node.parts (relinked link x r node.parts)) in
+    let places : HasPlacesFor c next.parts = begun-places c link x r node.parts (begins && not (has_other c link node.parts)) h.parts in
+    let back : begin_traffic whole c begins link (relinked link x r node.parts) node ≡ change_back whole c link (facts c node.parts) next =
+    ap (λ (b : Bool). return_if whole c b link (facts c node.parts) next) e in (
       by c link node.parts next places h.queues,
       subst (λ (m : Node WholeQueues). IsReturn c link (facts c node.parts) next m (by c link node.parts next places h.queues)) (sym back) (is_return c link node.parts next places h.queues),
     )
+
+pub entered_so : entries_are_returns
+entered_so c link step node h entered =
+    begun_so c (enters_traffic link step node.parts) link (stepped step (link_at node.parts link)) (step_on c link step node.parts).timers node h entered
+
+pub untested_so : untested_entries_take_nothing
+untested_so c link step node untested = by (enters link step node.parts) (link_at node.parts link).untested untested
+  where
+    by : (entered new : Bool) → new ≡ true → begin_traffic whole c (entered && not new) link (step_on c link step node.parts) node ≡ with_parts node (step_on c link step node.parts)
+    by true true e = refl
+    by false new e = refl
+    by entered false e = absurd cc
+
+pub passed_so : first_tests_are_returns
+passed_so c link node h first =
+    begun_so c (is_first_test link node.parts) link (record (link_at node.parts link) { test_failed = false; untested = false }) (test_passed c link node.parts).timers node h first

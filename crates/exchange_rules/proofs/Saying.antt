@@ -1,5 +1,5 @@
 -- Only a message that says something of a subsystem at another point is heard.
-use Rattle.exchange_rules.proofs.Basics.{Bool, Err, List, None, Ok, Option, Result, Some, false, nat_eq, not, refl, true, ℕ, ◌&&◌, ◌≡◌}
+use Rattle.exchange_rules.proofs.Basics.{Bool, Err, List, None, Ok, Option, Result, Some, false, nat_eq, not, refl, ap, ◌∙◌, true, ℕ, ◌&&◌, ◌≡◌}
 use Rattle.std.specs.Prelude.{drop, if◌then◌else◌, is_some}
 use Rattle.settings_rows.specs.Configuration.{Configuration, TitleEntry}
 use Rattle.signalling_types.specs.Message.{Message}
@@ -31,6 +31,10 @@ is_said is_heard (relays.Refused cause) = true
 either-said : (h b : Bool) (v w : RelayedValue) → is_said h v ≡ true → is_said h w ≡ true → is_said h (if b then v else w) ≡ true
 either-said h true v w f g = f
 either-said h false v w f g = g
+
+unless-said : (h b : Bool) (v w : RelayedValue) → is_said h v ≡ true → (b ≡ true → is_said h w ≡ true) → is_said h (if not b then v else w) ≡ true
+unless-said h true v w f g = g refl
+unless-said h false v w f g = f
 
 answered-said : (h : Bool) (answer : Option (List ℕ)) (b : Bool) → is_said h (relays.answered_or answer (if b then relays.Delivered else relays.Refused causes.Unequipped)) ≡ true
 answered-said h (Some sif) b = refl
@@ -90,18 +94,21 @@ module _ (c : Configuration) (p : Parts) (titles : TitlesValue) (label : Label) 
       (λ h. subsystem-said h (Plain (UdtValue class_octet parts)) parts.called.ssn)
   udt-said Title class_octet parts = title-said _ (Plain (UdtValue class_octet parts))
 
-  message-said : (message : SccpValue) → is_said (is_some c.timers.sst && says_status c label.opc (Ok message)) (relays.relay_by_routing (sccp_parts message).called.routing own titles label message) ≡ true
-  message-said (Plain (UdtValue class_octet parts)) = udt-said parts.called.routing class_octet parts
-  message-said (Plain (UdtsValue return_cause parts)) =
+  message-said : (message : SccpValue) → is_connectionless message ≡ true → is_said (is_some c.timers.sst && says_status c label.opc (Ok message)) (relays.relay_by_routing (sccp_parts message).called.routing own titles label message) ≡ true
+  message-said (Plain (UdtValue class_octet parts)) e =
+      let rest : Bool = relays.is_management parts.called.ssn && says_in c label.opc (read_management parts.data) in
+      ap (λ (b : Bool). is_said (is_some c.timers.sst && (b && is_by_ssn parts.called.routing && rest)) (relays.relay_by_routing parts.called.routing own titles label (Plain (UdtValue class_octet parts)))) e
+      ∙ udt-said parts.called.routing class_octet parts
+  message-said (Plain (UdtsValue return_cause parts)) e =
       routing-said parts.called.routing (Plain (UdtsValue return_cause parts)) (λ h. subsystem-said h (Plain (UdtsValue return_cause parts)) parts.called.ssn) refl _
-  message-said (Extended extended) =
+  message-said (Extended extended) e =
       routing-said extended.parts.called.routing (Extended extended) (λ h. subsystem-said h (Extended extended) extended.parts.called.ssn) refl _
 
   read-said : (r : Result SccpValue SccpFault) → is_said (is_some c.timers.sst && says_status c label.opc r) (relays.relay_read own titles label r) ≡ true
   read-said (Err fault) = refl
   read-said (Ok message) =
-      either-said _ (not (is_connectionless message)) (relays.Refused causes.NotInProfile) _ refl
-      (either-said _ (not (has_valid_hops message)) (relays.Refused causes.HopCounter) _ refl (message-said message))
+      unless-said _ (is_connectionless message) (relays.Refused causes.NotInProfile) _ refl
+      (λ e. either-said _ (not (has_valid_hops message)) (relays.Refused causes.HopCounter) _ refl (message-said message e))
 
 pub heard-said : (c : Configuration) (p : Parts) (titles : TitlesValue) (m : Message)
     → is_said (is_some c.timers.sst && says_status c (label_at m.sif).opc (read_sccp c.extended_unitdata (drop 4 m.sif))) (relay (own_of c p) titles m.sif) ≡ true

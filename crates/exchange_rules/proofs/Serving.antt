@@ -1,8 +1,9 @@
 -- By the table of the alignment: a step that asks something of the rules of a link in service leads into service, or
 -- stays there; no step leads a link in service out of it; and no step sets or stops L7.
 use Rattle.exchange_rules.proofs.Basics.{◌≡◌, ℕ, Bool, true, false, ◌&&◌, not, List, [], ◌∷◌, Option, Some, None, refl, ap, sym, subst, ◌∙◌, arith, if◌then◌else◌, list_all, nat_tests}
-use Rattle.exchange_rules.proofs.Definitions.{Alignment, Action, Fail, Go, Input, UserData, LinkTimer, Transition, Effect, Fails, Remembers, Enters, EntersServing, BeginsAgain, Serves, Passes, Cell, table, period_after, timer_of, state_number, is_same_input, effect_in, action_of, action_at, staying, is_down, is_in_service}
+use Rattle.exchange_rules.proofs.Definitions.{Alignment, Action, Fail, Go, Input, UserData, Expiry, LinkTimer, Transition, Effect, Fails, Remembers, Enters, EntersServing, BeginsAgain, Serves, Passes, Cell, table, period_after, timer_of, state_number, is_same_input, effect_in, action_of, action_at, staying, is_down, is_in_service}
 use Rattle.std.proofs.Common.{◌==◌}
+use Rattle.exchange_rules.specs.LawsOfCauses.{fails_by}
 use Rattle.link.specs.declared.alignment.Alignment.TheVariants.{Down, NotAligned, Aligned, Proving, AlignedReady, InService}
 use Rattle.link.specs.declared.action.Action.TheVariants.{Ignored}
 use Rattle.link.specs.declared.period.Period.{Period}
@@ -19,7 +20,7 @@ down-is (Proving ready) e = absurd cc
 down-is AlignedReady e = absurd cc
 down-is InService e = absurd cc
 
-serving-number : (a : Alignment) → is_in_service a ≡ (state_number a == 6)
+pub serving-number : (a : Alignment) → is_in_service a ≡ (state_number a == 6)
 serving-number Down = refl
 serving-number NotAligned = refl
 serving-number Aligned = refl
@@ -224,6 +225,21 @@ fails-up period Aligned input e = refl
 fails-up period (Proving ready) input e = refl
 fails-up period AlignedReady input e = refl
 fails-up period InService input e = refl
+
+-- no link fails by L4
+pub failing-timer : (period : Period) (a : Alignment) (its : LinkTimer) → action_at period a (Expiry its) ≡ Fail → fails_by its ≡ true
+failing-timer period a L1 e = refl
+failing-timer period a L2 e = refl
+failing-timer period a L3 e = refl
+failing-timer period a L6 e = refl
+failing-timer period a L7 e = refl
+failing-timer period Down L4 e = absurd cc
+failing-timer period NotAligned L4 e = absurd cc
+failing-timer period Aligned L4 e = absurd cc
+failing-timer period (Proving true) L4 e = absurd cc
+failing-timer period (Proving false) L4 e = absurd cc
+failing-timer period AlignedReady L4 e = absurd cc
+failing-timer period InService L4 e = absurd cc
 
 pub goes-up : (period : Period) (a : Alignment) (input : Input) (step : Transition) → action_at period a input ≡ Go step → is_down a ≡ false
 goes-up period Down input step e = absurd cc

@@ -1,14 +1,14 @@
 -- Whatever happens, timers are set to the values in the settings.
 use Rattle.exchange_rules.proofs.Basics.{◌≡◌, ◌≤◌, inl, inr, ℕ, zero, suc, ◌-◌, Bool, true, false, List, [], ◌∷◌, Option, Some, None, refl, sym, subst, ◌∙◌, arith, max, if◌then◌else◌}
-use Rattle.exchange_rules.proofs.Definitions.{Period, paced, period_of, apply, Configuration, FailureReason, ChangeoverTimer, Facts, opening, carries, completed, TimerName, one_less, ticked, due_name, after_due, after-clear, after-none, left-ticked, left-none, Found, Parts, Node, with_parts, link_at, in_service, down, is_link, set_of, has_other, suspended, fail_link, without_tests, make_unavailable, changing, begin, change_over, begin_by_peer, fail_by_peer, fail_by_order, complete_by_order, complete_if, concluded, lose_each, judged, changeover_of, with_changeover, changeover_order, changeover_acknowledgement, on_changeover_order, with_changeover_acknowledged, with_expiry, hold_flows, held_by_rerouting, answer, Handled, Ignored, with_timers, run_next, run_times, due_count, tick, Asking, Happens, Takes, AsksWants, Happening, CameUp, WentDown, FrameCame, Ticked, Submitted, Activated, Deactivated, TitleAdded, TitleRemoved, first_state, after_asking, after_each, Abstract, WholeQueues, whole}
+use Rattle.exchange_rules.proofs.Definitions.{Period, paced, period_of, apply, Configuration, FailureReason, ChangeoverTimer, Facts, opening, carries, completed, TimerName, one_less, ticked, due_name, after_due, after-clear, after-none, left-ticked, left-none, Found, Parts, Node, with_parts, link_at, in_service, down, is_link, set_of, has_other, suspended, fail_link, without_tests, make_unavailable, changing, begin, change_over, begin_by_peer, fail_by_peer, fail_by_order, complete_by_order, complete_if, concluded, lose_each, judged, changeover_of, with_changeover, changeover_order, changeover_acknowledgement, on_changeover_order, with_changeover_acknowledged, with_expiry, hold_flows, held_by_rerouting, answer, Handled, Ignored, with_timers, run_next, run_times, due_count, tick, Asking, Happens, Takes, AsksWants, Happening, CameUp, WentDown, FrameCame, Ticked, Submitted, Activated, Deactivated, TitleAdded, TitleRemoved, first_state, after_asking, after_each, Abstract, WholeQueues, whole, run_all}
 use Rattle.timers.specs.declared.name.TimerName.TheVariants as name
 use Rattle.timers.specs.declared.name.RouteTimer.TheVariants as of_set
 use Rattle.signalling_types.specs.declared.notice.FailureReason.TheVariants as reasons
 use Rattle.signalling_types.specs.declared.notice.ChangeoverTimer.TheVariants as which
-use Rattle.exchange_rules.specs.TimerSettings.{setting_of, RunsBy, left_by, events_set_timers_to_their_settings, takes_set_timers_to_their_settings, timers_keep_their_settings}
+use Rattle.exchange_rules.specs.TimerSettings.{setting_of, RunsBy, left_by, events_set_timers_to_their_settings, takes_set_timers_to_their_settings, timers_keep_their_settings, only_l4_is_paced}
 use Rattle.exchange_rules.proofs.TimerSettings.{AreSet, wider-set, same-set, both-set, set-set, clear-set, clear_set-set, without_timers-set, timed-set, timed_sending-set, timed_confirming-set, timed_busy-set, timed_busy_ended-set}
 use Rattle.exchange_rules.proofs.Eased.{losses-timers, judged-timers}
-use Rattle.exchange_rules.proofs.Steps.{IsOfSends, IsOfRules, MayReturn}
+use Rattle.exchange_rules.proofs.Steps.{IsOfSends, Deed, IsOfDeeds, anything, IsOfRules, MayReturn}
 use Rattle.exchange_rules.proofs.Asked.{any, settings-stay}
 use Rattle.exchange_rules.proofs.SteppingMessages.{send_routed-steps, send_each-steps}
 use Rattle.exchange_rules.proofs.SteppingEvents.{run_next-steps, settled-steps, apply-steps, take-steps}
@@ -119,8 +119,8 @@ module _ (c : Configuration) (E : ℕ → Type 0) where
 
   -- ---- all rules
 
-  module _ (Own : ℕ → Type 0) (may : (set : ℕ) → MayReturn c Own set → E set) where
-    pub sets-rules : IsOfRules c Own any (Sets c E)
+  module _ (Own : ℕ → Type 0) (May : Deed → Type 0) (may : (set : ℕ) → MayReturn c Own May set → E set) where
+    pub sets-rules : IsOfDeeds c Own any May (Sets c E)
     sets-rules = record {
       sends = sets-sends;
       tested = λ link point test n e f. same n _ refl;
@@ -131,12 +131,13 @@ module _ (c : Configuration) (E : ℕ → Type 0) where
       timed = λ r n e k. record { timers = wider-set may e.set };
       rerouted = λ routes n e k. same n _ refl;
       told = λ t n e. same n _ refl;
-      titled = λ rows n. same n _ refl;
-      unequipped = λ counts n e. same n _ refl;
+      titled = λ rows n may. same n _ refl;
+      unequipped = λ counts n e may. same n _ refl;
       linked = λ link x n e o. same n _ refl;
       parted = λ link n e. same n _ refl;
       opened = λ link n own there e f may. record { timers = timed-set c E link (opening (period_of c link n.parts)) n.parts.timers };
       stepped = λ link input step n own e k. record { timers = timed-set c E link step n.parts.timers };
+      passed = λ link n e k. same n _ refl;
       busied = λ link n own e f. record { timers = timed_busy-set c E link n.parts.timers };
       resumed = λ link n own e f o. record { timers = timed_busy_ended-set c E link (whole.outstanding n.queues link) n.parts.timers };
       accepted = λ link d confirmed n own e f. record {
@@ -158,7 +159,7 @@ module _ (c : Configuration) (E : ℕ → Type 0) where
 module _ (c : Configuration) where
   -- wherever T8 may stop
   free-rules : IsOfRules c any any (Sets c any)
-  free-rules = sets-rules c any any (λ set m. tt)
+  free-rules = sets-rules c any any anything (λ set m. tt)
 
   -- ---- a tick: of what it lowered, each is handed out that is due
 
@@ -185,7 +186,10 @@ module _ (c : Configuration) where
   ticked-sets : (n : Node WholeQueues) → Sets c any (begun n) (apply whole c Ticked n).left
   unfolding apply
   ticked-sets n =
-      both c any (begun n) (tick whole c n).left _ (times-sets (due_count (ticked n.parts.timers)) (begun n)) (settled-steps free-rules (tick whole c n).left)
+      let ran : Node WholeQueues = run_all whole c (begun n) in
+      both c any (begun n) (tick whole c n).left _
+      (both c any (begun n) ran _ (times-sets (due_count (ticked n.parts.timers)) (begun n)) (same c any ran (tick whole c n).left refl))
+      (settled-steps free-rules (tick whole c n).left)
 
 pub events-set : events_set_timers_to_their_settings
 events-set Ticked a timer =
@@ -195,7 +199,7 @@ events-set (CameUp link) a timer = (quiet-sets a.settings (CameUp link) a.node (
 events-set (WentDown link) a timer = (quiet-sets a.settings (WentDown link) a.node (λ e. cc)).timers.each timer
 events-set (FrameCame link text) a timer = (quiet-sets a.settings (FrameCame link text) a.node (λ e. cc)).timers.each timer
 events-set (Submitted message) a timer = (quiet-sets a.settings (Submitted message) a.node (λ e. cc)).timers.each timer
-events-set (Activated link) a timer = (quiet-sets a.settings (Activated link) a.node (λ e. cc)).timers.each timer
+events-set (Activated link emergency) a timer = (quiet-sets a.settings (Activated link emergency) a.node (λ e. cc)).timers.each timer
 events-set (Deactivated link) a timer = (quiet-sets a.settings (Deactivated link) a.node (λ e. cc)).timers.each timer
 events-set (TitleAdded row refused) a timer = (quiet-sets a.settings (TitleAdded row refused) a.node (λ e. cc)).timers.each timer
 events-set (TitleRemoved key digits) a timer = (quiet-sets a.settings (TitleRemoved key digits) a.node (λ e. cc)).timers.each timer
@@ -233,7 +237,7 @@ begun-within c timer (CameUp link) x h = h
 begun-within c timer (WentDown link) x h = h
 begun-within c timer (FrameCame link text) x h = h
 begun-within c timer (Submitted message) x h = h
-begun-within c timer (Activated link) x h = h
+begun-within c timer (Activated link emergency) x h = h
 begun-within c timer (Deactivated link) x h = h
 begun-within c timer (TitleAdded row refused) x h = h
 begun-within c timer (TitleRemoved key digits) x h = h
@@ -257,3 +261,6 @@ pub timers-keep : timers_keep_their_settings
 timers-keep c asked timer =
     all-within timer asked (first_state c)
     (λ left e. (let no : None ≡ Some left = sym (left-none timer (first_state c).node.parts.timers.counts) ∙ e in absurd cc))
+
+pub paced-is : only_l4_is_paced
+paced-is ticks = record { fixed = refl; normal = refl; emergency = λ link. refl; rest = refl }

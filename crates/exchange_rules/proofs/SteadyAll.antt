@@ -1,7 +1,7 @@
 -- Whatever an exchange is asked, each link stays steady: a timer L7 that runs out fails its link, so that it is exact
 -- again.
 use Rattle.exchange_rules.proofs.Basics.{◌≡◌, ◌<◌, ℕ, ◌-◌, Bool, true, false, ◌&&◌, not, List, length, Option, Some, None, Ok, refl, ap, sym, subst, ◌∙◌, if◌then◌else◌, is_some, get_or-set_same}
-use Rattle.exchange_rules.proofs.Definitions.{Period, period_of, Configuration, flow_of, Alignment, Action, Expiry, action_at, opening, Queue, Sending, first_queue, NodeCounts, TimerName, L7, is_same, Running, is_running, one_less, ticked, due_name, after_due, left-clear, left-clear_other, left-ticked, counts-after, after-clear, after-none, Link, down_link, is_in_service, opened, after_failure, Standing, Node, link_at, in_service, changeover_of, fail, Carrying, carries, numbers, may_open, open_link, SendsMessage, may_send, next_message, after_sending, act_by_timer, run_out, with_timers, run_due, run_next, WholeQueues, queue_at, whole, is_l7_running}
+use Rattle.exchange_rules.proofs.Definitions.{Period, period_of, Configuration, flow_of, Alignment, Action, Expiry, action_at, opening, Queue, Sending, first_queue, NodeCounts, TimerName, L7, is_same, Running, is_running, one_less, ticked, due_name, after_due, left-clear, left-clear_other, left-ticked, counts-after, after-clear, after-none, Link, down_link, is_in_service, opened_by, after_failure, Standing, Node, link_at, in_service, changeover_of, fail, Carrying, carries, numbers, may_open, open_link, SendsMessage, may_send, next_message, after_sending, act_by_timer, run_out, with_timers, run_due, run_next, WholeQueues, queue_at, whole, is_l7_running}
 use Rattle.signalling_types.specs.declared.notice.FailureReason.TheVariants as reasons
 use Rattle.link.specs.declared.alignment.Alignment.TheVariants.{Down, NotAligned, Aligned, Proving, AlignedReady, InService}
 use Rattle.link.specs.declared.action.Action.TheVariants as act
@@ -13,7 +13,7 @@ use Rattle.exchange_rules.proofs.WatchedLink.{l7-timed, l7-confirming, l7-sendin
 use Rattle.exchange_rules.proofs.OnLink.{opened-on, accepted-on, sent-on}
 use Rattle.exchange_rules.proofs.SteadyLinks.{exact-idle, run-out, stands-opened}
 use Rattle.exchange_rules.proofs.SteadyChanges.{stands-accepted, stands-sent}
-use Rattle.exchange_rules.proofs.SteadySteps.{At, Keeps, stands-as, on-link, queued-keeps, failed-keeps, dropped-keeps, completed-keeps, answered-keeps, linked-keeps, parted-keeps, stepped-keeps, busied-keeps, resumed-keeps}
+use Rattle.exchange_rules.proofs.SteadySteps.{At, Keeps, stands-as, on-link, queued-keeps, failed-keeps, dropped-keeps, completed-keeps, answered-keeps, linked-keeps, parted-keeps, passed-keeps, stepped-keeps, busied-keeps, resumed-keeps}
 use Rattle.exchange_rules.proofs.Steps.{confirming, IsOfSteps}
 use Rattle.exchange_rules.proofs.Asked.{any}
 use Rattle.exchange_rules.proofs.SteppingFailures.{fail-links, fail-steps}
@@ -52,10 +52,10 @@ module _ (exact : Bool) (c : Configuration) (l : ℕ) where
   opened-keeps : (k : ℕ) (n : Node WholeQueues) → may_open (link_at n.parts k) ≡ true → (changeover_of n.parts k).incomplete ≡ false
       → Keeps exact c l n (open_link whole c k n)
   opened-keeps k n e f =
-      on-link exact c l k (opened (period_of c k n.parts) (link_at n.parts k)) (changeover_of n.parts k) first_queue n (open_link whole c k n)
+      on-link exact c l k (opened_by c (period_of c k n.parts) (link_at n.parts k)) (changeover_of n.parts k) first_queue n (open_link whole c k n)
       (opened-on k c n)
       (λ h. stands-as exact c _ _ _ _ _ _ _ _ refl refl refl (l7-timed k c (opening (period_of c k n.parts)) n.parts.timers refl refl)
-      (stands-opened exact c.window _ _ _ _ h.stands (not-associated (link_at n.parts k).association (link_at n.parts k).active e) f))
+      (stands-opened exact c.window _ _ _ _ h.stands c.out_of_service (not-associated (link_at n.parts k).association (link_at n.parts k).active e) f))
 
   accepted-keeps : (k : ℕ) (d : Carrying) (count : ℕ) (n : Node WholeQueues) → in_service n.parts k ≡ true → numbers whole c k d n ≡ Ok count
       → Keeps exact c l n (confirming c k d count n)
@@ -104,10 +104,11 @@ module _ (exact : Bool) (c : Configuration) (l : ℕ) where
     dropped = λ link why n e. dropped-keeps exact c l link why n e;
     completed = λ link number st n e f. completed-keeps exact c l link number st n e f;
     answered = λ link st n e f w. answered-keeps exact c l link st n e f;
-    linked = λ link x n e. linked-keeps exact c l link x n e;
+    linked = λ link x n e o. linked-keeps exact c l link x n e;
     parted = λ link n e. parted-keeps exact c l link n e;
     opened = λ link n own there e f. opened-keeps link n e f;
     stepped = λ link input step n own e. stepped-keeps exact c l link input step n e;
+    passed = λ link n e. passed-keeps exact c l link n;
     busied = λ link n own e f. busied-keeps exact c l link n e;
     resumed = λ link n own e f. resumed-keeps exact c l link n e f;
     accepted = λ link d confirmed n own e f. accepted-keeps link d confirmed n e f;

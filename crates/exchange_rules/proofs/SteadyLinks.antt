@@ -134,8 +134,8 @@ module _ (exact : Bool) (w : ℕ) (l : Link) (s : Standing) (q : Queue) (b : Boo
   pub stands-parted : is_down l.alignment ≡ true → Stands exact w (record l { association = false }) s q b
   stands-parted d = record { queue = h.queue; associated = λ e. d; changing = h.changing; moved = h.moved; idle = h.idle; watched = h.watched }
 
-  pub stands-opened : {period : Period} → l.association ≡ false → s.incomplete ≡ false → Stands exact w (opened period l) s first_queue b
-  stands-opened a i =
+  pub stands-opened : (first : Bool) {untested : Bool} {period : Period} → l.association ≡ false → s.incomplete ≡ false → Stands exact w (record (opened first period l) { untested = untested }) s first_queue b
+  stands-opened first a i =
       let idle : b ≡ false = h.idle (down-idle l.alignment (h.associated a)) in
       record {
         queue = sound-first w h.queue.limit;

@@ -1,6 +1,6 @@
 -- Each step leaves each link steady.
 use Rattle.exchange_rules.proofs.Basics.{◌≡◌, ◌≢◌, ◌<◌, ℕ, Bool, true, false, length, Option, refl, sym, subst, arith, slice_set, ⊎_elim, cases_eq}
-use Rattle.exchange_rules.proofs.Definitions.{Configuration, Message, FailureReason, Input, Go, Transition, acts_on, Queue, emptied, NodeCounts, L7, Running, is_running, Link, stepped, after_failure, Standing, Node, with_parts, link_at, with_link, down, in_service, queue_on, changeover_of, with_changeover, fail_link, without_association, step_on, WholeQueues, queue_at, whole, is_l7_running}
+use Rattle.exchange_rules.proofs.Definitions.{with_test_passed, Configuration, Message, FailureReason, Input, Go, Transition, acts_on, Queue, emptied, NodeCounts, L7, Running, is_running, Link, stepped, after_failure, Standing, Node, with_parts, link_at, with_link, down, in_service, queue_on, changeover_of, with_changeover, fail_link, without_association, step_on, WholeQueues, queue_at, whole, is_l7_running}
 use Rattle.link.specs.Queue as queue
 use Rattle.exchange_rules.proofs.Serving.{IsStep, each-step}
 use Rattle.exchange_rules.proofs.LinkTimers.{AreTimedFor, same-for, timed-for, timed_busy-for, timed_busy_ended-for}
@@ -111,6 +111,10 @@ module _ (exact : Bool) (c : Configuration) where
   pub linked-keeps : (l k : ℕ) (x : Link) (n : Node WholeQueues) → IsSameLink (link_at n.parts k) x → Keeps exact c l n (with_parts n (with_link n.parts k x))
   linked-keeps l k x n e =
       link-keeps l k x n.parts.timers n (same-for k n.parts.timers) (λ h. stands-linked exact c.window _ _ _ _ h.stands x e.alignment e.association e.busy)
+
+  pub passed-keeps : (l k : ℕ) (n : Node WholeQueues) → Keeps exact c l n (with_parts n (with_test_passed k n.parts))
+  passed-keeps l k n =
+      link-keeps l k _ n.parts.timers n (same-for k n.parts.timers) (λ h. stands-linked exact c.window _ _ _ _ h.stands _ refl refl refl)
 
   pub parted-keeps : (l k : ℕ) (n : Node WholeQueues) → down n.parts k ≡ true → Keeps exact c l n (with_parts n (without_association k n.parts))
   parted-keeps l k n e = link-keeps l k _ n.parts.timers n (same-for k n.parts.timers) (λ h. stands-parted exact c.window _ _ _ _ h.stands e)

@@ -1,22 +1,20 @@
 -- Links that open, align, fail and go, and a tick: each rule is made of steps.
 use Rattle.exchange_rules.proofs.Basics.{◌≡◌, ◌≢◌, ◌<◌, ◌≤◌, ℕ, Bool, true, false, ◌&&◌, not, List, length, refl, ap, ◌∙◌, arith, if◌then◌else◌, ⊎_elim, cases_lt, get_or_past, get_or-set_same, get_or-set_other, length-set, inl, sym, subst}
-use Rattle.exchange_rules.proofs.Definitions.{Configuration, Handled, Ignored, FailureReason, LinkStatus, Action, Input, Status, Expiry, LinkTimer, Transition, acts_on, Link, down_link, is_down, is_in_service, stepped, after_failure, clear_set, reset_shape, Standing, may_restart, Facts, may_open, open_link, association_up, fail_if_up, end_association, association_down, set_active, activate, deactivate, Parts, Node, Done, with_parts, answer, refuse, is_link, link_at, links_with, down, in_service, facts, set_of, with_set_reset, has_other, changeover_of, fail, step_on, enters, begun_anew_if, moved_on, return_if, advance, serve_status, act_by_status, on_link_status, act_by_timer, run_out, WholeQueues, whole, become_busy, end_busy, in_outage, tells_outage, tells_recovery, let_back, begin_outage, hear_outage, end_outage, Changeover, take_step, test_if}
+use Rattle.exchange_rules.proofs.Definitions.{Configuration, Handled, Ignored, FailureReason, LinkStatus, Action, Input, Status, Expiry, LinkTimer, Transition, acts_on, Link, down_link, is_down, is_in_service, stepped, after_failure, clear_set, reset_shape, Standing, may_restart, Facts, may_open, open_link, association_up, fail_if_up, end_association, association_down, set_active, activate, deactivate, Parts, Node, Done, with_parts, answer, refuse, is_link, link_at, links_with, down, in_service, facts, set_of, with_set_reset, has_other, changeover_of, fail, step_on, enters, enters_traffic, begun_anew_if, moved_on, advance, serve_status, act_by_status, on_link_status, act_by_timer, run_out, WholeQueues, whole, become_busy, end_busy, in_outage, tells_outage, tells_recovery, let_back, begin_outage, hear_outage, end_outage, Changeover, take_step, test_if}
 use Rattle.signalling_types.specs.declared.cause.Cause.TheVariants as causes
 use Rattle.signalling_types.specs.declared.notice.FailureReason.TheVariants as reasons
 use Rattle.m2pa_codec.specs.declared.status.LinkStatus.TheVariants as says
 use Rattle.link.specs.declared.action.Action.TheVariants as act
 use Rattle.timers.specs.declared.name.RouteTimer.TheVariants as of_set
 use Rattle.node_links.specs.NodeLinks.{link_in}
-use Rattle.exchange_rules.proofs.TakenPairs.{take_back_each-alike}
-use Rattle.exchange_rules.proofs.Serving.{serves-in, fails-up}
-use Rattle.exchange_rules.proofs.Steps.{MayReturn, with_busy, without_busy, either_done-steps, Deed, IsOfDeeds, LinkFails, LinkOpens, HoldsEnd}
+use Rattle.exchange_rules.specs.LawsOfCauses.{fails_by}
+use Rattle.exchange_rules.proofs.Serving.{serves-in, fails-up, failing-timer}
+use Rattle.exchange_rules.proofs.Steps.{with_busy, without_busy, either_done-steps, Deed, IsOfDeeds, LinkFails, LinkOpens, HoldsEnd}
 use Rattle.exchange_rules.proofs.Outages.{ended-serves, begun-serves, becomes-busy, back-serves, back-in, outage-set, outage-serves, recovery-out, out-serves}
-use Rattle.exchange_rules.proofs.OwnRoutes.{rerouted-reset, reset-unsure, reset-sure}
-use Rattle.exchange_rules.proofs.SteppingTimers.{both-quiet, clear_set-quiet}
-use Rattle.exchange_rules.proofs.KeepingTests.{reset-tests}
+use Rattle.exchange_rules.proofs.OwnRoutes.{reset-sure}
 use Rattle.exchange_rules.proofs.ResetFirst.{reset-first}
 use Rattle.exchange_rules.proofs.SteppingFailures.{fail-links}
-use Rattle.exchange_rules.proofs.SteppingReturns.{change_back-steps}
+use Rattle.exchange_rules.proofs.SteppingEntries.{front, anew-link, returned-links, set_reset-steps, returned-steps}
 use Rattle.exchange_rules.proofs.SteppingTests.{begin_test-links, begin_test-steps}
 
 -- ---- a link that takes a step of its alignment is there
@@ -38,32 +36,18 @@ stepped-at c link step p there = get_or-set_same p.links link (stepped step (lin
 pub stepped-other : (c : Configuration) (link other : ℕ) (step : Transition) (p : Parts) → other ≢ link → link_at (step_on c link step p) other ≡ link_at p other
 stepped-other c link other step p apart = get_or-set_other p.links link other (stepped step (link_at p link)) down_link apart
 
--- links are unchanged if what is known over a set is reset
-anew-link : (first : Bool) (c : Configuration) (link other : ℕ) (p : Parts) → link_at (begun_anew_if first c link p) other ≡ link_at p other
-anew-link true c link other p = refl
-anew-link false c link other p = refl
-
 pub moved-at : (c : Configuration) (link other : ℕ) (step : Transition) (p : Parts) → link_at (moved_on c link step p) other ≡ link_at (step_on c link step p) other
-moved-at c link other step p = anew-link (enters link step p && not (has_other c link p)) c link other (step_on c link step p)
-
-front : (a b : Bool) → (a && b) ≡ true → a ≡ true
-front true b e = refl
-front false b e = absurd cc
-
--- it carries messages as the step says, also once it has taken its flows back
-pub returned-links : (entered : Bool) (c : Configuration) (link : ℕ) (before : Facts) (n : Node WholeQueues) → (return_if whole c entered link before n).parts.links ≡ n.parts.links
-returned-links true c link before n = (take_back_each-alike whole c before (facts c n.parts) link (length c.links) n).links
-returned-links false c link before n = refl
+moved-at c link other step p = anew-link (enters_traffic link step p && not (has_other c link p)) c link other (step_on c link step p)
 
 -- links are unchanged as a test goes out
-tested-links : (entered : Bool) (c : Configuration) (link : ℕ) (n : Node WholeQueues) → (test_if whole c entered link n).parts.links ≡ n.parts.links
+pub tested-links : (entered : Bool) (c : Configuration) (link : ℕ) (n : Node WholeQueues) → (test_if whole c entered link n).parts.links ≡ n.parts.links
 tested-links true c link n = begin_test-links c link n
 tested-links false c link n = refl
 
 pub advance-links : (c : Configuration) (link : ℕ) (step : Transition) (n : Node WholeQueues) → (advance whole c link step n).parts.links ≡ (moved_on c link step n.parts).links
 advance-links c link step n =
     tested-links (enters link step n.parts) c link (take_step whole c link step n)
-    ∙ returned-links (enters link step n.parts) c link (facts c n.parts) (with_parts n (moved_on c link step n.parts))
+    ∙ returned-links (enters_traffic link step n.parts) c link (facts c n.parts) (with_parts n (moved_on c link step n.parts))
 
 pub advance-at : (c : Configuration) (link : ℕ) (input : Input) (step : Transition) (n : Node WholeQueues) → acts_on (link_at n.parts link) input ≡ act.Go step
     → (link_at (advance whole c link step n).parts link).alignment ≡ step.state
@@ -108,46 +92,33 @@ pub record AllowsStatus (c : Configuration) (May : Deed → Type 0) (link : ℕ)
 module _ {c : Configuration} {Own Counts : ℕ → Type 0} {May : Deed → Type 0} {R : Node WholeQueues → Node WholeQueues → Type 0} (s : IsOfDeeds c Own Counts May R) where
   -- ---- a step of an alignment
 
-  set_reset-steps : (set : ℕ) (n : Node WholeQueues) → MayReturn c Own set → R n (with_parts n (with_set_reset c set n.parts))
-  set_reset-steps set n may =
-      let reset : Parts = with_set_reset c set n.parts in
-      s.sends.both _ _ _
-      (s.rerouted reset.routes n (rerouted-reset n.parts.told n.parts.routes set) (record { each = λ other destination e. inl (reset-unsure n.parts.routes set other destination e) }))
-      (s.sends.both _ _ _ (s.told reset.told _ (record { shape = reset_shape n.parts.told set; adjacents = refl }))
-      (s.timed reset.timers _ (both-quiet c _ _ _ (clear_set-quiet c of_set.T8 set n.parts.timers (λ e. may)) (clear_set-quiet c of_set.T10 set (clear_set of_set.T8 set n.parts.timers) (λ e. absurd cc)))
-      (reset-tests _ set (reset-sure n.parts.routes set))))
-
-  pub anew-steps : (first : Bool) (link : ℕ) (n : Node WholeQueues) → Own link → R n (with_parts n (begun_anew_if first c link n.parts))
-  anew-steps true link n own = set_reset-steps (set_of c link) n (record { link = link; own = own; is = refl })
-  anew-steps false link n own = s.sends.none n
-
-  -- a link that entered service takes its flows back
-  pub entered-steps : (entered : Bool) (link : ℕ) (step : Transition) (n : Node WholeQueues) → link < length n.parts.links → enters link step n.parts ≡ entered
-      → R (with_parts n (moved_on c link step n.parts)) (return_if whole c entered link (facts c n.parts) (with_parts n (moved_on c link step n.parts)))
-  entered-steps true link step n there e =
-      let moved : Parts = moved_on c link step n.parts in
-      change_back-steps s link n.parts (with_parts n moved)
-      (ap (λ (l : Link). is_in_service l.alignment) (moved-at c link link step n.parts ∙ stepped-at c link step n.parts there) ∙ front (is_in_service step.state) _ e)
-      (λ other apart serves. ap (λ (l : Link). is_in_service l.alignment) (moved-at c link other step n.parts ∙ stepped-other c link other step n.parts apart) ∙ serves)
-  entered-steps false link step n there e = s.sends.none (with_parts n (moved_on c link step n.parts))
+  -- a link that carries traffic by its step takes its flows back
+  pub entered-steps : (link : ℕ) (step : Transition) (n : Node WholeQueues) → link < length n.parts.links
+      → R (with_parts n (moved_on c link step n.parts)) (take_step whole c link step n)
+  entered-steps link step n there =
+      returned-steps s (enters_traffic link step n.parts) link (step_on c link step n.parts) n (record {
+        serves = λ e. ap (λ (l : Link). is_in_service l.alignment) (stepped-at c link step n.parts there)
+            ∙ front (is_in_service step.state) (not (in_service n.parts link)) (front (enters link step n.parts) (not (link_at n.parts link).untested) e);
+        others = λ other apart serves. ap (λ (l : Link). is_in_service l.alignment) (stepped-other c link other step n.parts apart) ∙ serves;
+      })
 
   -- it takes the step, and comes after a reset if it is the first of its set
   moved-steps : (first : Bool) (link : ℕ) (input : Input) (step : Transition) (n : Node WholeQueues) → Own link → acts_on (link_at n.parts link) input ≡ act.Go step
-      → (enters link step n.parts && not (has_other c link n.parts)) ≡ first → R n (with_parts n (begun_anew_if first c link (step_on c link step n.parts)))
+      → (enters_traffic link step n.parts && not (has_other c link n.parts)) ≡ first → R n (with_parts n (begun_anew_if first c link (step_on c link step n.parts)))
   moved-steps false link input step n own e f =
       s.stepped link input step n own e (record { clean = λ is destination. (let no : true ≡ false = sym is ∙ f in absurd cc) })
   moved-steps true link input step n own e f =
       let set : ℕ = set_of c link in
       let reset : Node WholeQueues = with_parts n (with_set_reset c set n.parts) in
       subst (λ (p : Parts). R n (with_parts n p)) (sym (reset-first c set link step n.parts))
-      (s.sends.both _ _ _ (set_reset-steps set n (record { link = link; own = own; is = refl }))
+      (s.sends.both _ _ _ (set_reset-steps s set n (inl (record { link = link; own = own; is = refl })))
       (s.stepped link input step reset own e (record { clean = λ is destination. reset-sure n.parts.routes set destination })))
 
   take_step-steps : (link : ℕ) (input : Input) (step : Transition) (n : Node WholeQueues) → Own link → acts_on (link_at n.parts link) input ≡ act.Go step
       → R n (take_step whole c link step n)
   take_step-steps link input step n own e =
-      s.sends.both _ _ _ (moved-steps (enters link step n.parts && not (has_other c link n.parts)) link input step n own e refl)
-      (entered-steps (enters link step n.parts) link step n (stepping-there n.parts link input step e) refl)
+      s.sends.both _ _ _ (moved-steps (enters_traffic link step n.parts && not (has_other c link n.parts)) link input step n own e refl)
+      (entered-steps link step n (stepping-there n.parts link input step e))
 
   tested-steps : (entered : Bool) (link : ℕ) (n : Node WholeQueues) → R n (test_if whole c entered link n)
   tested-steps true link n = begin_test-steps s link n
@@ -239,12 +210,13 @@ module _ {c : Configuration} {Own Counts : ℕ → Type 0} {May : Deed → Type 
       told false false e f = act_by_status-steps (acts_on (link_at n.parts link) (Status status)) link status n own refl (allows.fails e)
 
   act_by_timer-steps : (a : Action) (link : ℕ) (timer : LinkTimer) (n : Node WholeQueues) → Own link → acts_on (link_at n.parts link) (Expiry timer) ≡ a
-      → May (LinkFails link reasons.Timer) → R n (act_by_timer whole c a link n)
+      → (fails_by timer ≡ true → May (LinkFails link reasons.Timer)) → R n (act_by_timer whole c a link n)
   act_by_timer-steps act.Ignored link timer n own e may = s.sends.none n
-  act_by_timer-steps act.Fail link timer n own e may = s.fails link reasons.Timer n may (fails-up (link_at n.parts link).period (link_at n.parts link).alignment (Expiry timer) e)
+  act_by_timer-steps act.Fail link timer n own e may = s.fails link reasons.Timer n (may (failing-timer (link_at n.parts link).period (link_at n.parts link).alignment timer e))
+      (fails-up (link_at n.parts link).period (link_at n.parts link).alignment (Expiry timer) e)
   act_by_timer-steps (act.Go step) link timer n own e may = advance-steps link (Expiry timer) step n own e
 
-  pub run_out-steps : (link : ℕ) (timer : LinkTimer) (n : Node WholeQueues) → Own link → May (LinkFails link reasons.Timer) → R n (run_out whole c link timer n)
+  pub run_out-steps : (link : ℕ) (timer : LinkTimer) (n : Node WholeQueues) → Own link → (fails_by timer ≡ true → May (LinkFails link reasons.Timer)) → R n (run_out whole c link timer n)
   run_out-steps link timer n own may = act_by_timer-steps (acts_on (link_at n.parts link) (Expiry timer)) link timer n own refl may
 
   -- ---- associations, and the operator's word
@@ -282,15 +254,16 @@ module _ {c : Configuration} {Own Counts : ℕ → Type 0} {May : Deed → Type 
       (s.sends.both _ _ _ (fail_if_up-steps link reasons.Association n may)
       (s.parted link gone (failed_if_up-down c (down n.parts link) link reasons.Association n refl))) (s.sends.none n)) (s.sends.none n)
 
-  pub set_active-steps : (active : Bool) (link : ℕ) (n : Node WholeQueues) → R n (set_active whole c active link n)
-  set_active-steps active link n = s.linked link (record (link_at n.parts link) { active = active }) n (record { alignment = refl; period = refl; association = refl; busy = refl }) refl
+  pub set_active-steps : (active emergency : Bool) (link : ℕ) (n : Node WholeQueues) → R n (set_active whole c active emergency link n)
+  set_active-steps active emergency link n =
+      s.linked link (record (link_at n.parts link) { active = active; emergency = emergency }) n (record { alignment = refl; period = refl; association = refl; busy = refl; waits = inl refl; untested = refl }) refl
 
-  pub activate-steps : (link : ℕ) (n : Node WholeQueues) → R n (activate whole c link n).left
-  activate-steps link n =
-      either_done-steps s.sends (is_link n.parts link) n (answer Handled (set_active whole c true link n)) (refuse causes.NoSuchName n) (set_active-steps true link n) (s.sends.none n)
+  pub activate-steps : (emergency : Bool) (link : ℕ) (n : Node WholeQueues) → R n (activate whole c emergency link n).left
+  activate-steps emergency link n =
+      either_done-steps s.sends (is_link n.parts link) n (answer Handled (set_active whole c true emergency link n)) (refuse causes.NoSuchName n) (set_active-steps true emergency link n) (s.sends.none n)
 
   pub deactivate-steps : (link : ℕ) (n : Node WholeQueues) → May (LinkFails link reasons.Operator) → R n (deactivate whole c link n).left
   deactivate-steps link n may =
       let gone : Node WholeQueues = fail_if_up whole c link reasons.Operator n in
-      either_done-steps s.sends (is_link n.parts link) n (answer Handled (set_active whole c false link gone)) (refuse causes.NoSuchName n)
-      (s.sends.both _ _ _ (fail_if_up-steps link reasons.Operator n may) (set_active-steps false link gone)) (s.sends.none n)
+      either_done-steps s.sends (is_link n.parts link) n (answer Handled (set_active whole c false false link gone)) (refuse causes.NoSuchName n)
+      (s.sends.both _ _ _ (fail_if_up-steps link reasons.Operator n may) (set_active-steps false false link gone)) (s.sends.none n)

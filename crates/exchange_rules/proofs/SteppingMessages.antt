@@ -2,7 +2,7 @@
 -- steps.
 use Rattle.exchange_rules.proofs.Basics.{◌≡◌, ◌⊎◌, inl, inr, sym, subst, ◌∙◌, ℕ, Bool, true, false, List, [], ◌∷◌, Option, Some, None, Result, Ok, Err, refl, if◌then◌else◌, length-set}
 use Rattle.exchange_rules.proofs.Definitions.{with_status_heard, Message, dpc_of, flow_of, Configuration, Cause, Outcome, Handled, Ignored, destination_place, Running, RouteStatus, Allowed, Restricted, Prohibited, status_of, told_shape, Heard, RouteTest, Owed, owed, Parts, Node, with_parts, answer, refuse, waits, facts, link_of, set_of, no_room, no_room_for, is_destination, offer, transfer, timed_telling, route_message, told_parts, answered_parts, inhibited, is_inhibited, may_tell, tell, tell_if, tell_each, tell_owed, prohibit, answer_no_route, answer_no_user_part, is_unequipped_told, tell_unavailable, unavailable, unequipped_counted, send_route_status, on_route_test, timed_status, forced, with_next_test, prohibited_test, restricted_test, apply_route_status, on_route_status, ask, ask_by, ask_again, send, send_routed, send_anew, send_each, WholeQueues, whole}
-use Rattle.std.specs.Prelude.{nat_lt, length, ◌&&◌, not}
+use Rattle.std.specs.Prelude.{nat_lt, length, ◌&&◌, is_some, not}
 use Rattle.signalling_types.specs.declared.notice.Notice.TheVariants as notices
 use Rattle.signalling_types.specs.declared.cause.Cause.TheVariants as causes
 use Rattle.timers.specs.declared.name.TimerName.TheVariants as name
@@ -10,7 +10,7 @@ use Rattle.changeback.specs.Rerouting.{rerouted}
 use Rattle.route_management.specs.Told as told
 use Rattle.route_management.specs.declared.heard.Heard.TheVariants as hears
 use Rattle.exchange_rules.specs.Testing.{is_unsure}
-use Rattle.exchange_rules.proofs.Steps.{status_over, AreQuiet, KeepsTests, IsJustSet, AreTestedAs, IsOfSends, either-steps, either_done-steps, Deed, IsOfDeeds}
+use Rattle.exchange_rules.proofs.Steps.{status_over, AreQuiet, KeepsTests, IsJustSet, AreTestedAs, IsOfSends, either-steps, either_done-steps, Deed, Lacking, IsOfDeeds}
 use Rattle.exchange_rules.proofs.OwnRoutes.{rerouted-one, one-unsure, allowed-sure}
 use Rattle.exchange_rules.proofs.KeepingTests.{set-tests, telling-tests, clear-tests}
 use Rattle.exchange_rules.proofs.SteppingTimers.{same-quiet, set-quiet, clear-quiet}
@@ -86,17 +86,17 @@ module _ {c : Configuration} {Own Counts : ℕ → Type 0} {May : Deed → Type 
   answer_no_route-steps (Some link) None n = s.sends.none n
   answer_no_route-steps None destination n = s.sends.none n
 
-  tell_unavailable-steps : (origin : ℕ) (m : Message) (n : Node WholeQueues) → R n (tell_unavailable whole c origin m n)
-  tell_unavailable-steps origin m n =
+  tell_unavailable-steps : (origin : ℕ) (m : Message) (n : Node WholeQueues) → May Lacking → R n (tell_unavailable whole c origin m n)
+  tell_unavailable-steps origin m n may =
       let next : Node WholeQueues = with_parts n (unequipped_counted origin n.parts) in
-      s.sends.both n next _ (s.unequipped _ n (length-set n.parts.unequipped origin _))
+      s.sends.both n next _ (s.unequipped _ n (length-set n.parts.unequipped origin _) may)
       (either-steps s.sends (is_unequipped_told whole c origin m n) next (send_routed whole c (unavailable c m) next) next (send_routed-steps s.sends (unavailable c m) next) (s.sends.none next))
 
-  pub answer_no_user_part-steps : (link origin : Option ℕ) (m : Message) (n : Node WholeQueues) → R n (answer_no_user_part whole c link origin m n)
-  answer_no_user_part-steps (Some link) (Some origin) m n =
-      either-steps s.sends c.user_part_unavailable n (tell_unavailable whole c origin m n) n (tell_unavailable-steps origin m n) (s.sends.none n)
-  answer_no_user_part-steps (Some link) None m n = s.sends.none n
-  answer_no_user_part-steps None origin m n = s.sends.none n
+  pub answer_no_user_part-steps : (link origin : Option ℕ) (m : Message) (n : Node WholeQueues) → (is_some link ≡ true → May Lacking) → R n (answer_no_user_part whole c link origin m n)
+  answer_no_user_part-steps (Some link) (Some origin) m n may =
+      either-steps s.sends c.user_part_unavailable n (tell_unavailable whole c origin m n) n (tell_unavailable-steps origin m n (may refl)) (s.sends.none n)
+  answer_no_user_part-steps (Some link) None m n may = s.sends.none n
+  answer_no_user_part-steps None origin m n may = s.sends.none n
 
   -- ---- tests
 

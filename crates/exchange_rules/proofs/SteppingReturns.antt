@@ -1,9 +1,9 @@
 -- A link that enters service takes its flows back: the rule is made of steps, and each declaration goes out on a link
 -- in service.
 use Rattle.exchange_rules.proofs.Basics.{◌≡◌, ◌≢◌, ℕ, zero, suc, Bool, true, false, not, length, nat_eq, Option, Some, None, refl, ap, ◌∙◌, arith, if◌then◌else◌, and_parts, eqb-true, nat_tests}
-use Rattle.exchange_rules.proofs.Definitions.{Configuration, Facts, chosen_link, Procedure, Code, any_flow, IsAnyFlow, some_passes, Parts, Node, with_parts, in_service, network_of, facts, goes_by, set_of, is_taken_back, loses_flows, procedure_by, code_in_use, freed, code_for, declare_by, hold_flows, take_back_each, change_back, WholeQueues, whole}
+use Rattle.exchange_rules.proofs.Definitions.{Configuration, Facts, chosen_link, Procedure, Code, any_flow, IsAnyFlow, some_passes, Parts, Node, with_parts, in_service, in_traffic, network_of, facts, goes_by, set_of, is_taken_back, loses_flows, procedure_by, code_in_use, freed, code_for, declare_by, hold_flows, take_back_each, change_back, WholeQueues, whole}
 use Rattle.timers.specs.declared.name.TimerName.TheVariants as name
-use Rattle.node_links.proofs.Chosen.{chosen_serving}
+use Rattle.node_links.proofs.Chosen.{chosen_serving, chosen_carrying}
 use Rattle.exchange_rules.proofs.Places.{with_flows-fits, lifted-fits}
 use Rattle.exchange_rules.proofs.TakenPairs.{IsAlike, take_back_each-alike}
 use Rattle.exchange_rules.proofs.Steps.{IsOfSteps, Deed, IsOfDeeds}
@@ -11,10 +11,11 @@ use Rattle.exchange_rules.proofs.SteppingTimers.{set-timed, clear-timed}
 
 -- ---- the links that lose flows
 
--- a flow went by another link than the one that returned, which was in service then
+-- a flow went by another link than the one that returned, which carried traffic then
 pub record Went (link : ℕ) (p : Parts) (other : ℕ) : Type 0 where
   pub apart : other ≢ link
   pub served : in_service p other ≡ true
+  pub carried : in_traffic p other ≡ true
 
 goes-to : (o : Option ℕ) (link : ℕ) → goes_by o link ≡ true → o ≡ Some link
 goes-to (Some its) link e = ap (λ (n : ℕ). Some n) (eqb-true its link e)
@@ -33,6 +34,7 @@ all-went c link before after other e =
     record {
       apart = unlike other link parts.0;
       served = chosen_serving (network_of c before) some.flow.destination some.flow.sls other (goes-to _ other taken.0);
+      carried = chosen_carrying (network_of c before) some.flow.destination some.flow.sls other (goes-to _ other taken.0);
     }
 
 module _ {c : Configuration} {Own Counts : ℕ → Type 0} {R : Node WholeQueues → Node WholeQueues → Type 0} (s : IsOfSteps c Own Counts R) where

@@ -179,8 +179,6 @@ of_neither route.T8 set (name.Slt1 link) e = absurd cc
 of_neither route.T10 set (name.Slt1 link) e = absurd cc
 of_neither route.T8 set (name.Slt2 link) e = absurd cc
 of_neither route.T10 set (name.Slt2 link) e = absurd cc
-of_neither route.T8 set name.Sst e = absurd cc
-of_neither route.T10 set name.Sst e = absurd cc
 
 pub clear_set-endings : (timer : RouteTimer) (set : ℕ) (r : Running) (its : TimerName) → ends_holds its ≡ true → (clear_set timer set r).left its ≡ r.left its
 clear_set-endings timer set r its e =

@@ -2,8 +2,8 @@
 -- relation between two nodes that holds of each step, and of one after another, holds of every rule, every event and
 -- every take (`Stepping..`, `Rules`).
 use Rattle.exchange_rules.proofs.Basics.{◌≡◌, ◌⊎◌, ◌&&◌, not, ℕ, Bool, true, false, refl, List, [], length, Option, Some, find, if◌then◌else◌, slice_index_or, option_map}
-use Rattle.exchange_rules.proofs.Definitions.{set_timer, enters, has_other, set_of, Message, flow_of, Notice, FailureReason, Configuration, Input, Go, Transition, acts_on, Sending, LinkTestValue, TimerName, L7, Running, is_running, is_due, Route, RouteStatus, Allowed, leads_by, ToldTable, is_own_point, shape_of, Link, Standing, with_code, HoldSet, Parts, Node, Done, with_parts, lost_any, late_any, is_link, link_at, links_with, with_link, down, in_service, note, flagged, flagged_late, link_of, queue_on, waits, hold, is_adjacent, test_answer, changeover_of, with_changeover, fail_link, declaration, with_titles, step_on, timed_busy, timed_busy_ended, may_open, without_association, open_link, Carrying, carries, numbers, timed_parts, SendsMessage, next_message, after_sending, WholeQueues, whole, HasHoldsFor, tells_of_loss, tells_of_lateness, ChangeoverTimer, Facts, Procedure, Changeover, Code, lifted, fail, on_changeover_order, on_changeover_acknowledgement, on_changeover_timer, hold_flows, freed, held_by_rerouting, TitlesValue, in_outage, put_out, let_back, tests_links, link_test}
-use Rattle.std.specs.Prelude.{map, Ok}
+use Rattle.exchange_rules.proofs.Definitions.{set_timer, has_other, set_of, Message, flow_of, Notice, FailureReason, Configuration, Input, Go, Transition, acts_on, Sending, LinkTestValue, TimerName, L7, Running, is_running, is_due, Route, RouteStatus, Allowed, leads_by, ToldTable, is_own_point, shape_of, Link, Standing, with_code, HoldSet, Parts, Node, Done, with_parts, lost_any, late_any, is_link, link_at, links_with, with_link, down, in_service, recovered, with_ready, LinkStatus, note, flagged, flagged_late, link_of, queue_on, waits, hold, is_adjacent, test_answer, changeover_of, with_changeover, fail_link, declaration, with_titles, step_on, timed_busy, timed_busy_ended, may_open, without_association, open_link, Carrying, carries, numbers, timed_parts, SendsMessage, next_message, after_sending, WholeQueues, whole, HasHoldsFor, tells_of_loss, tells_of_lateness, ChangeoverTimer, Facts, Procedure, Changeover, Code, lifted, fail, on_changeover_order, on_changeover_acknowledgement, on_changeover_timer, hold_flows, freed, held_by_rerouting, TitlesValue, in_outage, put_out, let_back, tests_links, link_test, enters_traffic, is_first_test, with_test_passed}
+use Rattle.std.specs.Prelude.{drop, map, Ok}
 use Rattle.timers.specs.declared.name.TimerName.TheVariants as name
 use Rattle.exchange_rules.proofs.TimerSettings.{AreSet}
 use Rattle.exchange_rules.specs.Testing.{is_unsure}
@@ -62,12 +62,22 @@ pub record AreToldMore (old new : ToldTable) : Type 0 where
   pub shape : shape_of new ≡ shape_of old
   pub adjacents : new.adjacents ≡ old.adjacents
 
--- a link has its association, and carries messages as before
+-- the statuses that wait stay, one of them goes out, or Ready answers a recovery
+abbrev pub WaitsAs : (before after : List LinkStatus) → Type 0
+WaitsAs before after = (after ≡ before) ⊎ ((after ≡ drop 1 before) ⊎ (after ≡ with_ready before))
+
+-- a link has its association, and carries messages and traffic as before
 pub record IsSameLink (l x : Link) : Type 0 where
   pub alignment : x.alignment ≡ l.alignment
   pub period : x.period ≡ l.period
   pub association : x.association ≡ l.association
   pub busy : x.peer_busy ≡ l.peer_busy
+  pub waits : WaitsAs l.waiting x.waiting
+  pub untested : x.untested ≡ l.untested
+
+-- an outage of its peer's processor begins only where the settings ask for it
+abbrev pub MayBeOut : Configuration → (l x : Link) → Type 0
+MayBeOut c l x = x.peer_outage ≡ true → (l.peer_outage ≡ true) ⊎ (c.processor_outage ≡ true)
 
 -- its peer becomes busy, and isn't busy any more
 abbrev pub with_busy : Configuration → ℕ → Parts → Parts
@@ -89,9 +99,12 @@ confirming c link d confirmed n = record {
   parts = timed_parts c link confirmed (whole.outstanding (whole.accepted n.queues link d.fsn d.bsn (carries d)) link) n.parts;
 }
 
--- its processor is out, or back, as far as parts say that
-abbrev pub outed : ℕ → Bool → Parts → Parts
-outed link out p = with_link p link (record (link_at p link) { peer_outage = out })
+-- its processor is out, and recovers, before its flows are held and let go
+abbrev pub outed : ℕ → Parts → Parts
+outed link p = with_link p link (record (link_at p link) { peer_outage = true })
+
+abbrev pub recovering : ℕ → Parts → Parts
+recovering link p = with_link p link (recovered (link_at p link))
 
 -- R holds of each step. Own are the links that may enter service by it, and send; Counts are those whose counts may be
 -- reset, or rise as User Data is accepted
@@ -131,12 +144,15 @@ pub record IsOfSteps (c : Configuration) (Own Counts : ℕ → Type 0) (R : Node
       → (s.awaited ≡ true → (changeover_of n.parts link).awaited ≡ true) → R n (with_parts n (with_changeover link s n.parts))
   -- ---- a link loses its association, opens, takes a step of its alignment, hears that its peer is busy and that it
   -- isn't, accepts User Data, and sends
-  pub linked : (link : ℕ) (x : Link) (n : Node WholeQueues) → IsSameLink (link_at n.parts link) x → R n (with_parts n (with_link n.parts link x))
+  pub linked : (link : ℕ) (x : Link) (n : Node WholeQueues) → IsSameLink (link_at n.parts link) x → MayBeOut c (link_at n.parts link) x
+      → R n (with_parts n (with_link n.parts link x))
   pub parted : (link : ℕ) (n : Node WholeQueues) → down n.parts link ≡ true → R n (with_parts n (without_association link n.parts))
   pub opened : (link : ℕ) (n : Node WholeQueues) → Counts link → is_link n.parts link ≡ true → may_open (link_at n.parts link) ≡ true
       → (changeover_of n.parts link).incomplete ≡ false → R n (open_link whole c link n)
   pub stepped : (link : ℕ) (input : Input) (step : Transition) (n : Node WholeQueues) → Own link → acts_on (link_at n.parts link) input ≡ Go step
       → R n (with_parts n (step_on c link step n.parts))
+  -- a link passes a test
+  pub passed : (link : ℕ) (n : Node WholeQueues) → in_service n.parts link ≡ true → R n (with_parts n (with_test_passed link n.parts))
   pub busied : (link : ℕ) (n : Node WholeQueues) → Own link → in_service n.parts link ≡ true → (link_at n.parts link).peer_busy ≡ false
       → R n (with_parts n (with_busy c link n.parts))
   pub resumed : (link : ℕ) (n : Node WholeQueues) → Own link → in_service n.parts link ≡ true → (link_at n.parts link).peer_busy ≡ true
@@ -241,11 +257,24 @@ sends-of s = record {
   lost = λ notice n e. s.both _ _ _ (s.lost n) (s.noted notice _ (record { other = loss-other notice e; lost = λ f. refl; late = λ f. absurd (not-both notice e f) }));
 }
 
--- what is known over a set may be reset: one of its links may enter service
-pub record MayReturn (c : Configuration) (Own : ℕ → Type 0) (set : ℕ) : Type 0 where
+-- what not every event may do: a link opens, or fails for a reason, a set comes back by a test, the holds of a procedure
+-- end, a message for a user part that isn't here is counted, and translation rows or prohibited subsystems change
+pub data Deed : Type 0 where
+  LinkOpens : (link : ℕ) → Deed
+  SetReturns : (set : ℕ) → Deed
+  LinkFails : (link : ℕ) (why : FailureReason) → Deed
+  HoldsEnd : (procedure : Procedure) → Deed
+  Lacking : Deed
+  TitlesChange : Deed
+
+-- what is known over a set may be reset: one of its links may enter service, or it may come back by a test
+pub record IsOfSet (c : Configuration) (Own : ℕ → Type 0) (set : ℕ) : Type 0 where
   pub link : ℕ
   pub own : Own link
   pub is : set_of c link ≡ set
+
+abbrev pub MayReturn : (c : Configuration) (Own : ℕ → Type 0) (May : Deed → Type 0) → ℕ → Type 0
+MayReturn c Own May set = IsOfSet c Own set ⊎ May (SetReturns set)
 
 -- T10 stops only of a route that is allowed, or isn't there
 pub record KeepsTests (p : Parts) (r : Running) : Type 0 where
@@ -263,15 +292,13 @@ pub record AreTestedAs (p : Parts) (routes : List (List Route)) : Type 0 where
   pub each : (set destination : ℕ) → is_unsure (status_over set destination routes) ≡ true
       → (is_unsure (status_over set destination p.routes) ≡ true) ⊎ IsJustSet set destination p.timers
 
--- where a link is the first of its set to enter service, all routes over that are allowed
-pub record BeginsClean (c : Configuration) (link : ℕ) (step : Transition) (p : Parts) : Type 0 where
-  pub clean : (enters link step p && not (has_other c link p)) ≡ true → (destination : ℕ) → is_unsure (status_over (set_of c link) destination p.routes) ≡ false
+-- a link passes its first test, and is the first of its set to carry traffic
+abbrev pub brings_back : Configuration → (link : ℕ) → Parts → Bool
+brings_back c link p = is_first_test link p && not (has_other c link p)
 
--- what not every event may do: a link opens, or fails for a reason, and the holds of a procedure end
-pub data Deed : Type 0 where
-  LinkOpens : (link : ℕ) → Deed
-  LinkFails : (link : ℕ) (why : FailureReason) → Deed
-  HoldsEnd : (procedure : Procedure) → Deed
+-- where a link begins to carry traffic, and is the first of its set, all routes over that are allowed
+pub record BeginsClean (c : Configuration) (begins : Bool) (link : ℕ) (p : Parts) : Type 0 where
+  pub clean : (begins && not (has_other c link p)) ≡ true → (destination : ℕ) → is_unsure (status_over (set_of c link) destination p.routes) ≡ false
 
 -- R holds of each step that changes none of these, and of each rule that does, given what may be done. So a law may see
 -- a hold and its timer as one, which the steps show one after the other
@@ -283,18 +310,20 @@ pub record IsOfDeeds (c : Configuration) (Own Counts : ℕ → Type 0) (May : De
   pub held : (m : Message) (n : Node WholeQueues) → waits c n.parts.holds m ≡ true → R n (hold whole m n)
   pub taken_out : (n : Node WholeQueues) → R n (record n { queues = whole.without_held n.queues })
   pub late : (notice : Notice) (n : Node WholeQueues) → tells_of_lateness notice ≡ true → R n (with_parts n (flagged_late (note notice n.parts)))
-  pub timed : (r : Running) (n : Node WholeQueues) → AreQuiet c (MayReturn c Own) n.parts.timers r → KeepsTests n.parts r → R n (with_parts n (record n.parts { timers = r }))
+  pub timed : (r : Running) (n : Node WholeQueues) → AreQuiet c (MayReturn c Own May) n.parts.timers r → KeepsTests n.parts r → R n (with_parts n (record n.parts { timers = r }))
   pub rerouted : (routes : List (List Route)) (n : Node WholeQueues) → AreRerouted n.parts.told n.parts.routes routes → AreTestedAs n.parts routes → R n (with_parts n (record n.parts { routes = routes }))
   pub told : (t : ToldTable) (n : Node WholeQueues) → AreToldMore n.parts.told t → R n (with_parts n (record n.parts { told = t }))
-  pub titled : (titles : TitlesValue) (n : Node WholeQueues) → R n (with_parts n (with_titles titles n.parts))
-  pub unequipped : (counts : List ℕ) (n : Node WholeQueues) → length counts ≡ length n.parts.unequipped → R n (with_parts n (record n.parts { unequipped = counts }))
+  pub titled : (titles : TitlesValue) (n : Node WholeQueues) → May TitlesChange → R n (with_parts n (with_titles titles n.parts))
+  pub unequipped : (counts : List ℕ) (n : Node WholeQueues) → length counts ≡ length n.parts.unequipped → May Lacking → R n (with_parts n (record n.parts { unequipped = counts }))
   pub linked : (link : ℕ) (x : Link) (n : Node WholeQueues) → IsSameLink (link_at n.parts link) x → x.peer_outage ≡ (link_at n.parts link).peer_outage
       → R n (with_parts n (with_link n.parts link x))
   pub parted : (link : ℕ) (n : Node WholeQueues) → down n.parts link ≡ true → R n (with_parts n (without_association link n.parts))
   pub opened : (link : ℕ) (n : Node WholeQueues) → Counts link → is_link n.parts link ≡ true → may_open (link_at n.parts link) ≡ true
       → (changeover_of n.parts link).incomplete ≡ false → May (LinkOpens link) → R n (open_link whole c link n)
   pub stepped : (link : ℕ) (input : Input) (step : Transition) (n : Node WholeQueues) → Own link → acts_on (link_at n.parts link) input ≡ Go step
-      → BeginsClean c link step n.parts → R n (with_parts n (step_on c link step n.parts))
+      → BeginsClean c (enters_traffic link step n.parts) link n.parts → R n (with_parts n (step_on c link step n.parts))
+  pub passed : (link : ℕ) (n : Node WholeQueues) → in_service n.parts link ≡ true
+      → BeginsClean c (is_first_test link n.parts) link n.parts → R n (with_parts n (with_test_passed link n.parts))
   pub busied : (link : ℕ) (n : Node WholeQueues) → Own link → in_service n.parts link ≡ true → (link_at n.parts link).peer_busy ≡ false
       → R n (with_parts n (with_busy c link n.parts))
   pub resumed : (link : ℕ) (n : Node WholeQueues) → Own link → in_service n.parts link ≡ true → (link_at n.parts link).peer_busy ≡ true

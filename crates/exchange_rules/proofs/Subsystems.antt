@@ -20,7 +20,8 @@ use Rattle.sccp_relay.specs.Points.{OwnValue, is_backup_open, is_barred, is_barr
 use Rattle.sccp_relay.specs.Relay as relays
 use Rattle.sccp_relay.specs.Relay.{RelayedValue, relay}
 use Rattle.sccp_relay.specs.Sccp.{SccpValue, Plain}
-use Rattle.sccp_relay.specs.Statuses.{TitlesValue, is_full, is_prohibited, is_same, leads_to, prohibit, allow}
+use Rattle.sccp_relay.specs.Statuses.{TitlesValue, first_prohibited, is_full, is_prohibited, is_same, leads_to, prohibit, allow}
+use Rattle.sccp_relay.specs.declared.subsystem.ProhibitedSubsystem.{ProhibitedSubsystem}
 use Rattle.sccp_relay.specs.declared.subsystem.Subsystem.{Subsystem}
 use Rattle.sccp_relay.specs.declared.subsystem.SubsystemNews.{SubsystemNews}
 use Rattle.exchange_rules.specs.LawsOfSubsystems.{IsChoice, Says, an_ssa_allows_one, an_ssp_prohibits_one, rows_lead_where_it_is_open, rows_stay, statuses_are_heard}
@@ -37,10 +38,10 @@ same-as s x other e =
     ap (λ (p : ℕ). nat_eq p other.point && nat_eq s.ssn other.ssn) (eqb-true s.point x.point parts.0)
     ∙ ap (λ (n : ℕ). nat_eq x.point other.point && nat_eq n other.ssn) (eqb-true s.ssn x.ssn parts.1)
 
-any-same : (s x : Subsystem) (xs : List Subsystem) → is_same s x ≡ true → is_prohibited xs s ≡ is_prohibited xs x
+any-same : (s x : Subsystem) (xs : List ProhibitedSubsystem) → is_same s x ≡ true → is_prohibited xs s ≡ is_prohibited xs x
 any-same s x [] e = refl
 any-same s x (y ∷ ys) e =
-    ap (λ (b : Bool). b || is_prohibited ys s) (same-as s x y e) ∙ ap (λ (b : Bool). is_same x y || b) (any-same s x ys e)
+    ap (λ (b : Bool). b || is_prohibited ys s) (same-as s x y.subsystem e) ∙ ap (λ (b : Bool). is_same x y.subsystem || b) (any-same s x ys e)
 
 or-false : (b : Bool) → (b || false) ≡ b
 or-false true = refl
@@ -50,9 +51,10 @@ or-more : (a b c : Bool) → (a || (b || c)) ≡ ((a || b) || c)
 or-more true b c = refl
 or-more false b c = refl
 
-any-push : (s x : Subsystem) (xs : List Subsystem) → is_prohibited (xs ++ x ∷ []) s ≡ (is_prohibited xs s || is_same s x)
-any-push s x [] = or-false (is_same s x)
-any-push s x (y ∷ ys) = ap (λ (b : Bool). is_same s y || b) (any-push s x ys) ∙ or-more (is_same s y) (is_prohibited ys s) (is_same s x)
+any-push : (s : Subsystem) (x : ProhibitedSubsystem) (xs : List ProhibitedSubsystem) → is_prohibited (xs ++ x ∷ []) s ≡ (is_prohibited xs s || is_same s x.subsystem)
+any-push s x [] = or-false (is_same s x.subsystem)
+any-push s x (y ∷ ys) =
+    ap (λ (b : Bool). is_same s y.subsystem || b) (any-push s x ys) ∙ or-more (is_same s y.subsystem) (is_prohibited ys s) (is_same s x.subsystem)
 
 -- ---- an SSP
 
@@ -80,36 +82,36 @@ looked-at s true false true x y = refl
 looked-at s true false false x y = refl
 
 pub ssp-one : an_ssp_prohibits_one
-ssp-one news titles s e =
+ssp-one sst news titles s e =
     let x : Subsystem = news.subsystem in
-    let xs : List Subsystem = titles.prohibited in
+    let xs : List ProhibitedSubsystem = titles.prohibited in
     let a : Bool = nat_eq news.sender x.point in
     let p : Bool = is_prohibited xs x in
     let f : Bool = is_full xs in
     let l : Bool = list_any (leads_to x) titles.rows in
     let w : Bool = is_prohibited xs s in
-    let more : TitlesValue = record titles { prohibited = xs ++ x ∷ [] } in
-    ap (λ (b : Bool). is_prohibited (if not a then titles else if b then prohibit x titles else allow x titles).prohibited s) e
+    let more : TitlesValue = record titles { prohibited = xs ++ first_prohibited sst x ∷ [] } in
+    ap (λ (b : Bool). is_prohibited (if not a then titles else if b then prohibit sst x titles else allow x titles).prohibited s) e
     ∙ looked-at s a (p || f) l titles more
-    ∙ ap (λ (v : Bool). if not a then w else if p || f then w else if l then v else w) (any-push s x xs)
+    ∙ ap (λ (v : Bool). if not a then w else if p || f then w else if l then v else w) (any-push s (first_prohibited sst x) xs)
     ∙ pushed a p f l w (is_same s x) (λ is same. any-same s x xs same ∙ is)
 
 -- ---- an SSA
 
 -- one that is taken away isn't there any more
-abbrev kept : Subsystem → List Subsystem → List Subsystem
-kept x xs = filter (λ other. not (is_same x other)) xs
+abbrev kept : Subsystem → List ProhibitedSubsystem → List ProhibitedSubsystem
+kept x xs = filter (λ other. not (is_same x other.subsystem)) xs
 
-gone-by : (s x y : Subsystem) (ys : List Subsystem) (b : Bool) → is_same x y ≡ b → is_same s x ≡ true → is_prohibited (kept x ys) s ≡ false
+gone-by : (s x : Subsystem) (y : ProhibitedSubsystem) (ys : List ProhibitedSubsystem) (b : Bool) → is_same x y.subsystem ≡ b → is_same s x ≡ true → is_prohibited (kept x ys) s ≡ false
     → is_prohibited (kept x (y ∷ ys)) s ≡ false
 gone-by s x y ys true q e rest = ap (λ (b : Bool). is_prohibited (if not b then y ∷ kept x ys else kept x ys) s) q ∙ rest
 gone-by s x y ys false q e rest =
     ap (λ (b : Bool). is_prohibited (if not b then y ∷ kept x ys else kept x ys) s) q
-    ∙ ap (λ (b : Bool). b || is_prohibited (kept x ys) s) (same-as s x y e ∙ q) ∙ rest
+    ∙ ap (λ (b : Bool). b || is_prohibited (kept x ys) s) (same-as s x y.subsystem e ∙ q) ∙ rest
 
-gone : (s x : Subsystem) (xs : List Subsystem) → is_same s x ≡ true → is_prohibited (kept x xs) s ≡ false
+gone : (s x : Subsystem) (xs : List ProhibitedSubsystem) → is_same s x ≡ true → is_prohibited (kept x xs) s ≡ false
 gone s x [] e = refl
-gone s x (y ∷ ys) e = gone-by s x y ys (is_same x y) refl e (gone s x ys e)
+gone s x (y ∷ ys) e = gone-by s x y ys (is_same x y.subsystem) refl e (gone s x ys e)
 
 -- another stays as it was
 same-back : (s x y : Subsystem) → is_same x y ≡ true → is_same s y ≡ true → is_same s x ≡ true
@@ -118,19 +120,19 @@ same-back s x y q r =
     ap (λ (p : ℕ). nat_eq s.point p && nat_eq s.ssn x.ssn) (eqb-true x.point y.point parts.0)
     ∙ ap (λ (n : ℕ). nat_eq s.point y.point && nat_eq s.ssn n) (eqb-true x.ssn y.ssn parts.1) ∙ r
 
-stays-by : (s x y : Subsystem) (ys : List Subsystem) (b t : Bool) → is_same x y ≡ b → is_same s y ≡ t → is_same s x ≡ false
+stays-by : (s x : Subsystem) (y : ProhibitedSubsystem) (ys : List ProhibitedSubsystem) (b t : Bool) → is_same x y.subsystem ≡ b → is_same s y.subsystem ≡ t → is_same s x ≡ false
     → is_prohibited (kept x ys) s ≡ is_prohibited ys s → is_prohibited (kept x (y ∷ ys)) s ≡ is_prohibited (y ∷ ys) s
-stays-by s x y ys true true q r e rest = absurd (let no : false ≡ true = sym e ∙ same-back s x y q r in cc)
+stays-by s x y ys true true q r e rest = absurd (let no : false ≡ true = sym e ∙ same-back s x y.subsystem q r in cc)
 stays-by s x y ys true false q r e rest =
     ap (λ (b : Bool). is_prohibited (if not b then y ∷ kept x ys else kept x ys) s) q
     ∙ rest ∙ sym (ap (λ (b : Bool). b || is_prohibited ys s) r)
 stays-by s x y ys false t q r e rest =
     ap (λ (b : Bool). is_prohibited (if not b then y ∷ kept x ys else kept x ys) s) q
-    ∙ ap (λ (b : Bool). is_same s y || b) rest
+    ∙ ap (λ (b : Bool). is_same s y.subsystem || b) rest
 
-stays : (s x : Subsystem) (xs : List Subsystem) → is_same s x ≡ false → is_prohibited (kept x xs) s ≡ is_prohibited xs s
+stays : (s x : Subsystem) (xs : List ProhibitedSubsystem) → is_same s x ≡ false → is_prohibited (kept x xs) s ≡ is_prohibited xs s
 stays s x [] e = refl
-stays s x (y ∷ ys) e = stays-by s x y ys (is_same x y) (is_same s y) refl refl e (stays s x ys e)
+stays s x (y ∷ ys) e = stays-by s x y ys (is_same x y.subsystem) (is_same s y.subsystem) refl refl e (stays s x ys e)
 
 and-true : (b : Bool) → b ≡ (b && true)
 and-true true = refl
@@ -140,7 +142,7 @@ and-false : (b : Bool) → false ≡ (b && false)
 and-false true = refl
 and-false false = refl
 
-taken-away : (s x : Subsystem) (xs : List Subsystem) (t : Bool) → is_same s x ≡ t → is_prohibited (filter (λ other. not (is_same x other)) xs) s ≡ (is_prohibited xs s && not t)
+taken-away : (s x : Subsystem) (xs : List ProhibitedSubsystem) (t : Bool) → is_same s x ≡ t → is_prohibited (filter (λ other. not (is_same x other.subsystem)) xs) s ≡ (is_prohibited xs s && not t)
 taken-away s x xs true e = gone s x xs e ∙ and-false (is_prohibited xs s)
 taken-away s x xs false e = stays s x xs e ∙ and-true (is_prohibited xs s)
 
@@ -150,10 +152,10 @@ allowed-by s x titles false = and-true (is_prohibited titles.prohibited s)
 allowed-by s x titles true = taken-away s x titles.prohibited (is_same s x) refl
 
 pub ssa-one : an_ssa_allows_one
-ssa-one news titles s e =
+ssa-one sst news titles s e =
     let x : Subsystem = news.subsystem in
     let a : Bool = nat_eq news.sender x.point in
-    ap (λ (b : Bool). is_prohibited (if not a then titles else if b then prohibit x titles else allow x titles).prohibited s) e
+    ap (λ (b : Bool). is_prohibited (if not a then titles else if b then prohibit sst x titles else allow x titles).prohibited s) e
     ∙ allowed-by s x titles a
 
 -- ---- the rows
@@ -167,10 +169,10 @@ same-rows true true false false titles more fewer m f = refl
 same-rows true false c l titles more fewer m f = f
 
 pub same-as-before : rows_stay
-same-as-before news titles =
+same-as-before sst news titles =
     let x : Subsystem = news.subsystem in
     same-rows (nat_eq news.sender x.point) news.is_prohibited (is_prohibited titles.prohibited x || is_full titles.prohibited) (list_any (leads_to x) titles.rows)
-    titles (record titles { prohibited = titles.prohibited ++ x ∷ [] }) (allow x titles) refl refl
+    titles (record titles { prohibited = titles.prohibited ++ first_prohibited sst x ∷ [] }) (allow x titles) refl refl
 
 -- ---- what is heard
 
@@ -238,7 +240,7 @@ abbrev or-refused : TitleEntry → Bool → Result TitleEntry Cause
 or-refused row b = if b then Err SubsystemProhibited else Ok row
 
 -- an open point isn't shut, and a shut backup isn't open
-module _ (own : OwnValue) (prohibited : List Subsystem) (sender : Option ℕ) (sls : ℕ) where
+module _ (own : OwnValue) (prohibited : List ProhibitedSubsystem) (sender : Option ℕ) (sls : ℕ) where
   not-shut : (to : TitleRoute) (point : ℕ) → is_open own prohibited sls to point ≡ true → is_shut own prohibited sls to point ≡ false
   not-shut to point e = open-shut (is_reached own sls point) (is_out prohibited to point) e
 

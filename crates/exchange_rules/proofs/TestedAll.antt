@@ -1,15 +1,15 @@
 -- Through all rules T10 runs for each route over a set in service that isn't allowed.
-use Rattle.exchange_rules.proofs.Basics.{◌≡◌, ◌≢◌, ◌<◌, ℕ, Bool, true, false, nat_lt, length, List, [], ◌∷◌, Option, Some, None, refl, ap, sym, ◌∙◌, arith, ⊎_elim, if◌then◌else◌, is_some, nat_tests, and_from}
-use Rattle.exchange_rules.proofs.Definitions.{period_of, Configuration, Message, FailureReason, ChangeoverTimer, Facts, opening, carries, completed, opened, is_in_service, TimerName, NodeCounts, Running, is_running, set_timer, clear_timer, left-set, counts-set, counts-clear, Route, Parts, Node, with_parts, link_at, in_service, down, is_link, set_of, has_other, make_unavailable, changing, begin, change_over, begin_by_peer, fail_by_peer, fail_by_order, complete_by_order, complete_if, concluded, lose_each, judged, changeover_of, with_changeover, changeover_order, changeover_acknowledgement, on_changeover_order, with_changeover_acknowledged, with_expiry, hold_flows, held_by_rerouting, answer, Handled, Ignored, Found, WholeQueues, whole}
+use Rattle.exchange_rules.proofs.Basics.{◌≡◌, ◌≢◌, ◌<◌, ℕ, Bool, true, false, ◌&&◌, not, nat_lt, length, List, [], ◌∷◌, Option, Some, None, refl, ap, sym, ◌∙◌, arith, ⊎_elim, if◌then◌else◌, is_some, nat_tests, and_from}
+use Rattle.exchange_rules.proofs.Definitions.{period_of, Configuration, Message, FailureReason, ChangeoverTimer, Facts, opening, carries, completed, opened_by, is_in_service, Alignment, TimerName, NodeCounts, Running, is_running, set_timer, clear_timer, left-set, counts-set, counts-clear, Route, Parts, Node, with_parts, link_at, in_service, down, is_link, set_of, has_other, make_unavailable, changing, begin, change_over, begin_by_peer, fail_by_peer, fail_by_order, complete_by_order, complete_if, concluded, lose_each, judged, changeover_of, with_changeover, changeover_order, changeover_acknowledgement, on_changeover_order, with_changeover_acknowledged, with_expiry, hold_flows, held_by_rerouting, answer, Handled, Ignored, Found, WholeQueues, whole}
 use Rattle.timers.specs.declared.name.TimerName.TheVariants as name
 use Rattle.signalling_types.specs.declared.notice.FailureReason.TheVariants as reasons
 use Rattle.signalling_types.specs.declared.notice.ChangeoverTimer.TheVariants as which
 use Rattle.exchange_rules.specs.Testing.{is_unsure}
 use Rattle.exchange_rules.proofs.Eased.{losses-timers, judged-timers}
 use Rattle.exchange_rules.proofs.LinkTimers.{same-for, timed-for, timed_sending-for, timed_confirming-for, timed_busy-for, timed_busy_ended-for}
-use Rattle.exchange_rules.proofs.Steps.{IsOfRules, status_over, KeepsTests, IsJustSet, AreTestedAs, outed}
+use Rattle.exchange_rules.proofs.Steps.{IsOfRules, status_over, KeepsTests, IsJustSet, AreTestedAs, outed, recovering}
 use Rattle.exchange_rules.proofs.SteppingMessages.{send_routed-steps, send_each-steps}
-use Rattle.exchange_rules.proofs.Tested.{Tests, both, same, quiet, set-test, clear-still, sends, link-runs, on-link, stepped-test, gone-test, timers-test, serving-set, unsure-there}
+use Rattle.exchange_rules.proofs.Tested.{Tests, both, same, quiet, set-test, clear-still, sends, link-runs, on-link, stepped-test, passed-test, gone-test, timers-test, serving-set, unsure-there}
 use Rattle.exchange_rules.proofs.Asked.{any}
 
 pub no-way : {A : Type 0} (b : Bool) → b ≡ true → b ≡ false → A
@@ -183,13 +183,14 @@ module _ (c : Configuration) where
     timed = λ r n e k. timed-tests r n e.timed.counts k;
     rerouted = λ routes n e k. rerouted-tests routes n e.size k;
     told = λ t n e. same c n _ refl refl refl;
-    titled = λ rows n. same c n _ refl refl refl;
-    unequipped = λ counts n e. same c n _ refl refl refl;
-    linked = λ link x n e o. on-link c link x n.parts.timers n (same-for link n.parts.timers) (λ h. ap is_in_service (sym e.alignment) ∙ h);
+    titled = λ rows n may. same c n _ refl refl refl;
+    unequipped = λ counts n e may. same c n _ refl refl refl;
+    linked = λ link x n e o. on-link c link x n.parts.timers n (same-for link n.parts.timers) (λ h. ap (λ (b : Bool). in_service n.parts link && not b) (sym e.untested) ∙ ap (λ (a : Alignment). is_in_service a && not x.untested) (sym e.alignment) ∙ h);
     parted = λ link n e. on-link c link _ n.parts.timers n (same-for link n.parts.timers) (λ h. h);
     opened = λ link n own there e f may.
-        both c n (with_parts n (record n.parts { links = _; timers = _ })) _ (on-link c link (opened (period_of c link n.parts) (link_at n.parts link)) _ n (timed-for link c (opening (period_of c link n.parts)) n.parts.timers) (λ h. absurd cc)) (same c _ _ refl refl refl);
+        both c n (with_parts n (record n.parts { links = _; timers = _ })) _ (on-link c link (opened_by c (period_of c link n.parts) (link_at n.parts link)) _ n (timed-for link c (opening (period_of c link n.parts)) n.parts.timers) (λ h. absurd cc)) (same c _ _ refl refl refl);
     stepped = λ link input step n own e k. stepped-test c link step n k;
+    passed = λ link n e k. passed-test c link n k;
     busied = λ link n own e f. on-link c link _ _ n (timed_busy-for link c n.parts.timers) (λ h. h);
     resumed = λ link n own e f o. on-link c link _ _ n (timed_busy_ended-for link c (whole.outstanding n.queues link) n.parts.timers) (λ h. h);
     accepted = λ link d confirmed n own e f.
@@ -198,8 +199,8 @@ module _ (c : Configuration) where
     sent = λ link next n own e.
         both c n (with_parts n (record n.parts { links = _; timers = _ })) _
         (on-link c link (record (link_at n.parts link) { acknowledgement_owed = false }) _ n (timed_sending-for link c n.parts.timers) (λ h. h)) (same c _ _ refl refl refl);
-    put = λ link n set e b. both c n (with_parts n (outed link true n.parts)) _ (on-link c link _ n.parts.timers n (same-for link n.parts.timers) (λ h. h)) (same c _ _ refl refl refl);
-    back = λ link n e may. both c n (with_parts n (outed link false n.parts)) _ (on-link c link _ n.parts.timers n (same-for link n.parts.timers) (λ h. h)) (same c _ _ refl refl refl);
+    put = λ link n set e b. both c n (with_parts n (outed link n.parts)) _ (on-link c link _ n.parts.timers n (same-for link n.parts.timers) (λ h. h)) (same c _ _ refl refl refl);
+    back = λ link n e may. both c n (with_parts n (recovering link n.parts)) _ (on-link c link _ n.parts.timers n (same-for link n.parts.timers) (λ h. h)) (same c _ _ refl refl refl);
     fails = λ link why n may up. fails-tests (in_service n.parts link) link why n;
     orders = λ link number n falls ends. orders-tests link number n;
     acknowledges = λ link number n may. acknowledges-tests (changeover_of n.parts link).awaited link number n;

@@ -114,7 +114,6 @@ module _ (c : Configuration) where
   ran-tests (name.T8 set destination) n = other-runs_out (name.T8 set destination) n (λ s d e. cc)
   ran-tests (name.Slt1 link) n = other-runs_out (name.Slt1 link) n (λ s d e. cc)
   ran-tests (name.Slt2 link) n = other-runs_out (name.Slt2 link) n (λ s d e. cc)
-  ran-tests name.Sst n = other-runs_out name.Sst n (λ s d e. cc)
   ran-tests (name.T10 set destination) n = runs_out-tests set destination n (nat_lt set (length c.sets) && nat_lt destination (length c.destinations)) refl
 
   due-tests : (due : Option TimerName) (n : Node WholeQueues) → due_name n.parts.timers ≡ due → Tests c n (run_due whole c due (with_timers n (after_due n.parts.timers)))

@@ -1,7 +1,7 @@
 -- If nothing but ticks happens, all holds end. First no timer runs that may take a link into service or out of it, and
 -- then none that ends a hold.
 use Rattle.exchange_rules.proofs.Basics.{◌≡◌, ◌≢◌, inl, inr, ◌≤◌, ◌-◌, ◌+◌, ℕ, zero, suc, Bool, true, false, not, List, [], ◌∷◌, ◌++◌, Option, Some, None, refl, ap, sym, ◌∙◌, subst, arith, ⊎_elim, is_some, and_parts, false_from_ne_true as not-so, if◌then◌else◌, max}
-use Rattle.exchange_rules.proofs.Definitions.{Message, flow_of, is_management, destination_place, Configuration, Procedure, Changeover, Code, Time, Reroute, holds, held_by, TimerName, Running, is_running, ticked, due_name, after_due, due-left, left-ticked, one_less, Node, with_timers, run_due, run_next, run_times, tell_owed, release, waits, is_held_at, is_flow_held, all_wait, Asking, Happens, Ticked, Abstract, apply, after_each, changeover_of, first_state, WholeQueues, whole, link_at, in_service, tests_links, answer_ticks, pause_ticks, after_asking}
+use Rattle.exchange_rules.proofs.Definitions.{Message, flow_of, is_management, destination_place, Configuration, Procedure, Changeover, Code, Time, Reroute, holds, held_by, TimerName, Running, is_running, ticked, due_name, after_due, due-left, left-ticked, one_less, Node, with_timers, run_due, run_next, run_times, tell_owed, release, waits, is_held_at, is_flow_held, all_wait, Asking, Happens, Ticked, Abstract, apply, after_each, changeover_of, first_state, WholeQueues, whole, link_at, in_service, tests_links, answer_ticks, pause_ticks, after_asking, count_subsystems}
 use Rattle.timers.specs.Timers.{due_count}
 use Rattle.link.specs.declared.period.Period.{Period}
 use Rattle.link.specs.declared.period.Period.TheVariants.{Fixed, Normal, Emergency}
@@ -58,7 +58,6 @@ quiet-of r q = record { none = by }
     by (name.T10 set destination) e x h = absurd cc
     by (name.Slt1 link) e x h = runs-not (r.left (name.Slt1 link)) x (q.slt1 link) h
     by (name.Slt2 link) e x h = runs-not (r.left (name.Slt2 link)) x (q.slt2 link) h
-    by name.Sst e x h = absurd cc
 
 -- ---- a tick
 
@@ -88,8 +87,11 @@ module _ (c : Configuration) where
     abbrev begun : Node WholeQueues
     begun = with_timers n (ticked n.parts.timers)
 
+    abbrev timed : Node WholeQueues
+    timed = run_times whole c (due_count begun.parts.timers) begun
+
     abbrev ran : Node WholeQueues
-    ran = run_times whole c (due_count begun.parts.timers) begun
+    ran = count_subsystems c timed
 
     abbrev ended : Node WholeQueues
     ended = tell_owed whole c (release whole c ran)
@@ -105,7 +107,9 @@ module _ (c : Configuration) where
 
     ended-links : (most : ℕ) → Within takes_links most n.parts.timers → Within takes_links (most - 1) ended.parts.timers
     ended-links most w =
-        (let kept : Turned begun ended = turned-both begun ran ended (times-kept c (due_count begun.parts.timers) begun) (turned-of ran ended (kept-eased ran ended (settled-eased c ran))) in
+        (let kept : Turned begun ended =
+        turned-both begun timed ended (times-kept c (due_count begun.parts.timers) begun)
+        (turned-of timed ended (kept-eased timed ended (eased-both timed ran ended (eased-same timed ran refl) (settled-eased c ran)))) in
         record { each = λ timer t x h. (begun-within takes_links most w).each timer t x (kept.timers timer t x h) })
 
     module _ (q : Quiet n.parts.timers) where
@@ -113,7 +117,9 @@ module _ (c : Configuration) where
       begun-quiet = record { none = λ timer takes x h. was-some (n.parts.timers.left timer) x (sym (left-ticked timer n.parts.timers) ∙ h) (q.none timer takes) }
 
       all-eased : Eased begun ended
-      all-eased = eased-both begun ran ended (times-eased (due_count begun.parts.timers) begun begun-quiet) (settled-eased c ran)
+      all-eased =
+          eased-both begun ran ended (eased-both begun timed ran (times-eased (due_count begun.parts.timers) begun begun-quiet) (eased-same timed ran refl))
+          (settled-eased c ran)
 
       ended-quiet : Quiet ended.parts.timers
       ended-quiet = quiet-eased begun ended all-eased begun-quiet
@@ -309,7 +315,6 @@ none-tested a r u timer of = not-so (is_running timer a.node.parts.timers) (λ r
     by (name.T6 destination) e (Some x) h runs = absurd cc
     by (name.T8 set destination) e (Some x) h runs = absurd cc
     by (name.T10 set destination) e (Some x) h runs = absurd cc
-    by name.Sst e (Some x) h runs = absurd cc
 
 -- after as long as the first two times together
 untested : (c : Configuration) (asked : List Asking) (turn more : ℕ) → longest_turn c.timers ≡ suc turn → longest_tests c ≤ more

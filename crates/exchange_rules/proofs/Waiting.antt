@@ -1,6 +1,6 @@
 -- Each link keeps the timer of its state as it takes a step, fails, opens, and as its peer becomes busy.
 use Rattle.exchange_rules.proofs.Basics.{◌≡◌, ℕ, Bool, true, false, ◌&&◌, ◌||◌, not, nat_lt, nat_eq, Some, None, refl, ap, sym, subst, ◌∙◌, if◌then◌else◌}
-use Rattle.exchange_rules.proofs.Definitions.{paced, Period, Configuration, Alignment, Input, Go, Transition, action_at, acts_on, opening, is_down, is_in_service, LinkTimer, NodeCounts, Running, is_running, start_unless_running, counts-clear, timer_name, without_timer, without_timers, with_timer, timed, timed_sending, timed_confirming, timed_busy, timed_busy_ended, Link, down_link, stepped, opened, after_failure}
+use Rattle.exchange_rules.proofs.Definitions.{paced, Period, Configuration, Alignment, Input, Go, Transition, action_at, acts_on, opening, is_down, is_in_service, LinkTimer, NodeCounts, Running, is_running, start_unless_running, counts-clear, timer_name, without_timer, without_timers, with_timer, timed, timed_sending, timed_confirming, timed_busy, timed_busy_ended, Link, down_link, stepped, opened_by, after_failure}
 use Rattle.link.specs.declared.action.LinkTimer.TheVariants as timer
 use Rattle.link.specs.declared.action.Action.TheVariants as act
 use Rattle.exchange_rules.specs.Aligning.{waiting_in, is_that, is_of_waits, HasItsTimer}
@@ -88,7 +88,7 @@ module _ (link : ℕ) (c : Configuration) where
       by true f out = no-way (is_in_service step.state) (known.stays f) out
       by false f out = h.calm f
 
-  pub waits-opened : (period : Period) (x : Link) (r : Running) → nat_lt link r.counts.links ≡ true → x.association ≡ false → Waits link x r → Waits link (opened period x) (timed c link (opening period) r)
+  pub waits-opened : (period : Period) (x : Link) (r : Running) → nat_lt link r.counts.links ≡ true → x.association ≡ false → Waits link x r → Waits link (opened_by c period x) (timed c link (opening period) r)
   waits-opened period x r there e h = record {
     timed = record {
       waits = λ t w. turned link (paced period c.timers) None (Some timer.L2) t r there

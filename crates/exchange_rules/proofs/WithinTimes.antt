@@ -31,7 +31,6 @@ waited (name.T8 set destination) e = absurd cc
 waited (name.T10 set destination) e = absurd cc
 waited (name.Slt1 link) e = absurd cc
 waited (name.Slt2 link) e = absurd cc
-waited name.Sst e = absurd cc
 
 -- those of a kind have at most n ticks left
 pub record Within (kind : TimerName → Bool) (most : ℕ) (r : Running) : Type 0 where
@@ -163,12 +162,13 @@ module _ (c : Configuration) where
     timed = λ r n e k. bounds-same most n _ e.endings;
     rerouted = λ routes n e k. bounds-as most n _ refl;
     told = λ t n e. bounds-as most n _ refl;
-    titled = λ rows n. bounds-as most n _ refl;
-    unequipped = λ counts n e. bounds-as most n _ refl;
+    titled = λ rows n may. bounds-as most n _ refl;
+    unequipped = λ counts n e may. bounds-as most n _ refl;
     linked = λ link x n e o. bounds-as most n _ refl;
     parted = λ link n e. bounds-as most n _ refl;
     opened = λ link n own there e f may. bounds-same most n _ (timed-for link c (opening (period_of c link n.parts)) n.parts.timers).endings;
     stepped = λ link input step n own e k. bounds-same most n _ (timed-for link c step n.parts.timers).endings;
+    passed = λ link n e k. bounds-as most n _ refl;
     busied = λ link n own e f. bounds-same most n _ (timed_busy-for link c n.parts.timers).endings;
     resumed = λ link n own e f o. bounds-same most n _ (timed_busy_ended-for link c (whole.outstanding n.queues link) n.parts.timers).endings;
     accepted = λ link d confirmed n own e f.

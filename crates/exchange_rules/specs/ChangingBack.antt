@@ -1,5 +1,5 @@
--- TCBC, changeback control (Q.704 §6): a link returns to service, and takes its flows back from the links that carried
--- them meanwhile.
+-- TCBC, changeback control (Q.704 §6): a link carries traffic again, and takes its flows back from the links that
+-- carried them meanwhile.
 use Rattle.std.specs.Prelude.{ℕ, zero, suc, Bool, true, false, not, ◌&&◌, nat_eq, length, Option, Some, None, if◌then◌else◌}
 use Rattle.settings_rows.specs.Configuration.{Configuration}
 use Rattle.signalling_types.specs.Message.{Message}

@@ -47,7 +47,7 @@ suspended c link unconfirmed p =
 
 -- ---- TCOC (Q.704 §5.2, §5.3): a link fails, and its changeover begins.
 
--- whether a link of the same set is in service
+-- whether a link of the same set carries traffic
 abbrev pub has_other : Configuration → ℕ → Parts → Bool
 has_other c link p = has_link (facts c p).in_service (set_at (facts c p) (set_of c link))
 

@@ -11,7 +11,7 @@ use Rattle.signalling_types.specs.declared.outcome.Outcome.TheVariants.{Handled}
 use Rattle.link.specs.declared.action.LinkTimer.TheVariants as timer
 use Rattle.timers.specs.declared.name.TimerName.{TimerName}
 use Rattle.timers.specs.declared.name.TimerName.TheVariants.{L1, L2, L3, L4, L6, L7, T1, T2, T3, T4, T6, T8, T10}
-use Rattle.timers.specs.declared.name.TimerName.TheVariants.{Slt1, Slt2, Sst}
+use Rattle.timers.specs.declared.name.TimerName.TheVariants.{Slt1, Slt2}
 use Rattle.timers.specs.Timers.{Running, ticked, due_name, due_count, after_due}
 use Rattle.signalling_types.specs.declared.notice.ChangeoverTimer.TheVariants as changeover
 use Rattle.exchange_rules.specs.Frames.{run_out, receive}
@@ -22,7 +22,7 @@ use Rattle.signalling_types.specs.declared.outcome.Outcome.{Outcome}
 use Rattle.m2pa_codec.specs.Frames.{FrameValue}
 use Rattle.exchange_rules.specs.declared.wants.Wants.{Wants}
 use Rattle.exchange_rules.specs.Opening.{association_up, association_down, activate, deactivate, wanted}
-use Rattle.exchange_rules.specs.Messages.{submit, add_title, remove_title}
+use Rattle.exchange_rules.specs.Messages.{submit, add_title, remove_title, subsystems_ticked, tests_due}
 use Rattle.exchange_rules.specs.Telling.{tell_owed}
 use Rattle.exchange_rules.specs.Sending.{frame_taken, after_take}
 
@@ -49,7 +49,12 @@ module _ {Q : Type 0} (q : QueueKind Q) (c : Configuration) where
   release node =
       record node { queues = q.without_held node.queues } ▷ go_each (q.held node.queues)
 
--- ---- A tick: all timers have one tick less, and those that are due run, in name order.
+-- ---- A tick: all timers have one tick less, and those that are due run, in name order; then prohibited subsystems have one
+-- less until their next tests.
+
+-- prohibited subsystems have one tick less until their next tests, and those that don't stay prohibited are allowed
+abbrev pub count_subsystems : {Q : Type 0} → Configuration → Node Q → Node Q
+count_subsystems c node = with_parts node (subsystems_ticked c node.parts)
 
 -- the same node with other timers
 abbrev pub with_timers : {Q : Type 0} → Node Q → Running → Node Q
@@ -73,7 +78,6 @@ module _ {Q : Type 0} (q : QueueKind Q) (c : Configuration) where
   run_timer (T10 set destination) node = ask_again q c set destination node
   run_timer (Slt1 link) node = test_unanswered q c link node
   run_timer (Slt2 link) node = begin_test q c link node
-  run_timer Sst node = node
 
   abbrev pub run_due : Option TimerName → Node Q → Node Q
   run_due None node = node
@@ -94,7 +98,8 @@ module _ {Q : Type 0} (q : QueueKind Q) (c : Configuration) where
   run_all node = run_times (due_count node.parts.timers) node
 
   abbrev pub tick : Node Q → Done Q
-  tick node = answer Handled (with_timers node (ticked node.parts.timers) ▷ run_all)
+  tick node =
+      answer Handled (with_timers node (ticked node.parts.timers) ▷ run_all ▷ count_subsystems c)
 
 -- ---- The step of an exchange: what becomes of everything that can happen, and the state after it.
 
@@ -105,7 +110,7 @@ handle_event q c (WentDown link) node = association_down q c link node
 handle_event q c (FrameCame link text) node = receive q c link text node
 handle_event q c Ticked node = tick q c node
 handle_event q c (Submitted message) node = submit q c message node
-handle_event q c (Activated link) node = activate q c link node
+handle_event q c (Activated link emergency) node = activate q c emergency link node
 handle_event q c (Deactivated link) node = deactivate q c link node
 handle_event q c (TitleAdded row is_memory_refused) node = add_title row is_memory_refused node
 handle_event q c (TitleRemoved key digits) node = remove_title key digits node
@@ -124,6 +129,15 @@ outcome_of q what s = (apply q s.settings what s.node).outcome
 -- and the state after it
 abbrev pub after : {Q : Type 0} → QueueKind Q → Happening → State Q → State Q
 after q what s = with_node s (apply q s.settings what s.node).left
+
+-- what becomes of messages that are submitted one after the other
+abbrev pub after_submitting : {Q : Type 0} → QueueKind Q → List Message → State Q → State Q
+after_submitting q [] s = s
+after_submitting q (m ∷ ms) s = after_submitting q ms (after q (Submitted m) s)
+
+-- the state after the tests of subsystems that are due were submitted (Q.714 §5.3.4)
+abbrev pub after_tests : {Q : Type 0} → QueueKind Q → State Q → State Q
+after_tests q s = after_submitting q (tests_due s.settings s.node.parts) s
 
 -- the frame that goes out next on a link
 abbrev pub frame_to_take : {Q : Type 0} → QueueKind Q → State Q → ℕ → Option FrameValue

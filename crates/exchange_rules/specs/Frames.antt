@@ -12,15 +12,12 @@ use Rattle.link.specs.declared.action.Input.TheVariants.{Status, Expiry, UserDat
 use Rattle.link.specs.declared.action.LinkTimer.{LinkTimer}
 use Rattle.link.specs.declared.action.Transition.{Transition}
 use Rattle.exchange_rules.specs.State.{QueueKind, Parts, Node, Done, with_parts, answer, link_at, links_with, in_service, unless◌then◌else◌, refuse, is_link, with_link, down, note, ◌▷◌}
-use Rattle.node_links.specs.NodeLinks.{acts_on, stepped, is_in_service}
-use Rattle.routes.specs.Routes.{Facts}
-use Rattle.exchange_rules.specs.Routing.{facts, set_of}
+use Rattle.node_links.specs.NodeLinks.{acts_on, recovered, stepped, is_in_service}
 use Rattle.exchange_rules.specs.Timing.{timed, timed_busy, timed_busy_ended, timed_confirming}
-use Rattle.exchange_rules.specs.Rerouting.{with_set_reset}
 use Rattle.flow_hold.specs.declared.procedure.Procedure.TheVariants.{Changeover}
 use Rattle.flow_hold.specs.Holds.{lifted}
-use Rattle.exchange_rules.specs.ChangingOver.{has_other, fail, suspended}
-use Rattle.exchange_rules.specs.ChangingBack.{change_back}
+use Rattle.exchange_rules.specs.ChangingOver.{fail, suspended}
+use Rattle.exchange_rules.specs.Entering.{begun_anew, begin_traffic}
 use Rattle.exchange_rules.specs.LinkTests.{begin_test}
 use Rattle.signalling_types.specs.Message.{Message}
 use Rattle.signalling_types.specs.declared.cause.Cause.TheVariants.{NoSuchName}
@@ -82,11 +79,10 @@ abbrev pub put_out : Configuration → ℕ → (unconfirmed : List Message) → 
 put_out c link unconfirmed p =
     suspended c link unconfirmed (with_link p link (record (link_at p link) { peer_outage = true }))
 
--- the outage is over, and so is that hold
+-- the outage is over, and so is that hold; Ready answers that (RFC 4165 §4.1.4)
 abbrev pub let_back : ℕ → Parts → Parts
-let_back link p = record (with_link p link (record (link_at p link) { peer_outage = false })) {
-  holds = lifted p.holds (Changeover link);
-}
+let_back link p =
+    record (with_link p link (recovered (link_at p link))) { holds = lifted p.holds (Changeover link) }
 
 -- Busy Ended is ignored in an outage, as Busy is: the peer takes no messages as long as its processor is out, and L6
 -- watches that (this node's own choice)
@@ -98,27 +94,19 @@ hear_busy_ended c link outstanding p =
 abbrev pub enters : ℕ → Transition → Parts → Bool
 enters link step p = is_in_service step.state && not (in_service p link)
 
--- if it is the first of its set, what is known over that set is reset
-abbrev pub begun_anew_if : (is_first : Bool) → Configuration → ℕ → Parts → Parts
-begun_anew_if true c link p = with_set_reset c (set_of c link) p
-begun_anew_if false c link p = p
+-- whether it carries traffic by this: it enters service, and has no test to pass before (Q.707 §2.2)
+abbrev pub enters_traffic : ℕ → Transition → Parts → Bool
+enters_traffic link step p = enters link step p && not (link_at p link).untested
 
--- a link takes a step of its alignment, and may be the first of its set to enter service by this
+-- a link takes a step of its alignment, and may be the first of its set to carry traffic by this
 abbrev pub moved_on : Configuration → ℕ → Transition → Parts → Parts
-moved_on c link step p =
-    begun_anew_if (enters link step p && not (has_other c link p)) c link (step_on c link step p)
+moved_on c link step p = begun_anew (enters_traffic link step p) c link p (step_on c link step p)
 
 module _ {Q : Type 0} (q : QueueKind Q) (c : Configuration) where
-  -- a link that entered service takes its flows back, by what was known of routes before
-  abbrev pub return_if : (entered : Bool) → ℕ → (before : Facts) → Node Q → Node Q
-  return_if true link before node = change_back q c link before node
-  return_if false link before node = node
-
-  -- a link takes a step of its alignment, and its flows back if it enters service by this
+  -- a link takes a step of its alignment, and its flows back if it carries traffic by this
   abbrev pub take_step : ℕ → Transition → Node Q → Node Q
   take_step link step node =
-      return_if (enters link step node.parts) link (facts c node.parts)
-      (with_parts node (moved_on c link step node.parts))
+      begin_traffic q c (enters_traffic link step node.parts) link (step_on c link step node.parts) node
 
   -- a link that entered service is tested
   abbrev pub test_if : (entered : Bool) → ℕ → Node Q → Node Q
@@ -168,7 +156,7 @@ module _ {Q : Type 0} (q : QueueKind Q) (c : Configuration) where
   abbrev pub hear_outage : ℕ → Node Q → Node Q
   hear_outage link node = if (link_at node.parts link).peer_outage then node else begin_outage link node
 
-  -- an outage ends: the flows are held no longer, and the peer takes messages again
+  -- an outage ends: the flows are held no longer, Ready goes out, and the peer takes messages again
   abbrev pub end_outage : ℕ → Node Q → Node Q
   end_outage link node =
       with_parts node (node.parts ▷ let_back link ▷ end_busy c link (q.outstanding node.queues link))

@@ -11,11 +11,12 @@ use Rattle.link.specs.declared.action.Action.{Action}
 use Rattle.link.specs.declared.action.Action.TheVariants as act
 use Rattle.link.specs.declared.action.Input.TheVariants.{UserData}
 use Rattle.link.specs.Queue.{count_confirmed}
-use Rattle.exchange_rules.specs.State.{Parts, Node, with_node, with_parts, is_link, link_at, in_service, note, Happening, CameUp, WentDown, FrameCame, Ticked, Submitted, Activated, Deactivated, TitleAdded, TitleRemoved}
+use Rattle.exchange_rules.specs.State.{Parts, Node, with_node, with_parts, is_link, link_at, in_service, in_traffic, note, Happening, CameUp, WentDown, FrameCame, Ticked, Submitted, Activated, Deactivated, TitleAdded, TitleRemoved}
 use Rattle.link.specs.declared.action.Transition.{Transition}
 use Rattle.node_links.specs.NodeLinks.{acts_on}
 use Rattle.exchange_rules.specs.ChangingOver.{complete_if}
 use Rattle.exchange_rules.specs.Telling.{send_routed, is_all_told, answer_no_route, answer_no_user_part, tell_owed}
+use Rattle.exchange_rules.specs.LinkTests.{pass_test}
 use Rattle.exchange_rules.specs.Frames.{advance, Carrying, numbers, accept, data_of}
 use Rattle.mtp3_codec.specs.declared.discrimination.Discrimination.{Discrimination}
 use Rattle.mtp3_codec.specs.declared.discrimination.Discrimination.TheVariants as whither
@@ -90,7 +91,7 @@ after_refusal (WentDown link) cause a = a
 after_refusal Ticked cause a = a
 after_refusal (Submitted message) cause a =
     with_node a (answered cause None (Some message) a.settings a.node)
-after_refusal (Activated link) cause a = a
+after_refusal (Activated link emergency) cause a = a
 after_refusal (Deactivated link) cause a = a
 after_refusal (TitleAdded row is_memory_refused) cause a = a
 after_refusal (TitleRemoved key digits) cause a = a
@@ -123,39 +124,51 @@ takes_owe_nothing =
 abbrev pub nothing_taken_leaves : Type 0
 nothing_taken_leaves = (a : Abstract) (link : ℕ) → frame_to_take whole a link ≡ None → taken whole a link ≡ a
 
--- a message is queued on a link in service
-abbrev pub queued_in_service : Type 0
-queued_in_service = (what : Happening) (a : Abstract) (link : ℕ) → outcome_of whole what a ≡ Queued link →
-    in_service (after whole what a).node.parts link ≡ true
+-- a message is queued on a link that carries traffic
+abbrev pub queued_in_traffic : Type 0
+queued_in_traffic = (what : Happening) (a : Abstract) (link : ℕ) → outcome_of whole what a ≡ Queued link →
+    in_traffic (after whole what a).node.parts link ≡ true
 
--- the same for every other message: if a rule changes the queue of a link, that link is in service afterwards
-abbrev pub GivesInService : (link : ℕ) → (before after : Node WholeQueues) → Type 0
-GivesInService link before after =
-    queue_at after.queues link ≢ queue_at before.queues link → in_service after.parts link ≡ true
+-- the same for every other message: if a rule changes the queue of a link, that link carries traffic afterwards
+abbrev pub GivesInTraffic : (link : ℕ) → (before after : Node WholeQueues) → Type 0
+GivesInTraffic link before after =
+    queue_at after.queues link ≢ queue_at before.queues link → in_traffic after.parts link ≡ true
 
 -- management that is made here goes out on the link of its flow
-abbrev pub routed_in_service : Type 0
-routed_in_service =
+abbrev pub routed_in_traffic : Type 0
+routed_in_traffic =
     (c : Configuration) (m : Message) (node : Node WholeQueues) (link : ℕ) →
-    GivesInService link node (send_routed whole c m node)
+    GivesInTraffic link node (send_routed whole c m node)
 
--- a link that takes a step of its alignment declares to others that it is back
-abbrev pub declared_in_service : Type 0
-declared_in_service =
-    (c : Configuration) (its : ℕ) (step : Transition) (node : Node WholeQueues) (link : ℕ) →
-    GivesInService link node (advance whole c its step node)
+-- a link that takes a step of its alignment, or passes a test, declares to others that it is back
+abbrev pub declared_in_traffic : Type 0
+declared_in_traffic =
+    (c : Configuration) (its : ℕ) (step : Transition) (node : Node WholeQueues) (link : ℕ) → link ≢ its →
+    GivesInTraffic link node (advance whole c its step node)
+
+abbrev pub declared_by_test_in_traffic : Type 0
+declared_by_test_in_traffic =
+    (c : Configuration) (its : ℕ) (node : Node WholeQueues) (link : ℕ) →
+    GivesInTraffic link node (pass_test whole c its node)
+
+-- its own queue changes by a step only in service, where it is tested
+abbrev pub tested_in_service : Type 0
+tested_in_service =
+    (c : Configuration) (its : ℕ) (step : Transition) (node : Node WholeQueues) →
+    queue_at (advance whole c its step node).queues its ≢ queue_at node.queues its →
+    in_service (advance whole c its step node).parts its ≡ true
 
 -- a completion puts management of its link on the queues of others again
-abbrev pub queued_anew_in_service : Type 0
-queued_anew_in_service =
+abbrev pub queued_anew_in_traffic : Type 0
+queued_anew_in_traffic =
     (c : Configuration) (failed : ℕ) (number : Option ℕ) (node : Node WholeQueues) (link : ℕ) → link ≢ failed →
-    GivesInService link node (complete_if whole c true failed number node)
+    GivesInTraffic link node (complete_if whole c true failed number node)
 
 -- at the end of each event what is no longer held goes on, and adjacent points are told what they are owed
-abbrev pub settled_in_service : Type 0
-settled_in_service =
+abbrev pub settled_in_traffic : Type 0
+settled_in_traffic =
     (c : Configuration) (node : Node WholeQueues) (link : ℕ) →
-    GivesInService link node (tell_owed whole c (release whole c node))
+    GivesInTraffic link node (tell_owed whole c (release whole c node))
 
 -- ---- changeovers
 

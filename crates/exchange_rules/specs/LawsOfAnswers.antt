@@ -9,14 +9,14 @@ use Rattle.settings.specs.Readings.{destination_place}
 use Rattle.timers.specs.declared.name.TimerName.TheVariants.{T8}
 use Rattle.timers.specs.Timers.{is_running}
 use Rattle.exchange_rules.specs.declared.wants.Wants.TheVariants.{Open}
-use Rattle.exchange_rules.specs.State.{Activated, Asking, AsksWants, CameUp, Deactivated, FrameCame, Happening, Happens, Node, Parts, Submitted, Takes, Ticked, TitleAdded, TitleRemoved, WentDown}
+use Rattle.exchange_rules.specs.State.{Activated, Asking, AsksWants, CameUp, Deactivated, FrameCame, Happening, Happens, Node, Parts, Submitted, Takes, Ticked, TitleAdded, TitleRemoved, WentDown, link_at}
 use Rattle.exchange_rules.specs.Routing.{link_of, set_of}
 use Rattle.exchange_rules.specs.Messages.{transfer}
 use Rattle.exchange_rules.specs.Queues.{WholeQueues, queue_at, whole}
 use Rattle.exchange_rules.specs.Exchange.{after, outcome_of, taken, wants_of}
 use Rattle.exchange_rules.specs.First.{Abstract, first_state}
 use Rattle.exchange_rules.specs.Lasting.{HasAllPlaces, after_asking, after_each}
-use Rattle.exchange_rules.specs.Aligning.{MayEnter, RunsOut}
+use Rattle.exchange_rules.specs.Aligning.{Carries, MayEnter, RunsOut}
 use Rattle.exchange_rules.specs.Testing.{serves_set}
 
 -- a link wants to open exactly when its association would be accepted, in each state reached from the first
@@ -50,11 +50,16 @@ one_answer_within_t8 =
 
 -- ---- T8 isn't stopped early
 
--- a set comes back by an event: one of its links may enter service, and none of them is in service
+-- a link may begin to carry traffic by an event: it may enter service, or User Data comes by it, which may carry the
+-- answer to its first test
+abbrev pub MayCarry : (link : ℕ) → Happening → Parts → Type 0
+MayCarry link what p = MayEnter link what p ⊎ (Carries link what × ((link_at p link).untested ≡ true))
+
+-- a set comes back by an event: one of its links may begin to carry traffic, and none of them does
 pub record ComesBack (c : Configuration) (what : Happening) (set : ℕ) (p : Parts) : Type 0 where
   pub link : ℕ
   pub of_set : set_of c link ≡ set
-  pub enters : MayEnter link what p
+  pub begins : MayCarry link what p
   pub first : serves_set c p set ≡ false
 
 -- T8 of a set and a destination runs on over each event, unless it runs out at this tick or the set comes back
@@ -79,7 +84,7 @@ ticks_by (CameUp link) = 0
 ticks_by (WentDown link) = 0
 ticks_by (FrameCame link text) = 0
 ticks_by (Submitted message) = 0
-ticks_by (Activated link) = 0
+ticks_by (Activated link emergency) = 0
 ticks_by (Deactivated link) = 0
 ticks_by (TitleAdded row is_memory_refused) = 0
 ticks_by (TitleRemoved key digits) = 0

@@ -1,5 +1,6 @@
 -- What ends a hold, and what takes a link down: laws.
-use Rattle.std.specs.Prelude.{◌≡◌, ◌≤◌, ◌==◌, ◌⊎◌, ℕ, Bool, true, false, Contains, List, Option, Some, None, Result, Ok, Err}
+use Rattle.std.specs.Prelude.{◌≡◌, ◌≤◌, ◌==◌, ◌⊎◌, ℕ, Bool, true, false, not, Contains, List, Option, Some, None}
+use Rattle.std.specs.Prelude.{Result, Ok, Err}
 use Rattle.std.specs.Prelude.{if◌then◌else◌}
 use Rattle.std.specs.List.{count_by}
 use Rattle.std.specs.Option.{option_map}
@@ -18,13 +19,18 @@ use Rattle.m2pa_codec.specs.declared.status.LinkStatus.TheVariants.{ProcessorRec
 use Rattle.mtp3_codec.specs.Management.{read_management}
 use Rattle.mtp3_codec.specs.declared.fault.MgmtFault.{MgmtFault}
 use Rattle.mtp3_codec.specs.declared.management.Management.{Management}
-use Rattle.mtp3_codec.specs.declared.management.Management.TheVariants.{ExtendedChangeoverOrder, ExtendedChangeoverAcknowledgement, EmergencyChangeoverOrder, EmergencyChangeoverAcknowledgement, ChangebackAcknowledgement}
+use Rattle.mtp3_codec.specs.declared.management.Management.TheVariants.{ExtendedChangeoverOrder}
+use Rattle.mtp3_codec.specs.declared.management.Management.TheVariants.{ExtendedChangeoverAcknowledgement}
+use Rattle.mtp3_codec.specs.declared.management.Management.TheVariants.{EmergencyChangeoverOrder}
+use Rattle.mtp3_codec.specs.declared.management.Management.TheVariants.{EmergencyChangeoverAcknowledgement}
+use Rattle.mtp3_codec.specs.declared.management.Management.TheVariants.{ChangebackAcknowledgement}
 use Rattle.mtp3_codec.specs.declared.discrimination.Discrimination.{Discrimination}
 use Rattle.mtp3_codec.specs.declared.discrimination.Discrimination.TheVariants as whither
 use Rattle.link.specs.declared.action.Action.{Action}
 use Rattle.link.specs.declared.action.Action.TheVariants as act
 use Rattle.link.specs.declared.action.Input.TheVariants.{Status, UserData}
 use Rattle.link.specs.declared.action.LinkTimer.{LinkTimer}
+use Rattle.link.specs.declared.action.LinkTimer.TheVariants as link_timer
 use Rattle.link.specs.declared.fault.SeqFault.{SeqFault}
 use Rattle.node_links.specs.NodeLinks.{acts_on}
 use Rattle.timers.specs.declared.name.TimerName.{TimerName}
@@ -32,10 +38,14 @@ use Rattle.timers.specs.declared.name.TimerName.TheVariants.{T1, T2, T3, T4, T6,
 use Rattle.flow_hold.specs.declared.procedure.Procedure.{Procedure}
 use Rattle.flow_hold.specs.declared.procedure.Procedure.TheVariants.{Changeover, Code, Time, Reroute}
 use Rattle.flow_hold.specs.Holds.{holds}
-use Rattle.exchange_rules.specs.State.{Happening, FrameCame, WentDown, Deactivated, Node, noted_all, down, link_at}
+use Rattle.changeback.specs.Codes.{is_outstanding}
+use Rattle.signalling_types.specs.declared.outcome.Outcome.TheVariants.{Ignored}
+use Rattle.exchange_rules.specs.State.{Happening, FrameCame, WentDown, Deactivated, Node, Parts, answer, noted_all}
+use Rattle.exchange_rules.specs.State.{down, link_at}
 use Rattle.exchange_rules.specs.Timing.{timer_name}
 use Rattle.exchange_rules.specs.Frames.{Carrying, data_of, numbers, advance, in_outage, tells_outage}
-use Rattle.exchange_rules.specs.Messages.{whither_goes, link_with_code}
+use Rattle.exchange_rules.specs.Messages.{whither_goes, link_with_code, on_management}
+use Rattle.exchange_rules.specs.ChangingOver.{changeover_of}
 use Rattle.exchange_rules.specs.Exchange.{after, taken}
 use Rattle.exchange_rules.specs.Queues.{WholeQueues, whole}
 use Rattle.exchange_rules.specs.First.{Abstract}
@@ -117,6 +127,28 @@ holds_end_so =
     holds (after whole what a).node.parts.holds procedure destination sls ≡ false →
     EndsByWord procedure what a ⊎ (EndsByTimer procedure what a ⊎ EndsByRecovery procedure what a)
 
+-- whether an answer is awaited by nobody: one to an order, about a link whose changeover doesn't await it; one to a
+-- declaration, with a code that doesn't
+abbrev pub is_order_unasked : Parts → Option ℕ → Bool
+is_order_unasked p (Some link) = not (changeover_of p link).awaited
+is_order_unasked p None = false
+
+abbrev pub is_code_unasked : Parts → (code : ℕ) → Option ℕ → Bool
+is_code_unasked p code (Some set) = not (is_outstanding p.codes set code)
+is_code_unasked p code None = true
+
+abbrev pub is_unasked : Configuration → Parts → (point : ℕ) → Management → Bool
+is_unasked c p point (ExtendedChangeoverAcknowledgement slc number) = is_order_unasked p (link_with_code c point slc)
+is_unasked c p point (EmergencyChangeoverAcknowledgement slc) = is_order_unasked p (link_with_code c point slc)
+is_unasked c p point (ChangebackAcknowledgement slc code) = is_code_unasked p code (set_place c point)
+is_unasked c p point other = false
+
+-- such an answer is ignored, and ends no hold
+abbrev pub unasked_answers_are_ignored : Type 0
+unasked_answers_are_ignored =
+    (c : Configuration) (point : ℕ) (says : Management) (node : Node WholeQueues) →
+    is_unasked c node.parts point says ≡ true → on_management whole c says point node ≡ answer Ignored node
+
 -- a take ends none, and begins none
 abbrev pub takes_leave_holds : Type 0
 takes_leave_holds = (a : Abstract) (link : ℕ) → (taken whole a link).node.parts.holds ≡ a.node.parts.holds
@@ -148,13 +180,23 @@ ordered_by c point (ExtendedChangeoverOrder slc number) = link_with_code c point
 ordered_by c point (EmergencyChangeoverOrder slc) = link_with_code c point slc
 ordered_by c point other = None
 
--- a link may fail by an event, for each reason: its association goes down; one of its timers runs out; a frame came by
+-- whether a link may fail as a timer of it runs out. At the end of L4 it was proved. Each other timer runs in one state
+-- alone (`links_have_their_timers`), which it ends
+abbrev pub fails_by : LinkTimer → Bool
+fails_by link_timer.L1 = true
+fails_by link_timer.L2 = true
+fails_by link_timer.L3 = true
+fails_by link_timer.L4 = false
+fails_by link_timer.L6 = true
+fails_by link_timer.L7 = true
+
+-- a link may fail by an event, for each reason: its association goes down; such a timer of it runs out; a frame came by
 -- it, with User Data out of place, with a status that fails it in its state and begins no outage, or of a wrong length;
 -- its peer orders a changeover of it, by any link; the operator deactivates it; or a test of it isn't answered in time
 abbrev pub MayFail : FailureReason → (link : ℕ) → Happening → Abstract → Type 0
 MayFail reasons.Association link what a = what ≡ WentDown link
 MayFail reasons.Timer link what a =
-    (timer : LinkTimer) × RunsOut (timer_name link timer) what a.node.parts.timers
+    (timer : LinkTimer) × (fails_by timer ≡ true) × RunsOut (timer_name link timer) what a.node.parts.timers
 MayFail reasons.Sequence link what a =
     (text : List ℕ) × (what ≡ FrameCame link text)
     × (is_misplaced (read_frame text) link a.settings a.node ≡ true)
@@ -178,8 +220,8 @@ says_failed link (notices.Refused cause other) = false
 says_failed link (notices.Frame fault other) = false
 says_failed link (notices.Late timer number) = false
 
--- An event makes these notices. It names a link as failed exactly if it takes it down, once, and with a reason for which
--- it may fail it.
+-- An event makes these notices. It names a link as failed exactly if it takes it down, once, and with a reason for
+-- which it may fail it.
 pub record AreFailuresNamed (what : Happening) (a : Abstract) (new : Node WholeQueues) : Type 0 where
   pub made : List Notice
   pub noted : new.parts.notices ≡ noted_all made a.node.parts.notices

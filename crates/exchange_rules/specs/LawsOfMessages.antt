@@ -1,13 +1,16 @@
 -- User messages are conserved: laws.
-use Rattle.std.specs.Prelude.{Bool, Err, List, Ok, Result, Some, [], drop, false, is_some, length, nat_eq, not, true, ℕ, ◌&&◌, ◌++◌, ◌+◌, ◌∷◌, ◌≡◌, ◌≤◌}
+use Rattle.std.specs.Prelude.{Bool, Err, List, Ok, Result, Some, [], drop, false, is_some, length, nat_eq, not, true, ℕ}
+use Rattle.std.specs.Prelude.{◌&&◌, ◌++◌, ◌+◌, ◌∷◌, ◌≡◌, ◌≤◌}
 use Rattle.settings_rows.specs.Configuration.{Configuration}
 use Rattle.mtp3_codec.specs.Headings.{label_at}
+use Rattle.mtp3_codec.specs.declared.discrimination.Discrimination.{Discrimination}
+use Rattle.mtp3_codec.specs.declared.discrimination.Discrimination.TheVariants as whither
 use Rattle.sccp_codec.specs.declared.fault.SccpFault.{SccpFault}
 use Rattle.sccp_codec.specs.Management.{ManagementValue, read_management}
 use Rattle.sccp_codec.specs.Messages.{UdtValue, UdtsValue, is_by_ssn}
 use Rattle.sccp_relay.specs.Relay as relays
 use Rattle.sccp_relay.specs.Relay.{is_status}
-use Rattle.sccp_relay.specs.Sccp.{Extended, Plain, SccpValue, read_sccp}
+use Rattle.sccp_relay.specs.Sccp.{Extended, Plain, SccpValue, is_class_connectionless, read_sccp}
 use Rattle.signalling_types.specs.Message.{Message, is_management, service_indicator}
 use Rattle.signalling_types.specs.declared.limits.TheConstants.Limits.{LINKS, WINDOW}
 use Rattle.signalling_types.specs.declared.outcome.Outcome.{Outcome}
@@ -15,12 +18,13 @@ use Rattle.signalling_types.specs.declared.outcome.Outcome.TheVariants.{Handled,
 use Rattle.exchange_rules.specs.Exchange.{after, outcome_of, taken}
 use Rattle.exchange_rules.specs.First.{first_state, Abstract}
 use Rattle.exchange_rules.specs.State.{Asking, AsksWants, Happens, Takes, FrameCame, Happening, Submitted}
-use Rattle.exchange_rules.specs.Messages.{sccp}
+use Rattle.exchange_rules.specs.Messages.{sccp, whither_goes}
 use Rattle.exchange_rules.specs.Lasting.{HasAllPlaces, after_asking, after_each}
 use Rattle.exchange_rules.specs.LastingLinks.{AreLinksSteady}
 use Rattle.exchange_rules.specs.Queues.{whole}
 use Rattle.exchange_rules.specs.Receiving.{new_message}
-use Rattle.exchange_rules.specs.Conserving.{Gone, both_gone, brought_in, gone, gone_that, nothing_gone, standing, users_that}
+use Rattle.exchange_rules.specs.Conserving.{Gone, both_gone, brought_in, gone, gone_that, nothing_gone, standing}
+use Rattle.exchange_rules.specs.Conserving.{users_that}
 
 -- By any test: of the user messages that were there before an event or came by it, as many are there after it, were
 -- accepted by a peer, or are named as lost. None is doubled, and none is gone in any other way
@@ -37,24 +41,32 @@ takes_leave_user_messages =
     (a : Abstract) (link : ℕ) (of : Message → Bool) →
     standing of (taken whole a link).node.queues ≡ standing of a.node.queues
 
--- whether a message says something of a subsystem at another point, and is heard: a UDT for SCCP management by its
--- subsystem number, with an SSP or an SSA, from another point
+-- whether a message for this point says something of a subsystem at another point, and is heard: a UDT of a class
+-- without a connection, for SCCP management by its subsystem number, with an SSP or an SSA, from another point
 abbrev pub says_in : Configuration → (sender : ℕ) → Result ManagementValue SccpFault → Bool
 says_in c sender (Err fault) = false
 says_in c sender (Ok about) = is_status about.kind && not (nat_eq sender c.own)
 
 abbrev pub says_status : Configuration → (sender : ℕ) → Result SccpValue SccpFault → Bool
 says_status c sender (Ok (Plain (UdtValue class_octet parts))) =
-    is_by_ssn parts.called.routing
+    is_class_connectionless class_octet && is_by_ssn parts.called.routing
     && (relays.is_management parts.called.ssn && says_in c sender (read_management parts.data))
 says_status c sender (Ok (Plain (UdtsValue return_cause parts))) = false
 says_status c sender (Ok (Extended extended)) = false
 says_status c sender (Err fault) = false
 
-abbrev pub is_heard : Configuration → Message → Bool
-is_heard c m =
+abbrev pub is_heard_here : Configuration → Message → Bool
+is_heard_here c m =
     nat_eq (service_indicator m) sccp
     && (is_some c.timers.sst && says_status c (label_at m.sif).opc (read_sccp c.extended_unitdata (drop 4 m.sif)))
+
+abbrev pub goes_here : Discrimination → Bool
+goes_here (whither.Refused cause) = false
+goes_here (whither.Here label) = true
+goes_here (whither.Transfer label) = false
+
+abbrev pub is_heard : Configuration → Message → Bool
+is_heard c m = goes_here (whither_goes c m) && is_heard_here c m
 
 -- whether a message is queued, held, delivered or refused; or handled, if it is heard
 abbrev pub has_fate : (is_heard : Bool) → Outcome → Bool

@@ -1,11 +1,14 @@
 -- What the outage of a peer's processor does, where the settings keep the link in service (Q.703 §8, RFC 4165 §4.1.4):
 -- laws.
-use Rattle.std.specs.Prelude.{◌≡◌, ◌≢◌, ◌≤◌, ℕ, true, false, nat_eq, max, length, Some, None, List, if◌then◌else◌}
+use Rattle.std.specs.Prelude.{◌≡◌, ◌≢◌, ◌⊎◌, ◌≤◌, ℕ, Bool, true, false, nat_eq, max, length, Some, None, List, [], ◌∷◌, ◌++◌, if◌then◌else◌}
 use Rattle.signalling_types.specs.declared.limits.TheConstants.Limits.{LINKS}
 use Rattle.settings_rows.specs.Configuration.{Configuration}
 use Rattle.signalling_types.specs.declared.notice.FailureReason.TheVariants as reasons
 use Rattle.signalling_types.specs.declared.outcome.Outcome.TheVariants.{Handled, Ignored}
-use Rattle.m2pa_codec.specs.declared.status.LinkStatus.TheVariants.{ProcessorOutage, ProcessorRecovered, Busy, BusyEnded}
+use Rattle.m2pa_codec.specs.declared.status.LinkStatus.{LinkStatus}
+use Rattle.m2pa_codec.specs.declared.status.LinkStatus.TheVariants.{ProcessorOutage, ProcessorRecovered, Ready, Busy, BusyEnded}
+use Rattle.link.specs.declared.alignment.Alignment.{Alignment}
+use Rattle.link.specs.declared.alignment.Alignment.TheVariants.{Proving, AlignedReady}
 use Rattle.link.specs.declared.action.LinkTimer.TheVariants as timer
 use Rattle.timers.specs.declared.name.TimerName.{TimerName}
 use Rattle.timers.specs.declared.name.TimerName.TheVariants.{L6, L7}
@@ -13,12 +16,12 @@ use Rattle.timers.specs.Timers.{is_running}
 use Rattle.flow_hold.specs.declared.procedure.Procedure.{Procedure}
 use Rattle.flow_hold.specs.declared.procedure.Procedure.TheVariants.{Changeover}
 use Rattle.flow_hold.specs.Holds.{holds}
-use Rattle.exchange_rules.specs.State.{Asking, Node, Parts, answer, in_service, link_at}
+use Rattle.exchange_rules.specs.State.{Asking, Node, answer, in_service, link_at}
 use Rattle.exchange_rules.specs.ChangingOver.{fail}
 use Rattle.exchange_rules.specs.Frames.{in_outage, on_link_status, run_out}
 use Rattle.exchange_rules.specs.Sending.{next_message}
 use Rattle.exchange_rules.specs.Queues.{WholeQueues, whole}
-use Rattle.exchange_rules.specs.First.{Abstract, first_state}
+use Rattle.exchange_rules.specs.First.{first_state}
 use Rattle.exchange_rules.specs.Lasting.{HasAllPlaces, after_each}
 use Rattle.exchange_rules.specs.LawsOfFailures.{IsFailure}
 
@@ -57,11 +60,19 @@ outages_begin =
     × BeginsOutage c link node (on_link_status whole c link ProcessorOutage node).left
 
 -- An outage ends: the link's changeover holds nothing, the peer takes messages again, L6 doesn't run, and L7 is set if
--- messages were sent and aren't confirmed.
+-- messages were sent and aren't confirmed. Ready goes out next, unless a status waits still.
 pub record EndsOutage (c : Configuration) (link : ℕ) (before after : Node WholeQueues) : Type 0 where
   pub only : IsOnlyAbout link before after
   pub state :
-      link_at after.parts link ≡ record (link_at before.parts link) { peer_busy = false; peer_outage = false }
+      link_at after.parts link
+      ≡ record (link_at before.parts link) {
+        peer_busy = false;
+        peer_outage = false;
+        waiting = (link_at after.parts link).waiting;
+      }
+  pub ready : (link_at before.parts link).waiting ≡ [] → (link_at after.parts link).waiting ≡ Ready ∷ []
+  pub waits : (link_at before.parts link).waiting ≢ [] →
+      (link_at after.parts link).waiting ≡ (link_at before.parts link).waiting
   pub holds : (destination sls : ℕ) → holds after.parts.holds (Changeover link) destination sls ≡ false
   pub l6 : after.parts.timers.left (L6 link) ≡ None
   pub l7 : after.parts.timers.left (L7 link)
@@ -76,12 +87,19 @@ outages_end =
     ((on_link_status whole c link ProcessorRecovered node).outcome ≡ Handled)
     × EndsOutage c link node (on_link_status whole c link ProcessorRecovered node).left
 
--- A link in service that is in no outage ignores that its peer's processor recovered; and where the settings don't ask
--- for an outage as a state, it fails by one.
+-- a link is proved, or was
+abbrev pub IsAboutToServe : Alignment → Type 0
+IsAboutToServe state = (state ≡ AlignedReady) ⊎ ((ready : Bool) × (state ≡ Proving ready))
+
+-- A link that is in no outage ignores that its peer's processor recovered. Where the settings don't ask for an outage
+-- as a state, a link in service fails by one; and in any case does one that is proved, or waits for its peer to be
+-- ready.
 pub record IsElsewhere (c : Configuration) (link : ℕ) (node : Node WholeQueues) : Type 0 where
   pub recovered : in_outage node.parts link ≡ false →
       on_link_status whole c link ProcessorRecovered node ≡ answer Ignored node
   pub failed : c.processor_outage ≡ false → in_service node.parts link ≡ true →
+      on_link_status whole c link ProcessorOutage node ≡ answer Handled (fail whole c link reasons.Status node)
+  pub aligning : IsAboutToServe (link_at node.parts link).alignment →
       on_link_status whole c link ProcessorOutage node ≡ answer Handled (fail whole c link reasons.Status node)
 
 -- In an outage a second one changes nothing, nor do Busy and Busy Ended, and as L6 runs out the link fails.
@@ -113,3 +131,19 @@ outages_are_watched =
     (c : Configuration) (asked : List Asking) (link : ℕ) → length c.links ≤ LINKS →
     (link_at (after_each asked (first_state c)).node.parts link).peer_outage ≡ true →
     IsWatched c link (after_each asked (first_state c)).node
+
+-- and where the settings don't ask for it, no link is ever in one
+abbrev pub no_outage_unasked : Type 0
+no_outage_unasked =
+    (c : Configuration) (asked : List Asking) (link : ℕ) → c.processor_outage ≡ false →
+    (link_at (after_each asked (first_state c)).node.parts link).peer_outage ≡ false
+
+-- In each state reached from the first Ready is the last status that waits on a link in service: so after an outage it
+-- goes out, whatever waited.
+abbrev pub ready_goes_last : Type 0
+ready_goes_last =
+    (c : Configuration) (asked : List Asking) (link : ℕ) →
+    in_service (after_each asked (first_state c)).node.parts link ≡ true →
+    (link_at (after_each asked (first_state c)).node.parts link).waiting ≢ [] →
+    (others : List LinkStatus)
+    × ((link_at (after_each asked (first_state c)).node.parts link).waiting ≡ others ++ Ready ∷ [])

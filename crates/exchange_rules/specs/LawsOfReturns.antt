@@ -8,11 +8,13 @@ use Rattle.flow_hold.specs.declared.procedure.Procedure.{Procedure}
 use Rattle.flow_hold.specs.declared.procedure.Procedure.TheVariants.{Code, Time}
 use Rattle.flow_hold.specs.Holds.{holds, is_held}
 use Rattle.changeback.specs.Codes.{free_code, is_outstanding}
-use Rattle.exchange_rules.specs.State.{Parts, Node, with_parts}
+use Rattle.exchange_rules.specs.State.{Parts, Node, with_parts, link_at}
 use Rattle.exchange_rules.specs.Routing.{set_of, facts}
 use Rattle.exchange_rules.specs.Queues.{WholeQueues, queue_at, whole}
 use Rattle.exchange_rules.specs.ChangingBack.{declaration, take_back_each, change_back}
-use Rattle.exchange_rules.specs.Frames.{enters, moved_on, take_step, advance}
+use Rattle.exchange_rules.specs.Entering.{begun_anew}
+use Rattle.exchange_rules.specs.LinkTests.{is_first_test, test_passed, pass_test}
+use Rattle.exchange_rules.specs.Frames.{enters, enters_traffic, step_on, moved_on, take_step, advance}
 use Rattle.exchange_rules.specs.Places.{HasPlacesFor}
 use Rattle.exchange_rules.specs.Lasting.{HasAllPlaces}
 
@@ -26,6 +28,15 @@ entries_hold_changed_flows =
     chosen_link (facts c node.parts) destination sls ≡ Some from →
     chosen_link (facts c (advance whole c link step node).parts) destination sls ≡ Some to → from ≢ to →
     is_held (advance whole c link step node).parts.holds destination sls ≡ true
+
+-- and as a link passes a test
+abbrev pub tests_hold_changed_flows : Type 0
+tests_hold_changed_flows =
+    (c : Configuration) (link : ℕ) (node : Node WholeQueues) (destination sls from to : ℕ) →
+    HasPlacesFor c node.parts → sls < SELECTIONS →
+    chosen_link (facts c node.parts) destination sls ≡ Some from →
+    chosen_link (facts c (pass_test whole c link node).parts) destination sls ≡ Some to → from ≢ to →
+    is_held (pass_test whole c link node).parts.holds destination sls ≡ true
 
 -- for any two states: a flow that went by another link before, and goes by the link that returned now, is held
 abbrev pub changed_flows_are_held : Type 0
@@ -114,10 +125,26 @@ flows_return_by_their_procedures =
     (c : Configuration) (link : ℕ) (before : Parts) (node : Node WholeQueues) → HasAllPlaces c node →
     (by : ℕ → Procedure) × IsReturn c link (facts c before) node (change_back whole c link (facts c before) node) by
 
--- and when a link enters service, before it is tested
+-- and when a link that has no test to pass enters service, before it is tested
 abbrev pub entries_are_returns : Type 0
 entries_are_returns =
     (c : Configuration) (link : ℕ) (step : Transition) (node : Node WholeQueues) → HasAllPlaces c node →
-    enters link step node.parts ≡ true →
+    enters_traffic link step node.parts ≡ true →
     (by : ℕ → Procedure) × IsReturn c link (facts c node.parts) (with_parts node (moved_on c link step node.parts))
     (take_step whole c link step node) by
+
+-- one that has a test to pass takes its step alone
+abbrev pub untested_entries_take_nothing : Type 0
+untested_entries_take_nothing =
+    (c : Configuration) (link : ℕ) (step : Transition) (node : Node WholeQueues) →
+    (link_at node.parts link).untested ≡ true →
+    take_step whole c link step node ≡ with_parts node (step_on c link step node.parts)
+
+-- and its flows as it passes it, once what is known over its set is reset, if it is the first of that
+abbrev pub first_tests_are_returns : Type 0
+first_tests_are_returns =
+    (c : Configuration) (link : ℕ) (node : Node WholeQueues) → HasAllPlaces c node →
+    is_first_test link node.parts ≡ true →
+    (by : ℕ → Procedure) × IsReturn c link (facts c node.parts)
+    (with_parts node (begun_anew (is_first_test link node.parts) c link node.parts (test_passed c link node.parts)))
+    (pass_test whole c link node) by

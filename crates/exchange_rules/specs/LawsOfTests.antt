@@ -11,10 +11,11 @@ use Rattle.mtp3_codec.specs.declared.link_test.TestKind.TheVariants.{Test, Ackno
 use Rattle.link.specs.declared.action.Transition.{Transition}
 use Rattle.timers.specs.declared.name.TimerName.TheVariants.{Slt1, Slt2}
 use Rattle.timers.specs.Timers.{set_timer, clear_timer, is_running}
-use Rattle.exchange_rules.specs.State.{Asking, Node, answer, with_parts, link_at, links_with, in_service}
+use Rattle.exchange_rules.specs.State.{Asking, Parts, Node, Done, answer, with_parts, link_at, links_with, in_service}
 use Rattle.exchange_rules.specs.Routing.{entry_of, peer_of, no_room, queue_on}
 use Rattle.exchange_rules.specs.ChangingOver.{fail}
-use Rattle.exchange_rules.specs.LinkTests.{own_pattern, own_test, link_test, tests_links, answer_ticks, pause_ticks, is_same_pattern, is_test_awaited, begin_test, test_unanswered, on_test_answer}
+use Rattle.exchange_rules.specs.Entering.{begin_traffic}
+use Rattle.exchange_rules.specs.LinkTests.{own_pattern, own_test, link_test, tests_links, answer_ticks, pause_ticks, is_same_pattern, is_test_awaited, is_first_test, begin_test, test_unanswered, on_test_answer}
 use Rattle.exchange_rules.specs.Frames.{enters, take_step, advance}
 use Rattle.exchange_rules.specs.Exchange.{run_timer}
 use Rattle.exchange_rules.specs.Queues.{WholeQueues, whole}
@@ -74,16 +75,26 @@ pub record IsItsAnswer (c : Configuration) (link point : ℕ) (test : LinkTestVa
   pub code : test.slc ≡ (entry_of c link).slc
   pub pattern : test.pattern ≡ own_pattern
 
--- while it is awaited, that answer passes the test: Slt1 stops, Slt2 starts, and the link has failed no test
+-- as a test passes, Slt1 stops, Slt2 starts, and the link has failed no test, nor has it one to pass
+abbrev pub after_test : Configuration → (link : ℕ) → Parts → Parts
+after_test c link p = record p {
+  links = links_with p link (record (link_at p link) { test_failed = false; untested = false });
+  timers = set_timer (Slt2 link) (pause_ticks c) (clear_timer (Slt1 link) p.timers);
+}
+
+-- while it is awaited, that answer passes the test. Nothing more changes if it isn't the first since the link came up;
+-- the first lets a link in service begin to carry traffic, exactly as one without tests does as it enters service
+pub record Passes (c : Configuration) (link : ℕ) (node : Node WholeQueues) (done : Done WholeQueues) : Type 0 where
+  pub first : is_first_test link node.parts ≡ true →
+      done ≡ answer Handled (begin_traffic whole c true link (after_test c link node.parts) node)
+  pub later : is_first_test link node.parts ≡ false →
+      done ≡ answer Handled (with_parts node (after_test c link node.parts))
+
 abbrev pub answers_pass : Type 0
 answers_pass =
     (c : Configuration) (link point : ℕ) (test : LinkTestValue) (node : Node WholeQueues) → tests_links c ≡ true →
     is_test_awaited link node.parts ≡ true → IsItsAnswer c link point test →
-    on_test_answer whole c link point test node
-    ≡ answer Handled (with_parts node (record node.parts {
-      links = links_with node.parts link (record (link_at node.parts link) { test_failed = false });
-      timers = set_timer (Slt2 link) (pause_ticks c) (clear_timer (Slt1 link) node.parts.timers);
-    }))
+    Passes c link node (on_test_answer whole c link point test node)
 
 -- every other answer is ignored
 abbrev pub other_answers_are_ignored : Type 0

@@ -1,5 +1,7 @@
 -- Messages for user parts that aren't here: laws.
-use Rattle.std.specs.Prelude.{◌≡◌, ◌≢◌, ◌<◌, ◌^◌, ◌+◌, ◌*◌, ◌%◌, ◌&&◌, ◌||◌, ℕ, Bool, true, false, not, nat_eq, nat_lt, is_some, slice_index_or, slice_set, Some, None, Ok, length, replicate, if◌then◌else◌}
+use Rattle.std.specs.Prelude.{◌≡◌, ◌≢◌, ◌<◌, ◌^◌, ◌+◌, ◌*◌, ◌%◌, ◌&&◌, ◌||◌, ℕ, Bool, true, false, not, nat_eq, nat_lt}
+use Rattle.std.specs.Prelude.{is_some, slice_index_or, slice_set, Option, Some, None, Ok, length, replicate}
+use Rattle.std.specs.Prelude.{if◌then◌else◌}
 use Rattle.settings_rows.specs.Configuration.{Configuration}
 use Rattle.signalling_types.specs.Message.{Message, flow_of, is_management, opc_of, service_indicator}
 use Rattle.signalling_types.specs.declared.cause.Cause.TheVariants.{NoUserPart}
@@ -9,13 +11,15 @@ use Rattle.mtp3_codec.specs.Management.{read_management}
 use Rattle.mtp3_codec.specs.declared.management.Management.TheVariants.{UserPartUnavailable}
 use Rattle.mtp3_codec.specs.declared.unavailability.UnavailabilityCause.TheVariants.{Unequipped}
 use Rattle.settings.specs.Readings.{destination_place}
-use Rattle.exchange_rules.specs.State.{Node, with_parts, answer, refuse}
+use Rattle.exchange_rules.specs.State.{Happening, FrameCame, Node, with_parts, answer, refuse}
 use Rattle.exchange_rules.specs.First.{Abstract, first_state}
-use Rattle.exchange_rules.specs.Exchange.{taken}
+use Rattle.exchange_rules.specs.Exchange.{after, taken}
 use Rattle.exchange_rules.specs.Places.{HasPlacesFor}
 use Rattle.exchange_rules.specs.Routing.{link_of, queue_on}
 use Rattle.exchange_rules.specs.Telling.{unavailable}
-use Rattle.exchange_rules.specs.Messages.{distribute, is_user, local, sccp}
+use Rattle.exchange_rules.specs.Messages.{distribute, is_user, local, sccp, whither_goes}
+use Rattle.exchange_rules.specs.Receiving.{new_message}
+use Rattle.exchange_rules.specs.LawsOfMessages.{goes_here}
 use Rattle.exchange_rules.specs.Queues.{WholeQueues, whole}
 
 -- whether a message for this point is for a user part that isn't here
@@ -100,12 +104,33 @@ others_go_the_same =
     (c : Configuration) (link : ℕ) (m : Message) (node : Node WholeQueues) → is_management m ≡ false →
     lacks_part c m ≡ false → distribute whole c link m node ≡ distribute whole (silent c) link m node
 
--- a message that is submitted, but not for SCCP, is its user part's or is refused, and leaves the node as it was
+-- nor does a message that is submitted tell anybody, one for SCCP included
 abbrev pub submissions_tell_nobody : Type 0
 submissions_tell_nobody =
+    (c : Configuration) (m : Message) (node : Node WholeQueues) →
+    local whole c None m node ≡ local whole (silent c) None m node
+
+-- one that isn't for SCCP is its user part's or is refused, and leaves the node as it was
+abbrev pub submissions_are_their_parts : Type 0
+submissions_are_their_parts =
     (c : Configuration) (m : Message) (node : Node WholeQueues) → nat_eq (service_indicator m) sccp ≡ false →
     local whole c None m node
     ≡ (if is_user c (service_indicator m) then answer Local node else refuse NoUserPart node)
+
+-- whether an event newly brings a message for this point, and for a user part that isn't here
+abbrev pub is_lacking : Configuration → Option Message → Bool
+is_lacking c (Some m) = goes_here (whither_goes c m) && lacks_part c m
+is_lacking c None = false
+
+abbrev pub brings_lacking : Happening → Abstract → Bool
+brings_lacking (FrameCame link text) a = is_lacking a.settings (new_message link text a)
+brings_lacking what a = false
+
+-- every other event leaves all counts
+abbrev pub nothing_else_is_counted : Type 0
+nothing_else_is_counted =
+    (what : Happening) (a : Abstract) → brings_lacking what a ≡ false →
+    (after whole what a).node.parts.unequipped ≡ a.node.parts.unequipped
 
 -- at first no message is counted, and a take counts none
 abbrev pub none_is_counted_at_first : Type 0

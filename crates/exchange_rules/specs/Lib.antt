@@ -7,6 +7,7 @@ pub mod ChangingOver
 pub mod ChangingBack
 pub mod Messages
 pub mod Opening
+pub mod Entering
 pub mod LinkTests
 pub mod Frames
 pub mod Sending
@@ -21,8 +22,8 @@ pub mod LawsOfReturns
 pub mod LawsOfAnswers
 pub mod LawsOfShares
 pub mod LawsOfPeriods
-pub mod LawsOfUserParts
 pub mod LawsOfTests
+pub mod LawsOfFirstTests
 pub mod LastingLinks
 pub mod LastingHolds
 pub mod TickingAlone
@@ -36,6 +37,7 @@ pub mod LoneRoutes
 pub mod Receiving
 pub mod Conserving
 pub mod LawsOfMessages
+pub mod LawsOfUserParts
 pub mod LawsOfOutage
 pub mod LawsOfLosses
 pub mod LawsOfCauses

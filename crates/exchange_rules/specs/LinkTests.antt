@@ -15,6 +15,7 @@ use Rattle.exchange_rules.specs.State.{unless◌then◌else◌, ◌▷◌, Queue
 use Rattle.exchange_rules.specs.Routing.{entry_of, peer_of, no_room, queue_on}
 use Rattle.exchange_rules.specs.Telling.{own_sio}
 use Rattle.exchange_rules.specs.ChangingOver.{fail}
+use Rattle.exchange_rules.specs.Entering.{begin_traffic}
 
 -- the service indicator of tests (Q.704 §14.2.1)
 abbrev pub testing : ℕ
@@ -76,11 +77,19 @@ awaiting_test c link p = record p { timers = set_timer (Slt1 link) (answer_ticks
 abbrev pub with_test_failed : Bool → (link : ℕ) → Parts → Parts
 with_test_failed failed link p = with_link p link (record (link_at p link) { test_failed = failed })
 
+-- a link that passed a test
+abbrev pub with_test_passed : (link : ℕ) → Parts → Parts
+with_test_passed link p = with_link p link (record (link_at p link) { test_failed = false; untested = false })
+
 -- the test passed: the next comes when Slt2 runs out
 abbrev pub test_passed : Configuration → (link : ℕ) → Parts → Parts
-test_passed c link p = record (with_test_failed false link p) {
+test_passed c link p = record (with_test_passed link p) {
   timers = p.timers ▷ clear_timer (Slt1 link) ▷ set_timer (Slt2 link) (pause_ticks c);
 }
+
+-- whether it is the first test since the link came up: the link is in service, and carried no traffic yet
+abbrev pub is_first_test : (link : ℕ) → Parts → Bool
+is_first_test link p = in_service p link && (link_at p link).untested
 
 module _ {Q : Type 0} (q : QueueKind Q) (c : Configuration) where
   -- a message goes to the end of a link's queue if it has room, and nothing is noted if it has none
@@ -109,8 +118,12 @@ module _ {Q : Type 0} (q : QueueKind Q) (c : Configuration) where
       unless in_service node.parts link then node
       else repeat_test (link_at node.parts link).test_failed link node
 
+  -- a link passes a test; by its first it begins to carry traffic
+  abbrev pub pass_test : (link : ℕ) → Node Q → Node Q
+  pass_test link node = begin_traffic q c (is_first_test link node.parts) link (test_passed c link node.parts) node
+
   -- an answer to a test, by a link from a point: only the one that is awaited counts
   abbrev pub on_test_answer : (link point : ℕ) → LinkTestValue → Node Q → Done Q
   on_test_answer link point test node =
       unless passes_test c link point test node.parts then answer Ignored node
-      else answer Handled (with_parts node (test_passed c link node.parts))
+      else answer Handled (pass_test link node)

@@ -6,7 +6,7 @@ use Rattle.settings_rows.specs.Configuration.{Configuration}
 use Rattle.settings.specs.Readings.{destination_place}
 use Rattle.settings.specs.Sharing.{LeadsAlone}
 use Rattle.routes.specs.Routes.{first_route, chosen_link}
-use Rattle.exchange_rules.specs.State.{Asking, Parts, Node, in_service}
+use Rattle.exchange_rules.specs.State.{Asking, Parts, Node, in_traffic}
 use Rattle.exchange_rules.specs.Routing.{set_of, facts}
 use Rattle.exchange_rules.specs.Queues.{WholeQueues, queue_at}
 use Rattle.exchange_rules.specs.Lasting.{after_each}
@@ -29,11 +29,11 @@ flows_stay_on_their_set =
     destination_place c point ≡ Some destination →
     GoesBySet c set point destination (after_each asked (first_state c)).node
 
--- which link of the set a flow takes depends only on which of its links are in service
+-- which link of the set a flow takes depends only on which of its links carry traffic
 abbrev pub the_set_decides_its_flows : Type 0
 the_set_decides_its_flows =
     (c : Configuration) (before after : Parts) (set destination sls : ℕ) →
     slice_index_or before.routes destination [] ≡ first_route set ∷ [] →
     slice_index_or after.routes destination [] ≡ first_route set ∷ [] →
-    ((link : ℕ) → set_of c link ≡ set → in_service before link ≡ in_service after link) →
+    ((link : ℕ) → set_of c link ≡ set → in_traffic before link ≡ in_traffic after link) →
     chosen_link (facts c before) destination sls ≡ chosen_link (facts c after) destination sls

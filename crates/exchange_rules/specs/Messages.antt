@@ -1,6 +1,6 @@
 -- HMRT, message routing (Q.704 §2.3): room in the pool and in the link's share of it, then Held if the flow has a hold,
 -- then a route, then the end of a queue.
-use Rattle.std.specs.Prelude.{ℕ, Bool, true, false, Option, Some, None, is_some, if◌then◌else◌, List, ◌&&◌, nat_eq, position, Result, Ok, Err, nat_lt, length}
+use Rattle.std.specs.Prelude.{ℕ, Bool, true, false, Option, Some, None, is_some, unwrap_or, if◌then◌else◌, List, [], map, ◌&&◌, nat_eq, position, Result, Ok, Err, nat_lt, length}
 use Rattle.signalling_types.specs.Message.{Message, flow_of, dpc_of, service_indicator, opc_of, is_management}
 use Rattle.settings_rows.specs.Configuration.{Configuration, TitleEntry}
 use Rattle.settings.specs.Readings.{destination_place, set_place}
@@ -9,7 +9,7 @@ use Rattle.signalling_types.specs.declared.cause.Cause.TheVariants.{UnknownDesti
 use Rattle.signalling_types.specs.declared.outcome.Outcome.TheVariants.{Queued, Held, Local, Handled, Ignored, Refused}
 use Rattle.exchange_rules.specs.State.{unless◌then◌else◌, QueueKind, Node, Done, refuse, Parts, with_parts, answer, note_refusal}
 use Rattle.exchange_rules.specs.Routing.{link_of, waits, hold, no_room, no_room_on, queue_on, route_about}
-use Rattle.exchange_rules.specs.Telling.{answer_no_route, answer_no_user_part, send_on, on_route_test}
+use Rattle.exchange_rules.specs.Telling.{answer_no_route, answer_no_user_part, own_sio, send_on, on_route_test}
 use Rattle.std.specs.Option.{option_or, option_and_then}
 use Rattle.signalling_types.specs.declared.outcome.Outcome.{Outcome}
 use Rattle.sccp_codec.specs.declared.title.TitleKey.{TitleKey}
@@ -18,6 +18,9 @@ use Rattle.sccp_relay.specs.Points.{OwnValue}
 use Rattle.sccp_relay.specs.Returning.{returned}
 use Rattle.sccp_relay.specs.Relay as relays
 use Rattle.sccp_relay.specs.Statuses.{TitlesValue, heard}
+use Rattle.sccp_relay.specs.SubsystemTests.{due_tests, test_field}
+use Rattle.sccp_relay.specs.SubsystemTests as tests
+use Rattle.sccp_relay.specs.declared.subsystem.Subsystem.{Subsystem}
 use Rattle.std.specs.List.{list_any}
 use Rattle.mtp3_codec.specs.declared.fault.MgmtFault.{MgmtFault}
 use Rattle.mtp3_codec.specs.declared.fault.MgmtFault.TheVariants as faults
@@ -77,6 +80,10 @@ own_of c p = record {
   leads = λ point sls. is_some (link_of c p (record { point = point; sls = sls }));
 }
 
+-- the ticks between two tests of a prohibited subsystem; 0 if what other points say of theirs isn't heard
+abbrev pub sst_ticks : Configuration → ℕ
+sst_ticks c = unwrap_or c.timers.sst 0
+
 -- the same parts with other translation rows, or other prohibited subsystems
 abbrev pub with_titles : TitlesValue → Parts → Parts
 with_titles titles p = record p { titles = titles }
@@ -116,7 +123,7 @@ module _ {Q : Type 0} (q : QueueKind Q) (c : Configuration) where
   relay_by relays.Delivered m node = answer Local node
   relay_by (relays.Onward sif) m node = transfer q c None (in_place_of m sif) node
   relay_by (relays.Heard news) m node =
-      answer Handled (with_parts node (with_titles (heard news node.parts.titles) node.parts))
+      answer Handled (with_parts node (with_titles (heard (sst_ticks c) news node.parts.titles) node.parts))
   relay_by (relays.Refused cause) m node = refuse cause node
 
   -- an SCCP message for this point
@@ -151,11 +158,25 @@ remove_title key digits node =
     else answer Handled
     (with_parts node (with_rows (without_row (place_of key digits) node.parts.titles.rows) node.parts))
 
--- ---- HMDT, message distribution (Q.704 §2.4): a message for this point, by its service indicator (§14.2.1).
+-- ---- tests of prohibited subsystems at other points (Q.714 §5.3.4)
 
 -- the service indicator of SCCP; that of management is 0, that of tests 1
 abbrev pub sccp : ℕ
 sccp = 3
+
+-- the test of a subsystem
+abbrev pub test_of : Configuration → Subsystem → Message
+test_of c subsystem = record { sio = own_sio c sccp; sif = test_field c.own subsystem }
+
+-- those that are due, if what other points say of their subsystems is heard
+abbrev pub tests_due : Configuration → Parts → List Message
+tests_due c p = if is_some c.timers.sst then map (test_of c) (due_tests p.titles) else []
+
+-- a tick, as prohibited subsystems have it
+abbrev pub subsystems_ticked : Configuration → Parts → Parts
+subsystems_ticked c p = with_titles (tests.ticked (own_of c p) (sst_ticks c) p.titles) p
+
+-- ---- HMDT, message distribution (Q.704 §2.4): a message for this point, by its service indicator (§14.2.1).
 
 -- whether this node has a user part of this service indicator
 abbrev pub is_user : Configuration → ℕ → Bool

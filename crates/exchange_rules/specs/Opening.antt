@@ -1,6 +1,6 @@
 -- TLAC, link availability control (Q.704 §3.2): associations that come up and go down, and the operator's orders about
 -- a link (RFC 4165 §4.1.3).
-use Rattle.std.specs.Prelude.{ℕ, Bool, true, false, ◌&&◌, not, if◌then◌else◌, Option, Some, None}
+use Rattle.std.specs.Prelude.{ℕ, Bool, true, false, ◌&&◌, ◌||◌, not, if◌then◌else◌, Option, Some, None}
 use Rattle.settings_rows.specs.Configuration.{Configuration}
 use Rattle.signalling_types.specs.declared.cause.Cause.TheVariants.{NoSuchName, LinkNotReady, ChangeoverPending}
 use Rattle.signalling_types.specs.declared.notice.FailureReason.{FailureReason}
@@ -16,6 +16,7 @@ use Rattle.exchange_rules.specs.State.{unless◌then◌else◌, ◌▷◌, Queue
 use Rattle.exchange_rules.specs.Timing.{timed}
 use Rattle.changeover.specs.Changeover.{may_restart}
 use Rattle.exchange_rules.specs.ChangingOver.{changeover_of, has_other, fail}
+use Rattle.exchange_rules.specs.LinkTests.{tests_links}
 
 -- a link may open if it has no association yet, and the operator lets it
 abbrev pub may_open : Link → Bool
@@ -38,24 +39,36 @@ wanted p link =
 abbrev pub without_association : ℕ → Parts → Parts
 without_association link p = with_link p link (record (link_at p link) { association = false })
 
--- a link that the operator lets open, or keeps from it
-abbrev pub with_active : Bool → ℕ → Parts → Parts
-with_active active link p = with_link p link (record (link_at p link) { active = active })
+-- a link that the operator lets open, with emergency proving or without it, or keeps from it
+abbrev pub with_active : (active emergency : Bool) → ℕ → Parts → Parts
+with_active active emergency link p =
+    with_link p link (record (link_at p link) { active = active; emergency = emergency })
 
--- how long a link is to be proved: for the emergency period, if no other link of its set is in service (Q.703 §7.1 leaves
--- that to level 3); always equally long, if the settings have no such period
-abbrev pub period_by : (emergency : Option ℕ) → (has_other : Bool) → Period
-period_by None has_other = Fixed
-period_by (Some ticks) true = Normal
-period_by (Some ticks) false = Emergency
+-- whether a link is in a hurry: the operator ordered emergency proving, or no other link of its set carries traffic
+-- (Q.703 §7.1 leaves that to level 3)
+abbrev pub is_urgent : Configuration → ℕ → Parts → Bool
+is_urgent c link p = (link_at p link).emergency || not (has_other c link p)
+
+-- how long a link is to be proved; always equally long, if the settings have no period of emergency
+abbrev pub period_by : (l4e : Option ℕ) → (is_urgent : Bool) → Period
+period_by None is_urgent = Fixed
+period_by (Some ticks) true = Emergency
+period_by (Some ticks) false = Normal
 
 abbrev pub period_of : Configuration → ℕ → Parts → Period
-period_of c link p = period_by c.timers.l4e (has_other c link p)
+period_of c link p = period_by c.timers.l4e (is_urgent c link p)
 
--- a link begins to align, with a period for its proving
+-- a link that opens; where links are tested, it has to pass a test before it carries traffic (Q.707 §2.2)
+abbrev pub opened_by : Configuration → Period → Link → Link
+opened_by c period l = record (opened c.out_of_service period l) { untested = tests_links c }
+
+-- a link begins to align, with a period for its proving; if the settings say so, it tells first that it is out of
+-- service (RFC 4165 §5.1)
 abbrev pub begun_with : Configuration → ℕ → Period → Parts → Parts
-begun_with c link period p =
-    record p { links = links_with p link (opened period (link_at p link)); timers = timed c link (opening period) p.timers }
+begun_with c link period p = record p {
+  links = links_with p link (opened_by c period (link_at p link));
+  timers = timed c link (opening period) p.timers;
+}
 
 abbrev pub begun : Configuration → ℕ → Parts → Parts
 begun c link p = begun_with c link (period_of c link p) p
@@ -89,16 +102,17 @@ module _ {Q : Type 0} (q : QueueKind Q) (c : Configuration) where
       else unless (link_at node.parts link).association then answer Ignored node
       else answer Handled (node ▷ fail_if_up link reasons.Association ▷ end_association link)
 
-  -- the operator lets a link open, or keeps it from opening
-  abbrev pub set_active : Bool → ℕ → Node Q → Node Q
-  set_active active link node = with_parts node (with_active active link node.parts)
+  -- the operator lets a link open, with emergency proving or without it, or keeps it from opening
+  abbrev pub set_active : (active emergency : Bool) → ℕ → Node Q → Node Q
+  set_active active emergency link node = with_parts node (with_active active emergency link node.parts)
 
-  abbrev pub activate : ℕ → Node Q → Done Q
-  activate link node =
-      unless is_link node.parts link then refuse NoSuchName node else answer Handled (set_active true link node)
+  abbrev pub activate : (emergency : Bool) → ℕ → Node Q → Done Q
+  activate emergency link node =
+      unless is_link node.parts link then refuse NoSuchName node
+      else answer Handled (set_active true emergency link node)
 
   -- a link that isn't down fails first
   abbrev pub deactivate : ℕ → Node Q → Done Q
   deactivate link node =
       unless is_link node.parts link then refuse NoSuchName node
-      else answer Handled (node ▷ fail_if_up link reasons.Operator ▷ set_active false link)
+      else answer Handled (node ▷ fail_if_up link reasons.Operator ▷ set_active false false link)

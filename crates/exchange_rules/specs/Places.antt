@@ -21,8 +21,8 @@ pub record HasCodes (sets : ℕ) (t : Codes) : Type 0 where
   pub each : (set : ℕ) → set < sets → length (codes_of t set) ≡ CHANGEBACK_CODES
 
 -- there is a place for each link, set and destination of the settings: each link has its state and its changeover, each
--- set its codes, and each destination its routes, what each adjacent point was told of it, and how many messages for user
--- parts that aren't here came from it
+-- set its codes, and each destination its routes, what each adjacent point was told of it, and how many messages for
+-- user parts that aren't here came from it
 pub record HasPlacesFor (c : Configuration) (p : Parts) : Type 0 where
   pub few_links : length c.links ≤ LINKS
   pub links : length p.links ≡ length c.links

@@ -67,8 +67,8 @@ rerouting_ended destination p = record p { holds = lifted p.holds (Reroute desti
 
 -- ---- a set
 
--- when the first link of a set enters service, what is known over it is reset: its routes are allowed, its adjacent
--- point counts as told so, and T8 and T10 of the set stop
+-- when the first link of a set begins to carry traffic, what is known over it is reset: its routes are allowed, its
+-- adjacent point counts as told so, and T8 and T10 of the set stop
 abbrev pub with_set_reset : Configuration → (set : ℕ) → Parts → Parts
 with_set_reset c set p = record p {
   routes = (with_statuses_reset set (network_of c p)).routes;

@@ -63,6 +63,7 @@ settings = record {
   subsystem_tests = false;
   user_part_unavailable = false;
   processor_outage = false;
+  out_of_service = false;
   timers = ticks;
   sets = record { name = []; adjacent = 2 } ∷ [];
   links = record { name = []; set = 0; slc = 0; share = None } ∷ [];

@@ -10,7 +10,7 @@ use Rattle.link.specs.Queue.{Sending}
 use Rattle.link.specs.declared.fault.SeqFault.{SeqFault}
 use Rattle.timers.specs.Timers.{Running}
 use Rattle.routes.specs.declared.route.Route.{Route}
-use Rattle.node_links.specs.NodeLinks.{Link, is_down, is_in_service, link_in}
+use Rattle.node_links.specs.NodeLinks.{Link, is_down, is_in_service, carries_traffic, link_in}
 use Rattle.changeover.specs.Changeover.{Standing}
 use Rattle.changeback.specs.Codes.{Codes}
 use Rattle.route_management.specs.Told.{ToldTable}
@@ -148,7 +148,7 @@ pub data Happening : Type 0 where
   FrameCame : (link : ℕ) (text : List ℕ) → Happening
   Ticked : Happening
   Submitted : (message : Message) → Happening
-  Activated : (link : ℕ) → Happening
+  Activated : (link : ℕ) (emergency : Bool) → Happening
   Deactivated : (link : ℕ) → Happening
   -- a translation row is added, if memory for it isn't refused
   TitleAdded : (row : TitleEntry) (is_memory_refused : Bool) → Happening
@@ -173,6 +173,10 @@ down p link = is_down (link_at p link).alignment
 
 abbrev pub in_service : Parts → ℕ → Bool
 in_service p link = is_in_service (link_at p link).alignment
+
+-- whether a link carries traffic: one in service that has no test to pass before
+abbrev pub in_traffic : Parts → ℕ → Bool
+in_traffic p link = carries_traffic (link_at p link)
 
 -- one link in another state
 abbrev pub links_with : Parts → ℕ → Link → List Link

@@ -17,7 +17,7 @@ use Rattle.exchange_rules.specs.Exchange.{run_timer}
 use Rattle.exchange_rules.specs.Lasting.{after_each}
 use Rattle.exchange_rules.specs.First.{first_state}
 
--- whether a link of a set is in service
+-- whether a link of a set carries traffic
 abbrev pub serves_set : Configuration → Parts → (set : ℕ) → Bool
 serves_set c p set = has_link (facts c p).in_service (set_at (facts c p) set)
 
@@ -28,7 +28,8 @@ is_unsure (Some Allowed) = false
 is_unsure (Some Restricted) = true
 is_unsure (Some Prohibited) = true
 
--- for each route over a set in service that isn't allowed T10 runs, and when it runs out the adjacent point is asked
+-- for each route that isn't allowed, over a set that carries traffic, T10 runs, and when it runs out the adjacent point
+-- is asked
 pub record AreTested (c : Configuration) (p : Parts) : Type 0 where
   pub each : (set destination : ℕ) → serves_set c p set ≡ true →
       is_unsure (status_of (facts c p) destination set) ≡ true → is_running (T10 set destination) p.timers ≡ true

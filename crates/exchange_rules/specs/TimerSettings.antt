@@ -5,9 +5,10 @@ use Rattle.settings_rows.specs.Configuration.{Configuration}
 use Rattle.settings_rows.specs.declared.timer_ticks.TimerTicks.{TimerTicks}
 use Rattle.timers.specs.declared.name.TimerName.{TimerName}
 use Rattle.timers.specs.declared.name.TimerName.TheVariants.{L1, L2, L3, L4, L6, L7, T1, T2, T3, T4, T6, T8, T10}
-use Rattle.timers.specs.declared.name.TimerName.TheVariants.{Slt1, Slt2, Sst}
+use Rattle.timers.specs.declared.name.TimerName.TheVariants.{Slt1, Slt2}
 use Rattle.timers.specs.Timers.{one_less}
 use Rattle.link.specs.declared.period.Period.{Period}
+use Rattle.link.specs.declared.period.Period.TheVariants.{Fixed, Normal, Emergency}
 use Rattle.exchange_rules.specs.Timing.{paced}
 use Rattle.exchange_rules.specs.State.{Asking, Happening, CameUp, WentDown, FrameCame, Ticked, Submitted, Activated, Deactivated, TitleAdded, TitleRemoved}
 use Rattle.exchange_rules.specs.Queues.{whole}
@@ -32,9 +33,8 @@ setting_of ticks (T8 set destination) = ticks.t8
 setting_of ticks (T10 set destination) = ticks.t10
 setting_of ticks (Slt1 link) = option_map_or (λ tests. tests.slt1) ticks.link_tests 0
 setting_of ticks (Slt2 link) = option_map_or (λ tests. tests.slt2) ticks.link_tests 0
-setting_of ticks Sst = unwrap_or ticks.sst 0
 
--- it was set to as many, L4 by the period for which its link is proved
+-- it was set to as many; L4 to that of one of the periods for which a link may be proved
 abbrev pub IsSetBy : TimerTicks → TimerName → Option ℕ → Type 0
 IsSetBy ticks timer left = (period : Period) × (left ≡ Some (max 1 (setting_of (paced period ticks) timer)))
 
@@ -49,7 +49,7 @@ left_by (CameUp link) left = left
 left_by (WentDown link) left = left
 left_by (FrameCame link text) left = left
 left_by (Submitted message) left = left
-left_by (Activated link) left = left
+left_by (Activated link emergency) left = left
 left_by (Deactivated link) left = left
 left_by (TitleAdded row is_memory_refused) left = left
 left_by (TitleRemoved key digits) left = left
@@ -67,9 +67,19 @@ takes_set_timers_to_their_settings =
     RunsBy a.settings.timers timer (a.node.parts.timers.left timer)
     ((taken whole a link).node.parts.timers.left timer)
 
--- so in each state reached from the first no timer has more ticks left
+-- so in each state reached from the first no timer has more ticks left, L4 no more than that of one of the periods
 abbrev pub timers_keep_their_settings : Type 0
 timers_keep_their_settings =
     (c : Configuration) (asked : List Asking) (timer : TimerName) (left : ℕ) →
     (after_each asked (first_state c)).node.parts.timers.left timer ≡ Some left →
     (period : Period) × (left ≤ max 1 (setting_of (paced period c.timers) timer))
+
+-- only L4 has another setting by the period: that of emergency, if there is one
+pub record IsPaced (ticks : TimerTicks) : Type 0 where
+  pub fixed : paced Fixed ticks ≡ ticks
+  pub normal : paced Normal ticks ≡ ticks
+  pub emergency : (link : ℕ) → setting_of (paced Emergency ticks) (L4 link) ≡ unwrap_or ticks.l4e ticks.l4
+  pub rest : record (paced Emergency ticks) { l4 = ticks.l4 } ≡ ticks
+
+abbrev pub only_l4_is_paced : Type 0
+only_l4_is_paced = (ticks : TimerTicks) → IsPaced ticks

@@ -29,7 +29,8 @@ ticks_of ticks L4 = ticks.l4
 ticks_of ticks L6 = ticks.l6
 ticks_of ticks L7 = ticks.l7
 
--- the same for a link that is proved for a period: L4 runs for emergency proving by a setting of its own, if there is one
+-- the same for a link that is proved for a period: L4 runs for emergency proving by a setting of its own, if there is
+-- one
 abbrev pub paced : Period → TimerTicks → TimerTicks
 paced Fixed ticks = ticks
 paced Normal ticks = ticks

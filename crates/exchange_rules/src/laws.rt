@@ -12,21 +12,23 @@ ghost use Rattle.exchange_rules.specs.LawsOfMessages.{user_messages_are_conserve
 ghost use Rattle.exchange_rules.specs.LawsOfMessages.{all_that_came_adds_up};
 ghost use Rattle.exchange_rules.specs.LawsOfMessages.{carried_messages_have_a_fate, submissions_have_a_fate};
 ghost use Rattle.exchange_rules.specs.LawsOfLosses.{events_account_for_losses, takes_flag_nothing, management_is_named};
-ghost use Rattle.exchange_rules.specs.LawsOfCauses.{holds_end_so, takes_leave_holds};
+ghost use Rattle.exchange_rules.specs.LawsOfCauses.{holds_end_so, takes_leave_holds, unasked_answers_are_ignored};
 ghost use Rattle.exchange_rules.specs.Lasting.{places_at_first, places_stay, notices_keep_their_limits};
 ghost use Rattle.exchange_rules.specs.Lasting.{no_flag_at_first, losses_stay, lateness_stays};
 ghost use Rattle.exchange_rules.specs.Lasting.{notices_raise_flags, unreasonable_numbers_raise_it};
 ghost use Rattle.exchange_rules.specs.Lasting.{notices_made_are_counted, new_notices_are_the_last};
 ghost use Rattle.exchange_rules.specs.TimerSettings.{events_set_timers_to_their_settings, timers_keep_their_settings};
-ghost use Rattle.exchange_rules.specs.TimerSettings.{takes_set_timers_to_their_settings};
+ghost use Rattle.exchange_rules.specs.TimerSettings.{takes_set_timers_to_their_settings, only_l4_is_paced};
 ghost use Rattle.exchange_rules.specs.Testing.{unsure_routes_are_tested, tests_are_repeated};
 ghost use Rattle.exchange_rules.specs.LawsOfFailures.{failures_hold_their_flows, failures_by_peer_hold_their_flows};
 ghost use Rattle.exchange_rules.specs.LawsOfFailures.{idle_failures_hold_nothing, idle_failures_by_peer_hold_nothing};
 ghost use Rattle.exchange_rules.specs.LawsOfReturns.{entries_hold_changed_flows, changed_flows_are_held};
+ghost use Rattle.exchange_rules.specs.LawsOfReturns.{tests_hold_changed_flows, first_tests_are_returns};
 ghost use Rattle.exchange_rules.specs.LawsOfAnswers.{queued_stands_last, t8_lasts};
 ghost use Rattle.exchange_rules.specs.LawsOfAnswers.{one_answer_within_t8, t8_runs_its_time, takes_leave_t8};
 ghost use Rattle.exchange_rules.specs.LawsOfReturns.{returns_keep_holds};
 ghost use Rattle.exchange_rules.specs.LawsOfReturns.{flows_return_by_their_procedures, entries_are_returns};
+ghost use Rattle.exchange_rules.specs.LawsOfReturns.{untested_entries_take_nothing};
 ghost use Rattle.exchange_rules.specs.LawsOfShares.{full_shares_refuse, others_know_no_shares};
 
 pub mod link_tests;
@@ -35,20 +37,25 @@ pub mod outage;
 pub mod subsystems;
 pub mod user_parts;
 
-pub use link_tests::links_are_tested;
+pub use link_tests::{links_are_tested, links_carry_traffic_after_their_first_test};
 pub use links::{
     links_are_proved_before_they_enter_service, links_have_the_timers_of_their_states,
-    links_open_where_they_want_to, links_stay_steady, links_that_fail_are_named,
-    only_links_in_service_are_given_messages, other_links_are_left, what_was_received_is_counted,
+    links_open_where_they_want_to, links_stay_steady, links_tell_that_they_align,
+    links_that_fail_are_named, only_links_that_carry_traffic_are_given_messages,
+    other_links_are_left, the_settings_say_whether_periods_are_chosen,
+    what_was_received_is_counted,
 };
 pub use outage::outages_are_a_state_where_asked_for;
-pub use subsystems::{rows_keep_off_prohibited_subsystems, subsystems_are_as_their_points_say};
+pub use subsystems::{
+    prohibited_subsystems_are_tested, rows_keep_off_prohibited_subsystems,
+    subsystems_are_as_their_points_say, subsystems_are_forgotten_with_their_points,
+};
 pub use user_parts::absent_user_parts_are_told_once_in_eight;
 
 /// A refused event changes nothing, but that a refused message may be answered: one of SCCP for this point is returned,
 /// if it can be, by a UDTS or an XUDTS; where a message in a frame found no route the point at the other end of its
-/// link is told, by TFP; and where one is for a user part that isn't here it is counted, and its sender is told, by UPU,
-/// as `absent_user_parts_are_told_once_in_eight` says. Of a message in a frame also what accepting that frame did
+/// link is told, by TFP; and where one is for a user part that isn't here it is counted, and its sender is told, by
+/// UPU, as `absent_user_parts_are_told_once_in_eight` says. Of a message in a frame also what accepting that frame did
 /// stands, with a notice, and what then found room to be told.
 pub fn refusals_change_nothing()
     ensures { refusals_leave }
@@ -128,11 +135,12 @@ pub fn failures_hold_the_flows_that_fail()
     ensures idle_by_peer { idle_failures_by_peer_hold_nothing }
 {}
 
-/// When a link enters service, each flow whose link changed from one link to another is held; and what was held stays
-/// held. This holds for every node that has a place for each link, set and destination of its settings, and every
+/// When a link enters service, or passes a test, each flow whose link changed from one link to another is held; and
+/// what was held stays held. This holds for every node that has a place for each link, set and destination of its settings, and every
 /// exchange has (`Exchange::has_its_places`).
 pub fn flows_that_change_their_link_are_held()
     ensures entered { entries_hold_changed_flows }
+    ensures tested { tests_hold_changed_flows }
     ensures changed { changed_flows_are_held }
     ensures others { returns_keep_holds }
 {}
@@ -142,10 +150,13 @@ pub fn flows_that_change_their_link_are_held()
 /// link's queue: both links are of one set, and the code is the least one free when the turn of the other link comes,
 /// in the order of links, so that no two links of one return have the same. Else it is time: the other link is of
 /// another set, or when its turn comes no code is free or management has no room. Every other pair, every other code
-/// and every other queue stays. This holds for every node that has all its places.
+/// and every other queue stays. This holds for every node that has all its places. A link that has a test to pass takes
+/// nothing back as it enters service, and does so as it passes it (Q.707 §2.2).
 pub fn flows_return_by_the_procedures_of_their_links()
     ensures returned { flows_return_by_their_procedures }
     ensures entered { entries_are_returns }
+    ensures untested { untested_entries_take_nothing }
+    ensures tested { first_tests_are_returns }
 {}
 
 /// A node that was just booted has a place for each link, set and destination of its settings, with a queue for each
@@ -181,27 +192,31 @@ pub fn every_hold_has_its_timer_or_its_word()
 /// out (Q.704 §5.4 to §5.7), or the link was in an outage, and its peer said that its processor recovered (Q.703 §8);
 /// or a code, and the answer to its declaration came, or T4 ran out (§6.3); or it holds by time, and T3 ran out (§6.4);
 /// or a rerouting, and T6 ran out (§8.2). The words are those of the message that a frame newly carries, if an adjacent
-/// point sent it. No other event ends a hold, and no take does.
+/// point sent it. No other event ends a hold, and no take does. An answer that nobody awaits is ignored: to an order
+/// that the changeover of that link doesn't await, or to a code that isn't in use.
 pub fn holds_end_by_word_or_timer()
     ensures event { holds_end_so }
+    ensures unasked { unasked_answers_are_ignored }
     ensures take { takes_leave_holds }
 {}
 
 /// Each timer is set to the ticks that the settings give it, whatever happens and whatever is taken: after an event or
 /// a take it has as many left as before, or as many as it is set to, or it doesn't run. A tick takes one from each
-/// first. So none ever has more left than its own setting.
+/// first. So none ever has more left than its own setting. L4 alone has two, one by each period for which a link may be
+/// proved, and here either counts.
 pub fn timers_are_set_to_their_settings()
     ensures event { events_set_timers_to_their_settings }
     ensures take { takes_set_timers_to_their_settings }
     ensures always { timers_keep_their_settings }
+    ensures paced { only_l4_is_paced }
 {}
 
 /// So where nothing but ticks happens, all holds end, from each state that comes of the first: after as many ticks as
 /// the longest of T1, T2, T3, T4 and T6 takes no flow is held and no message waits in Held, if no L4, L6 or L7 runs,
-/// and neither timer of a link test. These may take a link into service or out of it, and so begin another wait. L4, L6 and
-/// L7 run while a link is being proved, while a peer is busy, and while something that was sent isn't confirmed; then
-/// it takes as many ticks more as the longest of them, and, of a node that tests its links, as the longest pause between
-/// two tests and two answers that are awaited.
+/// and neither timer of a link test. These may take a link into service or out of it, and so begin another wait. L4, L6
+/// and L7 run while a link is being proved, while a peer is busy, and while something that was sent isn't confirmed;
+/// then it takes as many ticks more as the longest of them, and, of a node that tests its links, as the longest pause
+/// between two tests and two answers that are awaited.
 pub fn ticks_end_all_holds()
     ensures quiet { ticks_end_holds_where_it_is_quiet }
     ensures always { ticks_end_all_holds }

@@ -1,6 +1,6 @@
 //! HMRT, message routing (Q.704 §2.3): a message for another point.
 
-ghost use Rattle.std.specs.Prelude.{◌≡◌, ◌<◌, ◌≤◌, ◌&&◌, None, Some, true, false, not, length, IfSome, is_some};
+ghost use Rattle.std.specs.Prelude.{◌≡◌, ◌<◌, ◌≤◌, ◌&&◌, None, Some, true, false, not, length, IfSome};
 ghost use Rattle.std.specs.Option.{option_and_then};
 ghost use Rattle.signalling_types.specs.Message.{lent, is_management, dpc_of};
 ghost use Rattle.mtp3_codec.specs.Headings.{label_at};
@@ -16,7 +16,7 @@ ghost use Rattle.exchange_rules.specs.Messages as rule;
 use super::Exchange;
 use cell_pool::Lanes;
 use mtp3_codec::Label;
-use settings::{Cause, Limits, LinkId, MsuRef, Outcome, PointCode, Sls};
+use settings::{Cause, Limits, LinkId, MsuRef, Outcome, Sls};
 
 impl Exchange {
     /// A message of this label for another point, with the link that it arrived on, if any: a known destination, then
@@ -109,17 +109,6 @@ impl Exchange {
         ensures fits { IfSome result (λ link. link < length self.now.settings.links) }
     {
         self.links.link_of(destination, sls)
-    }
-
-    /// Whether the flow of this point and this link selection has a link.
-    pub(super) fn leads_to(&self, point: PointCode, sls: Sls) -> bool
-        ensures { result ≡ is_some (holding.link_of self.now.settings self.now.node.parts
-            (record { point = point; sls = sls })) }
-    {
-        match self.settings.destination(point) {
-            Some(destination) => self.link_to(destination, sls).is_some(),
-            None => false,
-        }
     }
 
     /// The link of the flow of a label.

@@ -45,39 +45,24 @@ impl Exchange {
         let of_links = LinkParts::first(alloc, &settings)?;
         let of_network = NetworkParts::first(alloc, &settings)?;
         let notices = HeapCircularBuffer::with_capacity(alloc, Limits::NOTICES)?;
-        let LinkParts {
-            lanes,
-            sequences,
-            links,
-            changeovers,
-        } = of_links;
-        let NetworkParts {
-            told,
-            changeback,
-            holds,
-            titles,
-            unequipped,
-            timers,
-            pending,
-        } = of_network;
         Ok(Exchange {
             settings,
-            lanes,
-            sequences,
-            links,
-            told,
-            changeovers,
-            changeback,
-            holds,
-            titles,
-            unequipped,
-            timers,
+            lanes: of_links.lanes,
+            sequences: of_links.sequences,
+            links: of_links.links,
+            told: of_network.told,
+            changeovers: of_links.changeovers,
+            changeback: of_network.changeback,
+            holds: of_network.holds,
+            titles: of_network.titles,
+            unequipped: of_network.unequipped,
+            timers: of_network.timers,
             notices,
             notice_count: 0,
             times_lost: 0,
             times_late: 0,
             release_due: false,
-            pending,
+            pending: of_network.pending,
         })
     }
 }

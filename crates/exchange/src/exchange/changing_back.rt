@@ -2,6 +2,7 @@
 
 ghost use Rattle.std.specs.Prelude.{◌≡◌, ◌<◌, ℕ, None, Some, false, length, replicate, slice_index_or, IfErr, OnOk, is_ok, if◌then◌else◌};
 ghost use Rattle.routes.specs.Routes.{with_link};
+ghost use Rattle.settings.specs.Readings.{set_place};
 ghost use Rattle.changeback.specs.Return.{returned, gives_up, held_by};
 ghost use Rattle.exchange_rules.specs.State.{with_node, with_parts};
 ghost use Rattle.exchange.specs.Head.{with_holds};
@@ -175,11 +176,11 @@ impl Exchange {
 
     /// An acknowledgement from a set's point: lifts what its code holds, stops T4, and frees the code. Ignored, with
     /// nothing changed, if the code awaits none.
-    pub(super) fn on_changeback_acknowledgement(&mut self, set: Option<SetId>, code: u8) -> Outcome
-        ensures { Ends self.old result self.new
-            (rule.on_changeback_acknowledgement kept self.old.settings set code self.old.node) }
+    pub(super) fn on_changeback_acknowledgement(&mut self, point: PointCode, code: u8) -> Outcome
+        ensures { Ends self.old result self.new (rule.on_changeback_acknowledgement kept self.old.settings
+            (set_place self.old.settings point) code self.old.node) }
     {
-        let Some(set) = set else {
+        let Some(set) = self.settings.set_to(point) else {
             return Outcome::Ignored;
         };
         if !self.changeback.acknowledge(set, code, &mut self.holds) {

@@ -92,7 +92,7 @@ impl Exchange {
     }
 
     /// An answer to a test, from an adjacent point, by a link. It counts if that link's test awaits it: then the test
-    /// passed, and the next comes when Slt2 runs out.
+    /// passed, and the next comes when Slt2 runs out. By its first test the link begins to carry traffic.
     pub(super) fn on_test_answer(
         &mut self,
         link: LinkId,
@@ -104,7 +104,7 @@ impl Exchange {
             (rule.on_test_answer kept self.old.settings link point (test_value test.now) self.old.node) }
     {
         if self.passes_test(link, point, test) {
-            self.test_passed(link);
+            self.pass_test(link);
             Outcome::Handled
         } else {
             Outcome::Ignored
@@ -122,13 +122,28 @@ impl Exchange {
             && self.answers_test(link, point, test)
     }
 
+    /// A link passes a test. By its first it begins to carry traffic, and takes its flows back.
+    #[inline(never)]
+    fn pass_test(&mut self, link: LinkId)
+        requires { link < length self.old.settings.links }
+        ensures { self.new ≡ with_node self.old (rule.pass_test kept self.old.settings link self.old.node) }
+    {
+        // reading a field gives the prover the invariant
+        let _ = &self.links;
+        let carried = self.carries_traffic(link);
+        self.test_passed(link);
+        if !carried && self.carries_traffic(link) {
+            self.take_flows_back(link);
+        }
+    }
+
     /// The test of a link passed: the next comes when Slt2 runs out.
     fn test_passed(&mut self, link: LinkId)
         requires { link < length self.old.settings.links }
         ensures { self.new ≡ with_node self.old
             (with_parts self.old.node (rule.test_passed self.old.settings link self.old.node.parts)) }
     {
-        self.set_test_failed(link, false);
+        self.set_test_passed(link);
         self.timers.clear(TimerName::Slt1(link));
         let ticks = self.pause_ticks();
         self.timers.set(TimerName::Slt2(link), ticks);
@@ -146,7 +161,7 @@ impl Exchange {
     }
 
     /// Whether the settings have the node test its links.
-    fn tests_links(&self) -> bool
+    pub(super) fn tests_links(&self) -> bool
         ensures { result ≡ rule.tests_links self.now.settings }
     {
         self.settings.timers().link_tests.is_some()
@@ -179,7 +194,10 @@ fn is_own_pattern(pattern: &[u8]) -> bool
 {
     match *pattern {
         [first, second, third, fourth] => {
-            first == 0x53 && second == 0x4c && third == 0x54 && fourth == 0x4d
+            first == OWN_PATTERN[0]
+                && second == OWN_PATTERN[1]
+                && third == OWN_PATTERN[2]
+                && fourth == OWN_PATTERN[3]
         }
         _ => false,
     }

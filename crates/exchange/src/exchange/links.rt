@@ -1,9 +1,11 @@
-//! Links that change. As long as none enters or leaves service, what is known of routes stays, and no update falls due.
+//! Links that change. As long as none begins or ceases to carry traffic, what is known of routes stays, and no update
+//! falls due.
 
-ghost use Rattle.std.specs.Prelude.{◌≡◌, ◌<◌, drop, length, not, false, if◌then◌else◌};
-ghost use Rattle.exchange_rules.specs.State.{with_node, with_parts, link_at, with_link};
-ghost use Rattle.node_links.specs.NodeLinks.{acts_on, after_action, after_failure, opened};
-ghost use Rattle.exchange_rules.specs.LinkTests.{with_test_failed};
+ghost use Rattle.std.specs.Prelude.{◌≡◌, ◌<◌, drop, length, not, true, false, if◌then◌else◌};
+ghost use Rattle.exchange_rules.specs.State.{with_node, with_parts, in_service, link_at, with_link};
+ghost use Rattle.node_links.specs.NodeLinks.{acts_on, after_action, after_failure, recovered};
+ghost use Rattle.exchange_rules.specs.LinkTests.{with_test_failed, with_test_passed};
+ghost use Rattle.exchange_rules.specs.Opening.{with_active, opened_by};
 
 use super::Exchange;
 use link::{Action, Input, Period};
@@ -28,13 +30,23 @@ impl Exchange {
         self.links.set_peer_busy(link, busy);
     }
 
-    /// Sets whether the processor of a link's peer counts as out.
-    pub(super) fn set_peer_outage(&mut self, link: LinkId, out: bool)
+    /// The processor of a link's peer is out.
+    pub(super) fn put_out(&mut self, link: LinkId)
         requires { link < length self.old.settings.links }
         ensures { self.new ≡ with_node self.old (with_parts self.old.node (with_link self.old.node.parts link
-            (record (link_at self.old.node.parts link) { peer_outage = out }))) }
+            (record (link_at self.old.node.parts link) { peer_outage = true }))) }
     {
-        self.links.set_peer_outage(link, out);
+        self.links.put_out(link);
+    }
+
+    /// The processor of a link's peer recovered: Ready answers that, unless a status waits still.
+    pub(super) fn recover(&mut self, link: LinkId)
+        requires there { link < length self.old.settings.links }
+        requires serves { in_service self.old.node.parts link ≡ true }
+        ensures { self.new ≡ with_node self.old (with_parts self.old.node
+            (with_link self.old.node.parts link (recovered (link_at self.old.node.parts link)))) }
+    {
+        self.links.recover(link);
     }
 
     /// Sets whether a link's last test failed.
@@ -44,6 +56,18 @@ impl Exchange {
             (with_parts self.old.node (with_test_failed failed link self.old.node.parts)) }
     {
         self.links.set_test_failed(link, failed);
+    }
+
+    /// A link passes a test: in service it carries traffic from now on.
+    pub(super) fn set_test_passed(&mut self, link: LinkId)
+        requires { link < length self.old.settings.links }
+        ensures { self.new ≡ with_node self.old
+            (with_parts self.old.node (with_test_passed link self.old.node.parts)) }
+    {
+        let carried = self.links.state(link).carries_traffic();
+        self.links.pass_test(link);
+        let carries = self.links.state(link).carries_traffic();
+        self.pending.add_all_if(has_changed(carried, carries));
     }
 
     /// Drops the status that has waited longest, if there is one.
@@ -66,24 +90,37 @@ impl Exchange {
         self.links.lose_association(link);
     }
 
-    /// Sets whether a link may open.
-    pub(super) fn set_active(&mut self, link: LinkId, active: bool)
+    /// A link may open, with emergency proving if the operator asks for that.
+    pub(super) fn let_open(&mut self, link: LinkId, emergency: bool)
         requires { link < length self.old.settings.links }
-        ensures { self.new ≡ with_node self.old (with_parts self.old.node (with_link self.old.node.parts link
-            (record (link_at self.old.node.parts link) { active = active }))) }
+        ensures { self.new ≡ with_node self.old
+            (with_parts self.old.node (with_active true emergency link self.old.node.parts)) }
     {
-        self.links.allow(link, active);
+        self.links.allow(link, emergency);
     }
 
-    /// A link begins to align, with an association and a proving period.
+    /// A link may not open.
+    pub(super) fn keep_down(&mut self, link: LinkId)
+        requires { link < length self.old.settings.links }
+        ensures { self.new ≡ with_node self.old
+            (with_parts self.old.node (with_active false false link self.old.node.parts)) }
+    {
+        self.links.forbid(link);
+    }
+
+    /// A link begins to align, with an association and a proving period. If the settings say so, it tells first that it
+    /// is out of service. Where links are tested, it has to pass a test
+    /// before it carries traffic.
     pub(super) fn begin_to_align(&mut self, link: LinkId, period: Period)
         requires { link < length self.old.settings.links }
-        ensures { self.new ≡ with_node self.old (with_parts self.old.node
-            (with_link self.old.node.parts link (opened period (link_at self.old.node.parts link)))) }
+        ensures { self.new ≡ with_node self.old (with_parts self.old.node (with_link self.old.node.parts link
+            (opened_by self.old.settings period (link_at self.old.node.parts link)))) }
     {
+        let untested = self.tests_links();
         self.pending
-            .add_all_if(self.links.state(link).is_in_service());
-        self.links.open(link, period);
+            .add_all_if(self.links.state(link).carries_traffic());
+        self.links
+            .open(link, self.settings.out_of_service(), period, untested);
     }
 
     /// A link is down. Its association stays.
@@ -93,7 +130,7 @@ impl Exchange {
             (with_link self.old.node.parts link (after_failure (link_at self.old.node.parts link)))) }
     {
         self.pending
-            .add_all_if(self.links.state(link).is_in_service());
+            .add_all_if(self.links.state(link).carries_traffic());
         self.links.fail(link);
     }
 
@@ -105,18 +142,18 @@ impl Exchange {
         ensures state { self.new ≡ with_node self.old (with_parts self.old.node
             (with_link self.old.node.parts link (after_action result (link_at self.old.node.parts link)))) }
     {
-        let served = self.links.state(link).is_in_service();
+        let carried = self.links.state(link).carries_traffic();
         let action = self.links.on(link, input);
-        let serves = self.links.state(link).is_in_service();
-        self.pending.add_all_if(has_changed(served, serves));
+        let carries = self.links.state(link).carries_traffic();
+        self.pending.add_all_if(has_changed(carried, carries));
         action
     }
 }
 
-/// Whether a link entered or left service.
+/// Whether a link began or ceased to carry traffic.
 #[inline(always)]
-fn has_changed(served: bool, serves: bool) -> bool
-    ensures { result ≡ (if served then not serves else serves) }
+fn has_changed(carried: bool, carries: bool) -> bool
+    ensures { result ≡ (if carried then not carries else carries) }
 {
-    if served { !serves } else { serves }
+    if carried { !carries } else { carries }
 }

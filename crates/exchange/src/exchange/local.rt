@@ -177,27 +177,20 @@ impl Exchange {
             Management::TrafficRestartAllowed => Outcome::Ignored,
             Management::UserPartUnavailable(_, _, _) => self.on_unavailable(),
             Management::ExtendedChangeoverOrder(slc, number) => {
-                let link = self.link_with_code(point, slc);
-                self.do_order(link, Some(number))
+                self.do_order(point, slc, Some(number))
             }
-            Management::EmergencyChangeoverOrder(slc) => {
-                let link = self.link_with_code(point, slc);
-                self.do_order(link, None)
-            }
+            Management::EmergencyChangeoverOrder(slc) => self.do_order(point, slc, None),
             Management::ExtendedChangeoverAcknowledgement(slc, number) => {
-                let link = self.link_with_code(point, slc);
-                self.do_acknowledgement(link, Some(number))
+                self.do_acknowledgement(point, slc, Some(number))
             }
             Management::EmergencyChangeoverAcknowledgement(slc) => {
-                let link = self.link_with_code(point, slc);
-                self.do_acknowledgement(link, None)
+                self.do_acknowledgement(point, slc, None)
             }
             Management::ChangebackDeclaration(slc, code) => self.on_changeback_declaration(
                 point, slc, code,
             ),
             Management::ChangebackAcknowledgement(_, code) => {
-                let set = self.settings.set_to(point);
-                self.on_changeback_acknowledgement(set, code)
+                self.on_changeback_acknowledgement(point, code)
             }
             Management::TransferProhibited(about) => {
                 self.on_route_status(RouteStatus::Prohibited, point, about)
@@ -217,24 +210,28 @@ impl Exchange {
         }
     }
 
-    /// An order to change over from a link of the set to its sender.
-    fn do_order(&mut self, link: Option<LinkId>, number: Option<Number24>) -> Outcome
-        requires { IfSome link (λ link. link < length self.old.settings.links) }
-        ensures { Ends self.old result self.new (rule.do_order kept self.old.settings link number self.old.node) }
+    /// An order to change over from the link of a code in the set to its sender.
+    fn do_order(&mut self, point: PointCode, slc: Sls, number: Option<Number24>) -> Outcome
+        ensures { Ends self.old result self.new (rule.do_order kept self.old.settings
+            (rule.link_with_code self.old.settings point slc) number self.old.node) }
     {
-        match link {
+        match self.link_with_code(point, slc) {
             Some(link) => self.on_changeover_order(link, number),
             None => Outcome::Refused(Cause::BadManagement),
         }
     }
 
     /// The answer to such an order.
-    fn do_acknowledgement(&mut self, link: Option<LinkId>, number: Option<Number24>) -> Outcome
-        requires { IfSome link (λ link. link < length self.old.settings.links) }
-        ensures { Ends self.old result self.new
-            (rule.do_acknowledgement kept self.old.settings link number self.old.node) }
+    fn do_acknowledgement(
+        &mut self,
+        point: PointCode,
+        slc: Sls,
+        number: Option<Number24>,
+    ) -> Outcome
+        ensures { Ends self.old result self.new (rule.do_acknowledgement kept self.old.settings
+            (rule.link_with_code self.old.settings point slc) number self.old.node) }
     {
-        match link {
+        match self.link_with_code(point, slc) {
             Some(link) => self.on_changeover_acknowledgement(link, number),
             None => Outcome::Refused(Cause::BadManagement),
         }

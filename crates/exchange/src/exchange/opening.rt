@@ -81,18 +81,18 @@ impl Exchange {
         self.time(link, &Alignment::open(period));
     }
 
-    /// How long a link is to be proved: for the emergency period, if no other link of its set is in service (Q.703
-    /// §7.1); always equally long, if the settings have no such period.
+    /// How long a link is to be proved: for the emergency period, if the operator ordered that or no other link of its
+    /// set is in service (Q.703 §7.1); always equally long, if the settings have no such period.
     fn period_of(&self, link: LinkId) -> Period
         requires { link < length self.now.settings.links }
         ensures { result ≡ rule.period_of self.now.settings link self.now.node.parts }
     {
         if self.settings.timers().l4e.is_none() {
             Period::Fixed
-        } else if self.has_other(link) {
-            Period::Normal
-        } else {
+        } else if self.links.state(link).is_emergency_ordered() || !self.has_other(link) {
             Period::Emergency
+        } else {
+            Period::Normal
         }
     }
 
@@ -121,14 +121,14 @@ impl Exchange {
         }
     }
 
-    /// The operator lets a link open.
-    pub(super) fn activate(&mut self, link: LinkId) -> Outcome
-        ensures { Ends self.old result self.new (rule.activate kept self.old.settings link self.old.node) }
+    /// The operator lets a link open, with emergency proving or without it.
+    pub(super) fn activate(&mut self, link: LinkId, emergency: bool) -> Outcome
+        ensures { Ends self.old result self.new (rule.activate kept self.old.settings emergency link self.old.node) }
     {
         if !self.links.has(link) {
             return Outcome::Refused(Cause::NoSuchName);
         }
-        self.set_active(link, true);
+        self.let_open(link, emergency);
         Outcome::Handled
     }
 
@@ -140,7 +140,7 @@ impl Exchange {
             return Outcome::Refused(Cause::NoSuchName);
         }
         self.fail_if_up(link, FailureReason::Operator);
-        self.set_active(link, false);
+        self.keep_down(link);
         Outcome::Handled
     }
 }

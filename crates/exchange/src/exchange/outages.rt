@@ -1,7 +1,8 @@
 //! The peer's processor is out, and back (Q.703 §8), where the settings keep a link in service meanwhile.
 
-ghost use Rattle.std.specs.Prelude.{◌≡◌, ◌<◌, length};
-ghost use Rattle.exchange_rules.specs.State.{with_node, with_parts};
+ghost use Rattle.std.specs.Prelude.{◌≡◌, ◌<◌, length, true};
+ghost use Rattle.exchange_rules.specs.State.{with_node, with_parts, in_service};
+ghost use Rattle.exchange_rules.specs.Frames.{in_outage};
 ghost use Rattle.exchange.specs.KeptQueues.{kept};
 ghost use Rattle.exchange_rules.specs.Frames as rule;
 ghost use Rattle.flow_hold.specs.Holds.{lifted};
@@ -39,34 +40,36 @@ impl Exchange {
         }
     }
 
-    /// An outage begins: a Busy of the peer is forgotten, it takes no messages from now on, which L6 watches in place of
-    /// L7, and the flows of the link are held.
+    /// An outage begins: a Busy of the peer is forgotten, it takes no messages from now on, which L6 watches in place
+    /// of L7, and the flows of the link are held.
     fn begin_outage(&mut self, link: LinkId)
         requires { link < length self.old.settings.links }
         ensures { self.new ≡ with_node self.old (rule.begin_outage kept self.old.settings link self.old.node) }
     {
         self.end_busy(link);
         self.become_busy(link);
-        self.set_peer_outage(link, true);
+        self.put_out(link);
         self.suspend(link);
     }
 
-    /// An outage ends: the flows of the link are held no longer, and the peer takes messages again.
+    /// An outage ends: the flows of the link are held no longer, Ready goes out, and the peer takes messages again.
     pub(super) fn end_outage(&mut self, link: LinkId)
-        requires { link < length self.old.settings.links }
+        requires there { link < length self.old.settings.links }
+        requires out { in_outage self.old.node.parts link ≡ true }
         ensures { self.new ≡ with_node self.old (rule.end_outage kept self.old.settings link self.old.node) }
     {
         self.let_back(link);
         self.end_busy(link);
     }
 
-    /// The outage is over, and the changeover of the link no longer holds anything.
+    /// The outage is over, which Ready answers, and the changeover of the link no longer holds anything.
     fn let_back(&mut self, link: LinkId)
-        requires { link < length self.old.settings.links }
+        requires there { link < length self.old.settings.links }
+        requires serves { in_service self.old.node.parts link ≡ true }
         ensures { self.new
             ≡ with_node self.old (with_parts self.old.node (rule.let_back link self.old.node.parts)) }
     {
-        self.set_peer_outage(link, false);
+        self.recover(link);
         self.lift_outage(link);
     }
 

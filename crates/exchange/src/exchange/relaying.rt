@@ -8,20 +8,22 @@ ghost use Rattle.sccp_relay.specs.Values.{own_value};
 ghost use Rattle.exchange_rules.specs.State.{with_node};
 ghost use Rattle.exchange.specs.KeptQueues.{kept};
 ghost use Rattle.exchange.specs.Calls.{is_memory_refused};
-ghost use Rattle.exchange.specs.Relaying.{handled_or_refused, leads_by};
+ghost use Rattle.exchange.specs.Relaying.{handled_or_refused, leads_by, own_in};
 ghost use Rattle.exchange_rules.specs.Messages.{transfer};
 ghost use Rattle.exchange_rules.specs.Exchange.{Ends};
 ghost use Rattle.exchange_rules.specs.Messages as rule;
 
 use super::Exchange;
 use mtp3_codec::Label;
+use node_links::NodeLinks;
 use sccp_relay::{Own, Relayed, TitleKey, Ways, relay, returned};
-use settings::{Cause, Limits, MsuRef, Outcome, PointCode, Sls, TitleRow};
+use settings::{Cause, Limits, MsuRef, Outcome, PointCode, Settings, Sls, TitleRow};
 
 /// Where the links of an exchange lead.
 #[derive(Clone, Copy)]
 pub struct LinkWays<'a> {
-    exchange: &'a Exchange,
+    settings: &'a Settings,
+    links: &'a NodeLinks,
 }
 
 impl Ways for LinkWays<'_> {
@@ -30,7 +32,10 @@ impl Ways for LinkWays<'_> {
     ghost leads = { leads_by };
 
     fn lead_to(&self, point: PointCode, sls: Sls) -> bool {
-        self.exchange.leads_to(point, sls)
+        match self.settings.destination(point) {
+            Some(destination) => self.links.link_of(destination, sls).is_some(),
+            None => false,
+        }
     }
 }
 
@@ -70,7 +75,8 @@ impl Exchange {
                 self.transfer_written(onward)
             }
             Relayed::Heard(news) => {
-                self.titles.hear(&news);
+                let sst = self.sst_ticks();
+                self.titles.hear(sst, &news);
                 Outcome::Handled
             }
             Relayed::Refused(cause) => Outcome::Refused(cause),
@@ -108,14 +114,7 @@ impl Exchange {
     pub fn own(&self) -> Own<'_, LinkWays<'_>>
         ensures { own_value leads_by result ≡ rule.own_of self.now.settings self.now.node.parts }
     {
-        Own {
-            point: self.settings.own(),
-            subsystems: self.settings.subsystems(),
-            extended: self.settings.extended_unitdata(),
-            answers_tests: self.settings.subsystem_tests(),
-            hears_statuses: self.settings.timers().sst.is_some(),
-            ways: LinkWays { exchange: self },
-        }
+        own_in(&self.settings, &self.links)
     }
 
     /// An operator adds a translation row. If it is refused, nothing changes: DuplicateRow if there is a row with its
@@ -132,6 +131,21 @@ impl Exchange {
         ensures { Ends self.old result self.new (rule.remove_title key digits.now self.old.node) }
     {
         handled_or_refused(self.titles.remove(key, digits))
+    }
+}
+
+/// The point that a node with these settings and links is, its subsystems, what it does for SCCP, and where its links
+/// lead.
+pub(super) fn own_in<'a>(settings: &'a Settings, links: &'a NodeLinks) -> Own<'a, LinkWays<'a>>
+    ensures { own_value leads_by result ≡ own_in settings.now links.now }
+{
+    Own {
+        point: settings.own(),
+        subsystems: settings.subsystems(),
+        extended: settings.extended_unitdata(),
+        answers_tests: settings.subsystem_tests(),
+        hears_statuses: settings.timers().sst.is_some(),
+        ways: LinkWays { settings, links },
     }
 }
 

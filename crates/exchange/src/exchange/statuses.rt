@@ -2,7 +2,7 @@
 //! a link that run out.
 
 ghost use Rattle.std.specs.Prelude.{◌≡◌, ◌<◌, length, true, false};
-ghost use Rattle.exchange_rules.specs.State.{with_node, with_parts, link_at, in_service};
+ghost use Rattle.exchange_rules.specs.State.{with_node, with_parts, link_at, in_service, in_traffic};
 ghost use Rattle.exchange.specs.KeptQueues.{kept};
 ghost use Rattle.exchange_rules.specs.Exchange.{Ends};
 ghost use Rattle.routes.specs.Routes.{with_link};
@@ -18,9 +18,9 @@ use m2pa_codec::LinkStatus;
 use settings::{FailureReason, LinkId, Outcome};
 
 impl Exchange {
-    /// A link does what its alignment does about an input, and says what that is. If it is the first of its set to
-    /// enter service, everything known over that set is reset. If it enters service, it takes its flows back. If it
-    /// must fail, nothing changes here.
+    /// A link does what its alignment does about an input, and says what that is. If it carries traffic by this, it
+    /// takes its flows back, and if it is the first of its set, everything known over that set is reset before. If it
+    /// enters service, it is tested. If it must fail, nothing changes here.
     #[inline(always)]
     pub(super) fn act_by(&mut self, link: LinkId, input: Input) -> Action
         requires { link < length self.old.settings.links }
@@ -38,19 +38,21 @@ impl Exchange {
         action
     }
 
-    /// A link entered service. If it is the first of its set, everything known over that set is reset. Then it takes
-    /// its flows back, and is tested.
+    /// A link entered service. If it carries traffic, it takes its flows back. Then it is tested.
     #[inline(never)]
     fn enter_service(&mut self, link: LinkId)
         requires { link < length self.old.settings.links }
         ensures { self.new ≡ with_node self.old (entered kept self.old.settings link self.old.node) }
     {
-        self.take_flows_back(link);
+        if self.carries_traffic(link) {
+            self.take_flows_back(link);
+        }
         self.begin_test(link);
     }
 
-    /// If a link is the first of its set, everything known over that set is reset. Then it takes its flows back.
-    fn take_flows_back(&mut self, link: LinkId)
+    /// A link began to carry traffic. If it is the first of its set, everything known over that set is reset. Then it
+    /// takes its flows back.
+    pub(super) fn take_flows_back(&mut self, link: LinkId)
         requires { link < length self.old.settings.links }
         ensures { self.new ≡ with_node self.old (taken_back kept self.old.settings link self.old.node) }
     {
@@ -60,7 +62,7 @@ impl Exchange {
         self.change_back(link);
     }
 
-    /// Whether no other link of a link's set is in service.
+    /// Whether no other link of a link's set carries traffic.
     fn is_first(&self, link: LinkId) -> bool
         requires { link < length self.now.settings.links }
         ensures { result ≡ is_first_in (with_link link false
@@ -77,6 +79,15 @@ impl Exchange {
         ensures { result ≡ in_service self.now.node.parts link }
     {
         self.links.state(link).is_in_service()
+    }
+
+    /// Whether a link carries traffic: it is in service, and has no test to pass before (Q.707 §2.2).
+    #[inline(always)]
+    pub(super) fn carries_traffic(&self, link: LinkId) -> bool
+        requires { link < length self.now.settings.links }
+        ensures { result ≡ in_traffic self.now.node.parts link }
+    {
+        self.links.state(link).carries_traffic()
     }
 
     /// A link does what its alignment does about an input, and its timers follow.

@@ -12,12 +12,14 @@ use settings::{ChangeoverTimer, LinkId, Outcome, SetId};
 use timers::{TimerName, Timers};
 
 impl Exchange {
-    /// Lowers every timer by one, and runs those that are due.
+    /// Lowers every timer by one, and runs those that are due; then prohibited subsystems have one tick less until
+    /// their next tests.
     pub(super) fn tick(&mut self) -> Outcome
         ensures { Ends self.old result self.new (rule.tick kept self.old.settings self.old.node) }
     {
         self.timers.tick();
         self.run_all();
+        self.count_subsystems();
         Outcome::Handled
     }
 
@@ -59,7 +61,6 @@ impl Exchange {
             TimerName::T10(set, destination) => self.ask_again(set, destination),
             TimerName::Slt1(link) => self.test_unanswered(link),
             TimerName::Slt2(link) => self.next_test(link),
-            TimerName::Sst => {}
         }
     }
 }

@@ -13,8 +13,9 @@ use mtp3_codec::{Label, Management, UnavailabilityCause, UserPart};
 use settings::{LinkId, MsuRef, PointCode};
 
 impl Exchange {
-    /// A message for a user part that isn't here. If it arrived on a link, its origin is a destination, and the settings
-    /// say so, it is counted, and the first of each eight of an origin is answered by UPU, if there is room and a link.
+    /// A message for a user part that isn't here. If it arrived on a link, its origin is a destination, and the
+    /// settings say so, it is counted, and the first of each eight of an origin is answered by UPU, if there is room
+    /// and a link.
     #[inline(never)]
     pub(super) fn answer_no_user_part(&mut self, from: Option<LinkId>, message: MsuRef<'_>)
         ensures { self.new ≡ with_node self.old (rule.answer_no_user_part kept self.old.settings from

@@ -1,25 +1,28 @@
 //! Laws of the abstract exchange: its links.
 
-ghost use Rattle.exchange_rules.specs.Laws.{queued_in_service};
-ghost use Rattle.exchange_rules.specs.Laws.{routed_in_service, declared_in_service, queued_anew_in_service};
-ghost use Rattle.exchange_rules.specs.Laws.{settled_in_service};
+ghost use Rattle.exchange_rules.specs.Laws.{queued_in_traffic};
+ghost use Rattle.exchange_rules.specs.Laws.{routed_in_traffic, declared_in_traffic, queued_anew_in_traffic};
+ghost use Rattle.exchange_rules.specs.Laws.{settled_in_traffic, declared_by_test_in_traffic, tested_in_service};
 ghost use Rattle.exchange_rules.specs.LastingLinks.{links_first_steady, links_stay_steady, l7_watches};
 ghost use Rattle.exchange_rules.specs.Touching.{other_links_are_left, takes_leave_other_queues};
 ghost use Rattle.exchange_rules.specs.Receiving.{received_is_counted, takes_receive_nothing, nothing_new_is_delivered};
 ghost use Rattle.exchange_rules.specs.Aligning.{links_are_proved_first, links_have_their_timers};
 ghost use Rattle.exchange_rules.specs.LawsOfAnswers.{wanted_links_open};
-ghost use Rattle.exchange_rules.specs.LawsOfPeriods.{periods_are_chosen_with_emergency, periods_are_fixed_without_emergency};
+ghost use Rattle.exchange_rules.specs.LawsOfPeriods.{periods_are_chosen_with_emergency, periods_are_fixed_without_emergency, periods_are_those_of_orders_and_sets, orders_say_it, told_as_they_open};
 ghost use Rattle.exchange_rules.specs.LawsOfCauses.{links_fail_so};
 
-/// The link that an answer Queued names is in service. So is each whose queue changes as management made here goes out,
-/// as a link declares that it is back, as a completion queues management of another link anew, and at the end of each
-/// event, as messages are released and adjacent points are told.
-pub fn only_links_in_service_are_given_messages()
-    ensures queued { queued_in_service }
-    ensures routed { routed_in_service }
-    ensures declared { declared_in_service }
-    ensures anew { queued_anew_in_service }
-    ensures settled { settled_in_service }
+/// The link that an answer Queued names carries traffic: it is in service, and has no test to pass before (Q.707 §2.2).
+/// So does each whose queue changes as management made here goes out, as a link declares to it that it is back, as a
+/// completion queues management of another link anew, and at the end of each event, as messages are released and
+/// adjacent points are told. A link whose own queue changes as it takes a step, since it is tested, is in service.
+pub fn only_links_that_carry_traffic_are_given_messages()
+    ensures queued { queued_in_traffic }
+    ensures routed { routed_in_traffic }
+    ensures declared { declared_in_traffic }
+    ensures by_test { declared_by_test_in_traffic }
+    ensures tested { tested_in_service }
+    ensures anew { queued_anew_in_traffic }
+    ensures settled { settled_in_traffic }
 {}
 
 /// A link wants to open exactly where its association, if it came up, would be taken.
@@ -53,16 +56,27 @@ pub fn links_are_proved_before_they_enter_service()
 {}
 
 /// Without emergency proving in the settings (`l4e`) each link is always proved for the same period. With it, each link
-/// that is up has the normal period or that of emergency (Q.703 §7.3).
+/// that is up has the normal period or that of emergency (Q.703 §7.3). A link opens with the period of emergency if the
+/// operator ordered that with its activation, or if no other link of its set is in service, and with the normal one
+/// else (§7.1).
 pub fn the_settings_say_whether_periods_are_chosen()
     ensures fixed { periods_are_fixed_without_emergency }
     ensures chosen { periods_are_chosen_with_emergency }
+    ensures opened { periods_are_those_of_orders_and_sets }
+    ensures ordered { orders_say_it }
 {}
 
-/// An event names a link as failed (Failed) exactly if it takes it down, once, and with a reason that holds of the event:
-/// its association went down; a timer of its own ran out; a frame came by it whose length is wrong, or with a status that
-/// fails it in its state and begins no outage, or with User Data that it doesn't expect or that has a wrong number; its
-/// peer ordered a changeover of it, by a frame on any link; or the operator deactivated it (Q.704 §3.2, RFC 4165 §4.1.3).
+/// A link that opens tells its peer Alignment, and where the settings ask for it Out of Service before that (RFC 4165
+/// §4.1.3, §5.1).
+pub fn links_tell_that_they_align()
+    ensures { told_as_they_open }
+{}
+
+/// An event names a link as failed (Failed) exactly if it takes it down, once, and with a reason that holds of the
+/// event: its association went down; one of L1, L2, L3, L6 and L7 of it ran out, which is that of its state; a frame
+/// came by it whose length is wrong, or with a status that fails it in its state and begins no outage, or with User
+/// Data that it doesn't expect or that has a wrong number; its peer ordered a changeover of it, by a frame on any link;
+/// the operator deactivated it; or a test of it wasn't answered in time (Q.704 §3.2, Q.707 §2.2, RFC 4165 §4.1.3).
 pub fn links_that_fail_are_named()
     ensures { links_fail_so }
 {}

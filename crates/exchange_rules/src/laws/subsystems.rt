@@ -1,7 +1,11 @@
 //! Laws of the abstract exchange: subsystems at other points.
 
-ghost use Rattle.exchange_rules.specs.LawsOfSubsystems.{an_ssa_allows_one, an_ssp_prohibits_one};
-ghost use Rattle.exchange_rules.specs.LawsOfSubsystems.{rows_lead_where_it_is_open, rows_stay, statuses_are_heard};
+ghost use Rattle.exchange_rules.specs.LawsOfSubsystems.{an_ssa_allows_one, an_ssp_prohibits_one, rows_stay, statuses_are_heard};
+ghost use Rattle.exchange_rules.specs.LawsOfSubsystems.{a_tick_counts_them, none_is_where_nothing_leads};
+ghost use Rattle.exchange_rules.specs.LawsOfSubsystems.{nothing_else_changes_titles, orders_leave_subsystems};
+ghost use Rattle.exchange_rules.specs.LawsOfSubsystems.{reached_ones_stay, tests_come_in_turn, tests_read_as_such};
+ghost use Rattle.exchange_rules.specs.LawsOfSubsystems.{rows_lead_where_it_is_open, titles_are_led_on};
+ghost use Rattle.exchange_rules.specs.LawsOfSubsystems.{unreached_points_bar_nothing};
 
 /// A UDT for SCCP management with an SSP or an SSA, from another point, is handled, where these are heard. It changes
 /// nothing but which subsystems are prohibited: an SSP adds the one that it is about, and an SSA takes that away, if
@@ -13,9 +17,30 @@ pub fn subsystems_are_as_their_points_say()
     ensures rows { rows_stay }
 {}
 
+/// Rows and prohibited subsystems change only by what is heard, by a tick, and by an order about rows; that leaves
+/// which subsystems are prohibited. After a tick the points of all that are prohibited are reached: what was known of
+/// the others is forgotten (Q.714 §5.2.3).
+pub fn subsystems_are_forgotten_with_their_points()
+    ensures others { nothing_else_changes_titles }
+    ensures orders { orders_leave_subsystems }
+    ensures tick { a_tick_counts_them }
+    ensures reached { none_is_where_nothing_leads }
+{}
+
+/// While its point is reached and a row leads to it, a subsystem stays prohibited until its SSA comes, and a test of it
+/// is due every `sst` ticks. That is an SST about it, for SCCP management at its point (Q.714 §5.3.4).
+pub fn prohibited_subsystems_are_tested()
+    ensures stay { reached_ones_stay }
+    ensures turns { tests_come_in_turn }
+    ensures text { tests_read_as_such }
+{}
+
 /// A row leads a message to its point if that is reached and its subsystem there isn't prohibited; else to its backup,
 /// on the same terms, if the message didn't come from there. If neither will do, and the subsystem at one that is
 /// reached is prohibited, the message is refused SubsystemProhibited; else it goes to the row's point (Q.714 §5.3.2).
+/// So subsystems at points that aren't reached bar nothing, and a row by title leads as if none were prohibited.
 pub fn rows_keep_off_prohibited_subsystems()
-    ensures { rows_lead_where_it_is_open }
+    ensures choice { rows_lead_where_it_is_open }
+    ensures titles { titles_are_led_on }
+    ensures unreached { unreached_points_bar_nothing }
 {}

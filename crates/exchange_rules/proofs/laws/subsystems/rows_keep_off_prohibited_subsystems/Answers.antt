@@ -1,5 +1,12 @@
 use Rattle.exchange_rules.proofs.Subsystems.{choices}
+use Rattle.exchange_rules.proofs.SubsystemTests.{titles-led-on, unreached-bar-nothing}
 use Rattle.exchange_rules.proofs.laws.subsystems.rows_keep_off_prohibited_subsystems.Goals as goal
 
-pub returns : goal.returns
-returns c = choices
+pub returns-clause-choice : goal.returns-clause-choice
+returns-clause-choice c = choices
+
+pub returns-clause-titles : goal.returns-clause-titles
+returns-clause-titles c = titles-led-on
+
+pub returns-clause-unreached : goal.returns-clause-unreached
+returns-clause-unreached c = unreached-bar-nothing

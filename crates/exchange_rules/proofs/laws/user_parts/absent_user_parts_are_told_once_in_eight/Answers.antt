@@ -1,4 +1,5 @@
-use Rattle.exchange_rules.proofs.AbsentParts.{refused, by-one, by-count, by-none, by-eight, reads, given, the-same, nobody, zeros, taking}
+use Rattle.exchange_rules.proofs.AbsentParts.{refused, by-one, by-count, by-none, by-eight, reads, given, the-same, nobody, as-given, zeros, taking}
+use Rattle.exchange_rules.proofs.Uncounted.{uncounted}
 use Rattle.exchange_rules.proofs.laws.user_parts.absent_user_parts_are_told_once_in_eight.Goals as goal
 
 pub returns-clause-told : goal.returns-clause-told
@@ -21,6 +22,12 @@ returns-clause-others c = the-same
 
 pub returns-clause-submitted : goal.returns-clause-submitted
 returns-clause-submitted c = nobody
+
+pub returns-clause-given : goal.returns-clause-given
+returns-clause-given c = as-given
+
+pub returns-clause-only : goal.returns-clause-only
+returns-clause-only c = uncounted
 
 pub returns-clause-refused : goal.returns-clause-refused
 returns-clause-refused c = refused

@@ -1,9 +1,0 @@
--- The link serves as before.
-use Rattle.exchange.proofs.Basics.{refl, link_in}
-use Rattle.exchange.proofs.Rooms.{still_room}
-use Rattle.exchange.proofs.exchange.Exchange.set_peer_outage.Goals as goal
-
-pub invariant_of-self : goal.invariant_of-self
-invariant_of-self c =
-    still_room c.self.inside c.set_peer_outage.new.self c.args.link (record (link_in c.self.inside.links.links c.args.link) { peer_outage = c.args.out })
-    c.self.invariant c.set_peer_outage.ensures refl
