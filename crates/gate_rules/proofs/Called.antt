@@ -74,9 +74,9 @@ each-beside m k port p ports gates h f j = by (nat_eq j k) refl where
   by false e = f j
 
 -- what a call sees says what is kept, and the exchange is the one that the call leaves
-pub books-so : {B : Type 0} (keeping : Keeping B) (x y : B) (with_exchange : Abstract → B → B) (a : Abstract)
-    → ((z : B) → with_exchange (keeping.exchange z) z ≡ z) → x ≡ y → keeping.exchange x ≡ a → x ≡ with_exchange a y
-books-so keeping x y with_exchange a same e h = sym (same x) ∙ ap (λ (v : Abstract). with_exchange v x) h ∙ ap (with_exchange a) e
+pub books-so : {B : Type 0} (keeping : Keeping B) (x y : B) (a : Abstract) → ((z : B) → keeping.with_exchange (keeping.exchange z) z ≡ z) → x ≡ y → keeping.exchange x ≡ a
+    → x ≡ keeping.with_exchange a y
+books-so keeping x y a same e h = sym (same x) ∙ ap (λ (v : Abstract). keeping.with_exchange v x) h ∙ ap (keeping.with_exchange a) e
 
 -- ---- each call
 

@@ -7,3 +7,4 @@ pub mod Lifting
 pub mod Lawful
 pub mod Running
 pub mod Reading
+pub mod Possible

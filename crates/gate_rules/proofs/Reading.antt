@@ -1,6 +1,7 @@
 -- All that gates put out is packets that can be written, and so reads back.
 use Rattle.std.proofs.Common.{◌≡◌, ℕ, Bool, true, false, List, [], ◌∷◌, Option, Some, None, map, refl, sym, subst, nat_eq, arith}
 use Rattle.std.specs.Prelude.{All, if◌then◌else◌}
+use Rattle.std.specs.List.{Contains}
 use Rattle.std.proofs.lemmas.List.Elements.{All-nil, All-cons, All-head, All-tail, All-append, All-weaker, All-contains}
 use Rattle.m2pa_codec.specs.Frames.{FrameValue, spelled}
 use Rattle.sctp_codec.specs.Packets as packets
@@ -29,7 +30,7 @@ use Rattle.gate_rules.specs.Worlds.{Make, World, new_world, last_world}
 use Rattle.gate_rules.specs.Promises.{node_make, first_nodes}
 use Rattle.gate_rules.specs.Octets.{AreRead, packets_are_read}
 use Rattle.gate_rules.proofs.LinkEnds.{same-number}
-use Rattle.gate_rules.proofs.Called.{IsThere}
+use Rattle.gate_rules.proofs.Called.{Beside, IsThere}
 use Rattle.gate_rules.proofs.Running.{BesideNode, Reaches, all-reach}
 
 -- ---- a packet that can be written
@@ -64,23 +65,38 @@ all-emitted made (d ∷ sent) h =
 
 -- ---- an endpoint
 
-record SiteFits (c : Settings) (s : Site) : Type 0 where
-  kept : Kept c s.state.association
-  packets : All Written s.packets
+pub record SiteFits (c : Settings) (s : Site) : Type 0 where
+  pub kept : Kept c s.state.association
+  pub packets : All Written s.packets
 
-site-happens : (m : ends.Make) (what : Happening) (s : Site) → HasPorts m.settings → AreFit m.secrets → Fits what → SiteFits m.settings s
+pub site-first : (c : Settings) → HasPorts c → SiteFits c (ends.new_site c)
+site-first c ports = record { kept = kept-first c ports; packets = All-nil Written }
+
+pub site-happens : (m : ends.Make) (what : Happening) (s : Site) → HasPorts m.settings → AreFit m.secrets → Fits what → SiteFits m.settings s
     → SiteFits m.settings (ends.happened m what s)
 site-happens m what s ports fit h f =
     let d : Done = after m.settings m.secrets what s.state in
     let p : Puts m.settings d = happens m.settings ports m.secrets fit what s.state h f.kept in
     record { kept = p.left; packets = All-append Written (map (emitted s.mark) d.sent) s.packets (all-emitted s.mark d.sent p.sent) f.packets }
 
+-- what may happen to it, while the other end stands still
+pub may-fit : (c : Settings) (there : Site) → SiteFits c there → (n : nodes.Node) (k : ℕ) (what : Happening) → nodes.MayAssociate there k what n → Fits what
+may-fit c there f n k (endpoint.Opens now is_active) may = tt
+may-fit c there f n k (endpoint.Came now source packet) may =
+    let one : Emitted = may.0.one in
+    fit-of packet (subst IsPacket may.0.is (All-contains Written there.packets one f.packets may.0.there))
+may-fit c there f n k (endpoint.Ticked now) may = tt
+may-fit c there f n k (endpoint.Sends message) may = absurd may
+may-fit c there f n k endpoint.Aborts may = tt
+may-fit c there f n k (endpoint.ShutsDown now) may = tt
+may-fit c there f n k (endpoint.Flushes now) may = tt
+
 -- ---- a node
 
-record NodeFits (m : nodes.Make) (n : nodes.Node) : Type 0 where
-  each : (k : ℕ) → SiteFits (m.endpoints k).settings (n.ports k).site
+pub record NodeFits (m : nodes.Make) (n : nodes.Node) : Type 0 where
+  pub each : (k : ℕ) → SiteFits (m.endpoints k).settings (n.ports k).site
 
-port-fits : (m : nodes.Make) (n : nodes.Node) (k : ℕ) (port : Port) → NodeFits m n → SiteFits (m.endpoints k).settings port.site
+pub port-fits : (m : nodes.Make) (n : nodes.Node) (k : ℕ) (port : Port) → NodeFits m n → SiteFits (m.endpoints k).settings port.site
     → (j : ℕ) → SiteFits (m.endpoints j).settings (if nat_eq j k then port else n.ports j).site
 port-fits m n k port f h j = by (nat_eq j k) refl where
   by : (b : Bool) → nat_eq j k ≡ b → SiteFits (m.endpoints j).settings (if b then port else n.ports j).site
@@ -88,7 +104,7 @@ port-fits m n k port f h j = by (nat_eq j k) refl where
   by false e = f.each j
 
 module _ (m : nodes.Make) (ports : (k : ℕ) → HasPorts (m.endpoints k).settings) (fit : (k : ℕ) → AreFit (m.endpoints k).secrets) where
-  one-fits : (n : nodes.Node) (k : ℕ) (what : Happening) → Fits what → NodeFits m n → SiteFits (m.endpoints k).settings (associated m k what n).site
+  pub one-fits : (n : nodes.Node) (k : ℕ) (what : Happening) → Fits what → NodeFits m n → SiteFits (m.endpoints k).settings (associated m k what n).site
   one-fits n k what h f = site-happens (m.endpoints k) what (n.ports k).site (ports k) (fit k) h (f.each k)
 
   sent-fits : (n : nodes.Node) (k : ℕ) (frame : Option FrameValue) → NodeFits m n → NodeFits m (nodes.sent m k frame n)
@@ -97,20 +113,9 @@ module _ (m : nodes.Make) (ports : (k : ℕ) → HasPorts (m.endpoints k).settin
       record { each = port-fits m n k (associated m k (endpoint.Sends (message_of (spelled frame))) n) f (one-fits n k (endpoint.Sends (message_of (spelled frame))) (omega arith) f) }
 
   module _ (o : nodes.Make) (other : nodes.Node) (there : NodeFits o other) where
-    may-fit : (n : nodes.Node) (k j : ℕ) (what : Happening) → nodes.MayAssociate (other.ports j).site k what n → Fits what
-    may-fit n k j (endpoint.Opens now is_active) may = tt
-    may-fit n k j (endpoint.Came now source packet) may =
-        let one : Emitted = may.0.one in
-        fit-of packet (subst IsPacket may.0.is (All-contains Written (other.ports j).site.packets one (there.each j).packets may.0.there))
-    may-fit n k j (endpoint.Ticked now) may = tt
-    may-fit n k j (endpoint.Sends message) may = absurd may
-    may-fit n k j endpoint.Aborts may = tt
-    may-fit n k j (endpoint.ShutsDown now) may = tt
-    may-fit n k j (endpoint.Flushes now) may = tt
-
     did-fits : (n : nodes.Node) (what : nodes.Doing) → nodes.MayDo m.configuration o.configuration other what n → NodeFits m n → NodeFits m (nodes.did m what n)
     did-fits n (nodes.Happens what) may f = record { each = f.each }
-    did-fits n (nodes.Associates k what) may f = record { each = port-fits m n k (associated m k what n) f (one-fits n k what (may-fit n k may.0.there what may.1) f) }
+    did-fits n (nodes.Associates k what) may f = record { each = port-fits m n k (associated m k what n) f (one-fits n k what (may-fit (o.endpoints may.0.there).settings (other.ports may.0.there).site (there.each may.0.there) n k what may.1) f) }
     did-fits n (nodes.Sends k) may f = sent-fits n k (frame_to_take whole n.books.exchange k) f
     did-fits n (nodes.Brings what) may f = record { each = f.each }
     did-fits n (nodes.Leaves k) may f = record { each = f.each }
@@ -137,8 +142,8 @@ module _ (near far : nodes.Make) (near_ports : (k : ℕ) → HasPorts (near.endp
 
   new-fits : WorldFits (nodes.new_world near far)
   new-fits = record {
-    near_fits = record { each = λ k. record { kept = kept-first (near.endpoints k).settings (near_ports k); packets = All-nil Written } };
-    far_fits = record { each = λ k. record { kept = kept-first (far.endpoints k).settings (far_ports k); packets = All-nil Written } };
+    near_fits = record { each = λ k. site-first (near.endpoints k).settings (near_ports k) };
+    far_fits = record { each = λ k. site-first (far.endpoints k).settings (far_ports k) };
   }
 
 -- ---- the law
@@ -147,11 +152,15 @@ text-back : (p : PacketValue) → IsPacket p → read_packet (packet_text p) ≡
 unfolding packet_text
 text-back p h = packet-back p h
 
+-- a packet of a gate is one of the endpoint beside it
+pub port-read : (m : nodes.Make) (c : Settings) (k : ℕ) (port : Port) (p : gates.Port) → Beside m k port p → SiteFits c port.site → (one : Emitted) → Contains p.packets one
+    → read_packet (packet_text one.packet) ≡ Some one.packet
+port-read m c k port p b f one i =
+    let t : IsThere port.site p one = b.ages.packets one (in-from p.packets one i) in
+    text-back one.packet (subst IsPacket t.same (All-contains Written port.site.packets t.one f.packets (contains-from port.site.packets t.one t.there)))
+
 read-so : (m : Make) (g : gates.Node) (n : nodes.Node) → BesideNode m g n → NodeFits (node_make m) n → AreRead g
-read-so m g n b f link one i =
-    let t : IsThere (n.ports link).site (g.ports link) one = (b.ports link).ages.packets one (in-from (g.ports link).packets one i) in
-    text-back one.packet
-    (subst IsPacket t.same (All-contains Written (n.ports link).site.packets t.one (f.each link).packets (contains-from (n.ports link).site.packets t.one t.there)))
+read-so m g n b f link one i = port-read (node_make m) ((node_make m).endpoints link).settings link (n.ports link) (g.ports link) (b.ports link) (f.each link) one i
 
 pub all-read : packets_are_read
 all-read near far sharing list steps near_ports far_ports =

@@ -47,7 +47,7 @@ module _ (m : Make) (peer : Configuration) (other : nodes.Node) (k : ℕ) (k-in 
   pub node-goes : (g : gates.Node) (n : nodes.Node) (o : gates.Port) (call : Call) → BesideNode m g n → Holds (end_at (node_make m) k n) → Ages (other.ports k-in.there).site o
       → gates.MayCall o call → GoesOn g n (gates.Calls k call)
   node-goes g n o call b z a may =
-      let d : Did WholeQueues = done_by call k g in
+      let d : Did WholeQueues = done_by books_kept call k g in
       let e : LinkEnd Books = end_at (node_make m) k n in
       let c : Goes books_kept (node_make m) k (other.ports k-in.there).site Holds lasts e g.books call d (g.ports k) =
       call-goes books_kept (node_make m) k (other.ports k-in.there).site Holds lasts e g.books (g.ports k) o call b.books (b.ports k) z a may in
@@ -55,9 +55,9 @@ module _ (m : Make) (peer : Configuration) (other : nodes.Node) (k : ℕ) (k-in 
       record {
         steps = map (doing_of k) c.acts;
         may = may-are (node_make m) k n c.acts peer other k-in c.may;
-        beside = subst (BesideNode m (with_call call k d g)) (sym (dids-are (node_make m) k n c.acts))
+        beside = subst (BesideNode m (with_call books_kept call k d g)) (sym (dids-are (node_make m) k n c.acts))
             (record {
-              books = books-so books_kept l.books (seen_all books_kept k d.seen g.books) (λ v x. record x { exchange = v }) d.exchange (λ x. refl) c.books c.exchange;
+              books = books-so books_kept l.books (seen_all books_kept k d.seen g.books) d.exchange (λ x. refl) c.books c.exchange;
               ports = each-beside (node_make m) k l.port (port_after call d (g.ports k)) n.ports g.ports c.port b.ports;
             });
       }

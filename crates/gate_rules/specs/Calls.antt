@@ -44,12 +44,14 @@ pub record Shows (m : Make) (link : ℕ) (port : Port) (g : Gate) : Type 0 where
 -- next frame of a link that is taken
 pub record Keeping (B : Type 0) : Type 0 where
   pub exchange : B → Abstract
+  pub with_exchange : Abstract → B → B
   pub happened : Happening → B → B
   pub took : (link : ℕ) → B → B
 
 abbrev pub books_kept : Keeping Books
 books_kept = record {
   exchange = λ b. b.exchange;
+  with_exchange = λ a b. record b { exchange = a };
   happened = happened;
   took = λ link b. record b { exchange = taken whole b.exchange link };
 }

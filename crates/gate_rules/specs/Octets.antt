@@ -5,7 +5,7 @@ use Rattle.sctp_codec.specs.Reading.{read_packet}
 use Rattle.sctp_rules.specs.WrittenPackets.{HasPorts}
 use Rattle.sctp_bundling.specs.ChunkRows.{packet_text}
 use Rattle.sctp_ends.specs.Worlds.{Emitted}
-use Rattle.gate_rules.specs.Worlds.{Make, Node, World}
+use Rattle.gate_rules.specs.Worlds.{GateNode, Make, World}
 use Rattle.gate_rules.specs.Promises.{Always}
 
 -- SCTP ports have 16 bits
@@ -13,7 +13,7 @@ abbrev pub HavePorts : Make → Type 0
 HavePorts m = (link : ℕ) → HasPorts (m.gates link).settings
 
 -- the octets of each packet that a gate of the node put out are read as that packet
-abbrev pub AreRead : Node → Type 0
+abbrev pub AreRead : {B : Type 0} → GateNode B → Type 0
 AreRead n =
     (link : ℕ) (one : Emitted) → Contains (n.ports link).packets one →
     read_packet (packet_text one.packet) ≡ Some one.packet

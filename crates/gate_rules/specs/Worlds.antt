@@ -1,6 +1,7 @@
--- Two nodes that share a link set, each an exchange with a gate for each link of it, and all packets that these ever
--- put out. What is done at them are calls of gates, and other things that happen to exchanges. Each may have whatever
--- further links and neighbours, on which anything may happen.
+-- What a call of a gate leaves of its node, whatever that keeps; and two nodes that share a link set, each an exchange
+-- with a gate for each link of it, and all packets that these ever put out. What is done at them are calls of gates,
+-- and other things that happen to exchanges. Each may have whatever further links and neighbours, on which anything may
+-- happen.
 use Rattle.std.specs.Prelude.{◌≡◌, ◌≤◌, ◌+◌, ◌*◌, ℕ, Bool, List, [], ◌∷◌, ◌++◌, Some, None, map, nat_eq, if◌then◌else◌}
 use Rattle.std.specs.List.{Contains}
 use Rattle.settings_rows.specs.Configuration.{Configuration}
@@ -15,9 +16,9 @@ use Rattle.exchange_rules.specs.Queues.{WholeQueues, whole}
 use Rattle.sctp_gate.specs.Gates.{Gate, Did, new_gate}
 use Rattle.sctp_gate.specs.Calling.{Call, Hears, Ticks, Settles, Fills, Closes, called}
 use Rattle.node_rules.specs.Worlds.{Books, happened, happened_elsewhere, left_by, IsBetween, IsOwn, LeadsElsewhere, MayBring}
-use Rattle.gate_rules.specs.Calls.{books_kept, seen_all, messages_in, does_flush}
+use Rattle.gate_rules.specs.Calls.{Keeping, books_kept, seen_all, messages_in, does_flush}
 
--- ---- a node
+-- ---- a node with gates
 
 -- a gate, and all packets that it put out, the latest first
 pub record Port : Type 0 where
@@ -27,8 +28,9 @@ pub record Port : Type 0 where
   pub messages : ℕ
   pub mark : ℕ
 
-pub record Node : Type 0 where
-  pub books : Books
+-- a node: what it keeps, and the gate of each of its links
+pub record GateNode (B : Type 0) : Type 0 where
+  pub books : B
   pub ports : (link : ℕ) → Port
 
 -- how a gate is made: whether it tries to open, its endpoint's settings, and the keys of that
@@ -50,6 +52,38 @@ new_port link m = record {
   mark = 0;
 }
 
+-- ---- a call
+
+-- what it puts out was made since packets were asked for last
+abbrev pub port_after : Call → Did WholeQueues → Port → Port
+port_after call d p = record {
+  gate = d.gate;
+  packets = map (emitted p.mark) d.sent ++ p.packets;
+  messages = p.messages + messages_in d.seen;
+  mark = if does_flush call p.gate then p.messages + messages_in d.seen else p.mark;
+}
+
+module _ {B : Type 0} (keeping : Keeping B) where
+  -- what a call of the gate of a link does
+  abbrev pub done_by : Call → (link : ℕ) → GateNode B → Did WholeQueues
+  done_by call link n = called whole call (n.ports link).gate (keeping.exchange n.books)
+
+  -- the exchange is the one that the call leaves, and what is seen of the call says what else is kept
+  abbrev pub books_after : (link : ℕ) → Did WholeQueues → B → B
+  books_after link d b = keeping.with_exchange d.exchange (seen_all keeping link d.seen b)
+
+  abbrev pub with_call : Call → (link : ℕ) → Did WholeQueues → GateNode B → GateNode B
+  with_call call link d n = record {
+    books = books_after link d n.books;
+    ports = λ other. if nat_eq other link then port_after call d (n.ports link) else n.ports other;
+  }
+
+-- ---- one of two nodes
+
+-- it keeps what its exchange accepted and received
+abbrev pub Node : Type 0
+Node = GateNode Books
+
 abbrev pub new_node : Make → Node
 new_node m = record {
   books = record { exchange = first_state m.configuration; accepted = []; received = [] };
@@ -67,32 +101,9 @@ pub data Doing : Type 0 where
   Brings : (what : Happening) → Doing
   Leaves : (link : ℕ) → Doing
 
--- what a call does
-abbrev pub done_by : Call → (link : ℕ) → Node → Did WholeQueues
-done_by call link n = called whole call (n.ports link).gate n.books.exchange
-
--- what it puts out was made since packets were asked for last
-abbrev pub port_after : Call → Did WholeQueues → Port → Port
-port_after call d p = record {
-  gate = d.gate;
-  packets = map (emitted p.mark) d.sent ++ p.packets;
-  messages = p.messages + messages_in d.seen;
-  mark = if does_flush call p.gate then p.messages + messages_in d.seen else p.mark;
-}
-
--- the exchange is the one that the call leaves, and what is seen of the call says what it accepted and received
-abbrev pub books_after : (link : ℕ) → Did WholeQueues → Books → Books
-books_after link d b = record (seen_all books_kept link d.seen b) { exchange = d.exchange }
-
-abbrev pub with_call : Call → (link : ℕ) → Did WholeQueues → Node → Node
-with_call call link d n = record {
-  books = books_after link d n.books;
-  ports = λ other. if nat_eq other link then port_after call d (n.ports link) else n.ports other;
-}
-
 abbrev pub did : Doing → Node → Node
 did (Happens what) n = record n { books = happened what n.books }
-did (Calls link call) n = with_call call link (done_by call link n) n
+did (Calls link call) n = with_call books_kept call link (done_by books_kept call link n) n
 did (Brings what) n = record n { books = happened_elsewhere what n.books }
 did (Leaves link) n = record n { books = left_by link (frame_to_take whole n.books.exchange link) n.books }
 

@@ -1,7 +1,8 @@
-//! Laws of gates. The statements are those of `specs/Calls.antt`, `Promises.antt` and `Octets.antt`.
+//! Laws of gates. The statements are those of `specs/Calls.antt`, `Promises.antt`, `Octets.antt` and `Possible.antt`.
 
 ghost use Rattle.gate_rules.specs.Calls.{calls_are_steps, new_gates_show};
 ghost use Rattle.gate_rules.specs.Octets.{packets_are_read};
+ghost use Rattle.gate_rules.specs.Possible.{steps_are_possible};
 ghost use Rattle.gate_rules.specs.Promises.{runs_are_runs_of_nodes, each_message_once, each_flow_in_order};
 ghost use Rattle.gate_rules.specs.Promises.{alone_is_special};
 
@@ -38,6 +39,14 @@ pub fn each_flow_keeps_its_order()
 /// either accepted is for the other, and both promises hold of all user messages.
 pub fn nodes_alone_are_the_special_case()
     ensures { alone_is_special }
+{}
+
+/// These laws aren't empty. Whatever was done before, at a node a tick may pass and a message may be handed over; each
+/// gate of a link between the two may be called in each way, a packet may come to it that was put out at the other end
+/// of the link and after which no message passed there, and so may what is no packet; and a link that leads elsewhere
+/// may open and send.
+pub fn steps_of_gates_are_possible()
+    ensures { steps_are_possible }
 {}
 
 /// What a gate puts out is octets on its way (`sent_as`), and a gate that hears these octets hears the packet that was

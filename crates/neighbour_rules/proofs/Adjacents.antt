@@ -51,10 +51,11 @@ points-steps c = record {
   dropped = λ link why n e. record { same = refl };
   completed = λ link number st n e f. record { same = refl };
   answered = λ link st n e f w. record { same = refl };
-  linked = λ link x n e. record { same = refl };
+  linked = λ link x n e o. record { same = refl };
   parted = λ link n e. record { same = refl };
   opened = λ link n own e f g. record { same = refl };
   stepped = λ link input step n own e. record { same = refl };
+  passed = λ link n e. record { same = refl };
   busied = λ link n own e f. record { same = refl };
   resumed = λ link n own e f. record { same = refl };
   accepted = λ link d confirmed n own e f. record { same = refl };

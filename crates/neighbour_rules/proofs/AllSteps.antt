@@ -1,6 +1,6 @@
 -- Each step of a pair, at either end, goes by moves; and so does each list of them.
 use Rattle.pair_rules.proofs.Basics.{inl, ◌≡◌, ◌≢◌, ◌<◌, ℕ, Bool, true, false, List, [], ◌∷◌, length, Option, Some, None, append-nil, refl, ap, sym, subst, ◌∙◌, slice_get, slice_index_or, slice_set, get_or-set_other, get_or-set_same, length-set, ⊎_elim, cases_eq}
-use Rattle.pair_rules.proofs.Definitions.{Message, in_flight, read_frame, Handled, Configuration, FrameValue, Nothing, Open, Close, Node, Done, answer, CameUp, FrameCame, WholeQueues, whole, open_link, wanted, apply, settled, done-waits, Reading, PairState, Streams, may_follow, may_open_at, turned}
+use Rattle.pair_rules.proofs.Definitions.{Message, in_flight, new_message, Handled, Configuration, FrameValue, Nothing, Open, Close, Node, Done, answer, CameUp, FrameCame, WholeQueues, whole, open_link, wanted, apply, settled, done-waits, Reading, PairState, Streams, may_follow, may_open_at, turned}
 use Rattle.exchange_rules.specs.declared.wants.Wants.{Wants}
 use Rattle.pair_moves.specs.Ends as ends
 use Rattle.pair_rules.specs.Pairs as pairs
@@ -13,7 +13,6 @@ use Rattle.pair_rules.proofs.Opening.{MayComeUp, came-up, may_open-at, opened_ne
 use Rattle.pair_rules.proofs.Standing.{AreStreams, Waits, end_with, rests, world_of}
 use Rattle.pair_rules.proofs.Flights.{changed_at, changed-here, changed-other, texts-changed}
 use Rattle.neighbour_rules.specs.Neighbours.{Doing, Does, OpensElsewhere, HearsElsewhere, Step, AtNear, AtFar, after_steps, after_steps_for, did_between_for, did_for, end_there, far_may_open, leads_elsewhere, opens_first, speaks_for_either, takes_elsewhere_for, takes_in_for, turn, turn_for}
-use Rattle.exchange_rules.specs.Laws.{carried_message}
 use Rattle.neighbour_rules.proofs.Untold.{IsUntoldBy}
 use Rattle.neighbour_rules.proofs.Counted.{turned_base}
 use Rattle.neighbour_rules.proofs.World.{reading, reads-alike, shown}
@@ -31,10 +30,10 @@ use Rattle.neighbour_rules.proofs.Steps.{deliver-stands, deliver_status-stands, 
 
 -- ---- what the far end tells of no route to the point
 
--- of what is done at the near end: no frame that comes from the far one does so
+-- of what is done at the near end: no message that a frame from the far one newly carries does so
 abbrev pub IsUntoldDoing : (c z : Configuration) (a : AreFacing c z) → Doing → PairState → Type 0
 IsUntoldDoing c z a (Does (pairs.Delivers link)) p =
-    (text : List ℕ) → slice_get (in_flight p.near.incoming.user_data link) 0 ≡ Some text → (m : Message) → carried_message (read_frame text) ≡ Some m → IsUntoldBy c z (near_joint c z a) m
+    (text : List ℕ) → slice_get (in_flight p.near.incoming.user_data link) 0 ≡ Some text → (m : Message) → new_message link text p.near.exchange ≡ Some m → IsUntoldBy c z (near_joint c z a) m
 IsUntoldDoing c z a (Does (pairs.Submits message)) p = Unit {0}
 IsUntoldDoing c z a (Does (pairs.Takes link)) p = Unit {0}
 IsUntoldDoing c z a (Does (pairs.DeliversStatus link)) p = Unit {0}
@@ -42,7 +41,7 @@ IsUntoldDoing c z a (Does (pairs.LosesStatus link)) p = Unit {0}
 IsUntoldDoing c z a (Does (pairs.DoublesStatus link)) p = Unit {0}
 IsUntoldDoing c z a (Does (pairs.Loses link)) p = Unit {0}
 IsUntoldDoing c z a (Does pairs.Ticks) p = Unit {0}
-IsUntoldDoing c z a (Does (pairs.Activates link)) p = Unit {0}
+IsUntoldDoing c z a (Does (pairs.Activates link emergency)) p = Unit {0}
 IsUntoldDoing c z a (Does (pairs.Deactivates link)) p = Unit {0}
 IsUntoldDoing c z a (Does (pairs.AddsTitle row is_memory_refused)) p = Unit {0}
 IsUntoldDoing c z a (Does (pairs.RemovesTitle key digits)) p = Unit {0}
@@ -325,7 +324,7 @@ module _ (c z : Configuration) (a : AreFacing c z) where
     between-stands (pairs.RemovesTitle key digits) untold s = happens-stands c z a n m ni fi nv fv na nr fa fr _ (λ w. remove_title-passes c z j key digits w n) s
     between-stands (pairs.Loses link) untold s = happens-stands c z a n m ni fi nv fv na nr fa fr _ (λ w. association_down-passes c z j w n link) s
     between-stands pairs.Ticks untold s = happens-stands c z a n m ni fi nv fv na nr fa fr _ (λ w. tick-passes c z j w n) s
-    between-stands (pairs.Activates link) untold s = happens-stands c z a n m ni fi nv fv na nr fa fr _ (λ w. activate-passes c z j w n link) s
+    between-stands (pairs.Activates link emergency) untold s = happens-stands c z a n m ni fi nv fv na nr fa fr _ (λ w. activate-passes c z j emergency w n link) s
     between-stands (pairs.Deactivates link) untold s = happens-stands c z a n m ni fi nv fv na nr fa fr _ (λ w. deactivate-passes c z j w n link) s
     between-stands (pairs.OpensFirst link) untold s = first-by (wanted n.parts link) (far_of link) (far_may_open p (far_of link)) link refl refl refl s
     between-stands (pairs.OpensSecond link) untold s = second-by (wanted n.parts link) (may_follow p.near link) (far_of link) link refl refl refl s
@@ -380,7 +379,7 @@ own-untold c z a own (Does (pairs.LosesStatus link)) p = tt
 own-untold c z a own (Does (pairs.DoublesStatus link)) p = tt
 own-untold c z a own (Does (pairs.Loses link)) p = tt
 own-untold c z a own (Does pairs.Ticks) p = tt
-own-untold c z a own (Does (pairs.Activates link)) p = tt
+own-untold c z a own (Does (pairs.Activates link emergency)) p = tt
 own-untold c z a own (Does (pairs.Deactivates link)) p = tt
 own-untold c z a own (Does (pairs.AddsTitle row is_memory_refused)) p = tt
 own-untold c z a own (Does (pairs.RemovesTitle key digits)) p = tt

@@ -1,5 +1,5 @@
 -- A frame comes, between the two nodes or from elsewhere: whole events at the near node, by moves.
-use Rattle.pair_rules.proofs.Basics.{◌≡◌, ◌≢◌, ◌<◌, ◌++◌, ◌∷◌, ◌&&◌, ℕ, Bool, true, false, not, ◌||◌, List, [], length, Option, None, Result, Ok, Err, refl, sym, subst, nat_lt, arith, nat_tests, if◌then◌else◌, option_to_list, Some}
+use Rattle.pair_rules.proofs.Basics.{◌≡◌, ◌≢◌, ◌<◌, ◌++◌, ◌∷◌, ◌&&◌, ℕ, Bool, true, false, not, ◌||◌, List, [], length, Option, None, Result, Ok, Err, refl, ap, sym, subst, ◌∙◌, nat_lt, arith, nat_tests, if◌then◌else◌, option_to_list, Some}
 use Rattle.pair_rules.proofs.Definitions.{Message, Ignored, Outcome, Configuration, FrameValue, EmptyFrame, MessageFrame, StatusFrame, read_frame, set_of, Node, Done, FrameCame, UserData, acts_on, WholeQueues, whole, is_link, link_at, down, answer, refuse, with_parts, fit-steps, Fits, read, all_wait, apply, handle_event, accept_text, brought_by, brought_in, new_message, new_of}
 use Rattle.signalling_types.specs.declared.cause.Cause.TheVariants as causes
 use Rattle.signalling_types.specs.declared.notice.FailureReason.TheVariants as reasons
@@ -54,6 +54,13 @@ module _ (c z : Configuration) (j : Joint c z) where
     pub inside : link < length c.links
     pub its : set_of c link ≡ set c z j
 
+  -- a link of the settings is there
+  is-there : (n : Node WholeQueues) (link : ℕ) → Fits c n → link < length c.links → is_link n.parts link ≡ true
+  is-there n link fits inside = below link (length n.parts.links) (subst (λ (k : ℕ). link < k) (sym fits.places.parts.links) inside)
+    where
+      below : (m k : ℕ) → m < k → nat_lt m k ≡ true
+      below m k h = grind (arith, nat_tests, h)
+
   -- ---- a frame is handed in: where its link is there and isn't down it is read
 
   -- `book` says what is in flight and on the books then, by what was received and what was accepted
@@ -81,13 +88,7 @@ module _ (c z : Configuration) (j : Joint c z) where
       by-state false b e l g = absurd cc
 
       received : Passes c z j (at c z j w n [] []) (taken_at (is_link n.parts link) (down n.parts link))
-      received = passes-good c z j _ _ (λ g. by-state (is_link n.parts link) (down n.parts link) refl (there g.fits) g)
-        where
-          there : Fits c n → is_link n.parts link ≡ true
-          there fits = below link (length n.parts.links) (subst (λ (k : ℕ). link < k) (sym fits.places.parts.links) inside)
-            where
-              below : (m k : ℕ) → m < k → nat_lt m k ≡ true
-              below m k h = grind (arith, nat_tests, h)
+      received = passes-good c z j _ _ (λ g. by-state (is_link n.parts link) (down n.parts link) refl (is-there n link g.fits inside) g)
 
       -- the whole event
       event-received : Passes c z j (at c z j w n [] []) (at c z j (book (option_to_list (new_message link text (exchange n))) (brought_in (FrameCame link text) (exchange n))) (apply whole c (FrameCame link text) n).left [] [])
@@ -102,18 +103,23 @@ module _ (c z : Configuration) (j : Joint c z) where
   -- ---- between the two
 
   module _ (w : World) (n : Node WholeQueues) (link : ℕ) (text : List ℕ) (wait : all_wait c n.parts.holds n.queues.held ≡ true) (knows : KnowsPoints c n) where
-    -- a message that a frame carries tells nothing of the route to the point
+    -- a message that a frame newly carries tells nothing of the route to the point
     abbrev IsUntoldIn : Option Message → Type 0
     IsUntoldIn o = (m : Message) → o ≡ Some m → IsUntoldBy c z j m
 
+    newly-is : (l b : Bool) → l ≡ true → b ≡ false → (if l && not b then new_of (read_frame text) link c n else None) ≡ new_of (read_frame text) link c n
+    newly-is true false e f = refl
+    newly-is true true e f = absurd cc
+    newly-is false b e f = absurd cc
+
     data-read : (f : ℕ → List FrameValue) (frame : FrameValue) → IsFlying z c j.base.back j.shares.far_set frame → Pops c z j w link frame f → down n.parts link ≡ false
-        → ((other : ℕ) → Each (IsFlying z c j.base.back j.shares.far_set) (w.to_near.user_data other)) → IsUntoldIn (carried_message (Ok frame))
+        → ((other : ℕ) → Each (IsFlying z c j.base.back j.shares.far_set) (w.to_near.user_data other)) → IsUntoldIn (new_of (Ok frame) link c n)
         → Passes c z j (at c z j w n [] []) (read_as w (bringing c z j (popped c z j w f)) n link text (Ok frame))
     data-read f _ (empty bsn fsn s) p up each untold = empty-acted c z j w link bsn fsn f p (acts_on (link_at n.parts link) UserData) n refl up
     data-read f _ (carrying bsn fsn sio sif s is bound) p up each untold =
-        message-acted c z j w link bsn fsn sio sif f p (acts_on (link_at n.parts link) UserData) n refl up each wait knows (untold _ refl)
+        message-acted c z j w link bsn fsn sio sif f p (acts_on (link_at n.parts link) UserData) n refl up each wait knows untold
 
-    pub data-comes : (f : ℕ → List FrameValue) (frame : FrameValue) → IsNext w.to_near.user_data f link frame → read_frame text ≡ Ok frame → IsUntoldIn (carried_message (read_frame text))
+    pub data-comes : (f : ℕ → List FrameValue) (frame : FrameValue) → IsNext w.to_near.user_data f link frame → read_frame text ≡ Ok frame → IsUntoldIn (new_message link text (exchange n))
         → Passes c z j (at c z j w n [] []) (at c z j (came w (record w.to_near { user_data = f }) link text n) (apply whole c (FrameCame link text) n).left [] [])
     data-comes f frame is reads untold =
         let p : Pops c z j w link frame f = record { rest = is.rest; first = is.first; here = is.here; others = is.others; inside = is.inside; its = is.its } in
@@ -121,7 +127,8 @@ module _ (c z : Configuration) (j : Joint c z) where
         (λ gone. none-brought c z j (at c z j w n [] []) (popped c z j w f) n [] [] (dropping-frame c z j w link frame f p n gone))
         (λ g up.
         subst (λ (r : Result FrameValue FrameFault). Passes c z j (at c z j w n [] []) (read_as w (bringing c z j (popped c z j w f)) n link text r)) (sym reads)
-        (data-read f frame (subst (Each (IsFlying z c j.base.back j.shares.far_set)) is.first (g.coming.user_data link)).0 p up g.coming.user_data (subst (λ (r : Result FrameValue FrameFault). IsUntoldIn (carried_message r)) reads untold)))
+        (data-read f frame (subst (Each (IsFlying z c j.base.back j.shares.far_set)) is.first (g.coming.user_data link)).0 p up g.coming.user_data
+        (subst IsUntoldIn (newly-is (is_link n.parts link) (down n.parts link) (is-there n link g.fits is.inside) up ∙ ap (λ (r : Result FrameValue FrameFault). new_of r link c n) reads) untold)))
 
     status-read : (f : ℕ → List FrameValue) (frame : FrameValue) (rest : List FrameValue) → IsTelling frame → Retells c z j w link frame rest rest f
         → Passes c z j (at c z j w n [] []) (read_as w (bringing c z j (retold c z j w f)) n link text (Ok frame))

@@ -164,7 +164,7 @@ module _ (near far : Configuration) (p : PairState) (t : AreEnds near far p) whe
   between-ends (pairs.DoublesStatus link) = statuses-ends (slice_get (in_flight p.near.incoming.statuses link) 0) (pairs.with_status_twice link p.near.incoming)
   between-ends (pairs.Loses link) = happens-ends (happening.WentDown link)
   between-ends pairs.Ticks = happens-ends happening.Ticked
-  between-ends (pairs.Activates link) = happens-ends (happening.Activated link)
+  between-ends (pairs.Activates link emergency) = happens-ends (happening.Activated link emergency)
   between-ends (pairs.Deactivates link) = happens-ends (happening.Deactivated link)
   between-ends (pairs.AddsTitle row is_memory_refused) = happens-ends (happening.TitleAdded row is_memory_refused)
   between-ends (pairs.RemovesTitle key digits) = happens-ends (happening.TitleRemoved key digits)

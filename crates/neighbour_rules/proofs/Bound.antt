@@ -120,10 +120,11 @@ module _ (c : Configuration) (well : IsWell c) where
         (each-filter (IsBound c) (λ (m : Message). not (is_management m)) (behind q (accepted_count q number)) (behind-bound q (accepted_count q number) (h.queued link))) h.held)
         (λ h. tt);
     answered = λ link st n e f w. same-queues n _ refl;
-    linked = λ link x n e. same-queues n _ refl;
+    linked = λ link x n e o. same-queues n _ refl;
     parted = λ link n e. same-queues n _ refl;
     opened = λ link n own e f g. queue-keeps n _ n.queues.held link first_queue refl (λ h. h.held) (λ h. tt);
     stepped = λ link input step n own e. same-queues n _ refl;
+    passed = λ link n e. same-queues n _ refl;
     busied = λ link n own e f. same-queues n _ refl;
     resumed = λ link n own e f. same-queues n _ refl;
     accepted = λ link d confirmed n own e f.

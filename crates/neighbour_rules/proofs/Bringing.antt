@@ -10,6 +10,7 @@ use Rattle.mtp3_codec.specs.declared.discrimination.Discrimination.TheVariants a
 use Rattle.sccp_relay.specs.Relay as relays
 use Rattle.sccp_relay.specs.Points.{OwnValue}
 use Rattle.sccp_relay.specs.Returning.{returned}
+use Rattle.exchange_rules.specs.Messages.{sst_ticks}
 use Rattle.sccp_relay.specs.Statuses.{TitlesValue, heard}
 use Rattle.neighbour_rules.proofs.Relinked.{titled-passes}
 use Rattle.exchange_rules.specs.Messages.{is_destination, offer, transfer, in_place_of, own_of, relay_by, return_outcome, send_udts}
@@ -204,8 +205,8 @@ module _ (c z : Configuration) (j : Joint c z) where
         returning (in_place_of m sif) (relayed (relays.Onward sif)).outcome (relayed (relays.Onward sif)).left (relay_by-leaves c n (relays.Onward sif) m).left
         (written sif (onward-fits own rows m.sif sif e))
     relayed-passes (relays.Heard news) e =
-        let left : Node WholeQueues = with_parts n (with_titles (heard news n.parts.titles) n.parts) in
-        passes-both c z j _ _ _ (titled-passes c z j w n (heard news n.parts.titles)) (none-accepted w left)
+        let left : Node WholeQueues = with_parts n (with_titles (heard (sst_ticks c) news n.parts.titles) n.parts) in
+        passes-both c z j _ _ _ (titled-passes c z j w n (heard (sst_ticks c) news n.parts.titles)) (none-accepted w left)
     relayed-passes (relays.Refused cause) e = answered (returned own rows m.sif cause) (λ sif e. returned-fits own rows m.sif cause sif e)
 
     pub unitdata-passes : Passes c z j (at c z j w n [] []) (at c z j (accepting w (unitdata_in (on_unitdata whole c m n).outcome c m n)) (on_unitdata whole c m n).left [] [])

@@ -347,6 +347,7 @@ module _ (c z : Configuration) (j : Joint c z) where
       fits = waited-fits n link e;
       queues = refl;
       alignments = λ code. refl;
+      untested = λ code. refl;
       standings = λ code. standing-other c z n.parts link (own c z j code) (over n link) (apart-past code);
       holds = λ procedure sls. refl;
       codes = λ code. refl;

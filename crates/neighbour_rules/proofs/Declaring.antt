@@ -2,14 +2,14 @@
 -- time. This is by moves if the link that entered is one of the two. If it leads elsewhere, what is held isn't shown,
 -- and the declaration passes by.
 use Rattle.pair_rules.proofs.Basics.{◌≡◌, ◌≢◌, ◌<◌, ◌&&◌, ℕ, suc, Bool, true, false, List, [], ◌∷◌, length, Option, Some, None, refl, ap, sym, subst, ◌∙◌, nat_lt, arith, if◌then◌else◌, ⊎_elim, fun_ext, ltb-true}
-use Rattle.pair_rules.proofs.Definitions.{SELECTIONS, Message, Flow, Configuration, Management, ChangebackDeclaration, Queue, appended, first_queue, with_flows, flows_leave, Procedure, Running, is_outstanding, with_code, Node, Parts, with_parts, in_service, WholeQueues, queue_at, whole, management_to, peer_of, set_of, facts, network_of, code_for, code-fits, declaration, loses_flows, queue_on, Fits, StaysFit, fit-steps, each-set, IsAlike, IsManagement, Saying, Declaration}
+use Rattle.pair_rules.proofs.Definitions.{in_traffic, SELECTIONS, Message, Flow, Configuration, Management, ChangebackDeclaration, Queue, appended, first_queue, with_flows, flows_leave, Procedure, Running, is_outstanding, with_code, Node, Parts, with_parts, in_service, WholeQueues, queue_at, whole, management_to, peer_of, set_of, facts, network_of, code_for, code-fits, declaration, loses_flows, queue_on, Fits, StaysFit, fit-steps, each-set, IsAlike, IsManagement, Saying, Declaration}
 use Rattle.changeback.specs.Codes.{codes_of}
 use Rattle.exchange_rules.specs.ChangingBack.{code_in_use, time_in_use}
 use Rattle.exchange_rules.proofs.Places.{with_flows-fits}
 use Rattle.exchange_rules.proofs.SteppingTimers.{set-timed}
 use Rattle.timers.specs.declared.name.TimerName.TheVariants as name
 use Rattle.flow_hold.specs.declared.procedure.Procedure.TheVariants as held_by
-use Rattle.node_links.proofs.Chosen.{chosen_serving}
+use Rattle.node_links.proofs.Chosen.{chosen_carrying}
 use Rattle.exchange_rules.proofs.AwaitedCodes.{codes-there, outstanding-other, outstanding-own}
 use Rattle.exchange_rules.proofs.Onward.{link-set}
 use Rattle.exchange_rules.proofs.SharingNodes.{shared-peer}
@@ -195,8 +195,8 @@ module _ (c z : Configuration) (j : Joint c z) where
     -- no flow leaves a link that loses none
     none-leaves : (other : ℕ) → loses_flows c (facts c p) (facts c first.parts) other link ≡ false → (flow : Flow) → Leaves c z j p first.parts link other flow → ⊥
     none-leaves other e flow l =
-        let served : in_service p other ≡ true = chosen_serving (network_of c p) j.destination flow.sls other l.was in
-        let apart : other ≢ link = λ same. differs (sym i.unserved ∙ subst (λ (k : ℕ). in_service p k ≡ true) same served) in
+        let carried : in_traffic p other ≡ true = chosen_carrying (network_of c p) j.destination flow.sls other l.was in
+        let apart : other ≢ link = λ same. differs (sym i.unserved ∙ subst (λ (k : ℕ). in_traffic p k ≡ true) same carried) in
         differs (sym e
         ∙ loses-so c (facts c p) (facts c first.parts) other link j.destination flow.sls apart j.there (ltb-true flow.sls SELECTIONS l.selection)
         (taken-so (facts c p) (facts c first.parts) other link j.destination flow.sls l.was l.takes))
@@ -250,6 +250,7 @@ module _ (c z : Configuration) (j : Joint c z) where
       fits = stay;
       queues = refl;
       alignments = λ code. refl;
+      untested = λ code. refl;
       standings = λ code. refl;
       holds = λ one sls. flows_leave n.parts.holds procedure (procedure_of c j.base.there (set c z j) one) test j.destination sls (aside one);
       codes = λ code. refl;
@@ -268,6 +269,7 @@ module _ (c z : Configuration) (j : Joint c z) where
           ((fit-steps c).timed _ _ (set-timed (name.T4 (set_of c link) code) c.timers.t4 n.parts.timers (λ l e. cc)));
       queues = refl;
       alignments = λ k. refl;
+      untested = λ k. refl;
       standings = λ k. refl;
       holds = λ one sls. refl;
       codes = λ k. outstanding-other n.parts.codes (set_of c link) code (set c z j) k (λ s f. d (sym s));

@@ -1,6 +1,6 @@
 -- User Data is handed in, the next that is in flight on a link between the two, or by a link that leads elsewhere: by
 -- moves.
-use Rattle.pair_rules.proofs.Basics.{slice_index_or, inl, ◌≡◌, ◌≢◌, ◌<◌, ℕ, Bool, true, false, not, List, [], ◌∷◌, length, Some, Result, Ok, Err, refl, ap, sym, subst, ◌∙◌, option_to_list}
+use Rattle.pair_rules.proofs.Basics.{slice_index_or, inl, ◌≡◌, ◌≢◌, ◌<◌, ℕ, Bool, true, false, not, List, [], ◌∷◌, length, Option, Some, Result, Ok, Err, refl, ap, sym, subst, ◌∙◌, option_to_list}
 use Rattle.pair_rules.proofs.Definitions.{Period, Message, Flow, FailureReason, Configuration, FrameValue, EmptyFrame, MessageFrame, Alignment, Down, NotAligned, Aligned, Proving, AlignedReady, InService, Action, UserData, action_at, acts_on, SeqFault, Link, after_failure, down_link, is_down, is_in_service, Node, with_parts, down, in_service, link_at, set_of, WholeQueues, whole, fail, Carrying, accept, act_by_data, empty_data, handle_by, message_data, numbers, owing, new_by, new_at, advance, Fits, fit-steps, alike-at, confirming, owing-steps, fail-links, advance-serves, data-serves, all_wait, brought_by, accept_data, count_confirmed, Saying, Pair}
 use Rattle.exchange_rules.proofs.Rules.{rules-of}
 use Rattle.exchange_rules.proofs.SteppingLinks.{advance-steps}
@@ -63,7 +63,7 @@ module _ (c z : Configuration) (j : Joint c z) where
   owed-passes : (w : World) (n : Node WholeQueues) (link : ℕ) (m : Message) (arrived : List Message) → down n.parts link ≡ false
       → Passes c z j (at c z j w n arrived []) (at c z j w (with_parts n (owing link (Some m) n.parts)) arrived [])
   owed-passes w n link m arrived up =
-      relinked-passes c z j w n arrived [] link (record (link_at n.parts link) { acknowledgement_owed = true }) n.parts.timers refl
+      relinked-passes c z j w n arrived [] link (record (link_at n.parts link) { acknowledgement_owed = true }) n.parts.timers refl refl
       (λ h gone. (let no : true ≡ false = sym gone ∙ up in absurd cc))
       (owing-steps (rules-of (fit-steps c)) link (Some m) n)
 
@@ -174,8 +174,12 @@ module _ (c z : Configuration) (j : Joint c z) where
       good = λ g. accepted-good c z j w link (MessageFrame bsn fsn sio sif) f p n d confirmed serves accepts (came ∷ []) (λ h. (sent h.coming.user_data, tt)) g;
     }
 
+    -- a message that it newly carries tells nothing of the route to the point
+    abbrev IsUntoldIn : Option Message → Type 0
+    IsUntoldIn o = (m : Message) → o ≡ Some m → IsUntoldBy c z j m
+
     message-handled : (r : Result ℕ SeqFault) (n : Node WholeQueues) → in_service n.parts link ≡ true → numbers whole c link d n ≡ r
-        → ((other : ℕ) → Each (IsFlying z c j.base.back j.shares.far_set) (w.to_near.user_data other)) → all_wait c n.parts.holds n.queues.held ≡ true → KnowsPoints c n → IsUntoldBy c z j came
+        → ((other : ℕ) → Each (IsFlying z c j.base.back j.shares.far_set) (w.to_near.user_data other)) → all_wait c n.parts.holds n.queues.held ≡ true → KnowsPoints c n → IsUntoldIn (new_by r d)
         → Passes c z j (at c z j w n [] [])
         (at c z j (bringing c z j (popped c z j w f) (option_to_list (new_by r d)) (brought_by (new_by r d) (handle_by whole c r link d n).outcome c (accept whole c link d (count_confirmed r) n)))
         (handle_by whole c r link d n).left [] [])
@@ -183,11 +187,11 @@ module _ (c z : Configuration) (j : Joint c z) where
         let o : Node WholeQueues = confirming c link d confirmed n in
         passes-both c z j _ _ _ (message-taken n confirmed serves e)
         (passes-both c z j _ _ _ (owed-passes (popped c z j w f) o link came (came ∷ []) (serving-up (link_at n.parts link).alignment serves))
-        (deliver-passes c z j (popped c z j w f) (accept whole c link d confirmed n) link came (serves-owing link came o serves) wait (confirmed-knows d n confirmed came link serves e knows) (sent each) untold))
+        (deliver-passes c z j (popped c z j w f) (accept whole c link d confirmed n) link came (serves-owing link came o serves) wait (confirmed-knows d n confirmed came link serves e knows) (sent each) (untold came refl)))
     message-handled (Err fault) n serves e each wait knows untold = failing-frame w link (MessageFrame bsn fsn sio sif) f p n reasons.Sequence (serving-up (link_at n.parts link).alignment serves)
 
     pub message-acted : (a : Action) (n : Node WholeQueues) → acts_on (link_at n.parts link) UserData ≡ a → down n.parts link ≡ false
-        → ((other : ℕ) → Each (IsFlying z c j.base.back j.shares.far_set) (w.to_near.user_data other)) → all_wait c n.parts.holds n.queues.held ≡ true → KnowsPoints c n → IsUntoldBy c z j came
+        → ((other : ℕ) → Each (IsFlying z c j.base.back j.shares.far_set) (w.to_near.user_data other)) → all_wait c n.parts.holds n.queues.held ≡ true → KnowsPoints c n → IsUntoldIn (new_at a link d c n)
         → Passes c z j (at c z j w n [] [])
         (at c z j (bringing c z j (popped c z j w f) (option_to_list (new_at a link d c n)) (brought_by (new_at a link d c n) (act_by_data whole c a link d n).outcome c (accept_data a link d c n)))
         (act_by_data whole c a link d n).left [] [])

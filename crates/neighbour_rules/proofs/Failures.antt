@@ -179,6 +179,7 @@ module _ (c z : Configuration) (j : Joint c z) where
       fits = (fit-steps c).dropped link why n out;
       queues = refl;
       alignments = λ code. ap (λ (x : Link). x.alignment) (link-other c z n.parts link (own c z j code) (after_failure (link_at n.parts link)) (apart-elsewhere c z j w n arrived [] link why code l d));
+      untested = λ code. ap (λ (x : Link). x.untested) (link-other c z n.parts link (own c z j code) (after_failure (link_at n.parts link)) (apart-elsewhere c z j w n arrived [] link why code l d));
       standings = λ code. refl;
       holds = λ procedure sls. refl;
       codes = λ code. refl;

@@ -222,6 +222,7 @@ module _ (c z : Configuration) (j : Joint c z) where
       fits = stay;
       queues = refl;
       alignments = λ code. ap (λ (x : Link). x.alignment) (link-other c z n.parts link (own c z j code) (after_failure (link_at n.parts link)) (apart-elsewhere code l d));
+      untested = λ code. ap (λ (x : Link). x.untested) (link-other c z n.parts link (own c z j code) (after_failure (link_at n.parts link)) (apart-elsewhere code l d));
       standings = λ code. standing-other c z n.parts link (own c z j code) s (apart-elsewhere code l d);
       holds = λ procedure sls. hold-others n.parts.holds link test procedure sls (λ code e. apart-elsewhere code l d);
       codes = λ code. refl;

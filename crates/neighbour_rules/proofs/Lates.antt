@@ -169,6 +169,7 @@ module _ (c z : Configuration) (j : Joint c z) where
     fits = freed-steps (fit-steps c) its code n;
     queues = refl;
     alignments = λ k. refl;
+    untested = λ k. refl;
     standings = λ k. refl;
     holds = λ procedure sls. lifted-leaves n.parts.holds (held_by.Code its code) procedure sls (apart-set its code procedure d);
     codes = λ k. ap (λ (row : List Bool). slice_index_or row k false) (get_or-set_other n.parts.codes its (set c z j) _ [] (λ e. d (sym e)));
@@ -228,6 +229,7 @@ module _ (c z : Configuration) (j : Joint c z) where
     fits = run_timer-steps (rules-of (fit-steps c)) (name.T6 destination) n (λ of its e. tt);
     queues = refl;
     alignments = λ k. refl;
+    untested = λ k. refl;
     standings = λ k. refl;
     holds = λ procedure sls. lifted-leaves n.parts.holds (held_by.Reroute destination) procedure sls (apart-reroute destination procedure);
     codes = λ k. refl;

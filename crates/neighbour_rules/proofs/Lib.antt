@@ -51,6 +51,7 @@ pub mod Declaring
 pub mod Frames
 pub mod Adjacents
 pub mod Rerouted
+pub mod Beginning
 pub mod Returns
 pub mod Managing
 pub mod Hearing

@@ -29,7 +29,7 @@ use Rattle.neighbour_rules.proofs.Lates.{declaration_past-passes, freed-elsewher
 use Rattle.neighbour_rules.proofs.Made.{test-past}
 use Rattle.neighbour_rules.proofs.Messages.{dropping, making, says-user}
 use Rattle.neighbour_rules.proofs.Placing.{leaving, placing}
-use Rattle.neighbour_rules.proofs.Testing.{on_test_answer-passes}
+use Rattle.neighbour_rules.proofs.Returns.{on_test_answer-passes}
 use Rattle.neighbour_rules.proofs.Rerouted.{on_route_status-passes, on_route_test-passes, IsUntold}
 use Rattle.neighbour_rules.proofs.Untold.{IsPlain, known-place, place-point}
 
@@ -196,7 +196,7 @@ module _ (c z : Configuration) (j : Joint c z) where
     kind-passes Test link point test n serves adjacent short =
         let m : Message = test_answer c point test in
         passes-both c z j _ _ _ (making c z j w n arrived m [] (test-past c z j point test) short) (answered (no_room whole c m n.queues) link point test n serves adjacent)
-    kind-passes Acknowledgement link point test n serves adjacent short = on_test_answer-passes c z j w arrived link point test n
+    kind-passes Acknowledgement link point test n serves adjacent short = on_test_answer-passes c z j w n arrived link serves point test
 
     test-passes : (r : Result LinkTestValue MgmtFault) (link point : ℕ) (n : Node WholeQueues) → in_service n.parts link ≡ true → is_adjacent c point ≡ true
         → ((test : LinkTestValue) → r ≡ Ok test → length (test_answer c point test).sif ≤ SIF_OCTETS) → Pass n (do_test whole c r link point n).left

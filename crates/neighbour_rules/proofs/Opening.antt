@@ -1,6 +1,6 @@
 -- A link opens at one end, between the two nodes by one move, or elsewhere by none.
 use Rattle.pair_rules.proofs.Basics.{◌≡◌, ◌≢◌, ◌<◌, arith, nat_tests, ◌&&◌, ℕ, Bool, true, false, List, [], length, map, Option, None, refl, ap, sym, subst, ◌∙◌, nat_eq, nat_lt, if◌then◌else◌, option_and_then, option_map, ⊎_elim, cases_eq}
-use Rattle.pair_rules.proofs.Definitions.{period_of, SELECTIONS, Message, Flow, Configuration, FrameValue, Queue, first_queue, destination_place, set_of, Standing, may_restart, Link, down_link, is_down, opened, Facts, chosen_link, Node, link_at, WholeQueues, queue_at, whole, Handled, answer, refuse, is_link, may_open, association_up, changeover_of, open_link, Fits, fit-steps, each-set, LinkEnd, Line, MayOpen}
+use Rattle.pair_rules.proofs.Definitions.{period_of, SELECTIONS, Message, Flow, Configuration, FrameValue, Queue, first_queue, destination_place, set_of, Standing, may_restart, Link, down_link, is_down, opened_by, Facts, chosen_link, Node, link_at, WholeQueues, queue_at, whole, Handled, answer, refuse, is_link, may_open, association_up, changeover_of, open_link, Fits, fit-steps, each-set, LinkEnd, Line, MayOpen}
 use Rattle.signalling_types.specs.declared.cause.Cause.TheVariants as causes
 use Rattle.exchange_rules.specs.Opening.{begun}
 use Rattle.pair_moves.specs.Ends as ends
@@ -77,9 +77,9 @@ module _ (c z : Configuration) (j : Joint c z) (w : World) (link : ℕ) (m : May
           ⊎_elim
           (λ (same : other ≡ link). subst (λ (k : ℕ). (changeover_of n.parts k).awaited ≡ false) (sym same) (unawaited (changeover_of n.parts link) m.restarts))
           (λ (d : other ≢ link).
-          h.unawaited other (ap (λ (x : Link). is_down x.alignment) (sym (link-other c z n.parts link other (opened (period_of c link n.parts) (link_at n.parts link)) d)) ∙ up))
+          h.unawaited other (ap (λ (x : Link). is_down x.alignment) (sym (link-other c z n.parts link other (opened_by c (period_of c link n.parts) (link_at n.parts link)) d)) ∙ up))
           (cases_eq other link);
-      silent = λ other. each-set (λ (x : Link). IsSilent x) n.parts.links link other (opened (period_of c link n.parts) (link_at n.parts link)) down_link h.silent
+      silent = λ other. each-set (λ (x : Link). IsSilent x) n.parts.links link other (opened_by c (period_of c link n.parts) (link_at n.parts link)) down_link h.silent
           (λ gone. (let no : true ≡ false = sym gone in absurd cc));
       queued = λ other. each-set (λ (q : Queue). Each (IsSent c z j.base.there (set c z j)) q.all) n.queues.links link other first_queue first_queue h.queued tt;
       elsewhere = elsewhere-still h;
@@ -181,7 +181,7 @@ module _ (c z : Configuration) (j : Joint c z) (w : World) (link : ℕ) (m : May
 
 module _ (c z : Configuration) (j : Joint c z) (w : World) (n : Node WholeQueues) (link : ℕ) (apart : set_of c link ≢ set c z j) where
   abbrev x : Link
-  x = opened (period_of c link n.parts) (link_at n.parts link)
+  x = opened_by c (period_of c link n.parts) (link_at n.parts link)
 
   -- it begins to align, and then its queue is a new one
   abbrev aligning : Node WholeQueues
@@ -212,6 +212,7 @@ module _ (c z : Configuration) (j : Joint c z) (w : World) (n : Node WholeQueues
       };
       queues = refl;
       alignments = λ code. ap (λ (y : Link). y.alignment) (link-other c z n.parts link (own c z j code) x (own-apart code l));
+      untested = λ code. ap (λ (y : Link). y.untested) (link-other c z n.parts link (own c z j code) x (own-apart code l));
       standings = λ code. refl;
       holds = λ procedure sls. refl;
       codes = λ code. refl;

@@ -30,7 +30,7 @@ use Rattle.exchange_rules.specs.Routing.{facts, link_of, route_about, waits}
 use Rattle.exchange_rules.specs.Rerouting.{apply_route_status, on_route_status}
 use Rattle.exchange_rules.specs.Telling.{on_route_test, answer_no_user_part}
 use Rattle.exchange_rules.specs.Messages.{cause_of, do_kind, do_management, do_test, is_adjacent, is_destination, no_room_for, offer, from_afar, says_unavailable}
-use Rattle.exchange_rules.specs.LinkTests.{passes_test, test_passed, testing}
+use Rattle.exchange_rules.specs.LinkTests.{pass_test, passes_test, testing}
 use Rattle.settings.specs.Readings.{destination_place}
 use Rattle.mtp3_codec.specs.declared.discrimination.Discrimination.TheVariants as whither
 use Rattle.mtp3_codec.specs.declared.fault.MgmtFault.{MgmtFault}
@@ -170,7 +170,7 @@ module _ (c : Configuration) (link : ℕ) where
   kind-quiet kinds.Test point test n = handled
   kind-quiet kinds.Acknowledgement point test n = by (passes_test c link point test n.parts)
     where
-      by : (passes : Bool) → Quiet (if passes then answer Handled (with_parts n (test_passed c link n.parts)) else answer Ignored n).outcome
+      by : (passes : Bool) → Quiet (if passes then answer Handled (pass_test whole c link n) else answer Ignored n).outcome
       by true = handled
       by false = ignored
 

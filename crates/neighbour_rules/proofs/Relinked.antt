@@ -1,4 +1,4 @@
--- One link changes, but neither its alignment nor its changeover; or only timers, notices or translation rows change:
+-- One link changes, but neither its alignment, its changeover nor whether it has a test to pass; or only timers, notices or translation rows change:
 -- the same pair is shown.
 use Rattle.pair_rules.proofs.Basics.{◌≡◌, ℕ, List, [], refl, ap, sym, ◌∙◌, slice_set}
 use Rattle.pair_rules.proofs.Definitions.{Message, Outcome, Handled, Held, Ignored, Local, Queued, Refused, Configuration, TitleEntry, Alignment, Running, Link, down_link, is_down, Node, Noted, with_parts, link_at, WholeQueues, note_outcome, with_titles, StaysFit, fit-steps, alike-at, each-set}
@@ -10,9 +10,10 @@ use Rattle.neighbour_rules.proofs.Good.{Joint, Passes, at, passes-none}
 use Rattle.neighbour_rules.proofs.Unseen.{aside-passes, own, unseen-passes}
 
 module _ (c z : Configuration) (j : Joint c z) where
-  -- ---- one link changes, whichever it is, but neither its alignment nor its changeover; and timers
+  -- ---- one link changes, whichever it is, but not its alignment, its changeover, or whether it has a test to pass; and
+  -- timers
 
-  module _ (w : World) (n : Node WholeQueues) (arrived loose : List Message) (link : ℕ) (x : Link) (t : Running) (same : x.alignment ≡ (link_at n.parts link).alignment) where
+  module _ (w : World) (n : Node WholeQueues) (arrived loose : List Message) (link : ℕ) (x : Link) (t : Running) (same : x.alignment ≡ (link_at n.parts link).alignment) (still : x.untested ≡ (link_at n.parts link).untested) where
     abbrev relinked : Node WholeQueues
     relinked = with_parts n (record n.parts { links = slice_set n.parts.links link x; timers = t })
 
@@ -24,6 +25,7 @@ module _ (c z : Configuration) (j : Joint c z) where
       fits = stay;
       queues = refl;
       alignments = λ code. alignment-same (own c z j code);
+      untested = λ code. alike-at (λ (l : Link). l.untested) n.parts.links link (own c z j code) x down_link still;
       standings = λ code. refl;
       holds = λ procedure sls. refl;
       codes = λ code. refl;

@@ -122,6 +122,7 @@ module _ (c z : Configuration) (j : Joint c z) where
       fits = stay;
       queues = refl;
       alignments = λ code. ap (λ (xs : List Link). (link_in xs (own c z j code)).alignment) a.links;
+      untested = λ code. ap (λ (xs : List Link). (link_in xs (own c z j code)).untested) a.links;
       standings = λ code. ap (λ (xs : List Standing). standing_at xs (own c z j code)) a.changeovers;
       holds = holds;
       codes = λ code. ap (λ (x : Codes). is_outstanding x (set c z j) code) a.codes;

@@ -1,12 +1,24 @@
--- A link takes a step of its alignment, and if it enters service it takes its flows back from one link after another:
--- by moves if it is one of the two, and unseen if it leads elsewhere.
+-- A link takes a step of its alignment, or passes a test, and if it begins to carry traffic it takes its flows back.
 use Rattle.pair_rules.proofs.Basics.{◌≡◌, ◌≢◌, ◌⊎◌, inl, inr, ◌<◌, ◌&&◌, ℕ, zero, suc, Bool, true, false, not, List, [], length, Option, refl, ap, sym, subst, ◌∙◌, nat_lt, nat_eq, if◌then◌else◌, option_map, ⊎_elim, fun_ext, and_parts, cases_eq, None}
-use Rattle.pair_rules.proofs.Definitions.{SELECTIONS, Message, Flow, Configuration, destination_place, Input, acts_on, Link, down_link, is_down, is_in_service, stepped, FrameValue, each-set, facts_alike, chosen_link, Route, Running, Standing, ToldTable, Facts, Node, Parts, with_parts, down, in_service, link_at, WholeQueues, whole, has_other, facts, network_of, set_of, change_back, loses_flows, take_back_each, advance, begun_anew_if, enters, return_if, step_on, changeover_of, StaysFit, fit-steps, each-step, anew-steps, stepped-at, stepped-other, stepping-there, IsAlike, take_back_each-alike, LinkEnd, Pair, Saying}
+use Rattle.pair_rules.proofs.Definitions.{in_traffic, code_for, hold_flows, is_taken_back, answer, Handled, Ignored, SELECTIONS, Message, Flow, Configuration, destination_place, Input, acts_on, Link, down_link, is_down, is_in_service, stepped, FrameValue, each-set, facts_alike, chosen_link, Route, Running, Standing, ToldTable, Facts, Node, Parts, with_parts, down, in_service, link_at, WholeQueues, whole, has_other, facts, network_of, set_of, change_back, loses_flows, take_back_each, advance, begun_anew_if, enters, step_on, Alignment, changeover_of, StaysFit, fit-steps, each-step, anew-steps, stepped-at, stepped-other, stepping-there, IsAlike, take_back_each-alike, LinkEnd, Pair, Saying}
 use Rattle.std.proofs.Common.{option_and_then}
 use Rattle.link.specs.declared.action.Action.TheVariants.{Go}
 use Rattle.link.specs.declared.action.Transition.{Transition}
-use Rattle.exchange_rules.proofs.Entering.{known_links}
+use Rattle.pair_rules.proofs.Basics.{get_or-set_same, get_or-set_other}
+use Rattle.std.proofs.lemmas.Option.{same_Some}
+use Rattle.std.specs.Prelude.{Some}
+use Rattle.link.specs.declared.alignment.Alignment.TheVariants.{Down, NotAligned, Aligned, Proving, AlignedReady, InService}
+use Rattle.mtp3_codec.specs.Management.{LinkTestValue}
+use Rattle.flow_hold.specs.Pairs.{IsAnyFlow}
+use Rattle.exchange_rules.proofs.Entering.{relinked, known_links, passed-none}
+use Rattle.exchange_rules.proofs.Moves.{serving-there}
+use Rattle.exchange_rules.proofs.Steps.{brings_back}
+use Rattle.exchange_rules.proofs.SteppingEntries.{anew-link}
+use Rattle.exchange_rules.proofs.SteppingTests.{passed_anew-steps, serving-up}
+use Rattle.exchange_rules.proofs.TakenBack.{some_lost, went, other_loses}
+use Rattle.exchange_rules.specs.Entering.{begun_anew, begin_traffic}
 use Rattle.exchange_rules.specs.Frames.{take_step, test_if}
+use Rattle.exchange_rules.specs.LinkTests.{answers_test, is_first_test, is_test_awaited, on_test_answer, pass_test, passes_test, test_passed, tests_links}
 use Rattle.exchange_rules.proofs.Rules.{rules-of}
 use Rattle.pair_moves.specs.Ends as ends
 use Rattle.pair_moves.specs.Moves as moves
@@ -19,10 +31,12 @@ use Rattle.neighbour_rules.proofs.Good.{Good, IsOpen, Joint, Passes, at, passes-
 use Rattle.neighbour_rules.proofs.Lines.{at-line, becomes, own-line}
 use Rattle.neighbour_rules.proofs.Entries.{IsComing, all-ways, anew-open, end_with, enters-heard, leads-heard, leads-up, not-so, starts-up}
 use Rattle.neighbour_rules.proofs.Testing.{begin_test-passes}
+use Rattle.neighbour_rules.proofs.Relinked.{relinked-passes}
 use Rattle.neighbour_rules.proofs.Turns.{IsEntry, PassesBy, by-both, first-route, last-route, route, route_at}
 use Rattle.neighbour_rules.proofs.Declaring.{take-turn, take-turn-elsewhere}
 use Rattle.neighbour_rules.proofs.Falling.{holds-alike}
 use Rattle.neighbour_rules.proofs.Unseen.{own, unseen-passes}
+use Rattle.neighbour_rules.proofs.Beginning.{anew-good, changed-down, changing-aside, returning-passes, route_by, shown_at, shown_with, with_holds}
 
 same-service : (a b : Bool) → (a && not b) ≡ false → (b ≡ true → a ≡ true) → a ≡ b
 same-service true true e f = refl
@@ -35,213 +49,87 @@ was-out true false e = refl
 was-out true true e = absurd cc
 was-out false b e = absurd cc
 
-anew-link : (again : Bool) (c : Configuration) (link other : ℕ) (p : Parts) → link_at (begun_anew_if again c link p) other ≡ link_at p other
-anew-link true c link other p = refl
-anew-link false c link other p = refl
+out-of-traffic : (serves untested : Bool) → serves ≡ false → (serves && not untested) ≡ false
+out-of-traffic false untested e = refl
+out-of-traffic true untested e = absurd cc
 
--- another state of the links, and of what is known of routes
-abbrev moved_parts : Parts → List Link → List (List Route) → ToldTable → Running → Parts
-moved_parts p links routes told timers = record p { links = links; routes = routes; told = told; timers = timers }
+both-none : (after before untested : Bool) → untested ≡ true → (after && not untested) ≡ (before && not untested)
+both-none true true untested e = refl
+both-none true false true e = refl
+both-none true false false e = absurd cc
+both-none false true true e = refl
+both-none false true false e = absurd cc
+both-none false false untested e = refl
 
--- a link takes a step, and what is known over its set may be reset
-abbrev pub anew : (again : Bool) → Configuration → ℕ → Transition → Parts → Parts
-anew again c link step p = begun_anew_if again c link (step_on c link step p)
+later-none : (serves untested : Bool) → serves ≡ true → (serves && untested) ≡ false → false ≡ untested
+later-none true false e f = refl
+later-none true true e f = absurd cc
+later-none false untested e f = absurd cc
 
--- ---- the links lose their flows in their order, and neither links nor routes change
+serving-heard : (a : Alignment) → is_in_service a ≡ true → is_heard a ≡ true
+serving-heard Down e = absurd cc
+serving-heard NotAligned e = absurd cc
+serving-heard Aligned e = absurd cc
+serving-heard (Proving ready) e = absurd cc
+serving-heard AlignedReady e = absurd cc
+serving-heard InService e = refl
 
-module _ (c : Configuration) (link : ℕ) (p : Parts) (first : Node WholeQueues) where
-  abbrev pub back : (many : ℕ) → Node WholeQueues
-  back many = take_back_each whole c (facts c p) (facts c first.parts) link many first
+-- as long as what is known of routes is the same, no link loses flows
+no-loss : (c : Configuration) (f : Facts) (link other : ℕ) → loses_flows c f f other link ≡ false
+no-loss c f link other = by (loses_flows c f f other link) refl
+  where
+    by : (b : Bool) → loses_flows c f f other link ≡ b → b ≡ false
+    by false e = refl
+    by true e =
+        let some : IsAnyFlow (length c.destinations) (is_taken_back f f other link) = some_lost c f f other link e in
+        let links : (chosen_link f some.flow.destination some.flow.sls ≡ Some other) × (chosen_link f some.flow.destination some.flow.sls ≡ Some link) =
+        went f f other link some.flow.destination some.flow.sls some.passing in
+        absurd (other_loses c f f other link e (same_Some other link (sym links.0 ∙ links.1)))
 
-  back-alike : (many : ℕ) → IsAlike whole c (back many) first
-  back-alike many = take_back_each-alike whole c (facts c p) (facts c first.parts) link many first
-
-  facts-after : (many : ℕ) → facts c (back many).parts ≡ facts c first.parts
-  facts-after many =
-      ap (λ (links : List Link). facts c (record (back many).parts { links = links })) (back-alike many).links
-      ∙ ap (λ (routes : List (List Route)). facts c (record (back many).parts { links = first.parts.links; routes = routes })) (back-alike many).routes
+nothing-back : (c : Configuration) (f : Facts) (link many : ℕ) (n : Node WholeQueues) → take_back_each whole c f f link many n ≡ n
+unfolding take_back_each
+nothing-back c f link zero n = refl
+nothing-back c f link (suc other) n =
+    let one : Node WholeQueues = take_back_each whole c f f link other n in
+    ap (λ (b : Bool). if b then hold_flows whole c f f (code_for whole c link other one) link other one else one) (no-loss c f link other)
+    ∙ nothing-back c f link other n
 
 module _ (c z : Configuration) (j : Joint c z) where
-  abbrev read : Message → Saying
-  read = says_of c.own z.own j.base.there
-
-  abbrev pub shown_at : World → Pair
-  shown_at w = shown c z (set c z j) j.shares.far_set j.base w
-
-  abbrev pub shown_with : (Flow → Option ℕ) → World → Pair
-  shown_with routes w = shown_by c z (set c z j) j.shares.far_set j.base routes w
-
-  -- the lines of flows by what is known of routes
-  abbrev pub route_by : Facts → Flow → Option ℕ
-  route_by f flow =
-      if nat_eq flow.point j.base.there && nat_lt flow.sls SELECTIONS
-      then option_map (code_of c) (option_and_then (λ place. chosen_link f place flow.sls) (destination_place c flow.point)) else None
-
-  abbrev with_holds : Pair → (ends.Procedure → Flow → Bool) → Pair
-  with_holds p holds = record p { near = record p.near { holds = holds } }
-
-  -- ---- a link of the two entered
-
-  module _ (w : World) (arrived : List Message) (link : ℕ) (p : Parts) (first : Node WholeQueues) (i : IsEntry c link p first.parts) (its : set_of c link ≡ set c z j) where
-    abbrev mid : Node WholeQueues → World
-    mid n = at c z j w n arrived []
-
-    abbrev by_turn : (many : ℕ) → Flow → Option ℕ
-    by_turn many = route c z j link p first i many
-
-    turns : (many : ℕ) → PassesBy c z j (by_turn 0) (by_turn many) (mid first) (mid (back c link p first many))
-    unfolding take_back_each
-    turns zero = record { goes = λ g. goes-none (reading c.own z.own j.base) (shown_with (by_turn 0) (mid first)); good = λ g. g }
-    turns (suc other) =
-        by-both c z j (by_turn 0) (by_turn other) (by_turn (suc other)) (mid first) (mid (back c link p first other)) (mid (back c link p first (suc other))) (turns other)
-        (take-turn c z j w arrived link p first i its other (back c link p first other) (loses_flows c (facts c p) (facts c first.parts) other link) (back-alike c link p first other) refl)
-
-    in-the-end : shown_with (by_turn (length c.links)) (mid (back c link p first (length c.links))) ≡ shown_at (mid (back c link p first (length c.links)))
-    in-the-end =
-        let same : by_turn (length c.links) ≡ route_of c j.base.there (set c z j) (back c link p first (length c.links)).parts =
-        fun_ext (λ (flow : Flow). last-route c z j p first.parts flow ∙ sym (ap (λ (f : Facts). route_by f flow) (facts-after c link p first (length c.links)))) in
-        ap (λ (r : Flow → Option ℕ). shown_with r (mid (back c link p first (length c.links)))) same
-
-    -- all of them
-    all-turn : PassesBy c z j (by_turn 0) (route_of c j.base.there (set c z j) (back c link p first (length c.links)).parts) (mid first) (mid (back c link p first (length c.links)))
-    all-turn = record {
-      goes = λ g.
-          goes-both (reading c.own z.own j.base) (shown_with (by_turn 0) (mid first)) (shown_with (by_turn (length c.links)) (mid (back c link p first (length c.links)))) (shown_at (mid (back c link p first (length c.links))))
-          ((turns (length c.links)).goes g) (goes-same (reading c.own z.own j.base) _ _ in-the-end);
-      good = λ g. (turns (length c.links)).good g;
-    }
-
-  -- ---- a link that leads elsewhere entered
-
-  all-turn-elsewhere : (w : World) (arrived : List Message) (link : ℕ) (p : Parts) (first : Node WholeQueues) → IsEntry c link p first.parts → set_of c link ≢ set c z j → (many : ℕ)
-      → Passes c z j (at c z j w first arrived []) (at c z j w (back c link p first many) arrived [])
-  unfolding take_back_each
-  all-turn-elsewhere w arrived link p first i d zero = passes-none c z j (at c z j w first arrived [])
-  all-turn-elsewhere w arrived link p first i d (suc other) =
-      passes-both c z j _ _ _ (all-turn-elsewhere w arrived link p first i d other)
-      (take-turn-elsewhere c z j w arrived link p first i d other (back c link p first other) (loses_flows c (facts c p) (facts c first.parts) other link) (back-alike c link p first other) refl)
-
-  -- ---- a link enters service, and what is known of routes may change
-
-  module _ (w : World) (n : Node WholeQueues) (arrived : List Message) (link : ℕ) (links : List Link) (routes : List (List Route)) (told : ToldTable) (timers : Running) where
-    abbrev moved : Node WholeQueues
-    moved = with_parts n (moved_parts n.parts links routes told timers)
-
-    abbrev then_at : Node WholeQueues → World
-    then_at o = at c z j w o arrived []
-
-    -- the flows that had no link may take it at once
-    entering-goes : IsEntry c link n.parts moved.parts → set_of c link ≡ set c z j → Goes (reading c.own z.own j.base) (shown_at (then_at n)) (shown_with (route_at c z j n.parts moved.parts 0) (then_at moved))
-    entering-goes i its =
-        let k : ℕ = own c z j (code_of c link) in
-        let mine : k ≡ link = own-line c j.near_well (set c z j) link i.there its in
-        goes-one (reading c.own z.own j.base) _ _
-        (moves.enters (record {
-          link = code_of c link;
-          up = ap (λ (l : ℕ). not (down n.parts l)) mine ∙ ap not i.up;
-          heard = ap (λ (l : ℕ). heard n.parts l) mine ∙ i.before;
-          route = route_at c z j n.parts moved.parts 0;
-          kept = λ flow former e. first-route c z j n.parts moved.parts flow former e;
-          lines = line_of c z (set c z j) j.shares.far_set (then_at moved);
-          set = becomes c z j (then_at n) moved arrived [] (route_of c j.base.there (set c z j) n.parts) link (record (end_of n k) { up = true; serving = true }) i.there its
-              (all-ways n link (down moved.parts link) false (in_service moved.parts link) true (heard moved.parts link) (heard n.parts link) i.still_up i.serves (i.still ∙ sym i.before)
-              ∙ ap (λ (l : ℕ). record (end_of n l) { up = true; serving = true }) (sym mine))
-              (λ other d. ap (λ (l : Link). end_with n other (is_down l.alignment) (is_in_service l.alignment) (is_heard l.alignment)) (i.others other d));
-          after = ap (with_holds (shown_with (route_at c z j n.parts moved.parts 0) (then_at moved))) (holds-alike c z j n.parts moved.parts refl);
-        }))
-
-    entering-passes : IsEntry c link n.parts moved.parts → set_of c link ≡ set c z j → (Good c z j (then_at n) → Good c z j (then_at moved))
-        → Passes c z j (then_at n) (then_at (change_back whole c link (facts c n.parts) moved))
-    entering-passes i its good = record {
-      goes = λ g. goes-both (reading c.own z.own j.base) _ _ _ (entering-goes i its) ((all-turn w arrived link n.parts moved i its).goes (good g));
-      good = λ g. (all-turn w arrived link n.parts moved i its).good (good g);
-    }
-
-    -- unseen, where it leads elsewhere
-    moving-aside : StaysFit c n moved → ((other : ℕ) → other ≢ link → link_at moved.parts other ≡ link_at n.parts other) → ((other : ℕ) → down moved.parts other ≡ down n.parts other)
-        → (IsOpen c z j n → IsOpen c z j moved) → (((other : ℕ) → IsSilent (link_at n.parts other)) → (other : ℕ) → IsSilent (link_at moved.parts other))
-        → link < length c.links → set_of c link ≢ set c z j → Passes c z j (then_at n) (then_at moved)
-    moving-aside stay others downs opens silent there d = unseen-passes c z j n moved (record {
-      fits = stay;
-      queues = refl;
-      alignments = λ code. ap (λ (l : Link). l.alignment) (others (own c z j code) (λ same. d (at-line c j.near_well (set c z j) link code there same).of_set));
-      standings = λ code. refl;
-      holds = λ procedure sls. refl;
-      codes = λ code. refl;
-      lost = refl;
-      late = refl;
-      route = opens;
-      unawaited = λ h other up. h other (sym (downs other) ∙ up);
-      silent = silent;
-    }) w arrived []
-
   -- ---- a step of the alignment
 
   module _ (w : World) (n : Node WholeQueues) (arrived : List Message) (link : ℕ) (input : Input) (step : Transition) (e : acts_on (link_at n.parts link) input ≡ Go step) where
     abbrev once : Parts
     once = step_on c link step n.parts
 
-    abbrev now : Node WholeQueues → World
-    now o = at c z j w o arrived []
+    abbrev in_world : Node WholeQueues → World
+    in_world o = at c z j w o arrived []
 
-    inside : link < length n.parts.links
-    inside = stepping-there n.parts link input step e
+    abbrev stepped_link : Link
+    stepped_link = stepped step (link_at n.parts link)
+
+    there-is : link < length n.parts.links
+    there-is = stepping-there n.parts link input step e
+
+    was-up : down n.parts link ≡ false
+    was-up = starts-up (link_at n.parts link).period (link_at n.parts link).alignment input step e
+
+    is-up : is_down step.state ≡ false
+    is-up = leads-up (link_at n.parts link).period (link_at n.parts link).alignment input step e
+
+    heard-so : is_heard step.state ≡ true
+    heard-so = leads-heard (link_at n.parts link).period (link_at n.parts link).alignment input step e
 
     heard-then : heard once link ≡ true
-    heard-then = ap (λ (l : Link). is_heard l.alignment) (stepped-at c link step n.parts inside) ∙ leads-heard (link_at n.parts link).period (link_at n.parts link).alignment input step e
+    heard-then = ap (λ (l : Link). is_heard l.alignment) (stepped-at c link step n.parts there-is) ∙ heard-so
 
     step-down : (other : ℕ) → down once other ≡ down n.parts other
-    step-down other =
-        ⊎_elim
-        (λ (same : other ≡ link).
-        subst (λ (k : ℕ). down once k ≡ down n.parts k) (sym same)
-        (ap (λ (l : Link). is_down l.alignment) (stepped-at c link step n.parts inside) ∙ leads-up (link_at n.parts link).period (link_at n.parts link).alignment input step e ∙ sym (starts-up (link_at n.parts link).period (link_at n.parts link).alignment input step e)))
-        (λ (d : other ≢ link). ap (λ (l : Link). is_down l.alignment) (stepped-other c link other step n.parts d))
-        (cases_eq other link)
+    step-down other = changed-down c z j w n arrived link stepped_link once.timers there-is was-up is-up other
 
     -- whether or not what is known over its set is reset
-    anew-fits : (again : Bool) → StaysFit c n (with_parts n (anew again c link step n.parts))
+    anew-fits : (again : Bool) → StaysFit c n (with_parts n (begun_anew_if again c link once))
     anew-fits again = (fit-steps c).both _ _ _ ((fit-steps c).stepped link input step n tt e) (anew-steps (rules-of (fit-steps c)) again link (with_parts n once) tt)
 
-    still-open : (again : Bool) → IsOpen c z j n → IsOpen c z j (with_parts n (anew again c link step n.parts))
-    still-open again o = record {
-      beyond = anew-open again c link (set c z j) j.destination once o.beyond;
-      between = anew-open again c link (set c z j) j.adjacent once o.between;
-    }
-
-    anew-down : (again : Bool) (other : ℕ) → down (anew again c link step n.parts) other ≡ down n.parts other
-    anew-down again other = ap (λ (l : Link). is_down l.alignment) (anew-link again c link other once) ∙ step-down other
-
-    anew-silent : (again : Bool) → ((other : ℕ) → IsSilent (link_at n.parts other)) → (other : ℕ) → IsSilent (link_at (anew again c link step n.parts) other)
-    anew-silent again h other =
-        subst (λ (l : Link). IsSilent l) (sym (anew-link again c link other once))
-        (each-set (λ (l : Link). IsSilent l) n.parts.links link other (stepped step (link_at n.parts link)) down_link h
-        (λ gone. (let no : true ≡ false = sym gone ∙ leads-up (link_at n.parts link).period (link_at n.parts link).alignment input step e in absurd cc)))
-
-    anew-standing : (again : Bool) (other : ℕ) → changeover_of (anew again c link step n.parts) other ≡ changeover_of n.parts other
-    anew-standing true other = refl
-    anew-standing false other = refl
-
-    anew-counted : (again : Bool) → IsBase j.base.near (counts_of n.parts) → IsBase j.base.near (counts_of (anew again c link step n.parts))
-    anew-counted true h = h
-    anew-counted false h = h
-
-    anew-good : (again : Bool) → Good c z j (now n) → Good c z j (now (with_parts n (anew again c link step n.parts)))
-    anew-good again g = record {
-      fits = (anew-fits again).stay g.fits;
-      route = still-open again g.route;
-      unawaited = λ other up. ap (λ (s : Standing). s.awaited) (anew-standing again other) ∙ g.unawaited other (sym (anew-down again other) ∙ up);
-      silent = anew-silent again g.silent;
-      queued = g.queued;
-      elsewhere = g.elsewhere;
-      held = g.held;
-      loose = g.loose;
-      arrived = g.arrived;
-      coming = g.coming;
-      counted = anew-counted again g.counted;
-    }
-
-    -- ---- where it doesn't enter service, and is one of the two
+    -- ---- where it is in service as before, and is one of the two
 
     module _ (stays : is_in_service step.state ≡ in_service n.parts link) (its : set_of c link ≡ set c z j) where
       step-service : (other : ℕ) → in_service once other ≡ in_service n.parts other
@@ -249,7 +137,7 @@ module _ (c z : Configuration) (j : Joint c z) where
           ⊎_elim
           (λ (same : other ≡ link).
           subst (λ (k : ℕ). in_service once k ≡ in_service n.parts k) (sym same)
-          (ap (λ (l : Link). is_in_service l.alignment) (stepped-at c link step n.parts inside) ∙ stays))
+          (ap (λ (l : Link). is_in_service l.alignment) (stepped-at c link step n.parts there-is) ∙ stays))
           (λ (d : other ≢ link). ap (λ (l : Link). is_in_service l.alignment) (stepped-other c link other step n.parts d))
           (cases_eq other link)
 
@@ -263,122 +151,99 @@ module _ (c z : Configuration) (j : Joint c z) where
           (cases_eq other link)
 
       facts-same : facts c once ≡ facts c n.parts
-      facts-same = facts_alike (network_of c n.parts) link (stepped step (link_at n.parts link)) stays
+      facts-same = facts_alike (network_of c n.parts) link stepped_link (ap (λ (b : Bool). b && not (link_at n.parts link).untested) stays)
 
-      same-shown : heard n.parts link ≡ true → shown_at (now (with_parts n once)) ≡ shown_at (now n)
+      same-shown : heard n.parts link ≡ true → shown_at c z j (in_world (with_parts n once)) ≡ shown_at c z j (in_world n)
       same-shown before =
           let same : (λ (other : ℕ). end_with n other (down once other) (in_service once other) (heard once other)) ≡ end_of n =
           fun_ext (λ (other : ℕ). all-ways n other (down once other) (down n.parts other) (in_service once other) (in_service n.parts other) (heard once other) (heard n.parts other)
           (step-down other) (step-service other) (step-heard before other)) in
-          ap (λ (f : Facts). shown_with (route_by f) (now (with_parts n once))) facts-same
-          ∙ ap (with_holds (shown_with (route_by (facts c n.parts)) (now (with_parts n once)))) (holds-alike c z j n.parts once refl)
-          ∙ ap (λ (nears : ℕ → LinkEnd). record (shown_at (now n)) { line = λ code. record (line_of c z (set c z j) j.shares.far_set w code) { near = nears (own c z j code) } }) same
+          ap (λ (f : Facts). shown_with c z j (route_by c z j f) (in_world (with_parts n once))) facts-same
+          ∙ ap (with_holds c z j (shown_with c z j (route_by c z j (facts c n.parts)) (in_world (with_parts n once)))) (holds-alike c z j n.parts once refl)
+          ∙ ap (λ (nears : ℕ → LinkEnd). record (shown_at c z j (in_world n)) { line = λ code. record (line_of c z (set c z j) j.shares.far_set w code) { near = nears (own c z j code) } }) same
 
       -- a link status that comes is heard
-      hearing-goes : IsComing w link → link < length c.links → Goes (reading c.own z.own j.base) (shown_at (now n)) (shown_at (now (with_parts n once)))
+      hearing-goes : IsComing w link → link < length c.links → Goes (reading c.own z.own j.base) (shown_at c z j (in_world n)) (shown_at c z j (in_world (with_parts n once)))
       hearing-goes coming there =
           let k : ℕ = own c z j (code_of c link) in
           let mine : k ≡ link = own-line c j.near_well (set c z j) link there its in
           goes-one (reading c.own z.own j.base) _ _
           (moves.hears_status (record {
             link = code_of c link;
-            up = ap (λ (l : ℕ). not (down n.parts l)) mine ∙ ap not (starts-up (link_at n.parts link).period (link_at n.parts link).alignment input step e);
+            up = ap (λ (l : ℕ). not (down n.parts l)) mine ∙ ap not was-up;
             rest = length coming.rest;
             some = ap (λ (l : ℕ). length (w.to_near.statuses l)) mine ∙ ap (λ (fs : List FrameValue). length fs) coming.first;
-            lines = line_of c z (set c z j) j.shares.far_set (now (with_parts n once));
-            set = becomes c z j (now n) (with_parts n once) arrived [] (route_of c j.base.there (set c z j) n.parts) link (record (end_of n k) { heard = true }) there its
+            lines = line_of c z (set c z j) j.shares.far_set (in_world (with_parts n once));
+            set = becomes c z j (in_world n) (with_parts n once) arrived [] (route_of c j.base.there (set c z j) n.parts) link (record (end_of n k) { heard = true }) there its
                 (all-ways n link (down once link) (down n.parts link) (in_service once link) (in_service n.parts link) (heard once link) true (step-down link) (step-service link) heard-then
                 ∙ ap (λ (l : ℕ). record (end_of n l) { heard = true }) (sym mine))
                 (λ other d. ap (λ (l : Link). end_with n other (is_down l.alignment) (is_in_service l.alignment) (is_heard l.alignment)) (stepped-other c link other step n.parts d));
-            after = ap (λ (f : Facts). shown_with (route_by f) (now (with_parts n once))) facts-same
-                ∙ ap (with_holds (shown_with (route_by (facts c n.parts)) (now (with_parts n once)))) (holds-alike c z j n.parts once refl);
+            after = ap (λ (f : Facts). shown_with c z j (route_by c z j f) (in_world (with_parts n once))) facts-same
+                ∙ ap (with_holds c z j (shown_with c z j (route_by c z j (facts c n.parts)) (in_world (with_parts n once)))) (holds-alike c z j n.parts once refl);
           }))
 
-      staying-goes : (heard n.parts link ≡ true) ⊎ IsComing w link → link < length c.links → Goes (reading c.own z.own j.base) (shown_at (now n)) (shown_at (now (with_parts n once)))
+      staying-goes : (heard n.parts link ≡ true) ⊎ IsComing w link → link < length c.links → Goes (reading c.own z.own j.base) (shown_at c z j (in_world n)) (shown_at c z j (in_world (with_parts n once)))
       staying-goes (inl before) there = goes-same (reading c.own z.own j.base) _ _ (sym (same-shown before))
       staying-goes (inr coming) there = hearing-goes coming there
 
-      staying-passes : (heard n.parts link ≡ true) ⊎ IsComing w link → Passes c z j (now n) (now (with_parts n once))
+      staying-passes : (heard n.parts link ≡ true) ⊎ IsComing w link → Passes c z j (in_world n) (in_world (with_parts n once))
       staying-passes came = record {
-        goes = λ g. staying-goes came (subst (λ (k : ℕ). link < k) g.fits.places.parts.links inside);
-        good = λ g. anew-good false g;
+        goes = λ g. staying-goes came (subst (λ (k : ℕ). link < k) g.fits.places.parts.links there-is);
+        good = λ g. anew-good c z j w n arrived link stepped_link once.timers there-is was-up is-up false (anew-fits false) g;
       }
 
-    -- ---- where it leads elsewhere, whether or not it enters
-
-    anew-other : (again : Bool) (other : ℕ) → other ≢ link → link_at (anew again c link step n.parts) other ≡ link_at n.parts other
-    anew-other again other d = anew-link again c link other once ∙ stepped-other c link other step n.parts d
-
-    stepping-aside : (again : Bool) → link < length c.links → set_of c link ≢ set c z j → Passes c z j (now n) (now (with_parts n (anew again c link step n.parts)))
-    stepping-aside true =
-        moving-aside w n arrived link (anew true c link step n.parts).links (anew true c link step n.parts).routes (anew true c link step n.parts).told (anew true c link step n.parts).timers
-        (anew-fits true) (anew-other true) (anew-down true) (still-open true) (anew-silent true)
-    stepping-aside false =
-        moving-aside w n arrived link once.links once.routes once.told once.timers
-        (anew-fits false) (anew-other false) (anew-down false) (still-open false) (anew-silent false)
-
-    -- ---- if it enters, what is known over its set may be reset
+    -- ---- where it enters service
 
     module _ (entered : enters link step n.parts ≡ true) where
       unserved : in_service n.parts link ≡ false
       unserved = was-out (is_in_service step.state) (in_service n.parts link) entered
 
-      entry : (again : Bool) → (again ≡ true → has_other c link n.parts ≡ false) → link < length c.links → IsEntry c link n.parts (anew again c link step n.parts)
-      entry again alone there = record {
-        known = record { known = λ destination sls. known_links c link step n.parts again unserved alone destination sls };
-        there = there;
-        up = starts-up (link_at n.parts link).period (link_at n.parts link).alignment input step e;
-        still_up = ap (λ (l : Link). is_down l.alignment) (anew-link again c link link once ∙ stepped-at c link step n.parts inside) ∙ leads-up (link_at n.parts link).period (link_at n.parts link).alignment input step e;
-        unserved = unserved;
-        serves = ap (λ (l : Link). is_in_service l.alignment) (anew-link again c link link once ∙ stepped-at c link step n.parts inside)
-            ∙ (and_parts (is_in_service step.state) (not (in_service n.parts link)) entered).0;
-        before = enters-heard (link_at n.parts link).period (link_at n.parts link).alignment input step e (and_parts (is_in_service step.state) (not (in_service n.parts link)) entered).0;
-        still = ap (λ (l : Link). is_heard l.alignment) (anew-link again c link link once) ∙ heard-then;
-        others = anew-other again;
-      }
+      led : is_in_service step.state ≡ true
+      led = (and_parts (is_in_service step.state) (not (in_service n.parts link)) entered).0
 
-      abbrev returned : (again : Bool) → Node WholeQueues
-      returned again = change_back whole c link (facts c n.parts) (with_parts n (anew again c link step n.parts))
+      back-passes : (again : Bool) → (again ≡ true → has_other c link n.parts ≡ false) → link < length c.links
+          → Passes c z j (in_world n) (in_world (change_back whole c link (facts c n.parts) (with_parts n (begun_anew_if again c link once))))
+      back-passes again alone there =
+          returning-passes c z j w n arrived link stepped_link once.timers there-is was-up is-up
+          (out-of-traffic (in_service n.parts link) (link_at n.parts link).untested unserved) led
+          (enters-heard (link_at n.parts link).period (link_at n.parts link).alignment input step e led) heard-so again (anew-fits again) alone there
 
-      entered-by : (again : Bool) → (again ≡ true → has_other c link n.parts ≡ false) → link < length c.links → set_of c link ≡ set c z j → Passes c z j (now n) (now (returned again))
-      entered-by true alone there its =
-          entering-passes w n arrived link (anew true c link step n.parts).links (anew true c link step n.parts).routes (anew true c link step n.parts).told (anew true c link step n.parts).timers
-          (entry true alone there) its (anew-good true)
-      entered-by false alone there its = entering-passes w n arrived link once.links once.routes once.told once.timers (entry false alone there) its (anew-good false)
+      -- with a test to pass it takes nothing back
+      none-returns : (link_at n.parts link).untested ≡ true → change_back whole c link (facts c n.parts) (with_parts n once) ≡ with_parts n once
+      none-returns untested =
+          ap (λ (f : Facts). take_back_each whole c (facts c n.parts) f link (length c.links) (with_parts n once)) known
+          ∙ nothing-back c (facts c n.parts) link (length c.links) (with_parts n once)
+        where
+          known : facts c once ≡ facts c n.parts
+          known = facts_alike (network_of c n.parts) link stepped_link (both-none (is_in_service step.state) (in_service n.parts link) (link_at n.parts link).untested untested)
 
-      entered-elsewhere : (again : Bool) → (again ≡ true → has_other c link n.parts ≡ false) → link < length c.links → set_of c link ≢ set c z j → Passes c z j (now n) (now (returned again))
-      entered-elsewhere again alone there d =
-          passes-both c z j _ _ _ (stepping-aside again there d)
-          (all-turn-elsewhere w arrived link n.parts (with_parts n (anew again c link step n.parts)) (entry again alone there) d (length c.links))
-
-      returning-passes : (again : Bool) → (again ≡ true → has_other c link n.parts ≡ false) → link < length c.links → Passes c z j (now n) (now (returned again))
-      returning-passes again alone there =
-          ⊎_elim
-          (λ (its : set_of c link ≡ set c z j). entered-by again alone there its)
-          (λ (d : set_of c link ≢ set c z j). entered-elsewhere again alone there d)
-          (cases_eq (set_of c link) (set c z j))
+      entered-by-step : (tested : Bool) → (link_at n.parts link).untested ≡ tested → link < length c.links
+          → Passes c z j (in_world n) (in_world (begin_traffic whole c (not tested) link once n))
+      entered-by-step false f there = back-passes (not (has_other c link n.parts)) (λ h. not-so (has_other c link n.parts) h) there
+      entered-by-step true f there =
+          subst (λ (m : Node WholeQueues). Passes c z j (in_world n) (in_world m)) (none-returns f) (back-passes false (λ h. absurd cc) there)
 
     abbrev advanced : (entered : Bool) → Node WholeQueues
-    advanced entered = return_if whole c entered link (facts c n.parts) (with_parts n (anew (entered && not (has_other c link n.parts)) c link step n.parts))
+    advanced entered = begin_traffic whole c (entered && not (link_at n.parts link).untested) link once n
 
     advance-by : (entered : Bool) → enters link step n.parts ≡ entered → link < length c.links → (set_of c link ≡ set c z j → (heard n.parts link ≡ true) ⊎ IsComing w link)
-        → Passes c z j (now n) (now (advanced entered))
-    advance-by true f there came = returning-passes f (not (has_other c link n.parts)) (λ h. not-so (has_other c link n.parts) h) there
+        → Passes c z j (in_world n) (in_world (advanced entered))
+    advance-by true f there came = entered-by-step f (link_at n.parts link).untested refl there
     advance-by false f there came =
         ⊎_elim
         (λ (its : set_of c link ≡ set c z j).
         staying-passes (same-service (is_in_service step.state) (in_service n.parts link) f (each-step (link_at n.parts link).period (link_at n.parts link).alignment input step e).stays) its (came its))
-        (λ (d : set_of c link ≢ set c z j). stepping-aside false there d)
+        (λ (d : set_of c link ≢ set c z j). changing-aside c z j w n arrived link stepped_link once.timers there-is was-up is-up false (anew-fits false) there d)
         (cases_eq (set_of c link) (set c z j))
 
-    testing : (entered : Bool) (m : Node WholeQueues) → Passes c z j (now m) (now (test_if whole c entered link m))
+    testing : (entered : Bool) (m : Node WholeQueues) → Passes c z j (in_world m) (in_world (test_if whole c entered link m))
     testing true m = begin_test-passes c z j w arrived link m
-    testing false m = passes-none c z j (now m)
+    testing false m = passes-none c z j (in_world m)
 
-    advancing : (set_of c link ≡ set c z j → (heard n.parts link ≡ true) ⊎ IsComing w link) → Passes c z j (now n) (now (advance whole c link step n))
+    advancing : (set_of c link ≡ set c z j → (heard n.parts link ≡ true) ⊎ IsComing w link) → Passes c z j (in_world n) (in_world (advance whole c link step n))
     advancing came =
         passes-both c z j _ _ _
-        (passes-good c z j _ _ (λ g. advance-by (enters link step n.parts) refl (subst (λ (k : ℕ). link < k) g.fits.places.parts.links inside) came))
+        (passes-good c z j _ _ (λ g. advance-by (enters link step n.parts) refl (subst (λ (k : ℕ). link < k) g.fits.places.parts.links there-is) came))
         (testing (enters link step n.parts) (take_step whole c link step n))
 
   -- a link that heard the other end, or that a status comes to
@@ -390,3 +255,40 @@ module _ (c z : Configuration) (j : Joint c z) where
   pub advance-elsewhere : (w : World) (n : Node WholeQueues) (arrived : List Message) (link : ℕ) (input : Input) (step : Transition) → acts_on (link_at n.parts link) input ≡ Go step
       → set_of c link ≢ set c z j → Passes c z j (at c z j w n arrived []) (at c z j w (advance whole c link step n) arrived [])
   advance-elsewhere w n arrived link input step e d = advancing w n arrived link input step e (λ its. absurd (d its))
+
+  -- ---- a test passes
+
+  module _ (w : World) (n : Node WholeQueues) (arrived : List Message) (link : ℕ) (serves : in_service n.parts link ≡ true) where
+    abbrev then_world : Node WholeQueues → World
+    then_world o = at c z j w o arrived []
+
+    abbrev passed_link : Link
+    passed_link = record (link_at n.parts link) { test_failed = false; untested = false }
+
+    -- by the first the link begins to carry traffic
+    pass-by : (first : Bool) → is_first_test link n.parts ≡ first → StaysFit c n (with_parts n (begun_anew first c link n.parts (test_passed c link n.parts))) → link < length c.links
+        → link < length n.parts.links → Passes c z j (then_world n) (then_world (begin_traffic whole c first link (test_passed c link n.parts) n))
+    pass-by false f fits there inside =
+        relinked-passes c z j w n arrived [] link passed_link (test_passed c link n.parts).timers refl (later-none (in_service n.parts link) (link_at n.parts link).untested serves f) (λ h. h) fits
+    pass-by true f fits there inside =
+        returning-passes c z j w n arrived link passed_link (test_passed c link n.parts).timers inside (serving-up (link_at n.parts link).alignment serves)
+        (serving-up (link_at n.parts link).alignment serves) (passed-none (in_service n.parts link) (link_at n.parts link).untested f) serves
+        (serving-heard (link_at n.parts link).alignment serves) (serving-heard (link_at n.parts link).alignment serves)
+        (not (has_other c link n.parts)) fits (λ h. not-so (has_other c link n.parts) h) there
+
+    pub pass_test-passes : tests_links c ≡ true → Passes c z j (then_world n) (then_world (pass_test whole c link n))
+    pass_test-passes on =
+        passes-good c z j _ _ (λ g.
+        let inside : link < length n.parts.links = serving-there n.parts link serves in
+        pass-by (is_first_test link n.parts) refl
+        (passed_anew-steps (rules-of (fit-steps c)) (brings_back c link n.parts) link n on serves (λ h. tt) refl)
+        (subst (λ (k : ℕ). link < k) g.fits.places.parts.links inside) inside)
+
+    answered-passes : (passes : Bool) (point : ℕ) (test : LinkTestValue) → passes_test c link point test n.parts ≡ passes
+        → Passes c z j (then_world n) (then_world (if passes then answer Handled (pass_test whole c link n) else answer Ignored n).left)
+    answered-passes true point test f =
+        pass_test-passes (and_parts (tests_links c) (is_test_awaited link n.parts && answers_test c link point test) f).0
+    answered-passes false point test f = passes-none c z j (then_world n)
+
+    pub on_test_answer-passes : (point : ℕ) (test : LinkTestValue) → Passes c z j (then_world n) (then_world (on_test_answer whole c link point test n).left)
+    on_test_answer-passes point test = answered-passes (passes_test c link point test n.parts) point test refl

@@ -237,7 +237,7 @@ module _ (c z : Configuration) (g : AreJoined c z) (n m : Node WholeQueues) (ni 
     did-same (pairs.DoublesStatus link) = refl
     did-same (pairs.Loses link) = refl
     did-same pairs.Ticks = refl
-    did-same (pairs.Activates link) = refl
+    did-same (pairs.Activates link emergency) = refl
     did-same (pairs.Deactivates link) = refl
     did-same (pairs.AddsTitle row is_memory_refused) = refl
     did-same (pairs.RemovesTitle key digits) = refl

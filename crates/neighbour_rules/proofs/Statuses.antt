@@ -18,8 +18,9 @@ use Rattle.routes.specs.Routes.{status_of}
 use Rattle.timers.specs.declared.name.TimerName.{TimerName}
 use Rattle.timers.specs.declared.name.TimerName.TheVariants as name
 use Rattle.exchange_rules.specs.Exchange.{run_due, run_next, run_timer, run_times, tick, with_timers}
+use Rattle.exchange_rules.specs.Messages.{subsystems_ticked}
 use Rattle.exchange_rules.specs.Frames.{end_busy, end_outage, hear_outage, tells_outage, tells_recovery}
-use Rattle.exchange_rules.proofs.Outages.{outage-serves, recovery-out}
+use Rattle.exchange_rules.proofs.Outages.{outage-serves, outage-set, recovery-out}
 use Rattle.neighbour_rules.proofs.Outages.{begins-passes, begun-busy, ended-busy, ends-passes}
 use Rattle.mtp3_codec.specs.declared.management.Management.TheVariants.{RouteSetTestProhibited, RouteSetTestRestricted}
 use Rattle.pair_moves.specs.Sayings.{Other}
@@ -99,7 +100,8 @@ module _ (c z : Configuration) (j : Joint c z) where
         → Passes c z j (at c z j w n [] [])
         (at c z j w (if out then answer Handled (hear_outage whole c link n) else if back then answer Handled (end_outage whole c link n)
         else act_by_status whole c (acts_on (link_at n.parts link) (Status status)) link status n).left [] [])
-    told true back e f act = begins-passes c z j (link_at n.parts link).peer_outage w n link (outage-serves c link status n.parts e)
+    told true back e f act = begins-passes c z j (outage-set c link status n.parts e) (link_at n.parts link).peer_outage w n link
+        (outage-serves c link status n.parts e)
     told false true e f act = ends-passes c z j w n link (recovery-out link status n.parts f)
     told false false e f act = act
 
@@ -181,7 +183,6 @@ module _ (c z : Configuration) (j : Joint c z) where
   run_timer-passes (name.T10 its_set destination) w n = asked-passes (nat_lt its_set (length c.sets) && nat_lt destination (length c.destinations)) w n its_set destination
   run_timer-passes (name.Slt1 link) w n = test_unanswered-passes c z j w [] link n
   run_timer-passes (name.Slt2 link) w n = begin_test-passes c z j w [] link n
-  run_timer-passes name.Sst w n = passes-none c z j (at c z j w n [] [])
 
   run_due-passes : (o : Option TimerName) (w : World) (n : Node WholeQueues) → Passes c z j (at c z j w n [] []) (at c z j w (run_due whole c o n) [] [])
   run_due-passes None w n = passes-none c z j (at c z j w n [] [])
@@ -199,7 +200,10 @@ module _ (c z : Configuration) (j : Joint c z) where
   pub tick-passes : (w : World) (n : Node WholeQueues) → Passes c z j (at c z j w n [] []) (at c z j w (tick whole c n).left [] [])
   tick-passes w n =
       let begun : Node WholeQueues = with_timers n (ticked n.parts.timers) in
-      passes-both c z j _ _ _ (timed-passes c z j w n [] [] (ticked n.parts.timers) (ticked-fit c n)) (run_times-passes (due_count begun.parts.timers) w begun)
+      let ran : Node WholeQueues = run_times whole c (due_count begun.parts.timers) begun in
+      passes-both c z j _ _ _
+      (passes-both c z j _ _ _ (timed-passes c z j w n [] [] (ticked n.parts.timers) (ticked-fit c n)) (run_times-passes (due_count begun.parts.timers) w begun))
+      (titled-passes c z j w ran (subsystems_ticked c ran.parts).titles)
 
   -- ---- an association goes down, and the operator's word
 
@@ -210,12 +214,14 @@ module _ (c z : Configuration) (j : Joint c z) where
       by true e = passes-none c z j (at c z j w n [] [])
       by false e = fail-passes c z j w n [] link why e
 
-  set_active-passes : (active : Bool) (w : World) (n : Node WholeQueues) (link : ℕ) → Passes c z j (at c z j w n [] []) (at c z j w (set_active whole c active link n) [] [])
-  set_active-passes active w n link =
-      relinked-passes c z j w n [] [] link (record (link_at n.parts link) { active = active }) n.parts.timers refl (λ h. h) (set_active-steps (rules-of (fit-steps c)) active link n)
+  set_active-passes : (active emergency : Bool) (w : World) (n : Node WholeQueues) (link : ℕ)
+      → Passes c z j (at c z j w n [] []) (at c z j w (set_active whole c active emergency link n) [] [])
+  set_active-passes active emergency w n link =
+      relinked-passes c z j w n [] [] link (record (link_at n.parts link) { active = active; emergency = emergency }) n.parts.timers refl refl (λ h. h)
+      (set_active-steps (rules-of (fit-steps c)) active emergency link n)
 
   end_association-passes : (w : World) (n : Node WholeQueues) (link : ℕ) → StaysFit c n (end_association whole c link n) → Passes c z j (at c z j w n [] []) (at c z j w (end_association whole c link n) [] [])
-  end_association-passes w n link stay = relinked-passes c z j w n [] [] link (record (link_at n.parts link) { association = false }) n.parts.timers refl (λ h. h) stay
+  end_association-passes w n link stay = relinked-passes c z j w n [] [] link (record (link_at n.parts link) { association = false }) n.parts.timers refl refl (λ h. h) stay
 
   pub association_down-passes : (w : World) (n : Node WholeQueues) (link : ℕ) → Passes c z j (at c z j w n [] []) (at c z j w (association_down whole c link n).left [] [])
   association_down-passes w n link =
@@ -245,12 +251,12 @@ module _ (c z : Configuration) (j : Joint c z) where
 
   -- ---- the operator's word
 
-  pub activate-passes : (w : World) (n : Node WholeQueues) (link : ℕ) → Passes c z j (at c z j w n [] []) (at c z j w (activate whole c link n).left [] [])
-  activate-passes w n link =
-      either_done-passes (is_link n.parts link) w n (answer Handled (set_active whole c true link n)) (refuse NoSuchName n) (set_active-passes true w n link) (passes-none c z j (at c z j w n [] []))
+  pub activate-passes : (emergency : Bool) (w : World) (n : Node WholeQueues) (link : ℕ) → Passes c z j (at c z j w n [] []) (at c z j w (activate whole c emergency link n).left [] [])
+  activate-passes emergency w n link =
+      either_done-passes (is_link n.parts link) w n (answer Handled (set_active whole c true emergency link n)) (refuse NoSuchName n) (set_active-passes true emergency w n link) (passes-none c z j (at c z j w n [] []))
 
   pub deactivate-passes : (w : World) (n : Node WholeQueues) (link : ℕ) → Passes c z j (at c z j w n [] []) (at c z j w (deactivate whole c link n).left [] [])
   deactivate-passes w n link =
       let gone : Node WholeQueues = fail_if_up whole c link reasons.Operator n in
-      either_done-passes (is_link n.parts link) w n (answer Handled (set_active whole c false link gone)) (refuse NoSuchName n)
-      (passes-both c z j _ _ _ (fail_if_up-passes w n link reasons.Operator) (set_active-passes false w gone link)) (passes-none c z j (at c z j w n [] []))
+      either_done-passes (is_link n.parts link) w n (answer Handled (set_active whole c false false link gone)) (refuse NoSuchName n)
+      (passes-both c z j _ _ _ (fail_if_up-passes w n link reasons.Operator) (set_active-passes false false w gone link)) (passes-none c z j (at c z j w n [] []))

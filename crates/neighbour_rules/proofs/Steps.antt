@@ -1,6 +1,6 @@
 -- Each step of a pair goes by moves.
 use Rattle.pair_rules.proofs.Basics.{◌≡◌, ◌≢◌, ◌<◌, ℕ, Bool, List, [], ◌∷◌, ◌++◌, length, Option, Some, None, Ok, refl, ap, sym, subst, ◌∙◌, drop, slice_get, slice_set, take, ⊎_elim, cases_eq}
-use Rattle.pair_rules.proofs.Definitions.{Message, Outcome, Configuration, FrameValue, EmptyFrame, MessageFrame, StatusFrame, spelled, read_frame, Node, Happening, FrameCame, Submitted, WholeQueues, whole, whither_goes, apply, handle_event, outcome_of, frame_to_take, after_take, frame_taken, done-waits, PairState, Streams, change_statuses, in_flight, may_follow, brought_in, brought_to}
+use Rattle.pair_rules.proofs.Definitions.{Message, Outcome, Configuration, FrameValue, EmptyFrame, MessageFrame, StatusFrame, spelled, read_frame, Node, Happening, FrameCame, Submitted, WholeQueues, whole, whither_goes, apply, handle_event, outcome_of, frame_to_take, after_take, frame_taken, done-waits, PairState, Streams, change_statuses, in_flight, may_follow, brought_in, brought_to, new_message}
 use Rattle.std.specs.Prelude.{map}
 use Rattle.exchange_rules.proofs.Settling.{take-waits}
 use Rattle.pair_rules.specs.Pairs as pairs
@@ -22,7 +22,6 @@ use Rattle.neighbour_rules.proofs.Sharing.{AreFacing, far_joint, near_joint}
 use Rattle.neighbour_rules.proofs.FarEnds.{HasEnd, IsLine, has-end, is-line, its-far, none-there, of-no-set}
 use Rattle.neighbour_rules.proofs.FarEnds as ends
 use Rattle.neighbour_rules.proofs.Taking.{Adds, AddsStatus, Fetches, FetchesStatus, away-takes, take-passes}
-use Rattle.exchange_rules.specs.Laws.{carried_message}
 use Rattle.neighbour_rules.proofs.Untold.{IsUntoldBy}
 use Rattle.neighbour_rules.proofs.Arriving.{IsNext, data-comes, status-comes, status-lost, status-twice}
 use Rattle.neighbour_rules.proofs.Standing.{IsAway, IsQuiet, Stands, near-stands}
@@ -262,7 +261,7 @@ module _ (c z : Configuration) (a : AreFacing c z) where
       its = h.line.of_set;
     }
 
-    pub deliver-stands : (link : ℕ) → ((text : List ℕ) → slice_get (in_flight ni.user_data link) 0 ≡ Some text → (m : Message) → carried_message (read_frame text) ≡ Some m → IsUntoldBy c z j m) → Stands c z a p → Stands c z a (deliver_frame_for a.base.there a.base.back (slice_get (in_flight ni.user_data link) 0) link (pairs.without_data link ni) p).left
+    pub deliver-stands : (link : ℕ) → ((text : List ℕ) → slice_get (in_flight ni.user_data link) 0 ≡ Some text → (m : Message) → new_message link text p.near.exchange ≡ Some m → IsUntoldBy c z j m) → Stands c z a p → Stands c z a (deliver_frame_for a.base.there a.base.back (slice_get (in_flight ni.user_data link) 0) link (pairs.without_data link ni) p).left
     deliver-stands link untold s = by (slice_get (in_flight ni.user_data link) 0) refl
       where
         by : (o : Option (List ℕ)) → slice_get (in_flight ni.user_data link) 0 ≡ o → Stands c z a (deliver_frame_for a.base.there a.base.back o link (pairs.without_data link ni) p).left

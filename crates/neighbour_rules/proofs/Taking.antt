@@ -116,16 +116,16 @@ module _ (c z : Configuration) (j : Joint c z) (w : World) (link : ℕ) where
   status-left : (v : World) (n : Node WholeQueues) (status : LinkStatus) → StaysFit c n (after_sending whole c link n (SendsStatus status))
       → Passes c z j (at c z j v n [] []) (at c z j v (after_sending whole c link n (SendsStatus status)) [] [])
   status-left v n status stay =
-      relinked-passes c z j v n [] [] link (record (link_at n.parts link) { waiting = drop 1 (link_at n.parts link).waiting }) n.parts.timers refl (λ h gone. (ap (drop 1) (h gone).0, (h gone).1)) stay
+      relinked-passes c z j v n [] [] link (record (link_at n.parts link) { waiting = drop 1 (link_at n.parts link).waiting }) n.parts.timers refl refl (λ h gone. (ap (drop 1) (h gone).0, (h gone).1)) stay
 
   owed-left : (v : World) (n : Node WholeQueues) → StaysFit c n (after_sending whole c link n Acknowledges)
       → Passes c z j (at c z j v n [] []) (at c z j v (after_sending whole c link n Acknowledges) [] [])
-  owed-left v n stay = relinked-passes c z j v n [] [] link (without_owed (link_at n.parts link)) n.parts.timers refl (λ h gone. ((h gone).0, refl)) stay
+  owed-left v n stay = relinked-passes c z j v n [] [] link (without_owed (link_at n.parts link)) n.parts.timers refl refl (λ h gone. ((h gone).0, refl)) stay
 
   message-left : (v : World) (n : Node WholeQueues) (next : Sending) → Fits c n → StaysFit c n (after_sending whole c link n (SendsMessage next))
       → Passes c z j (at c z j v (sent_from n) [] []) (at c z j v (after_sending whole c link n (SendsMessage next)) [] [])
   message-left v n next fits stay =
-      relinked-passes c z j v (sent_from n) [] [] link (without_owed (link_at n.parts link)) (timed_sending c link n.parts.timers) refl (λ h gone. ((h gone).0, refl)) (record { stay = λ h. stay.stay fits })
+      relinked-passes c z j v (sent_from n) [] [] link (without_owed (link_at n.parts link)) (timed_sending c link n.parts.timers) refl refl (λ h gone. ((h gone).0, refl)) (record { stay = λ h. stay.stay fits })
 
   -- ---- it goes elsewhere
 

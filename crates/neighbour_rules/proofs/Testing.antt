@@ -1,11 +1,10 @@
 -- The tests of links: what goes out says nothing between the two, and what they change of a link isn't shown.
 use Rattle.pair_rules.proofs.Basics.{◌≡◌, ◌≢◌, ◌≤◌, ◌&&◌, ℕ, Bool, true, false, List, [], ◌∷◌, length, Option, Some, None, refl, sym, ◌∙◌, arith, ⊎_elim, cases_eq, and_parts, if◌then◌else◌}
-use Rattle.pair_rules.proofs.Definitions.{Message, SIF_OCTETS, Handled, Ignored, answer, Configuration, Cause, Running, Node, in_service, down, link_at, no_room, queue_on, with_parts, WholeQueues, whole, StaysFit, fit-steps, set_of}
+use Rattle.pair_rules.proofs.Definitions.{Message, SIF_OCTETS, Configuration, Cause, Running, Node, in_service, down, link_at, no_room, queue_on, with_parts, WholeQueues, whole, StaysFit, fit-steps, set_of}
 use Rattle.exchange_rules.proofs.Rules.{rules-of}
-use Rattle.exchange_rules.proofs.SteppingTests.{on_test_answer-steps, awaiting-steps, failed-steps, serving-up}
+use Rattle.exchange_rules.proofs.SteppingTests.{awaiting-steps, failed-steps, serving-up}
 use Rattle.exchange_rules.proofs.OwnManagement.{test-management}
-use Rattle.exchange_rules.specs.LinkTests.{awaiting_test, begin_test, link_test, on_test_answer, passes_test, queue_if, repeat_test, send_test, test_passed, test_unanswered, tests_links, with_test_failed}
-use Rattle.mtp3_codec.specs.Management.{LinkTestValue}
+use Rattle.exchange_rules.specs.LinkTests.{awaiting_test, begin_test, link_test, queue_if, repeat_test, send_test, test_unanswered, tests_links, with_test_failed}
 use Rattle.signalling_types.specs.declared.notice.FailureReason.TheVariants as reasons
 use Rattle.pair_rules.proofs.World.{World}
 use Rattle.neighbour_rules.proofs.Failures.{fail-passes}
@@ -53,7 +52,7 @@ module _ (c z : Configuration) (j : Joint c z) (w : World) (arrived : List Messa
 
   failed-passes : (link : ℕ) (n : Node WholeQueues) → Pass n (with_parts n (with_test_failed true link n.parts))
   failed-passes link n =
-      relinked-passes c z j w n arrived [] link (record (link_at n.parts link) { test_failed = true }) n.parts.timers refl (λ h. h) (failed-steps (rules-of (fit-steps c)) true link n)
+      relinked-passes c z j w n arrived [] link (record (link_at n.parts link) { test_failed = true }) n.parts.timers refl refl (λ h. h) (failed-steps (rules-of (fit-steps c)) true link n)
 
   repeated : (again : Bool) (link : ℕ) (n : Node WholeQueues) → down n.parts link ≡ false → Pass n (repeat_test whole c again link n)
   repeated true link n up = fail-passes c z j w n arrived link reasons.Test up
@@ -67,22 +66,3 @@ module _ (c z : Configuration) (j : Joint c z) (w : World) (arrived : List Messa
 
   pub test_unanswered-passes : (link : ℕ) (n : Node WholeQueues) → Pass n (test_unanswered whole c link n)
   test_unanswered-passes link n = unanswered (in_service n.parts link) link n refl
-
-  -- Slt1 stops and Slt2 starts, and the link has failed no test
-  passed : (passes : Bool) (link point : ℕ) (test : LinkTestValue) (n : Node WholeQueues) → passes_test c link point test n.parts ≡ passes
-      → StaysFit c n (if passes then with_parts n (test_passed c link n.parts) else n)
-      → Pass n (if passes then answer Handled (with_parts n (test_passed c link n.parts)) else answer Ignored n).left
-  passed true link point test n e stay =
-      relinked-passes c z j w n arrived [] link (record (link_at n.parts link) { test_failed = false }) (test_passed c link n.parts).timers refl (λ h. h) stay
-  passed false link point test n e stay = none n
-
-  stays-fit : (passes : Bool) (link point : ℕ) (test : LinkTestValue) (n : Node WholeQueues)
-      → StaysFit c n (if passes then answer Handled (with_parts n (test_passed c link n.parts)) else answer Ignored n).left
-      → StaysFit c n (if passes then with_parts n (test_passed c link n.parts) else n)
-  stays-fit true link point test n stay = stay
-  stays-fit false link point test n stay = stay
-
-  pub on_test_answer-passes : (link point : ℕ) (test : LinkTestValue) (n : Node WholeQueues) → Pass n (on_test_answer whole c link point test n).left
-  on_test_answer-passes link point test n =
-      passed (passes_test c link point test n.parts) link point test n refl
-      (stays-fit (passes_test c link point test n.parts) link point test n (on_test_answer-steps (rules-of (fit-steps c)) link point test n))

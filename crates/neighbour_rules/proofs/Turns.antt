@@ -1,7 +1,7 @@
 -- A link of the two enters service, and the links lose their flows to it in their order: which line each flow to the
 -- other node takes meanwhile, and what holds it.
 use Rattle.pair_rules.proofs.Basics.{◌≡◌, ◌≢◌, ◌<◌, ◌≤◌, ◌&&◌, ◌⊎◌, inl, inr, ℕ, suc, Bool, true, false, length, Option, Some, None, refl, ap, sym, subst, ◌∙◌, nat_eq, nat_lt, arith, option_map, if◌then◌else◌, ⊎_elim, cases_order, le-ltb, lt-ltb, List}
-use Rattle.pair_rules.proofs.Definitions.{SELECTIONS, Flow, Configuration, HoldSet, with_flows, Procedure, flows_leave, Link, is_in_service, link_in, chosen_link, Node, Parts, down, in_service, link_at, link_of, WholeQueues, whole, facts, hold_flows, is_taken_back, loses_flows, Fits, StaysFit, fit-steps, IsAlike, AddsOnly, StaysOrIsHeld}
+use Rattle.pair_rules.proofs.Definitions.{SELECTIONS, Flow, Configuration, HoldSet, with_flows, Procedure, flows_leave, Link, is_in_service, link_in, chosen_link, Node, Parts, down, in_service, in_traffic, link_at, link_of, WholeQueues, whole, facts, hold_flows, is_taken_back, loses_flows, Fits, StaysFit, fit-steps, IsAlike, AddsOnly, StaysOrIsHeld}
 use Rattle.flow_hold.specs.Holds as hold
 use Rattle.flow_hold.specs.declared.procedure.Procedure.TheVariants as held_by
 use Rattle.flow_hold.proofs.FlowPairs.{flows_has, flows_keep}
@@ -31,14 +31,14 @@ turned-past former many after l = ap (λ (b : Bool). if b then after else Some f
 turned-yet : (former many : ℕ) (after : Option ℕ) → many ≤ former → turned_route (Some former) after many ≡ Some former
 turned-yet former many after l = ap (λ (b : Bool). if b then after else Some former) (le-ltb former many l)
 
--- ---- a link that entered service
+-- ---- a link that began to carry traffic
 
 pub record IsEntry (c : Configuration) (link : ℕ) (p q : Parts) : Type 0 where
   pub known : IsKnown c link p q
   pub there : link < length c.links
   pub up : down p link ≡ false
   pub still_up : down q link ≡ false
-  pub unserved : in_service p link ≡ false
+  pub unserved : in_traffic p link ≡ false
   pub serves : in_service q link ≡ true
   pub before : heard p link ≡ true
   pub still : heard q link ≡ true

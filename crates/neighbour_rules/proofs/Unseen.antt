@@ -1,7 +1,7 @@
 -- What isn't shown changes: timers, notices, what points are told, routes to third points, and the links that lead
 -- elsewhere. The same pair is shown.
 use Rattle.pair_rules.proofs.Basics.{◌≡◌, ◌≢◌, ◌<◌, ◌≤◌, ℕ, Bool, true, false, not, ◌&&◌, List, [], ◌∷◌, length, Option, Some, None, refl, ap, sym, subst, ◌∙◌, nat_eq, nat_lt, if◌then◌else◌, option_and_then, option_map, slice_index_or, ⊎_elim, cases_lt, get_or_past}
-use Rattle.pair_rules.proofs.Definitions.{SELECTIONS, Message, Flow, Configuration, destination_place, is_outstanding, Alignment, Link, down_link, is_down, is_in_service, chosen_link, Node, Parts, down, in_service, link_at, link_of, WholeQueues, queue_at, changeover_of, Standing, standing_at, HoldSet, Codes, link_in, facts, set_of, first_route, Fits, StaysFit, Pair}
+use Rattle.pair_rules.proofs.Definitions.{SELECTIONS, Message, Flow, Configuration, destination_place, is_outstanding, Alignment, Link, down_link, is_down, is_in_service, carries_traffic, in_traffic, chosen_link, Node, Parts, down, in_service, link_at, link_of, WholeQueues, queue_at, changeover_of, Standing, standing_at, HoldSet, Codes, link_in, facts, set_of, first_route, Fits, StaysFit, Pair}
 use Rattle.exchange_rules.proofs.Basics.{eqb-true}
 use Rattle.exchange_rules.proofs.LoneRoutes.{set-decides}
 use Rattle.flow_hold.specs.Holds as hold
@@ -25,6 +25,7 @@ module _ (c z : Configuration) (j : Joint c z) where
     pub fits : StaysFit c n o
     pub queues : o.queues ≡ n.queues
     pub alignments : (code : ℕ) → (link_at o.parts (own code)).alignment ≡ (link_at n.parts (own code)).alignment
+    pub untested : (code : ℕ) → (link_at o.parts (own code)).untested ≡ (link_at n.parts (own code)).untested
     pub standings : (code : ℕ) → changeover_of o.parts (own code) ≡ changeover_of n.parts (own code)
     pub holds : (procedure : ends.Procedure) (sls : ℕ) → holds_at c j.base.there (set c z j) (Some j.destination) o.parts procedure sls ≡ holds_at c j.base.there (set c z j) (Some j.destination) n.parts procedure sls
     pub codes : (code : ℕ) → is_outstanding o.parts.codes (set c z j) code ≡ is_outstanding n.parts.codes (set c z j) code
@@ -48,23 +49,25 @@ module _ (c z : Configuration) (j : Joint c z) where
         }) (u.alignments code)
         ∙ ap (λ (s : Standing). record (end_of n (own code)) { incomplete = s.incomplete; awaited = s.awaited }) (u.standings code)
 
-    -- a link that isn't there doesn't serve
-    past-serves : (p : Parts) (link : ℕ) → length p.links ≤ link → in_service p link ≡ false
-    past-serves p link l = ap (λ (x : Link). is_in_service x.alignment) (get_or_past p.links link down_link l)
+    -- a link that isn't there carries no traffic
+    past-carries : (p : Parts) (link : ℕ) → length p.links ≤ link → in_traffic p link ≡ false
+    past-carries p link l = ap carries_traffic (get_or_past p.links link down_link l)
 
-    serves-same : Fits c n → (link : ℕ) → set_of c link ≡ set c z j → in_service o.parts link ≡ in_service n.parts link
-    serves-same f link its =
+    carries-same : Fits c n → (link : ℕ) → set_of c link ≡ set c z j → in_traffic o.parts link ≡ in_traffic n.parts link
+    carries-same f link its =
         ⊎_elim
         (λ (l : link < length c.links).
         let e : own (code_of c link) ≡ link = own-line c j.near_well (set c z j) link l its in
-        subst (λ (k : ℕ). in_service o.parts k ≡ in_service n.parts k) e (ap is_in_service (u.alignments (code_of c link))))
+        subst (λ (k : ℕ). in_traffic o.parts k ≡ in_traffic n.parts k) e
+        (ap (λ (a : Alignment). is_in_service a && not (link_at o.parts (own (code_of c link))).untested) (u.alignments (code_of c link))
+        ∙ ap (λ (b : Bool). in_service n.parts (own (code_of c link)) && not b) (u.untested (code_of c link))))
         (λ (l : length c.links ≤ link).
-        past-serves o.parts link (subst (λ (k : ℕ). k ≤ link) (sym (u.fits.stay f).places.parts.links) l)
-        ∙ sym (past-serves n.parts link (subst (λ (k : ℕ). k ≤ link) (sym f.places.parts.links) l)))
+        past-carries o.parts link (subst (λ (k : ℕ). k ≤ link) (sym (u.fits.stay f).places.parts.links) l)
+        ∙ sym (past-carries n.parts link (subst (λ (k : ℕ). k ≤ link) (sym f.places.parts.links) l)))
         (cases_lt link (length c.links))
 
     chosen-same : Fits c n → IsOpen c z j n → (sls : ℕ) → chosen_link (facts c o.parts) j.destination sls ≡ chosen_link (facts c n.parts) j.destination sls
-    chosen-same f e sls = set-decides c o.parts n.parts (set c z j) j.destination sls (u.route e).beyond e.beyond (serves-same f)
+    chosen-same f e sls = set-decides c o.parts n.parts (set c z j) j.destination sls (u.route e).beyond e.beyond (carries-same f)
 
     route-same : Fits c n → IsOpen c z j n → (flow : Flow) → route_of c j.base.there (set c z j) o.parts flow ≡ route_of c j.base.there (set c z j) n.parts flow
     route-same f e flow = by (nat_eq flow.point j.base.there) refl
@@ -134,6 +137,7 @@ module _ (c z : Configuration) (j : Joint c z) where
       fits = stay;
       queues = refl;
       alignments = λ code. ap (λ (xs : List Link). (link_in xs (own code)).alignment) links;
+      untested = λ code. ap (λ (xs : List Link). (link_in xs (own code)).untested) links;
       standings = λ code. ap (λ (xs : List Standing). standing_at xs (own code)) changeovers;
       holds = λ procedure sls. ap (λ (h : HoldSet). hold.holds h (procedure_of c j.base.there (set c z j) procedure) j.destination sls) holds;
       codes = λ code. ap (λ (x : Codes). is_outstanding x (set c z j) code) codes;

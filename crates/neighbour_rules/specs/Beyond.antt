@@ -1,13 +1,10 @@
 -- Messages that a node sends to another for a point beyond it, and what may be told of the route to that point.
-use Rattle.std.specs.Prelude.{◌&&◌, ℕ, Bool, false, nat_eq, List, Result, Ok, Err, option_to_list}
-use Rattle.std.specs.List.{list_any}
+use Rattle.std.specs.Prelude.{◌&&◌, ℕ, Bool, false, nat_eq, Result, Ok, Err}
 use Rattle.signalling_types.specs.Message.{Message, is_management}
-use Rattle.m2pa_codec.specs.Frames.{read_frame}
 use Rattle.mtp3_codec.specs.Management.{read_management}
 use Rattle.mtp3_codec.specs.declared.fault.MgmtFault.{MgmtFault}
 use Rattle.mtp3_codec.specs.declared.management.Management.{Management}
 use Rattle.mtp3_codec.specs.declared.management.Management.TheVariants as says
-use Rattle.exchange_rules.specs.Laws.{carried_message}
 
 -- ---- what is told of the route to a point
 
@@ -33,7 +30,3 @@ tells_word point (Err fault) = false
 
 abbrev pub tells_of : (point : ℕ) → Message → Bool
 tells_of point m = is_management m && tells_word point (read_management m.sif)
-
--- whether a frame carries such a message
-abbrev pub is_told_by : (point : ℕ) → (text : List ℕ) → Bool
-is_told_by point text = list_any (tells_of point) (option_to_list (carried_message (read_frame text)))

@@ -1,6 +1,7 @@
 -- Two nodes that share a link set, each with whatever further links and neighbours: what is done at either of them, and
 -- the frames in flight between them. Streams, ends and pairs are those of `pair_rules`.
-use Rattle.std.specs.Prelude.{◌&&◌, ◌||◌, ℕ, Bool, true, false, not, nat_eq, List, ◌∷◌, [], ◌++◌, filter, Option, Some, None, slice_get, slice_set, option_to_list, if◌then◌else◌}
+use Rattle.std.specs.Prelude.{◌&&◌, ◌||◌, ℕ, Bool, true, false, not, nat_eq, List, ◌∷◌, [], ◌++◌, filter, Option, Some}
+use Rattle.std.specs.Prelude.{None, slice_get, slice_set, option_to_list, if◌then◌else◌}
 use Rattle.std.specs.List.{list_any}
 use Rattle.signalling_types.specs.Message.{Message, dpc_of, opc_of, service_indicator}
 use Rattle.signalling_types.specs.declared.outcome.Outcome.TheVariants.{Handled}
@@ -9,7 +10,8 @@ use Rattle.m2pa_codec.specs.Frames.{FrameValue, read_frame}
 use Rattle.exchange_rules.specs.Conserving.{brought_in}
 use Rattle.exchange_rules.specs.declared.wants.Wants.{Wants}
 use Rattle.exchange_rules.specs.declared.wants.Wants.TheVariants.{Open}
-use Rattle.exchange_rules.specs.State.{Happening, CameUp, WentDown, FrameCame, Ticked, Submitted, Activated, Deactivated, TitleAdded, TitleRemoved}
+use Rattle.exchange_rules.specs.State.{Happening, CameUp, WentDown, FrameCame, Ticked, Submitted, Activated}
+use Rattle.exchange_rules.specs.State.{Deactivated, TitleAdded, TitleRemoved}
 use Rattle.exchange_rules.specs.Queues.{whole}
 use Rattle.exchange_rules.specs.Exchange.{outcome_of, after, frame_to_take, taken, wants_of}
 use Rattle.exchange_rules.specs.Laws.{carried_message}
@@ -18,7 +20,9 @@ use Rattle.exchange_rules.specs.Messages.{link_with_code}
 use Rattle.exchange_rules.specs.Receiving.{new_message}
 use Rattle.exchange_rules.specs.Routing.{adjacent_of}
 use Rattle.pair_rules.specs.Pairs as pairs
-use Rattle.pair_rules.specs.Pairs.{PairState, Streams, Turn, turned, in_flight, may_follow, may_open_at, ignored, happens, launched, without_status, without_data, with_status_twice, change_statuses, emptied}
+use Rattle.pair_rules.specs.Pairs.{PairState, Streams, Turn, turned, in_flight, may_follow, may_open_at, ignored}
+use Rattle.pair_rules.specs.Pairs.{happens, launched, without_status, without_data, with_status_twice, change_statuses}
+use Rattle.pair_rules.specs.Pairs.{emptied}
 
 -- ---- the links between the two
 
@@ -161,18 +165,21 @@ takes_elsewhere_for point elsewhere speaks what p = ignored p
 
 abbrev pub did_between_for : (there back : ℕ) → pairs.Doing → PairState → Turn
 did_between_for there back (pairs.Submits m) p = takes_in_for there (Submitted m) p
-did_between_for there back (pairs.Takes link) p = take_frame (frame_to_take whole p.near.exchange link) link (far_end p link) p
+did_between_for there back (pairs.Takes link) p =
+    take_frame (frame_to_take whole p.near.exchange link) link (far_end p link) p
 did_between_for there back (pairs.Delivers link) p =
-    deliver_frame_for there back (slice_get (in_flight p.near.incoming.user_data link) 0) link (without_data link p.near.incoming) p
+    deliver_frame_for there back (slice_get (in_flight p.near.incoming.user_data link) 0) link
+    (without_data link p.near.incoming) p
 did_between_for there back (pairs.DeliversStatus link) p =
-    deliver_frame_for there back (slice_get (in_flight p.near.incoming.statuses link) 0) link (without_status link p.near.incoming) p
+    deliver_frame_for there back (slice_get (in_flight p.near.incoming.statuses link) 0) link
+    (without_status link p.near.incoming) p
 did_between_for there back (pairs.LosesStatus link) p =
     change_statuses (slice_get (in_flight p.near.incoming.statuses link) 0) (without_status link p.near.incoming) p
 did_between_for there back (pairs.DoublesStatus link) p =
     change_statuses (slice_get (in_flight p.near.incoming.statuses link) 0) (with_status_twice link p.near.incoming) p
 did_between_for there back (pairs.Loses link) p = happens (WentDown link) p
 did_between_for there back pairs.Ticks p = happens Ticked p
-did_between_for there back (pairs.Activates link) p = happens (Activated link) p
+did_between_for there back (pairs.Activates link emergency) p = happens (Activated link emergency) p
 did_between_for there back (pairs.Deactivates link) p = happens (Deactivated link) p
 did_between_for there back (pairs.AddsTitle row is_memory_refused) p = happens (TitleAdded row is_memory_refused) p
 did_between_for there back (pairs.RemovesTitle key digits) p = happens (TitleRemoved key digits) p

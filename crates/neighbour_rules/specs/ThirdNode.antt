@@ -28,6 +28,7 @@ near_settings = record {
   subsystem_tests = false;
   user_part_unavailable = false;
   processor_outage = false;
+  out_of_service = false;
   timers = ticks;
   sets = record { name = 97 ∷ []; adjacent = 3 } ∷ record { name = 98 ∷ []; adjacent = 2 } ∷ [];
   links =

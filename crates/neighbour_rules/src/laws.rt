@@ -126,7 +126,7 @@ pub fn nothing_is_held_in_vain()
 /// or by one of SCCP for a subsystem there; to NoUserPart exactly if it grew by one of another part; and to Queued or
 /// Held exactly if it grew by one of SCCP that goes on by its title. What the end accepted then grew by that message as
 /// its relay wrote it, and by nothing else. If one of SCCP is refused, it grew by the UDTS or XUDTS that returns it, or
-/// by nothing; otherwise it didn't grow (Q.704 §2.4, Q.714 §2.3, §4.2). This holds whether or not a message may be lost.
+/// by nothing; otherwise it didn't grow (Q.704 §2.4, Q.714 §2.3, §4.2). This holds even if a message may be lost.
 pub fn deliveries_tell_what_came()
     ensures { deliveries_tell }
 {}

@@ -22,7 +22,7 @@ use Rattle.node_rules.specs.Promises.{IsShort}
 use Rattle.node_rules.specs.Worlds.{Make}
 use Rattle.node_rules.proofs.Fitting.{taken-short}
 use Rattle.network_datagrams.specs.NetworkWorlds.{NetworkWorld, last_world, new_world, shown}
-use Rattle.network_datagrams.specs.NetworkPromises.{AreJoined, FramesAreShort, frames_are_short, settings_of}
+use Rattle.network_datagrams.specs.NetworkPromises.{Always, AreJoined, FramesAreShort, settings_of}
 use Rattle.network_datagrams.proofs.Placing.{AreEnds, ends-of}
 use Rattle.network_datagrams.proofs.Running.{IsRun, all-run}
 
@@ -52,5 +52,5 @@ run-short make points joined w r p link end frame next =
     network-short (settings_of make) points joined.joined r.steps p o.other.point link o.sharing frame
     (ap (λ (x : NetworkNode). frame_to_take whole x.exchange link) (sym (r.meets.all.each p).same) ∙ next)
 
-pub all-short : frames_are_short
+pub all-short : Always FramesAreShort
 all-short make points joined list m = run-short make points joined (last_world (new_world make) list) (all-run make points joined list m)

@@ -15,7 +15,7 @@ use Rattle.network_datagrams.proofs.Showing.{AllShow, Flight, Shows}
 -- what a user part, a tick or the operator does is one step
 abbrev pub own_step : Happening → pairs.Doing
 own_step (Submitted m) = pairs.Submits m
-own_step (Activated link) = pairs.Activates link
+own_step (Activated link emergency) = pairs.Activates link emergency
 own_step (Deactivated link) = pairs.Deactivates link
 own_step (TitleAdded row is_memory_refused) = pairs.AddsTitle row is_memory_refused
 own_step (TitleRemoved key digits) = pairs.RemovesTitle key digits
@@ -39,7 +39,7 @@ own-shows c b air x h (Submitted m) own = record {
   flies = h.flies;
 }
 own-shows c b air x h Ticked own = plain-shows c b air x h Ticked
-own-shows c b air x h (Activated link) own = plain-shows c b air x h (Activated link)
+own-shows c b air x h (Activated link emergency) own = plain-shows c b air x h (Activated link emergency)
 own-shows c b air x h (Deactivated link) own = plain-shows c b air x h (Deactivated link)
 own-shows c b air x h (TitleAdded row refused) own = plain-shows c b air x h (TitleAdded row refused)
 own-shows c b air x h (TitleRemoved key digits) own = plain-shows c b air x h (TitleRemoved key digits)
@@ -50,7 +50,7 @@ own-shows c b air x h (FrameCame link text) own = absurd own
 own-is : (what : Happening) → IsOwn what → (point : ℕ) (s : NetworkState) → networks.did (own_step what) point s ≡ changed point (did_here (own_step what)) s
 own-is (Submitted m) own point s = refl
 own-is Ticked own point s = refl
-own-is (Activated link) own point s = refl
+own-is (Activated link emergency) own point s = refl
 own-is (Deactivated link) own point s = refl
 own-is (TitleAdded row refused) own point s = refl
 own-is (TitleRemoved key digits) own point s = refl

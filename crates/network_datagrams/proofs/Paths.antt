@@ -1,16 +1,20 @@
 -- Over datagrams nodes pass on in order, and so does a path, by the lemmas of networks.
-use Rattle.std.proofs.Common.{◌≡◌, ℕ, List, [], ◌∷◌, map, refl, ap, sym, ◌∙◌, subst}
+use Rattle.std.proofs.Common.{◌≡◌, ℕ, Bool, List, [], ◌∷◌, map, refl, ap, sym, ◌∙◌, subst}
 use Rattle.settings_rows.specs.Configuration.{Configuration}
 use Rattle.network_rules.specs.Anew.{Steps, after_all}
 use Rattle.network_rules.specs.Networks.{NetworkNode, NetworkState, Step, after_step, after_steps, first_network}
 use Rattle.signalling_types.specs.declared.point.Flow.{Flow}
+use Rattle.exchange_rules.specs.State.{late_any, lost_any}
+use Rattle.network_rules.specs.Outside.{Move, Within, after_moves}
 use Rattle.network_rules.specs.Paths.{EachHopInOrder, KeepsInOrder, PassesInOrder}
+use Rattle.network_rules.specs.Hops.{AreOpenHops, HearsOfNoRoute, IsOpenHop, LeadsOver, beyond, to_it}
 use Rattle.network_rules.proofs.PassedOn.{all-pass, begin-empty}
 use Rattle.network_rules.proofs.Joined.{well-or-alone}
-use Rattle.network_rules.proofs.Hops.{each-hop}
+use Rattle.network_rules.proofs.Hops.{hop-open}
+use Rattle.network_rules.proofs.Outside.{steps-moves}
 use Rattle.network_rules.proofs.Paths as network
 use Rattle.network_datagrams.specs.NetworkWorlds.{NetworkWorld, last_world, new_world, shown}
-use Rattle.network_datagrams.specs.NetworkPromises.{AreOne, IsRunOfNetwork, last_hops_keep_flows_in_order, nodes_pass_on_in_order, paths_keep_flows_in_order, paths_keep_the_order_of_their_hops, settings_of}
+use Rattle.network_datagrams.specs.NetworkPromises.{HopsKeepFlows, settings_of, Always, LastHopsKeepOrder, NodesPassInOrder, PathsKeepFlows, PathsKeepOrder}
 use Rattle.network_datagrams.proofs.Showing.{plain}
 use Rattle.network_datagrams.proofs.Running.{IsRun, all-run}
 use Rattle.network_datagrams.proofs.Promised.{order}
@@ -33,18 +37,18 @@ passes-so b x same h =
     let here : PassesInOrder (plain b) = subst PassesInOrder (sym same) other in
     record { passed = here.passed; came = here.came; accepted = here.accepted }
 
-pub nodes-pass : nodes_pass_on_in_order
+pub nodes-pass : Always NodesPassInOrder
 nodes-pass make points joined list m point =
     let w : NetworkWorld = last_world (new_world make) list in
     let r : IsRun make w = all-run make points joined list m in
     let s : NetworkState = after_steps r.steps (first_network (settings_of make)) in
     passes-so ((shown w).node point) (s.node point) (r.meets.all.each point).same (network-passes (settings_of make) r.steps point)
 
-pub paths : paths_keep_the_order_of_their_hops
+pub paths : Always PathsKeepOrder
 paths make points joined list m flow first rest hops only =
     network.over flow (shown (last_world (new_world make) list)) (λ point. nodes-pass make points joined list m point) first rest hops only
 
-pub last-hops : last_hops_keep_flows_in_order
+pub last-hops : Always LastHopsKeepOrder
 last-hops make points joined list m near far sls sharing lost punctual =
     let w : NetworkWorld = last_world (new_world make) list in
     let r : IsRun make w = all-run make points joined list m in
@@ -52,34 +56,51 @@ last-hops make points joined list m near far sls sharing lost punctual =
     (ap (λ (c : Configuration). c.own) (r.meets.all.each far).settings ∙ joined.joined.placed.own far)
     ((order make points joined list m near far sharing lost).there punctual)
 
--- ---- of a run of a network
+-- ---- what a hop asks shows in the books
 
-module _ (settings : (point : ℕ) → Configuration) (points : List ℕ) (t : NetworkState) (run : IsRunOfNetwork settings points t) where
-  abbrev s : NetworkState
-  s = after_steps run.steps (first_network settings)
+-- of a world, and of a network whose nodes are the same but for what is in flight to them
+module _ (settings : (point : ℕ) → Configuration) (t s : NetworkState) (same : (point : ℕ) → plain (t.node point) ≡ plain (s.node point)) where
+  hears-as : (route near far : ℕ) → HearsOfNoRoute route (t.node near) (t.node far) → HearsOfNoRoute route (s.node near) (s.node far)
+  hears-as route near far told =
+      subst (λ (x : NetworkNode). HearsOfNoRoute route x (s.node far)) (same near) (subst (λ (y : NetworkNode). HearsOfNoRoute route (t.node near) y) (same far) told)
 
-  -- each node is the same, but for what is in flight to it
-  same : (point : ℕ) → plain (s.node point) ≡ plain (t.node point)
-  same point =
-      let h : AreOne (t.node point) (s.node point) = run.is point in
-      λ i. record (plain (s.node point)) {
-        exchange = sym h.exchange i;
-        accepted = sym h.accepted i;
-        arrived = sym h.arrived i;
-        entered = sym h.entered i;
-        refused = sym h.refused i;
-      }
+  leads-as : (flow : Flow) (near far : ℕ) → LeadsOver settings t flow near far → LeadsOver settings s flow near far
+  leads-as flow near far (to_it e) = to_it e
+  leads-as flow near far (beyond lead told) = beyond lead (hears-as flow.point near far told)
 
-  hop-as : (flow : Flow) (near far : ℕ) → KeepsInOrder flow s near far → KeepsInOrder flow t near far
-  hop-as flow near far k = subst (λ (node : (point : ℕ) → NetworkNode). KeepsInOrder flow (record { node = node }) near far) (λ i. λ point. same point i) k
+  abbrev lost : NetworkNode → Bool
+  lost x = lost_any x.exchange.node.parts
 
-  each-as : (flow : Flow) (first : ℕ) (rest : List ℕ) → EachHopInOrder flow s first rest → EachHopInOrder flow t first rest
-  each-as flow first [] h = tt
-  each-as flow first (next ∷ rest) h = (hop-as flow first next h.0, each-as flow next rest h.1)
+  abbrev late : NetworkNode → Bool
+  late x = late_any x.exchange.node.parts
 
-pub flows : paths_keep_flows_in_order
-flows make points joined list m run flow first rest hops only =
+  open-as : (flow : Flow) (near far : ℕ) → IsOpenHop settings t flow near far → IsOpenHop settings s flow near far
+  open-as flow near far h = record {
+    sharing = h.sharing;
+    leads = leads-as flow near far h.leads;
+    lossless = record { near = sym (ap lost (same near)) ∙ h.lossless.near; far = sym (ap lost (same far)) ∙ h.lossless.far };
+    punctual = sym (ap late (same near)) ∙ h.punctual;
+  }
+
+  keeps-as : (flow : Flow) (near far : ℕ) → KeepsInOrder flow s near far → KeepsInOrder flow t near far
+  keeps-as flow near far k = subst (λ (node : (point : ℕ) → NetworkNode). KeepsInOrder flow (record { node = node }) near far) (λ i. λ point. sym (same point) i) k
+
+pub hops : Always HopsKeepFlows
+hops make points joined list m flow near far h =
     let w : NetworkWorld = last_world (new_world make) list in
-    paths make points joined list m flow first rest
-    (each-as (settings_of make) points (shown w) run flow first rest
-    (each-hop (settings_of make) run.steps flow joined.joined.placed.own (well-or-alone (settings_of make) points joined.joined) first rest hops)) only
+    let r : IsRun make w = all-run make points joined list m in
+    let moves : List Move = map Within r.steps in
+    let s : NetworkState = after_moves moves (first_network (settings_of make)) in
+    let same : (point : ℕ) → plain ((shown w).node point) ≡ plain (s.node point) =
+    λ point. (r.meets.all.each point).same ∙ sym (ap (λ (v : NetworkState). plain (v.node point)) (steps-moves r.steps (first_network (settings_of make)))) in
+    keeps-as (settings_of make) (shown w) s same flow near far
+    (hop-open (settings_of make) moves flow near far joined.joined.placed.own (well-or-alone (settings_of make) points joined.joined)
+    (open-as (settings_of make) (shown w) s same flow near far h))
+
+pub flows : Always PathsKeepFlows
+flows make points joined list m flow first rest all-open only = paths make points joined list m flow first rest (each first rest all-open) only
+  where
+    each : (first : ℕ) (rest : List ℕ) → AreOpenHops (settings_of make) (shown (last_world (new_world make) list)) flow first rest
+        → EachHopInOrder flow (shown (last_world (new_world make) list)) first rest
+    each first [] h = tt
+    each first (next ∷ rest) h = (hops make points joined list m flow first next h.0, each next rest h.1)

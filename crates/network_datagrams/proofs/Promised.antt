@@ -17,7 +17,7 @@ use Rattle.network_rules.proofs.Promised as neighbours
 use Rattle.network_rules.proofs.ToPoint as destinations
 use Rattle.node_rules.specs.Worlds.{Make}
 use Rattle.network_datagrams.specs.NetworkWorlds.{NetworkWorld, Steps, last_world, new_world, shown}
-use Rattle.network_datagrams.specs.NetworkPromises.{AreJoined, books_are_of_the_two, each_flow_in_order, each_message_is_accounted_for, each_message_once, flows_stay_between, messages_come_from_end_to_end, nothing_is_awaited_in_vain, nothing_is_held_in_vain, settings_of}
+use Rattle.network_datagrams.specs.NetworkPromises.{Always, AreJoined, BooksAreOfTheTwo, EachFlowInOrder, EachMessageAccounted, EachMessageOnce, FlowsStayBetween, MessagesComeToEnd, NothingAwaitedInVain, NothingHeldInVain, settings_of}
 use Rattle.network_datagrams.proofs.Showing.{plain}
 use Rattle.network_datagrams.proofs.Running.{IsRun, all-run}
 
@@ -166,26 +166,26 @@ module _ (make : (point : ℕ) → Make) (points : List ℕ) (joined : AreJoined
 
 -- ---- the laws
 
-pub once : each_message_once
+pub once : Always EachMessageOnce
 once make points joined list m near far sharing = run-once make points joined list m near far sharing
 
-pub order : each_flow_in_order
+pub order : Always EachFlowInOrder
 order make points joined list m near far sharing = run-order make points joined list m near far sharing
 
-pub awaited : nothing_is_awaited_in_vain
+pub awaited : Always NothingAwaitedInVain
 awaited make points joined list m near far sharing = run-awaited make points joined list m near far sharing
 
-pub books : books_are_of_the_two
+pub books : Always BooksAreOfTheTwo
 books make points joined list m near far sharing = run-books make points joined list m near far sharing
 
-pub flows : flows_stay_between
+pub flows : Always FlowsStayBetween
 flows make points joined list m near far sharing = run-flows make points joined list m near far sharing
 
-pub held : nothing_is_held_in_vain
+pub held : Always NothingHeldInVain
 held make points joined list m near far sharing = run-held make points joined list m near far sharing
 
-pub accounts : each_message_is_accounted_for
+pub accounts : Always EachMessageAccounted
 accounts make points joined list m = run-accounts make points joined list m
 
-pub ends-meet : messages_come_from_end_to_end
+pub ends-meet : Always MessagesComeToEnd
 ends-meet make points joined list m = run-ends-meet make points joined list m

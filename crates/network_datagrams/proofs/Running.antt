@@ -22,7 +22,7 @@ use Rattle.node_rules.proofs.Sending.{sends}
 use Rattle.node_rules.proofs.Runs.{first-linked, none-flies, sized}
 use Rattle.network_datagrams.specs.NetworkWorlds as worlds
 use Rattle.network_datagrams.specs.NetworkWorlds.{Node, NetworkWorld, Doing, Happens, Associates, Sends, HasEnd, MayDo, Steps, bare, did, happened, handed_all, last_world, new_world, sent, shown, with_port}
-use Rattle.network_datagrams.specs.NetworkPromises.{AreJoined, runs_are_runs_of_networks, settings_of}
+use Rattle.network_datagrams.specs.NetworkPromises.{Always, AreJoined, IsRunOfNetwork, settings_of}
 use Rattle.network_datagrams.proofs.Showing.{between, shows-but}
 use Rattle.network_datagrams.proofs.Acting.{Goes, ShowsAt, acts-go, frame-goes, steps-append}
 use Rattle.network_datagrams.proofs.Handing.{events-exchange, handed-happened, happened_all}
@@ -138,7 +138,7 @@ module _ (make : (point : ℕ) → Make) (points : List ℕ) (joined : AreJoined
   pub all-run : (list : List NetworkWorld) → Steps make (new_world make) list → IsRun make (last_world (new_world make) list)
   all-run list m = all-steps list (new_world make) m first-runs
 
-pub are-runs : runs_are_runs_of_networks
+pub are-runs : Always IsRunOfNetwork
 are-runs make points joined list m =
     let r : IsRun make (last_world (new_world make) list) = all-run make points joined list m in
     record {

@@ -13,7 +13,7 @@ use Rattle.pair_rules.specs.Sharing.{AreSharing}
 use Rattle.neighbour_rules.specs.Awaiting.{AwaitsNothingInVain}
 use Rattle.neighbour_rules.specs.Promises.{AreBooked, EachOnce, InOrder, StaysBetween}
 use Rattle.network_rules.specs.Networks.{NetworkNode, NetworkState, Step, after_steps, first_network}
-use Rattle.network_rules.specs.Hops.{AreOpenHops}
+use Rattle.network_rules.specs.Hops.{AreOpenHops, IsOpenHop}
 use Rattle.network_rules.specs.Pairs.{pair_of}
 use Rattle.network_rules.specs.Paths.{ComesInOrder, EachHopInOrder, EachOnlyPasses, KeepsInOrder, PassesInOrder}
 use Rattle.network_rules.specs.Totals.{ComeToPoint, HaveLostNothing, IsAccounted, IsJoined, is_listed}
@@ -49,9 +49,6 @@ pub record AreOne (one other : NetworkNode) : Type 0 where
 pub record IsRunOfNetwork (settings : (point : ℕ) → Configuration) (points : List ℕ) (s : NetworkState) : Type 0 where
   pub steps : List Step
   pub is : (point : ℕ) → AreOne (s.node point) ((after_steps steps (first_network settings)).node point)
-
-abbrev pub runs_are_runs_of_networks : Type 0
-runs_are_runs_of_networks = Always IsRunOfNetwork
 
 -- ---- what is said
 
@@ -102,11 +99,16 @@ module _ (settings : (point : ℕ) → Configuration) (points : List ℕ) (s : N
       (flow : Flow) (first : ℕ) (rest : List ℕ) → EachHopInOrder flow s first rest → EachOnlyPasses flow s first rest →
       ComesInOrder flow s first rest
 
-  -- where this is a run of a network by some steps, a flow comes over a path in order, on the premises of hops on these
+  -- a hop keeps a flow in order that leads over it, where no status of its route is among what came from there
+  abbrev pub HopsKeepFlows : Type 0
+  HopsKeepFlows =
+      (flow : Flow) (near far : ℕ) → IsOpenHop settings s flow near far → KeepsInOrder flow s near far
+
+  -- so over a path of such hops the flow comes in order
   abbrev pub PathsKeepFlows : Type 0
   PathsKeepFlows =
-      (run : IsRunOfNetwork settings points s) (flow : Flow) (first : ℕ) (rest : List ℕ) →
-      AreOpenHops settings run.steps flow first rest → EachOnlyPasses flow s first rest → ComesInOrder flow s first rest
+      (flow : Flow) (first : ℕ) (rest : List ℕ) → AreOpenHops settings s flow first rest →
+      EachOnlyPasses flow s first rest → ComesInOrder flow s first rest
 
   -- as the last hop does, where the flow is for the last point
   abbrev pub LastHopsKeepOrder : Type 0
@@ -119,44 +121,3 @@ module _ (settings : (point : ℕ) → Configuration) (points : List ℕ) (s : N
   FramesAreShort =
       (point link : ℕ) → HasEnd s point link → (frame : FrameValue) →
       frame_to_take whole (s.node point).exchange link ≡ Some frame → IsShort frame
-
--- ---- the promises
-
-abbrev pub each_message_once : Type 0
-each_message_once = Always EachMessageOnce
-
-abbrev pub each_flow_in_order : Type 0
-each_flow_in_order = Always EachFlowInOrder
-
-abbrev pub nothing_is_awaited_in_vain : Type 0
-nothing_is_awaited_in_vain = Always NothingAwaitedInVain
-
-abbrev pub books_are_of_the_two : Type 0
-books_are_of_the_two = Always BooksAreOfTheTwo
-
-abbrev pub flows_stay_between : Type 0
-flows_stay_between = Always FlowsStayBetween
-
-abbrev pub nothing_is_held_in_vain : Type 0
-nothing_is_held_in_vain = Always NothingHeldInVain
-
-abbrev pub each_message_is_accounted_for : Type 0
-each_message_is_accounted_for = Always EachMessageAccounted
-
-abbrev pub messages_come_from_end_to_end : Type 0
-messages_come_from_end_to_end = Always MessagesComeToEnd
-
-abbrev pub nodes_pass_on_in_order : Type 0
-nodes_pass_on_in_order = Always NodesPassInOrder
-
-abbrev pub paths_keep_the_order_of_their_hops : Type 0
-paths_keep_the_order_of_their_hops = Always PathsKeepOrder
-
-abbrev pub paths_keep_flows_in_order : Type 0
-paths_keep_flows_in_order = Always PathsKeepFlows
-
-abbrev pub last_hops_keep_flows_in_order : Type 0
-last_hops_keep_flows_in_order = Always LastHopsKeepOrder
-
-abbrev pub frames_are_short : Type 0
-frames_are_short = Always FramesAreShort

@@ -3,3 +3,6 @@ pub mod WorldEnds
 pub mod Lawful
 pub mod Running
 pub mod Promised
+pub mod Possible
+pub mod Reading
+pub mod Alone

@@ -4,13 +4,13 @@ use Rattle.settings_rows.specs.Configuration.{Configuration}
 use Rattle.network_rules.specs.Networks.{NetworkState}
 use Rattle.network_datagrams.specs.NetworkWorlds as datagrams
 use Rattle.network_datagrams.specs.NetworkPromises as datagrams_promise
-use Rattle.network_datagrams.specs.NetworkPromises.{BooksAreOfTheTwo, EachFlowInOrder, EachMessageAccounted, EachMessageOnce, FlowsStayBetween, FramesAreShort, IsRunOfNetwork, LastHopsKeepOrder, MessagesComeToEnd, NodesPassInOrder, NothingAwaitedInVain, NothingHeldInVain, PathsKeepFlows, PathsKeepOrder}
+use Rattle.network_datagrams.specs.NetworkPromises.{BooksAreOfTheTwo, EachFlowInOrder, EachMessageAccounted, EachMessageOnce, FlowsStayBetween, FramesAreShort, HopsKeepFlows, IsRunOfNetwork, LastHopsKeepOrder, MessagesComeToEnd, NodesPassInOrder, NothingAwaitedInVain, NothingHeldInVain, PathsKeepFlows, PathsKeepOrder}
 use Rattle.network_datagrams.proofs.Running as runs
 use Rattle.network_datagrams.proofs.Promised as promised
 use Rattle.network_datagrams.proofs.Paths as paths
 use Rattle.network_datagrams.proofs.Fitting as fitting
 use Rattle.network_gates.specs.GateWorlds.{GateWorld, last_world, new_world, shown}
-use Rattle.network_gates.specs.GatePromises.{AlwaysShown, books_are_of_the_two, each_flow_in_order, each_message_is_accounted_for, each_message_once, flows_stay_between, frames_are_short, last_hops_keep_flows_in_order, messages_come_from_end_to_end, nodes_of, nodes_pass_on_in_order, nothing_is_awaited_in_vain, nothing_is_held_in_vain, paths_keep_flows_in_order, paths_keep_the_order_of_their_hops, runs_are_runs_of_networks, runs_are_runs_over_datagrams, settings_of}
+use Rattle.network_gates.specs.GatePromises.{AlwaysShown, nodes_of, runs_are_runs_over_datagrams, settings_of}
 use Rattle.network_gates.proofs.Running.{Reaches, all-reach, joined}
 
 pub are-runs : runs_are_runs_over_datagrams
@@ -28,44 +28,47 @@ over Statement always make points is_joined list steps =
     same : (v : GateWorld) (r : Reaches make points is_joined v) → datagrams.shown (datagrams.last_world (datagrams.new_world (nodes_of make)) r.list) ≡ shown v
     same v r = λ i. record { node = λ o. (r.beside o).books i }
 
-pub of-networks : runs_are_runs_of_networks
+pub of-networks : AlwaysShown IsRunOfNetwork
 of-networks = over IsRunOfNetwork runs.are-runs
 
-pub once : each_message_once
+pub once : AlwaysShown EachMessageOnce
 once = over EachMessageOnce promised.once
 
-pub order : each_flow_in_order
+pub order : AlwaysShown EachFlowInOrder
 order = over EachFlowInOrder promised.order
 
-pub awaited : nothing_is_awaited_in_vain
+pub awaited : AlwaysShown NothingAwaitedInVain
 awaited = over NothingAwaitedInVain promised.awaited
 
-pub books : books_are_of_the_two
+pub books : AlwaysShown BooksAreOfTheTwo
 books = over BooksAreOfTheTwo promised.books
 
-pub flows : flows_stay_between
+pub flows : AlwaysShown FlowsStayBetween
 flows = over FlowsStayBetween promised.flows
 
-pub held : nothing_is_held_in_vain
+pub held : AlwaysShown NothingHeldInVain
 held = over NothingHeldInVain promised.held
 
-pub accounts : each_message_is_accounted_for
+pub accounts : AlwaysShown EachMessageAccounted
 accounts = over EachMessageAccounted promised.accounts
 
-pub ends-meet : messages_come_from_end_to_end
+pub ends-meet : AlwaysShown MessagesComeToEnd
 ends-meet = over MessagesComeToEnd promised.ends-meet
 
-pub nodes-pass : nodes_pass_on_in_order
+pub nodes-pass : AlwaysShown NodesPassInOrder
 nodes-pass = over NodesPassInOrder paths.nodes-pass
 
-pub keep-order : paths_keep_the_order_of_their_hops
+pub keep-order : AlwaysShown PathsKeepOrder
 keep-order = over PathsKeepOrder paths.paths
 
-pub keep-flows : paths_keep_flows_in_order
+pub keep-hops : AlwaysShown HopsKeepFlows
+keep-hops = over HopsKeepFlows paths.hops
+
+pub keep-flows : AlwaysShown PathsKeepFlows
 keep-flows = over PathsKeepFlows paths.flows
 
-pub last-hops : last_hops_keep_flows_in_order
+pub last-hops : AlwaysShown LastHopsKeepOrder
 last-hops = over LastHopsKeepOrder paths.last-hops
 
-pub short : frames_are_short
+pub short : AlwaysShown FramesAreShort
 short = over FramesAreShort fitting.all-short

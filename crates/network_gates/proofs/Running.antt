@@ -17,13 +17,13 @@ use Rattle.network_datagrams.specs.NetworkPromises.{AreJoined}
 use Rattle.network_datagrams.proofs.Placing.{AreEnds, ends-of}
 use Rattle.network_datagrams.proofs.Running.{IsRun, all-run}
 use Rattle.gate_rules.specs.Calls.{seen_all}
-use Rattle.gate_rules.specs.Worlds.{Make, MayCall, new_port, port_after}
+use Rattle.gate_rules.specs.Worlds.{Make, MayCall, done_by, new_port, port_after}
 use Rattle.gate_rules.specs.Promises.{node_make}
 use Rattle.gate_rules.proofs.LinkEnds.{LinkEnd, acted_all, same-number}
 use Rattle.gate_rules.proofs.Called.{Beside, Goes, books-so, call-goes, each-beside, new-ages}
 use Rattle.gate_rules.proofs.Lawful.{new-shows}
 use Rattle.network_gates.specs.GateCalls.{MayAll, after_all}
-use Rattle.network_gates.specs.GateWorlds.{Calls, Doing, GateWorld, Happens, MayDo, Node, Steps, after, did, done_by, last_world, new_node, new_world, node_kept, shown}
+use Rattle.network_gates.specs.GateWorlds.{Calls, Doing, GateWorld, Happens, MayDo, Node, Steps, after, did, last_world, new_node, new_world, node_kept, shown}
 use Rattle.network_gates.specs.GatePromises.{nodes_of, settings_of}
 use Rattle.network_gates.proofs.NodeEnds.{doing_of}
 use Rattle.network_gates.proofs.WorldEnds.{Runs, all-after, end_at, lasts, may-all, run-at, there, world_with}
@@ -111,10 +111,12 @@ module _ (make : (point : ℕ) → Make) (points : List ℕ) (is_joined : IsJoin
     run : IsRun nodes_made w
     run = all-run nodes_made points joined r.list r.steps
 
-    ends-there : (p k : ℕ) (h : HasEnd (shown v) p k) → AreEnds (settings_of make) p k h.there.point h.there.link
+    pub settings-are : (o : ℕ) → (v.node o).books.exchange.settings ≡ (make o).configuration
+    settings-are o = ap (λ (x : NetworkNode). x.exchange.settings) (sym (r.beside o).books) ∙ (run.meets.all.each o).settings
+
+    pub ends-there : (p k : ℕ) (h : HasEnd (shown v) p k) → AreEnds (settings_of make) p k h.there.point h.there.link
     ends-there p k h =
-        ends-of (settings_of make) points is_joined p k h.there.point h.there.link
-        (sym (ends-are (settings_of make) (shown v) (λ o. ap (λ (x : NetworkNode). x.exchange.settings) (sym (r.beside o).books) ∙ (run.meets.all.each o).settings) p k) ∙ h.is)
+        ends-of (settings_of make) points is_joined p k h.there.point h.there.link (sym (ends-are (settings_of make) (shown v) settings-are p k) ∙ h.is)
 
     calls : (p k : ℕ) (call : Call) (h : HasEnd (shown v) p k) → MayCall ((v.node h.there.point).ports h.there.link) call → Reaches (after p (Calls k call) v)
     calls p k call h may =
@@ -123,7 +125,7 @@ module _ (make : (point : ℕ) → Make) (points : List ℕ) (is_joined : IsJoin
         let e : AreEnds (settings_of make) p k q j = ends-there p k h in
         let m : nodes.Make = nodes_made p in
         let g : Node = v.node p in
-        let d : Did WholeQueues = done_by call k g in
+        let d : Did WholeQueues = done_by node_kept call k g in
         let c : Goes node_kept m k (there nodes_made w p k points joined q j e) (Runs nodes_made w p k points joined q j e) (lasts nodes_made w p k points joined q j e)
         (end_at nodes_made w p k) g.books call d (g.ports k) =
         call-goes node_kept m k (there nodes_made w p k points joined q j e) (Runs nodes_made w p k points joined q j e) (lasts nodes_made w p k points joined q j e)
@@ -132,7 +134,7 @@ module _ (make : (point : ℕ) → Make) (points : List ℕ) (is_joined : IsJoin
         let l : LinkEnd NetworkNode = acted_all node_kept m k c.acts (end_at nodes_made w p k) in
         let at : BesideNode (make p) (did (Calls k call) g) (ends.with_end m k (w.node p) l) =
         record {
-          books = books-so node_kept l.books (seen_all node_kept k d.seen g.books) (λ a x. record x { exchange = a }) d.exchange (λ x. refl) c.books c.exchange;
+          books = books-so node_kept l.books (seen_all node_kept k d.seen g.books) d.exchange (λ x. refl) c.books c.exchange;
           ports = each-beside m k l.port (port_after call d (g.ports k)) (w.node p).ports g.ports c.port (r.beside p).ports;
         } in
         goes-on v (after p (Calls k call) v) r p (map (doing_of k) c.acts) (world_with nodes_made w p k l) (may-all nodes_made w p k points joined q j e c.acts run c.may)
@@ -143,7 +145,7 @@ module _ (make : (point : ℕ) → Make) (points : List ℕ) (is_joined : IsJoin
         by o n at true same = subst (λ (i : ℕ). BesideNode (make i) (did (Calls k call) (v.node i)) n) (sym (same-number o p same)) at
         by o n at false same = r.beside o
 
-    did-goes : (p : ℕ) (what : Doing) → MayDo v p what → Reaches (after p what v)
+    pub did-goes : (p : ℕ) (what : Doing) → MayDo v p what → Reaches (after p what v)
     did-goes p (Happens what) own = happens v p what own r
     did-goes p (Calls k call) may = calls p k call may.0 may.1
 
@@ -160,5 +162,8 @@ module _ (make : (point : ℕ) → Make) (points : List ℕ) (is_joined : IsJoin
     };
   }
 
+  pub first-reaches : Reaches (new_world make)
+  first-reaches = record { list = []; steps = tt; beside = λ o. new-beside (make o) }
+
   pub all-reach : (list : List GateWorld) → Steps (new_world make) list → Reaches (last_world (new_world make) list)
-  all-reach list steps = all-go list (new_world make) steps (record { list = []; steps = tt; beside = λ o. new-beside (make o) })
+  all-reach list steps = all-go list (new_world make) steps first-reaches

@@ -1,30 +1,31 @@
 -- A network of exchanges with a gate for each of their links, and all packets that these ever put out. What is done at
--- a node is calls of its gates, and other things that happen to its exchange. What a gate's port is, and what a call
--- leaves of it, is that of `gate_rules`, and what a node books that of `network_rules`.
+-- a node is calls of its gates, and other things that happen to its exchange. What a call leaves of a node is that of
+-- `gate_rules`, and what a node books that of `network_rules`.
 use Rattle.std.specs.Prelude.{◌≡◌, ℕ, List, [], ◌∷◌, nat_eq, if◌then◌else◌}
 use Rattle.exchange_rules.specs.State.{Happening}
-use Rattle.exchange_rules.specs.Queues.{WholeQueues, whole}
-use Rattle.sctp_gate.specs.Gates.{Did}
-use Rattle.sctp_gate.specs.Calling.{Call, called}
+use Rattle.sctp_gate.specs.Calling.{Call}
 use Rattle.network_rules.specs.Networks.{NetworkNode, NetworkState, first_node, sends}
 use Rattle.node_rules.specs.Worlds.{IsOwn}
 use Rattle.network_datagrams.specs.NetworkWorlds.{HasEnd, happened}
-use Rattle.gate_rules.specs.Calls.{Keeping, seen_all}
-use Rattle.gate_rules.specs.Worlds.{Make, MayCall, Port, new_port, port_after}
+use Rattle.gate_rules.specs.Calls.{Keeping}
+use Rattle.gate_rules.specs.Worlds.{GateNode, Make, MayCall, done_by, new_port, with_call}
 
 -- ---- a node
 
--- its exchange and its books, with nothing ever in flight to it; and the gate of each of its links
-pub record Node : Type 0 where
-  pub books : NetworkNode
-  pub ports : (link : ℕ) → Port
+-- it keeps its exchange and its books, with nothing ever in flight to it
+abbrev pub Node : Type 0
+Node = GateNode NetworkNode
+
+abbrev pub node_kept : Keeping NetworkNode
+node_kept = record {
+  exchange = λ x. x.exchange;
+  with_exchange = λ a x. record x { exchange = a };
+  happened = happened;
+  took = sends;
+}
 
 abbrev pub new_node : Make → Node
 new_node m = record { books = first_node m.configuration; ports = λ link. new_port link (m.gates link) }
-
--- what it keeps of what a gate's call shows
-abbrev pub node_kept : Keeping NetworkNode
-node_kept = record { exchange = λ x. x.exchange; happened = happened; took = sends }
 
 -- ---- what is done at a node
 
@@ -34,23 +35,9 @@ pub data Doing : Type 0 where
   -- the gate of a link is called
   Calls : (link : ℕ) (call : Call) → Doing
 
--- what a call does
-abbrev pub done_by : Call → (link : ℕ) → Node → Did WholeQueues
-done_by call link n = called whole call (n.ports link).gate n.books.exchange
-
--- the exchange is the one that the call leaves, and what is seen of the call says what is booked
-abbrev pub books_after : (link : ℕ) → Did WholeQueues → NetworkNode → NetworkNode
-books_after link d x = record (seen_all node_kept link d.seen x) { exchange = d.exchange }
-
-abbrev pub with_call : Call → (link : ℕ) → Did WholeQueues → Node → Node
-with_call call link d n = record {
-  books = books_after link d n.books;
-  ports = λ other. if nat_eq other link then port_after call d (n.ports link) else n.ports other;
-}
-
 abbrev pub did : Doing → Node → Node
 did (Happens what) n = record n { books = happened what n.books }
-did (Calls link call) n = with_call call link (done_by call link n) n
+did (Calls link call) n = with_call node_kept call link (done_by node_kept call link n) n
 
 -- ---- all nodes
 

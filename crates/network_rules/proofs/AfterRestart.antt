@@ -8,9 +8,9 @@ use Rattle.route_management.specs.Told.{owes_nothing}
 use Rattle.m2pa_codec.specs.Frames.{status_of}
 use Rattle.changeback.specs.Rerouting.{rerouted}
 use Rattle.changeback.specs.Return.{changes_of, changes}
-use Rattle.flow_hold.specs.declared.procedure.Procedure.TheVariants.{Changeover, Code}
+use Rattle.flow_hold.specs.declared.procedure.Procedure.TheVariants.{Changeover}
 use Rattle.exchange_rules.specs.Telling.{tell_owed}
-use Rattle.pair_rules.specs.Pairs.{Submits, Takes, Delivers}
+use Rattle.pair_rules.specs.Pairs.{Submits, Takes}
 use Rattle.neighbour_rules.specs.ThirdNode.{the_message}
 use Rattle.neighbour_rules.proofs.Delivered.{delivers}
 use Rattle.network_rules.specs.Networks.{NetworkState, first_network}
@@ -19,8 +19,8 @@ use Rattle.network_rules.specs.TwoFailures.{done_at, middle_settings, row, secon
 use Rattle.network_rules.specs.AfterRestart.{breaking, broken, come, opening, passed, returned, returning, sent, submitted}
 use Rattle.network_rules.proofs.LaidOut.{Three, network-seen, network_of, node_at, run, seen}
 use Rattle.network_rules.proofs.Renewed.{anew, anew-is, changes-are, run_changes}
-use Rattle.network_rules.proofs.Unheld.{Free, none-held, free-none, free-flows, free-less, free-ended}
-use Rattle.network_rules.proofs.Offering.{ComesOn, is-next, new_of, next_accepted, next_text, passing, submitting, third, runs-on, submits-on, passes-on}
+use Rattle.network_rules.proofs.Unheld.{Free, none-held, free-none, free-ended}
+use Rattle.network_rules.proofs.Offering.{message-on, ComesOn, is-next, new_of, next_accepted, next_text, passing, submitting, third, runs-on, submits-on, passes-on}
 use Rattle.network_rules.proofs.AllRuns.{steps-keep}
 use Rattle.network_rules.proofs.Reached.{changes-keep}
 
@@ -34,13 +34,13 @@ abbrev pub returned_from : Three → Three
 returned_from t = run returning (anew (broken_from t))
 
 abbrev pub submitted_from : Three → Three
-submitted_from t = submitting (returned_from t)
+submitted_from t = submitting the_message (returned_from t)
 
 abbrev pub sent_from : Three → Three
 sent_from t = run (done_at second_line.here Takes ∷ []) (submitted_from t)
 
 abbrev pub passed_from : Three → Three
-passed_from t = passing (sent_from t)
+passed_from t = passing the_message (sent_from t)
 
 abbrev pub come_from : Three → Three
 come_from t = run (sends third_line ++ sends (turned third_line) ++ sends (turned second_line)) (passed_from t)
@@ -83,7 +83,7 @@ third-settings : (returned_from first_three).third.exchange.settings ≡ third
 third-settings = kept 3 returned (returned_from first_three) returned-is (returned-keeps 3)
 
 submitted-is : submitted ≡ network_of (submitted_from first_three)
-submitted-is = submits-on returned (returned_from first_three) returned-is third-settings third-unheld
+submitted-is = submits-on returned (returned_from first_three) returned-is the_message message-on third-settings third-unheld
 
 sent-is : sent ≡ network_of (sent_from first_three)
 sent-is = runs-on submitted (submitted_from first_three) submitted-is (done_at second_line.here Takes ∷ [])
@@ -105,7 +105,7 @@ near-free : Free 1 0 (next_accepted (sent_from first_three).first).parts.holds
 unfolding apply tell_owed first_sets links_below status_of set_timer clear_timer start_unless_running clear_set due_name after_due due_count names_of choice_among link_by changes_of changes take_back_each owes_nothing any_flow flows rerouted
 near-free = free-none 1 0 4 2 2
 
-comes-on : ComesOn (next_text 1 (sent_from first_three).first) (next_accepted (sent_from first_three).first) (sent_from first_three).first
+comes-on : ComesOn the_message (next_text 1 (sent_from first_three).first) (next_accepted (sent_from first_three).first) (sent_from first_three).first
 comes-on = record {
   settings = kept 1 sent (sent_from first_three) sent-is (sent-keeps 1);
   there = is-next 1 (sent_from first_three).first near-there;
@@ -115,7 +115,7 @@ comes-on = record {
 }
 
 passed-is : passed ≡ network_of (passed_from first_three)
-passed-is = passes-on sent (sent_from first_three) sent-is comes-on []
+passed-is = passes-on sent (sent_from first_three) sent-is the_message message-on comes-on []
 
 pub come-is : come ≡ network_of (come_from first_three)
 come-is = runs-on passed (passed_from first_three) passed-is (sends third_line ++ sends (turned third_line) ++ sends (turned second_line))

@@ -49,7 +49,7 @@ here-keeps (pairs.LosesStatus link) x = statuses-keep (slice_get (in_flight x.in
 here-keeps (pairs.DoublesStatus link) x = statuses-keep (slice_get (in_flight x.incoming.statuses link) 0) (with_status_twice link x.incoming) x
 here-keeps (pairs.Loses link) x = refl
 here-keeps pairs.Ticks x = refl
-here-keeps (pairs.Activates link) x = refl
+here-keeps (pairs.Activates link emergency) x = refl
 here-keeps (pairs.Deactivates link) x = refl
 here-keeps (pairs.AddsTitle row is_memory_refused) x = refl
 here-keeps (pairs.RemovesTitle key digits) x = refl
@@ -81,7 +81,7 @@ did-keeps (pairs.LosesStatus link) point w other = changed-keeps point (did_here
 did-keeps (pairs.DoublesStatus link) point w other = changed-keeps point (did_here (pairs.DoublesStatus link)) w (here-keeps (pairs.DoublesStatus link)) other
 did-keeps (pairs.Loses link) point w other = changed-keeps point (did_here (pairs.Loses link)) w (here-keeps (pairs.Loses link)) other
 did-keeps pairs.Ticks point w other = changed-keeps point (did_here pairs.Ticks) w (here-keeps pairs.Ticks) other
-did-keeps (pairs.Activates link) point w other = changed-keeps point (did_here (pairs.Activates link)) w (here-keeps (pairs.Activates link)) other
+did-keeps (pairs.Activates link emergency) point w other = changed-keeps point (did_here (pairs.Activates link emergency)) w (here-keeps (pairs.Activates link emergency)) other
 did-keeps (pairs.Deactivates link) point w other = changed-keeps point (did_here (pairs.Deactivates link)) w (here-keeps (pairs.Deactivates link)) other
 did-keeps (pairs.AddsTitle row is_memory_refused) point w other =
     changed-keeps point (did_here (pairs.AddsTitle row is_memory_refused)) w (here-keeps (pairs.AddsTitle row is_memory_refused)) other
@@ -176,7 +176,7 @@ module _ (t : Terms) (near far : ℕ) (apart : near ≢ far) (w : NetworkState) 
   third-next (pairs.DoublesStatus link) = alone (pairs.DoublesStatus link)
   third-next (pairs.Loses link) = alone (pairs.Loses link)
   third-next pairs.Ticks = alone pairs.Ticks
-  third-next (pairs.Activates link) = alone (pairs.Activates link)
+  third-next (pairs.Activates link emergency) = alone (pairs.Activates link emergency)
   third-next (pairs.Deactivates link) = alone (pairs.Deactivates link)
   third-next (pairs.AddsTitle row is_memory_refused) = alone (pairs.AddsTitle row is_memory_refused)
   third-next (pairs.RemovesTitle key digits) = alone (pairs.RemovesTitle key digits)

@@ -19,7 +19,7 @@ use Rattle.neighbour_rules.specs.Anew as pairs
 use Rattle.neighbour_rules.proofs.Sharing.{AreFacing, are-facing, far_joint, near_joint, AreOwn, facing-own}
 use Rattle.neighbour_rules.proofs.Restarted.{Works, all-changes-work, first-works, steps-work, begun}
 use Rattle.network_rules.specs.Networks.{NetworkState, Step, after_step, after_steps, changed, first_network, NetworkNode}
-use Rattle.network_rules.specs.Outside.{HearsOutside, Move, OpensOutside, Within, after_move, after_moves, hears_outside, is_within, leads_out, opens_outside, speaks_within}
+use Rattle.network_rules.specs.Outside.{HearsOutside, Move, OpensOutside, Within, after_move, after_moves, leads_out, speaks_within}
 use Rattle.neighbour_rules.proofs.AllSteps.{own-steps}
 use Rattle.network_rules.specs.Anew.{Change, GivesUp, IsStepOrThird, Restarts, Steps, after_all, after_change, given_up, restarted}
 use Rattle.network_rules.specs.Pairs.{Always, AreTheirPoints, AreWellOrAlone, ArePairsAlike, HearsNothingElsewhere, IsRunOfNeighbours, nobody_speaks_for_another, pair_of, pair_of_for, runs_are_runs_of_neighbours}
@@ -161,10 +161,10 @@ module _ (settings : (point : ℕ) → Configuration) (near far : ℕ) (points :
 
   -- the messages are for the two themselves, and whatever is handed in
   abbrev terms : Terms
-  terms = record { to_far = z.own; to_near = c.own; near_is = λ text. Unit {0}; far_is = λ text. Unit {0} }
+  terms = record { to_far = z.own; to_near = c.own; near_is = λ m. Unit {0}; far_is = λ m. Unit {0} }
 
-  pub takes-any : (what : Doing) (x y : NetworkNode) → TakesIn (λ text. Unit {0}) what x y
-  takes-any (doing.Delivers link) x y = λ between text e. tt
+  pub takes-any : (what : Doing) (x y : NetworkNode) → TakesIn (λ m. Unit {0}) what x y
+  takes-any (doing.Delivers link) x y = λ between text e m f. tt
   takes-any (doing.Submits message) x y = tt
   takes-any (doing.Takes link) x y = tt
   takes-any (doing.DeliversStatus link) x y = tt
@@ -172,7 +172,7 @@ module _ (settings : (point : ℕ) → Configuration) (near far : ℕ) (points :
   takes-any (doing.DoublesStatus link) x y = tt
   takes-any (doing.Loses link) x y = tt
   takes-any doing.Ticks x y = tt
-  takes-any (doing.Activates link) x y = tt
+  takes-any (doing.Activates link emergency) x y = tt
   takes-any (doing.Deactivates link) x y = tt
   takes-any (doing.AddsTitle row is_memory_refused) x y = tt
   takes-any (doing.RemovesTitle key digits) x y = tt
@@ -223,14 +223,14 @@ module _ (settings : (point : ℕ) → Configuration) (near far : ℕ) (points :
   -- ---- moves
 
   -- both are within
-  are-within : (w : NetworkState) → IsCalm w → AreWithin near far w
+  pub are-within : (w : NetworkState) → IsCalm w → AreWithin near far w
   are-within w h = record {
     near_within = ap (λ (s : Configuration). nat_lt 0 (length s.sets)) (near-kept w h) ∙ has-sets c z.own a.near_set a.near_leads;
     far_within = ap (λ (s : Configuration). nat_lt 0 (length s.sets)) (far-kept w h) ∙ has-sets z c.own a.far_set a.far_leads;
     own = own-points w h;
   }
 
-  move-goes : (move : Move) (w : NetworkState) (p : PairState) → IsCalm w → Works c z a p → ArePairsAlike (pair_of w near far) p → Goes (after_move move w) p
+  pub move-goes : (move : Move) (w : NetworkState) (p : PairState) → IsCalm w → Works c z a p → ArePairsAlike (pair_of w near far) p → Goes (after_move move w) p
   move-goes (Within step) w p calm s h = one-goes step w p calm s h
   move-goes (OpensOutside point link) w p calm s h =
       own-next (after_move (OpensOutside point link) w) p s

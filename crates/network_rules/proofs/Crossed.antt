@@ -13,14 +13,16 @@ use Rattle.exchange_rules.specs.Telling.{tell_owed}
 use Rattle.pair_rules.specs.Promises.{of_flow}
 use Rattle.neighbour_rules.specs.ThirdNode.{the_message}
 use Rattle.network_rules.specs.Networks.{Arrival, NetworkNode, NetworkState, end_of}
-use Rattle.network_rules.specs.Paths.{KeepsInOrder, OnlyPasses, came_over, waits_over}
-use Rattle.network_rules.specs.TwoFailures.{CrossesTwoFailures, IsDone, come, its_text, users_come}
+use Rattle.network_rules.specs.Paths.{EachOnlyPasses, KeepsInOrder, OnlyPasses, came_over, waits_over}
+use Rattle.network_rules.specs.Hops.{AreOpenHops}
+use Rattle.network_rules.specs.TwoFailures.{CrossesTwoFailures, IsDone, come, its_text, row, users_come}
+use Rattle.network_rules.proofs.CrossedPath.{by-law, come-reached, hears-none, hops-open}
 use Rattle.network_rules.proofs.LaidOut.{network_of}
-use Rattle.network_rules.proofs.Offering.{offered, outcome-is, third}
+use Rattle.network_rules.proofs.Offering.{message-on, offered, outcome-is, third}
 use Rattle.network_rules.proofs.RowSettings.{first-sharing, joined, of-three, points, second-sharing, well}
 use Rattle.network_rules.proofs.TwoFailures.{come-is, come_from, failed-is, failed_from, failed_on-is, failed_on_from, first_three, moved-is, moved_from, moved_on-is, moved_on_from, passed-is, passed_from, sent-is, sent_from, sent_on-is, sent_on_from, served-is, served_from, third-settings, third-unheld}
 
-its-outcome : (offered third None false (served_from first_three).third.exchange.node).outcome ≡ Queued 0
+its-outcome : (offered the_message third None false (served_from first_three).third.exchange.node).outcome ≡ Queued 0
 unfolding apply tell_owed first_sets links_below status_of set_timer clear_timer start_unless_running clear_set due_name after_due due_count names_of choice_among link_by changes_of changes take_back_each owes_nothing any_flow flows rerouted
 its-outcome = refl
 
@@ -164,6 +166,18 @@ passes-first = record {
   enters = ap (of_flow (flow_of the_message)) (ap (λ (s : Shown). s.entered) near-is);
 }
 
+passes-only : EachOnlyPasses (flow_of the_message) come 3 (1 ∷ 2 ∷ [])
+passes-only = (passes-first, tt)
+
+open-hops : AreOpenHops row come (flow_of the_message) 3 (1 ∷ 2 ∷ [])
+open-hops = hops-open come hears-none (record {
+  first_lossless = ap (λ (s : Shown). s.lost) third-is;
+  middle_lossless = ap (λ (s : Shown). s.lost) near-is;
+  last_lossless = ap (λ (s : Shown). s.lost) far-is;
+  first_punctual = ap (λ (s : Shown). s.late) third-is;
+  middle_punctual = ap (λ (s : Shown). s.late) near-is;
+})
+
 pub crosses : CrossesTwoFailures
 crosses = record {
   points = points;
@@ -174,7 +188,7 @@ crosses = record {
   kept =
       of-three (λ point. lost_any (come.node point).exchange.node.parts ≡ false)
       (ap (λ (s : Shown). s.lost) near-is) (ap (λ (s : Shown). s.lost) far-is) (ap (λ (s : Shown). s.lost) third-is);
-  outcome = ap (λ (w : NetworkState). outcome_of whole (Submitted the_message) (w.node 3).exchange) served-is ∙ outcome-is (served_from first_three).third third-settings third-unheld ∙ its-outcome;
+  outcome = ap (λ (w : NetworkState). outcome_of whole (Submitted the_message) (w.node 3).exchange) served-is ∙ outcome-is the_message message-on (served_from first_three).third third-settings third-unheld ∙ its-outcome;
   flies = ap (λ (w : NetworkState). in_flight (w.node 1).incoming.user_data 0) sent-is ∙ it-flies;
   third_down = ap (λ (w : NetworkState). is_down_at (end_of (w.node 3)) 0) failed-is ∙ it-third_down;
   near_down = ap (λ (w : NetworkState). is_down_at (end_of (w.node 1)) 0) failed-is ∙ it-near_down;
@@ -194,7 +208,9 @@ crosses = record {
   near_accepted = ap (λ (s : Shown). s.accepted) near-is;
   far_accepted = ap (λ (s : Shown). s.accepted) far-is;
   hops = (keeps-first, (keeps-next, tt));
-  passes_only = (passes-first, tt);
+  passes_only = passes-only;
+  open_hops = open-hops;
+  in_order = by-law come come-reached open-hops passes-only;
   third_done = done (come.node 3) [] (the_message ∷ []) (the_message ∷ []) third-is;
   near_done = done (come.node 1) (its_arrival ∷ []) (the_message ∷ []) [] near-is;
   far_done = done (come.node 2) (its_arrival ∷ []) [] [] far-is;

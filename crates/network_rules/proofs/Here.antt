@@ -146,7 +146,7 @@ module _ (of : Message → Bool) where
 
     plain-waits : (what : Happening) → IsPlain what → (v.node x).exchange ≡ after whole what a → Waits []
     plain-waits (WentDown link) plain e = other-waits (WentDown link) tt e
-    plain-waits (Activated link) plain e = other-waits (Activated link) tt e
+    plain-waits (Activated link emergency) plain e = other-waits (Activated link emergency) tt e
     plain-waits (Deactivated link) plain e = other-waits (Deactivated link) tt e
     plain-waits (TitleAdded row is_memory_refused) plain e = other-waits (TitleAdded row is_memory_refused) tt e
     plain-waits (TitleRemoved key digits) plain e = other-waits (TitleRemoved key digits) tt e

@@ -51,7 +51,10 @@ pub mod RowSettings
 pub mod Offering
 pub mod Renewed
 pub mod TwoFailures
+pub mod CrossedPath
 pub mod Crossed
 pub mod AfterRestart
 pub mod CameAfter
+pub mod Hearing
 pub mod Hops
+pub mod NextMessage

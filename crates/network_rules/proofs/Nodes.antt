@@ -21,17 +21,17 @@ use Rattle.network_rules.proofs.Alike.{away, emptied-alike, emptied-away, flags-
 abbrev text_of : Arrival → Message
 text_of a = a.message
 
-abbrev by_link : (link : ℕ) → Message → Arrival
+abbrev pub by_link : (link : ℕ) → Message → Arrival
 by_link link m = record { link = link; message = m }
 
 module _ (c z : Configuration) where
   abbrev comes_from : Arrival → Bool
   comes_from a = not (leads_elsewhere_by c z (slice_get c.links a.link))
 
-  came-more : (xs ys : List Arrival) → came_from c z (xs ++ ys) ≡ came_from c z xs ++ came_from c z ys
+  pub came-more : (xs ys : List Arrival) → came_from c z (xs ++ ys) ≡ came_from c z xs ++ came_from c z ys
   came-more xs ys = ap (map text_of) (filter-append comes_from xs ys) ∙ map-append text_of (filter comes_from xs) (filter comes_from ys)
 
-  came-here : (link : ℕ) (ms : List Message) → away c z link ≡ false → came_from c z (map (by_link link) ms) ≡ ms
+  pub came-here : (link : ℕ) (ms : List Message) → away c z link ≡ false → came_from c z (map (by_link link) ms) ≡ ms
   came-here link [] e = refl
   came-here link (m ∷ ms) e =
       let others : List Arrival = filter comes_from (map (by_link link) ms) in
@@ -45,9 +45,10 @@ module _ (c z : Configuration) where
 
 -- ---- two nodes, and a pair that is alike
 
--- the next User Data that is handed in satisfies this
-abbrev pub HandsIn : (List ℕ → Type 0) → neighbours.Doing → PairState → Type 0
-HandsIn T (Does (pairs.Delivers link)) p = (text : List ℕ) → slice_get (in_flight p.near.incoming.user_data link) 0 ≡ Some text → T text
+-- the message that the next User Data newly carries satisfies this, if that is handed in
+abbrev pub HandsIn : (Message → Type 0) → neighbours.Doing → PairState → Type 0
+HandsIn T (Does (pairs.Delivers link)) p =
+    (text : List ℕ) → slice_get (in_flight p.near.incoming.user_data link) 0 ≡ Some text → (m : Message) → new_message link text p.near.exchange ≡ Some m → T m
 HandsIn T (Does (pairs.Submits message)) p = Unit {0}
 HandsIn T (Does (pairs.Takes link)) p = Unit {0}
 HandsIn T (Does (pairs.DeliversStatus link)) p = Unit {0}
@@ -55,7 +56,7 @@ HandsIn T (Does (pairs.LosesStatus link)) p = Unit {0}
 HandsIn T (Does (pairs.DoublesStatus link)) p = Unit {0}
 HandsIn T (Does (pairs.Loses link)) p = Unit {0}
 HandsIn T (Does pairs.Ticks) p = Unit {0}
-HandsIn T (Does (pairs.Activates link)) p = Unit {0}
+HandsIn T (Does (pairs.Activates link emergency)) p = Unit {0}
 HandsIn T (Does (pairs.Deactivates link)) p = Unit {0}
 HandsIn T (Does (pairs.AddsTitle row is_memory_refused)) p = Unit {0}
 HandsIn T (Does (pairs.RemovesTitle key digits)) p = Unit {0}
@@ -65,14 +66,15 @@ HandsIn T (OpensElsewhere link) p = Unit {0}
 HandsIn T (HearsElsewhere link text) p = Unit {0}
 
 -- at either end, by links between the two
-abbrev pub HandsBy : (near_is far_is : List ℕ → Type 0) → neighbours.Step → PairState → Type 0
+abbrev pub HandsBy : (near_is far_is : Message → Type 0) → neighbours.Step → PairState → Type 0
 HandsBy near_is far_is (AtNear what) p = HandsIn near_is what p
 HandsBy near_is far_is (AtFar what) p = HandsIn far_is what (turned p)
 
--- the next User Data that a node hands in satisfies this, if it comes by a link to the other
-abbrev pub TakesIn : (List ℕ → Type 0) → pairs.Doing → (near far : NetworkNode) → Type 0
+-- the message that the next User Data newly carries satisfies this, if a node hands that in by a link to the other
+abbrev pub TakesIn : (Message → Type 0) → pairs.Doing → (near far : NetworkNode) → Type 0
 TakesIn T (pairs.Delivers link) x y =
-    away x.exchange.settings y.exchange.settings link ≡ false → (text : List ℕ) → slice_get (in_flight x.incoming.user_data link) 0 ≡ Some text → T text
+    away x.exchange.settings y.exchange.settings link ≡ false → (text : List ℕ) → slice_get (in_flight x.incoming.user_data link) 0 ≡ Some text
+    → (m : Message) → new_message link text x.exchange ≡ Some m → T m
 TakesIn T (pairs.Submits message) x y = Unit {0}
 TakesIn T (pairs.Takes link) x y = Unit {0}
 TakesIn T (pairs.DeliversStatus link) x y = Unit {0}
@@ -80,7 +82,7 @@ TakesIn T (pairs.LosesStatus link) x y = Unit {0}
 TakesIn T (pairs.DoublesStatus link) x y = Unit {0}
 TakesIn T (pairs.Loses link) x y = Unit {0}
 TakesIn T pairs.Ticks x y = Unit {0}
-TakesIn T (pairs.Activates link) x y = Unit {0}
+TakesIn T (pairs.Activates link emergency) x y = Unit {0}
 TakesIn T (pairs.Deactivates link) x y = Unit {0}
 TakesIn T (pairs.AddsTitle row is_memory_refused) x y = Unit {0}
 TakesIn T (pairs.RemovesTitle key digits) x y = Unit {0}
@@ -88,12 +90,12 @@ TakesIn T (pairs.OpensFirst link) x y = Unit {0}
 TakesIn T (pairs.OpensSecond link) x y = Unit {0}
 
 -- the points for which the messages are that go from the one to the other, and that come back; and what holds of the
--- User Data that each hands in
+-- messages that the User Data newly carries that each hands in
 pub record Terms : Type 1 where
   pub to_far : ℕ
   pub to_near : ℕ
-  pub near_is : List ℕ → Type 0
-  pub far_is : List ℕ → Type 0
+  pub near_is : Message → Type 0
+  pub far_is : Message → Type 0
 
 abbrev pub turned_terms : Terms → Terms
 turned_terms t = record { to_far = t.to_near; to_near = t.to_far; near_is = t.far_is; far_is = t.near_is }

@@ -146,7 +146,6 @@ module _ (c : Configuration) (fits : MayMake c) where
   timer-ticks (Some (name.T10 set destination)) n = passing n _ (ask-keeps c any_message f r set destination n)
   timer-ticks (Some (name.Slt1 link)) n = passing n _ (test_unanswered-keeps c any_message f r link n)
   timer-ticks (Some (name.Slt2 link)) n = passing n _ (begin_test-keeps c any_message f r link n)
-  timer-ticks (Some name.Sst) n = idle n
 
   first-doubts : (k l : ℕ) → 0 < k → 0 < k + l
   first-doubts k l e = omega (arith, e)
@@ -174,8 +173,9 @@ module _ (c : Configuration) (fits : MayMake c) where
   pub tick-event : (n : Node WholeQueues) → Ticks n.queues (apply whole c Ticked n).left (gone_by_tick c n)
   unfolding apply
   tick-event n =
+      let ran : Node WholeQueues = run_times whole c (due_count (ticked n.parts.timers)) (with_timers n (ticked n.parts.timers)) in
       let d : Node WholeQueues = (tick whole c n).left in
-      ticks-then n.queues d (tell_owed whole c (release whole c d)) (gone_by_tick c n) (settled-grows d)
+      ticks-then n.queues ran (tell_owed whole c (release whole c d)) (gone_by_tick c n) (record { queues = (settled-grows d).queues })
       (times-tick (due_count (ticked n.parts.timers)) (with_timers n (ticked n.parts.timers)))
 
   -- ---- a link opens: it is down without an association, so nothing stands in its queue
@@ -219,7 +219,7 @@ module _ (c : Configuration) (fits : MayMake c) where
   IsOther Ticked = ⊥
   IsOther (WentDown link) = Unit {0}
   IsOther (Submitted message) = Unit {0}
-  IsOther (Activated link) = Unit {0}
+  IsOther (Activated link emergency) = Unit {0}
   IsOther (Deactivated link) = Unit {0}
   IsOther (TitleAdded row is_memory_refused) = Unit {0}
   IsOther (TitleRemoved key digits) = Unit {0}
@@ -230,7 +230,7 @@ module _ (c : Configuration) (fits : MayMake c) where
   handled-grows Ticked n e = absurd e
   handled-grows (WentDown link) n e = down-keeps c any_message f r link n
   handled-grows (Submitted message) n e = submit_to-keeps c any_message f r (whither_goes c message) message n
-  handled-grows (Activated link) n e = activate-keeps c any_message f r link n
+  handled-grows (Activated link emergency) n e = activate-keeps c any_message f r emergency link n
   handled-grows (Deactivated link) n e = deactivate-keeps c any_message f r link n
   handled-grows (TitleAdded row is_memory_refused) n e = added-keeps c any_message f r (title_refusal n.parts.titles.rows row is_memory_refused) row n
   handled-grows (TitleRemoved key digits) n e = removed-keeps c any_message f r key digits n

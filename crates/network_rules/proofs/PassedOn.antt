@@ -1,16 +1,17 @@
 -- Each node passes messages on in the order in which they come.
-use Rattle.exchange_rules.proofs.Basics.{◌≡◌, ◌≢◌, ◌&&◌, ℕ, Bool, true, false, not, List, [], ◌∷◌, ◌++◌, filter, Option, Some, None, refl, ap, sym, subst, ◌∙◌, append-nil, if◌then◌else◌, option_to_list, filter-append, nat_eq}
+use Rattle.exchange_rules.proofs.Basics.{◌≡◌, ◌≢◌, ◌&&◌, ℕ, Bool, true, false, not, List, [], ◌∷◌, ◌++◌, Option, Some, None, refl, ap, sym, subst, ◌∙◌, append-nil, if◌then◌else◌, option_to_list, filter-append, nat_eq}
 use Rattle.pair_rules.proofs.Basics.{⊎_elim, cases_eq}
-use Rattle.exchange_rules.proofs.Definitions.{Message, is_management, Configuration, Discrimination, Node, WholeQueues, whole, brought_in, brought_by, brought_to, taken_in, new_message, whither_goes, accept_text, read_frame, FrameCame, Submitted, Abstract}
+use Rattle.exchange_rules.proofs.Definitions.{Message, is_management, Configuration, Discrimination, Node, WholeQueues, whole, brought_in, brought_by, brought_to, taken_in, new_message, whither_goes, accept_text, read_frame, CameUp, FrameCame, Submitted, Abstract}
 use Rattle.exchange_rules.specs.Exchange.{outcome_of}
 use Rattle.changeover.specs.Changeover.{users_of}
 use Rattle.mtp3_codec.specs.declared.discrimination.Discrimination.TheVariants as whither
 use Rattle.signalling_types.specs.declared.outcome.Outcome.{Outcome}
 use Rattle.signalling_types.specs.declared.outcome.Outcome.TheVariants.{Handled, Held, Ignored, Local, Queued, Refused}
 use Rattle.pair_rules.specs.Pairs.{Streams}
-use Rattle.network_rules.specs.Networks.{Arrival, NetworkNode, NetworkState, Step, after_step, changed, deliver_frame, entered_by, goes_onward, is_onward, is_refused, refused_by}
+use Rattle.network_rules.specs.Networks.{Arrival, NetworkNode, NetworkState, Step, after_step, changed, deliver_frame, entered_by, goes_onward, happens, is_onward, is_refused, refused_by}
+use Rattle.network_rules.specs.Outside.{HearsOutside, Move, OpensOutside, Within, after_move, after_moves, hears, hears_outside, leads_out, opens_outside, speaks_within}
 use Rattle.network_rules.specs.Anew.{Change, GivesUp, Restarts, Steps, after_all, after_change, begun_anew, given_up, restarted}
-use Rattle.network_rules.specs.Paths.{AreMerged, PassesInOrder, books_begin_empty, each_node_passes_in_order, none, onward_at}
+use Rattle.network_rules.specs.Paths.{AreMerged, PassesInOrder, books_begin_empty, each_node_passes_in_order, each_node_passes_what_comes_in_order, none, onward_at}
 use Rattle.network_rules.proofs.AllRuns.{did-keeps}
 use Rattle.network_rules.proofs.Booked.{arrived-more, onward_of, texts_of}
 use Rattle.network_rules.proofs.Merged.{merged-append, merged-one, merged-other}
@@ -167,6 +168,29 @@ change-passes (GivesUp point link) w y h = changed-passes point (given_up link) 
 changes-pass : (changes : List Change) (w : NetworkState) (y : ℕ) → PassesInOrder (w.node y) → PassesInOrder ((after_all changes w).node y)
 changes-pass [] w y h = h
 changes-pass (change ∷ changes) w y h = changes-pass changes (after_change change w) y (change-passes change w y h)
+
+-- ---- each move
+
+opened-passes : (out : Bool) (point link : ℕ) (w : NetworkState) (y : ℕ) → PassesInOrder (w.node y) → PassesInOrder ((opens_outside out point link w).node y)
+opened-passes true point link w y h = changed-passes point (happens (CameUp link)) w y (λ k. record { passed = k.passed; came = k.came; accepted = k.accepted }) h
+opened-passes false point link w y h = h
+
+outside-passes : (out speaks : Bool) (point link : ℕ) (text : List ℕ) (w : NetworkState) (y : ℕ) → PassesInOrder (w.node y) → PassesInOrder ((hears_outside out speaks point link text w).node y)
+outside-passes true false point link text w y h = changed-passes point (hears link text) w y (λ k. heard-passes (w.node y) link text (w.node y).incoming k) h
+outside-passes true true point link text w y h = h
+outside-passes false speaks point link text w y h = h
+
+move-passes : (move : Move) (w : NetworkState) (y : ℕ) → PassesInOrder (w.node y) → PassesInOrder ((after_move move w).node y)
+move-passes (Within step) w y h = step-passes step w y h
+move-passes (OpensOutside point link) w y h = opened-passes (leads_out w point link) point link w y h
+move-passes (HearsOutside point link text) w y h = outside-passes (leads_out w point link) (speaks_within w text) point link text w y h
+
+moves-pass : (moves : List Move) (w : NetworkState) (y : ℕ) → PassesInOrder (w.node y) → PassesInOrder ((after_moves moves w).node y)
+moves-pass [] w y h = h
+moves-pass (move ∷ moves) w y h = moves-pass moves (after_move move w) y (move-passes move w y h)
+
+pub all-moves-pass : each_node_passes_what_comes_in_order
+all-moves-pass w moves point = moves-pass moves (begun_anew w) point (record { passed = []; came = none; accepted = none })
 
 pub all-pass : each_node_passes_in_order
 all-pass w changes point = changes-pass changes (begun_anew w) point (record { passed = []; came = none; accepted = none })

@@ -5,7 +5,7 @@ use Rattle.std.proofs.lemmas.List.Folds.{list_all-append}
 use Rattle.exchange_rules.proofs.Definitions.{Message, is_management, dpc_of, flow_of, service_indicator, Configuration, Cause, Management, ExtendedChangeoverOrder, ChangebackDeclaration, RouteSetTestProhibited, RouteSetTestRestricted, LinkTestValue, RelayedValue, relay, returned, FailureReason, LinkStatus, LinkTimer, Transition, Expiry, Facts, RouteStatus, Allowed, Restricted, Prohibited, RouteTest, Heard, Owed, Node, Done, Parts, with_parts, answer, refuse, WholeQueues, whole, queue_on, hold, declaration, test_answer, link_of, no_room, no_room_for, waits, is_destination, destination_place, link_at, down, in_service, set_of, peer_of, point_of, adjacent_of, telling, entry_of, facts, owed}
 use Rattle.exchange_rules.proofs.Definitions.{send, send_routed, send_anew, send_each, transfer, offer, route_message, told_parts, tell, tell_if, tell_each, tell_owed, may_tell, inhibited, is_inhibited, prohibit, answer_no_route, answered_parts, send_route_status, on_route_test, on_route_status, apply_route_status, ask_by, ask_again, with_next_test, prohibited_test, restricted_test, status_of, management_to, own_of, in_place_of, send_udts, return_outcome, relay_by, on_unitdata, answer_no_user_part, is_unequipped_told, tell_unavailable, unavailable, unequipped_counted, UserPartUnavailable, Unequipped, opc_of}
 use Rattle.exchange_rules.proofs.Definitions.{is_user, sccp, local, make_unavailable, begin, change_over, fail, begin_by_peer, fail_by_peer, fail_by_order, changeover_order, changing, has_other}
-use Rattle.exchange_rules.proofs.Definitions.{hold_flows, code_in_use, code_for, take_back_each, loses_flows, advance, moved_on, return_if, enters, serve_status, act_by_status, act_by_timer, run_out, acts_on, link_test, awaiting_test, with_test_failed, tests_links, queue_if, send_test, begin_test, repeat_test, test_unanswered, take_step, test_if, on_link_status, begin_outage, hear_outage, end_outage, tells_outage, tells_recovery, Status}
+use Rattle.exchange_rules.proofs.Definitions.{hold_flows, code_in_use, code_for, take_back_each, loses_flows, advance, moved_on, return_if, begun_anew, is_first_test, test_passed, pass_test, enters, enters_traffic, serve_status, act_by_status, act_by_timer, run_out, acts_on, link_test, awaiting_test, with_test_failed, tests_links, queue_if, send_test, begin_test, repeat_test, test_unanswered, take_step, test_if, on_link_status, begin_outage, hear_outage, end_outage, tells_outage, tells_recovery, Status}
 use Rattle.exchange_rules.proofs.Settling.{left-true, right-true}
 use Rattle.link.specs.declared.action.Action.{Action}
 use Rattle.link.specs.declared.action.Action.TheVariants as act
@@ -248,6 +248,11 @@ module _ (c : Configuration) (fine : Message → Bool) (f : IsFine c fine) {R : 
   return_if-keeps true link before n = back_each-keeps before (facts c n.parts) link (length c.links) n
   return_if-keeps false link before n = stays n
 
+  pub pass_test-keeps : (link : ℕ) (n : Node WholeQueues) → R n (pass_test whole c link n)
+  pass_test-keeps link n =
+      let passed : Node WholeQueues = with_parts n (begun_anew (is_first_test link n.parts) c link n.parts (test_passed c link n.parts)) in
+      r.both n passed _ (r.same n passed refl) (return_if-keeps (is_first_test link n.parts) link (facts c n.parts) passed)
+
   -- ---- tests of links
 
   queue_if-keeps : (room : Option Cause) (link : ℕ) (n : Node WholeQueues) → R n (queue_if whole c room link (link_test c link) n)
@@ -281,7 +286,7 @@ module _ (c : Configuration) (fine : Message → Bool) (f : IsFine c fine) {R : 
   advance-keeps link step n =
       let went : Node WholeQueues = with_parts n (moved_on c link step n.parts) in
       let took : Node WholeQueues = take_step whole c link step n in
-      r.both n took _ (r.both n went took (r.same n went refl) (return_if-keeps (enters link step n.parts) link (facts c n.parts) went))
+      r.both n took _ (r.both n went took (r.same n went refl) (return_if-keeps (enters_traffic link step n.parts) link (facts c n.parts) went))
       (test_if-keeps (enters link step n.parts) link took)
 
   -- ---- frames, and the timers of a link

@@ -170,7 +170,6 @@ module _ (c : Configuration) (fine : Message → Bool) (f : IsFine c fine) where
   timer-keeps (name.T10 set destination) n = ask-keeps c fine f r set destination n
   timer-keeps (name.Slt1 link) n = test_unanswered-keeps c fine f r link n
   timer-keeps (name.Slt2 link) n = begin_test-keeps c fine f r link n
-  timer-keeps name.Sst n = stay n
 
   due-keeps : (timer : Option TimerName) (n : Node WholeQueues) → K n (run_due whole c timer n)
   due-keeps (Some timer) n = timer-keeps timer n
@@ -186,7 +185,8 @@ module _ (c : Configuration) (fine : Message → Bool) (f : IsFine c fine) where
   tick-keeps : (n : Node WholeQueues) → K n (tick whole c n).left
   tick-keeps n =
       let ticks : Node WholeQueues = with_timers n (ticked n.parts.timers) in
-      and-then c fine f n ticks _ (to n ticks refl) (times-keep (due_count (ticked n.parts.timers)) ticks)
+      let ran : Node WholeQueues = run_times whole c (due_count (ticked n.parts.timers)) ticks in
+      and-then c fine f n ticks _ (to n ticks refl) (and-then c fine f ticks ran _ (times-keep (due_count (ticked n.parts.timers)) ticks) (to ran _ refl))
 
   -- ---- events, and frames that go out
 
@@ -197,7 +197,7 @@ module _ (c : Configuration) (fine : Message → Bool) (f : IsFine c fine) where
   IsFineAt (WentDown link) = Unit {0}
   IsFineAt Ticked = Unit {0}
   IsFineAt (Submitted message) = Unit {0}
-  IsFineAt (Activated link) = Unit {0}
+  IsFineAt (Activated link emergency) = Unit {0}
   IsFineAt (Deactivated link) = Unit {0}
   IsFineAt (TitleAdded row is_memory_refused) = Unit {0}
   IsFineAt (TitleRemoved key digits) = Unit {0}
@@ -208,7 +208,7 @@ module _ (c : Configuration) (fine : Message → Bool) (f : IsFine c fine) where
   handled-keeps (FrameCame link text) n e = receive-keeps link text n e
   handled-keeps Ticked n e = tick-keeps n
   handled-keeps (Submitted message) n e = submit_to-keeps c fine f r (whither_goes c message) message n
-  handled-keeps (Activated link) n e = activate-keeps c fine f r link n
+  handled-keeps (Activated link emergency) n e = activate-keeps c fine f r emergency link n
   handled-keeps (Deactivated link) n e = deactivate-keeps c fine f r link n
   handled-keeps (TitleAdded row is_memory_refused) n e = added-keeps c fine f r (title_refusal n.parts.titles.rows row is_memory_refused) row n
   handled-keeps (TitleRemoved key digits) n e = removed-keeps c fine f r key digits n

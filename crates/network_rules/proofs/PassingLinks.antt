@@ -5,7 +5,7 @@ use Rattle.exchange_rules.proofs.Definitions.{send_on, transfer, tell_owed, add_
 use Rattle.exchange_rules.proofs.Definitions.{local, do_kind, do_test, submit_to, fail, freed, is_outstanding, on_changeback_acknowledgement}
 use Rattle.exchange_rules.proofs.Definitions.{leave_aside, fail_if_up, end_association, association_down, set_active, activate, deactivate}
 use Rattle.exchange_rules.proofs.Definitions.{go_on, go_by, go, go_each, release}
-use Rattle.exchange_rules.proofs.Definitions.{passes_test, test_passed}
+use Rattle.exchange_rules.proofs.Definitions.{passes_test, pass_test}
 use Rattle.exchange_rules.proofs.Settling.{left-true, right-true}
 use Rattle.mtp3_codec.specs.declared.discrimination.Discrimination.TheVariants as whither
 use Rattle.signalling_types.specs.declared.cause.Cause.TheVariants as causes
@@ -13,7 +13,7 @@ use Rattle.signalling_types.specs.declared.notice.FailureReason.TheVariants as r
 use Rattle.signalling_types.specs.declared.notice.FrameFault.{FrameFault}
 use Rattle.signalling_types.specs.declared.notice.FrameFault.TheVariants as faults
 use Rattle.signalling_types.specs.declared.outcome.Outcome.TheVariants.{Handled, Ignored}
-use Rattle.network_rules.proofs.Passing.{IsFine, IsPassing, AllFine, either, either_done, stays, send-keeps, tell_owed-keeps, transfer-keeps, local-keeps, fail-keeps}
+use Rattle.network_rules.proofs.Passing.{IsFine, IsPassing, AllFine, either, either_done, stays, send-keeps, tell_owed-keeps, transfer-keeps, local-keeps, fail-keeps, pass_test-keeps}
 
 module _ (c : Configuration) (fine : Message → Bool) (f : IsFine c fine) {R : Node WholeQueues → Node WholeQueues → Type 0} (r : IsPassing c fine R) where
   send_on-keeps : (link : ℕ) (m : Message) (n : Node WholeQueues) → fine m ≡ true → R n (send_on whole c link m n)
@@ -22,7 +22,7 @@ module _ (c : Configuration) (fine : Message → Bool) (f : IsFine c fine) {R : 
   kind-keeps : (kind : TestKind) (link point : ℕ) (test : LinkTestValue) (n : Node WholeQueues) → R n (do_kind whole c kind link point test n).left
   kind-keeps Test link point test n = send_on-keeps link (test_answer c point test) n (f.tested point test)
   kind-keeps Acknowledgement link point test n =
-      either_done c fine f r (passes_test c link point test n.parts) n (answer Handled (with_parts n (test_passed c link n.parts))) (answer Ignored n) (r.same n _ refl) (stays c fine f r n)
+      either_done c fine f r (passes_test c link point test n.parts) n (answer Handled (pass_test whole c link n)) (answer Ignored n) (pass_test-keeps c fine f r link n) (stays c fine f r n)
 
   pub do_test-keeps : (test : Result LinkTestValue MgmtFault) (link point : ℕ) (n : Node WholeQueues) → R n (do_test whole c test link point n).left
   do_test-keeps (Err fault) link point n = stays c fine f r n
@@ -63,13 +63,13 @@ module _ (c : Configuration) (fine : Message → Bool) (f : IsFine c fine) {R : 
       (r.both n fell _ (if_up-keeps link reasons.Association n) (r.same fell _ refl)) (stays c fine f r n))
       (stays c fine f r n)
 
-  pub activate-keeps : (link : ℕ) (n : Node WholeQueues) → R n (activate whole c link n).left
-  activate-keeps link n = either_done c fine f r (is_link n.parts link) n (answer Handled (set_active whole c true link n)) (refuse causes.NoSuchName n) (r.same n _ refl) (stays c fine f r n)
+  pub activate-keeps : (emergency : Bool) (link : ℕ) (n : Node WholeQueues) → R n (activate whole c emergency link n).left
+  activate-keeps emergency link n = either_done c fine f r (is_link n.parts link) n (answer Handled (set_active whole c true emergency link n)) (refuse causes.NoSuchName n) (r.same n _ refl) (stays c fine f r n)
 
   pub deactivate-keeps : (link : ℕ) (n : Node WholeQueues) → R n (deactivate whole c link n).left
   deactivate-keeps link n =
       let fell : Node WholeQueues = fail_if_up whole c link reasons.Operator n in
-      either_done c fine f r (is_link n.parts link) n (answer Handled (set_active whole c false link fell)) (refuse causes.NoSuchName n)
+      either_done c fine f r (is_link n.parts link) n (answer Handled (set_active whole c false false link fell)) (refuse causes.NoSuchName n)
       (r.both n fell _ (if_up-keeps link reasons.Operator n) (r.same fell _ refl)) (stays c fine f r n)
 
   pub added-keeps : (refusal : Option Cause) (row : TitleEntry) (n : Node WholeQueues) → R n (add_title_unless refusal row n).left

@@ -1,25 +1,24 @@
 -- A path of which each hop keeps a flow in order does so, and the last hop keeps one for its point.
-use Rattle.pair_rules.proofs.Basics.{◌≡◌, ◌&&◌, ℕ, ◌+◌, zero, suc, Bool, true, false, not, List, [], ◌∷◌, ◌++◌, length, filter, map, Option, Some, None, refl, ap, sym, subst, ◌∙◌, arith, append-nil, if◌then◌else◌, count_by, nat_eq, drop}
+use Rattle.pair_rules.proofs.Basics.{◌≡◌, ◌&&◌, ℕ, ◌+◌, zero, suc, Bool, true, false, not, List, [], ◌∷◌, ◌++◌, length, map, Option, Some, None, refl, ap, sym, subst, ◌∙◌, arith, append-nil, if◌then◌else◌, count_by, nat_eq, drop}
 use Rattle.std.proofs.lemmas.List.Elements.{filter-append}
-use Rattle.pair_rules.proofs.Definitions.{Message, Flow, flow_of, dpc_of, is_management, Configuration, PairState, LostNothing, queue_of}
+use Rattle.pair_rules.proofs.Definitions.{Message, Flow, flow_of, dpc_of, is_management, Configuration, PairState, queue_of}
 use Rattle.changeover.specs.Changeover.{users_of}
 use Rattle.pair_moves.specs.Order.{join_to}
 use Rattle.pair_moves.proofs.Counts.{count-append}
 use Rattle.pair_moves.proofs.Joins.{join-alike}
-use Rattle.pair_rules.specs.Promises.{BothWays, IsPunctual, is_of_flow, of_flow}
-use Rattle.pair_rules.specs.Sharing.{AreSharing}
+use Rattle.pair_rules.specs.Promises.{is_of_flow, of_flow}
 use Rattle.neighbour_rules.specs.Neighbours.{far_end, users_to}
 use Rattle.neighbour_rules.specs.Promises.{InOrder, accepted_there, waiting, waiting_by, waiting_on}
-use Rattle.network_rules.specs.Networks.{NetworkNode, NetworkState, Step, after_steps, first_network, goes_onward}
-use Rattle.network_rules.specs.Pairs.{AreTheirPoints, AreWellOrAlone, came_from, pair_of}
+use Rattle.network_rules.specs.Networks.{NetworkNode, NetworkState, first_network, goes_onward}
+use Rattle.network_rules.specs.Outside.{after_moves}
+use Rattle.network_rules.specs.Pairs.{came_from, pair_of}
 use Rattle.network_rules.specs.Totals.{received_at}
 use Rattle.network_rules.specs.Paths.{AreMerged, ComesInOrder, EachHopInOrder, EachOnlyPasses, KeepsInOrder, OnlyPasses, PassesInOrder, came_last, came_over, last_hops_begin_anew, last_hops_keep_flows_in_order, left_on, onward_at, paths_keep_the_order_of_their_hops, waits_on, waits_over}
 use Rattle.network_rules.specs.Anew.{after_all, begun_anew}
-use Rattle.network_rules.proofs.AllRuns.{steps-keep}
 use Rattle.network_rules.proofs.Anew.{neighbours-anew}
 use Rattle.network_rules.proofs.Merged.{AreLeft, merged-alone, merged-append, merged-count, merged-filter, merged-one, merged-other, merged-split, merged-through}
 use Rattle.network_rules.proofs.PassedOn.{all-pass}
-use Rattle.network_rules.proofs.Outside.{at-steps}
+use Rattle.network_rules.proofs.Outside.{moves-keep}
 use Rattle.network_rules.proofs.Promised.{order}
 use Rattle.network_rules.proofs.Reached.{changes-keep}
 
@@ -177,9 +176,9 @@ module _ (w : NetworkState) (near far sls : ℕ) (own : (w.node far).exchange.se
       ∙ ap (λ (ms : List Message). of_flow flow came ++ ms) (waits-same far sls p own (w.node near).exchange.node.queues.held (length (w.node near).exchange.settings.links))
 
 pub last-hop : last_hops_keep_flows_in_order
-last-hop settings steps near far sls points well sharing kept punctual =
-    hop (after_steps steps (first_network settings)) near far sls (ap (λ (c : Configuration). c.own) (steps-keep steps (first_network settings) far) ∙ points far)
-    ((at-steps (λ (p : PairState). LostNothing p → BothWays (λ (q : PairState). IsPunctual q → InOrder q) p) order settings steps near far points well sharing kept).there punctual)
+last-hop settings moves near far sls points well sharing kept punctual =
+    hop (after_moves moves (first_network settings)) near far sls (ap (λ (c : Configuration). c.own) (moves-keep moves (first_network settings) far) ∙ points far)
+    ((order settings moves near far points well sharing kept).there punctual)
 
 pub last-anew : last_hops_begin_anew
 last-anew settings changes near far points well sharing quiet later sls apart since stays =

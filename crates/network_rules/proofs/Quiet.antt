@@ -173,7 +173,7 @@ module _ (settings : (point : ℕ) → Configuration) (near far : ℕ) (points :
   here-ok (pairs.DoublesStatus link) point x h = restated point (slice_get (in_flight x.incoming.statuses link) 0) (with_status_twice link x.incoming) x h (twice point x.incoming h.flying link)
   here-ok (pairs.Loses link) point x h = happened point x.exchange x.incoming h (WentDown link) (λ d e f. tt)
   here-ok pairs.Ticks point x h = happened point x.exchange x.incoming h Ticked (λ d e f. tt)
-  here-ok (pairs.Activates link) point x h = happened point x.exchange x.incoming h (Activated link) (λ d e f. tt)
+  here-ok (pairs.Activates link emergency) point x h = happened point x.exchange x.incoming h (Activated link emergency) (λ d e f. tt)
   here-ok (pairs.Deactivates link) point x h = happened point x.exchange x.incoming h (Deactivated link) (λ d e f. tt)
   here-ok (pairs.AddsTitle row is_memory_refused) point x h = happened point x.exchange x.incoming h (TitleAdded row is_memory_refused) (λ d e f. tt)
   here-ok (pairs.RemovesTitle key digits) point x h = happened point x.exchange x.incoming h (TitleRemoved key digits) (λ d e f. tt)
@@ -269,7 +269,7 @@ module _ (settings : (point : ℕ) → Configuration) (near far : ℕ) (points :
   did-quiet (pairs.DoublesStatus link) point w h s = at-one w point (pairs.DoublesStatus link) h
   did-quiet (pairs.Loses link) point w h s = at-one w point (pairs.Loses link) h
   did-quiet pairs.Ticks point w h s = at-one w point pairs.Ticks h
-  did-quiet (pairs.Activates link) point w h s = at-one w point (pairs.Activates link) h
+  did-quiet (pairs.Activates link emergency) point w h s = at-one w point (pairs.Activates link emergency) h
   did-quiet (pairs.Deactivates link) point w h s = at-one w point (pairs.Deactivates link) h
   did-quiet (pairs.AddsTitle row is_memory_refused) point w h s = at-one w point (pairs.AddsTitle row is_memory_refused) h
   did-quiet (pairs.RemovesTitle key digits) point w h s = at-one w point (pairs.RemovesTitle key digits) h

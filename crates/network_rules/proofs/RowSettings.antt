@@ -230,7 +230,7 @@ alone-by false true three point e = absurd cc
 alone-by false false true point e = absurd cc
 alone-by false false false point e = refl
 
-back : (c z : Configuration) → AreSharing c z → AreSharing z c
+pub back : (c z : Configuration) → AreSharing c z → AreSharing z c
 back c z s = record {
   near_well = s.far_well;
   far_well = s.near_well;

@@ -1,6 +1,6 @@
 -- A step of a network is at most one step of each two of its nodes that share a set: one at either of them.
 use Rattle.pair_rules.proofs.Basics.{◌≡◌, ◌≢◌, ℕ, Bool, true, false, List, [], ◌∷◌, Option, Some, None, refl, ap, sym, subst, ◌∙◌, map, slice_get, ⊎_elim, cases_eq}
-use Rattle.pair_rules.proofs.Definitions.{Configuration, LinkEntry, FrameValue, Open, Nothing, Close, whole, PairState, turned, in_flight, may_follow, wants_of, frame_to_take, link_with_code}
+use Rattle.pair_rules.proofs.Definitions.{Message, new_message, Configuration, LinkEntry, FrameValue, Open, Nothing, Close, whole, PairState, turned, in_flight, may_follow, wants_of, frame_to_take, link_with_code}
 use Rattle.exchange_rules.specs.State.{WentDown, Ticked, Activated, Deactivated, TitleAdded, TitleRemoved}
 use Rattle.exchange_rules.specs.declared.wants.Wants.{Wants}
 use Rattle.exchange_rules.specs.First.{Abstract}
@@ -168,10 +168,15 @@ module _ (t : Terms) (near far : ℕ) (apart : near ≢ far) where
     OfLink change link b = away c z link ≡ b → Next t (change x) y p
 
     module _ (silent : HearsNothingElsewhere (pair_of w near far)) where
-      data-next : (b : Bool) (link : ℕ) → (away c z link ≡ false → (text : List ℕ) → slice_get (in_flight x.incoming.user_data link) 0 ≡ Some text → t.near_is text) → OfLink (did_here (pairs.Delivers link)) link b
+      data-next : (b : Bool) (link : ℕ) → (away c z link ≡ false → (text : List ℕ) → slice_get (in_flight x.incoming.user_data link) 0 ≡ Some text → (m : Message) → new_message link text x.exchange ≡ Some m → t.near_is m) → OfLink (did_here (pairs.Delivers link)) link b
       data-next false link told e = record {
         steps = AtNear (Does (pairs.Delivers link)) ∷ [];
-        hand = ((λ text f. told e text (sym (ap (λ (ts : List (List ℕ)). slice_get ts 0) (h.near_alike.incoming.user_data link e)) ∙ f)), tt);
+        hand = (
+          (λ text f m g.
+              told e text (sym (ap (λ (ts : List (List ℕ)). slice_get ts 0) (h.near_alike.incoming.user_data link e)) ∙ f) m
+              (sym (ap (λ (a : Abstract). new_message link text a) h.near_alike.exchange) ∙ g)),
+          tt,
+        );
         pair =
             subst (λ (o : Option (List ℕ)). ArePairsAlike (pair_between_for t.to_far t.to_near (did_here (pairs.Delivers link) x) y) (neighbours.deliver_frame_for t.to_far t.to_near o link (without_data link p.near.incoming) p).left)
             (sym (ap (λ (ts : List (List ℕ)). slice_get ts 0) (h.near_alike.incoming.user_data link e)))
@@ -257,7 +262,7 @@ module _ (t : Terms) (near far : ℕ) (apart : near ≢ far) where
       near-next (pairs.DoublesStatus link) told = here-next w (did_here (pairs.DoublesStatus link)) p (twice-next (away c z link) link refl)
       near-next (pairs.Loses link) told = alone (pairs.Loses link) tt (happens-pair t x y p h (WentDown link))
       near-next pairs.Ticks told = alone pairs.Ticks tt (happens-pair t x y p h Ticked)
-      near-next (pairs.Activates link) told = alone (pairs.Activates link) tt (happens-pair t x y p h (Activated link))
+      near-next (pairs.Activates link emergency) told = alone (pairs.Activates link emergency) tt (happens-pair t x y p h (Activated link emergency))
       near-next (pairs.Deactivates link) told = alone (pairs.Deactivates link) tt (happens-pair t x y p h (Deactivated link))
       near-next (pairs.AddsTitle row is_memory_refused) told = alone (pairs.AddsTitle row is_memory_refused) tt (happens-pair t x y p h (TitleAdded row is_memory_refused))
       near-next (pairs.RemovesTitle key digits) told = alone (pairs.RemovesTitle key digits) tt (happens-pair t x y p h (TitleRemoved key digits))

@@ -199,10 +199,11 @@ module _ (c : Configuration) (set point destination : ℕ) (leads : LeadsAlone c
     dropped = λ link why n e. same-lone n _ refl refl refl;
     completed = λ link number st n e f. queue-lone n _ link (emptied (queue_at n.queues link)) refl refl refl (λ h away. refl);
     answered = λ link st n e f w. same-lone n _ refl refl refl;
-    linked = λ link x n e. same-lone n _ refl refl refl;
+    linked = λ link x n e o. same-lone n _ refl refl refl;
     parted = λ link n e. same-lone n _ refl refl refl;
     opened = λ link n own e f g. queue-lone n _ link first_queue refl refl refl (λ h away. refl);
     stepped = λ link input step n own e. same-lone n _ refl refl refl;
+    passed = λ link n e. same-lone n _ refl refl refl;
     busied = λ link n own e f. same-lone n _ refl refl refl;
     resumed = λ link n own e f. same-lone n _ refl refl refl;
     accepted = λ link d confirmed n own e f.

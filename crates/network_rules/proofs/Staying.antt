@@ -215,7 +215,7 @@ module _ (of : Message → Bool) (there : ℕ → ℕ) where
         none Ticked e = absurd e
         none (WentDown link) e = refl
         none (Submitted message) e = refl
-        none (Activated link) e = refl
+        none (Activated link emergency) e = refl
         none (Deactivated link) e = refl
         none (TitleAdded row is_memory_refused) e = refl
         none (TitleRemoved key digits) e = refl

@@ -64,7 +64,7 @@ module _ (of : Message → Bool) (settings : (point : ℕ) → Configuration) (p
   pub plain-same : (what : Happening) (link : ℕ) → IsPlain what → IsSteadyNode a → (v.node x).exchange ≡ after whole what a → Same link
   plain-same (WentDown k) link plain steady e = counted (WentDown k) link steady e refl refl
   plain-same Ticked link plain steady e = counted Ticked link steady e refl refl
-  plain-same (Activated k) link plain steady e = counted (Activated k) link steady e refl refl
+  plain-same (Activated k emergency) link plain steady e = counted (Activated k emergency) link steady e refl refl
   plain-same (Deactivated k) link plain steady e = counted (Deactivated k) link steady e refl refl
   plain-same (TitleAdded row is_memory_refused) link plain steady e = counted (TitleAdded row is_memory_refused) link steady e refl refl
   plain-same (TitleRemoved key digits) link plain steady e = counted (TitleRemoved key digits) link steady e refl refl

@@ -38,7 +38,7 @@ books-then x y z e f = record {
 abbrev pub IsPlain : Happening → Type 0
 IsPlain (WentDown link) = Unit {0}
 IsPlain Ticked = Unit {0}
-IsPlain (Activated link) = Unit {0}
+IsPlain (Activated link emergency) = Unit {0}
 IsPlain (Deactivated link) = Unit {0}
 IsPlain (TitleAdded row is_memory_refused) = Unit {0}
 IsPlain (TitleRemoved key digits) = Unit {0}
@@ -143,7 +143,7 @@ module _ (point : ℕ) (w : NetworkState) where
       (statuses-books (slice_get (in_flight x.incoming.statuses link) 0) (with_status_twice link x.incoming) x) (here (pairs.DoublesStatus link)))
   turn-of (pairs.Loses link) = occurs (WentDown link) tt (here (pairs.Loses link))
   turn-of pairs.Ticks = occurs Ticked tt (here pairs.Ticks)
-  turn-of (pairs.Activates link) = occurs (Activated link) tt (here (pairs.Activates link))
+  turn-of (pairs.Activates link emergency) = occurs (Activated link emergency) tt (here (pairs.Activates link emergency))
   turn-of (pairs.Deactivates link) = occurs (Deactivated link) tt (here (pairs.Deactivates link))
   turn-of (pairs.AddsTitle row is_memory_refused) = occurs (TitleAdded row is_memory_refused) tt (here (pairs.AddsTitle row is_memory_refused))
   turn-of (pairs.RemovesTitle key digits) = occurs (TitleRemoved key digits) tt (here (pairs.RemovesTitle key digits))
@@ -181,7 +181,7 @@ module _ (point : ℕ) (w : NetworkState) where
     others-of (pairs.DoublesStatus link) = changed-other point other (did_here (pairs.DoublesStatus link)) w apart
     others-of (pairs.Loses link) = changed-other point other (did_here (pairs.Loses link)) w apart
     others-of pairs.Ticks = changed-other point other (did_here pairs.Ticks) w apart
-    others-of (pairs.Activates link) = changed-other point other (did_here (pairs.Activates link)) w apart
+    others-of (pairs.Activates link emergency) = changed-other point other (did_here (pairs.Activates link emergency)) w apart
     others-of (pairs.Deactivates link) = changed-other point other (did_here (pairs.Deactivates link)) w apart
     others-of (pairs.AddsTitle row is_memory_refused) = changed-other point other (did_here (pairs.AddsTitle row is_memory_refused)) w apart
     others-of (pairs.RemovesTitle key digits) = changed-other point other (did_here (pairs.RemovesTitle key digits)) w apart

@@ -17,7 +17,7 @@ use Rattle.network_rules.specs.Networks.{NetworkState, first_network}
 use Rattle.network_rules.specs.TwoFailures.{answering, come, done_at, failed, failed_on, fails, first_line, fourth_line, middle_settings, moved, moved_on, opening, ordering, passed, row, second_line, sends, sent, sent_on, served, settling, submitted, third_line, turned}
 use Rattle.network_rules.proofs.LaidOut.{Three, network-seen, network_of, node_at, run, seen}
 use Rattle.network_rules.proofs.Unheld.{Free, none-held, free-none, free-flows, free-less, free-ended}
-use Rattle.network_rules.proofs.Offering.{ComesOn, Completes, ends, is-next, new_of, completing, next_accepted, next_text, passing, submitting, third, runs-on, submits-on, passes-on, completes-on}
+use Rattle.network_rules.proofs.Offering.{message-on, ComesOn, Completes, ends, is-next, new_of, completing, next_accepted, next_text, passing, submitting, third, runs-on, submits-on, passes-on, completes-on}
 use Rattle.network_rules.proofs.AllRuns.{steps-keep}
 
 -- ---- the states, each computed from the one before
@@ -29,7 +29,7 @@ abbrev pub served_from : Three → Three
 served_from t = run (opening ++ settling) t
 
 abbrev pub submitted_from : Three → Three
-submitted_from t = submitting (served_from t)
+submitted_from t = submitting the_message (served_from t)
 
 abbrev pub sent_from : Three → Three
 sent_from t = run (done_at first_line.here Takes ∷ []) (submitted_from t)
@@ -41,7 +41,7 @@ abbrev pub moved_from : Three → Three
 moved_from t = run (answering second_line) (completing 3 1 third (failed_from t))
 
 abbrev pub passed_from : Three → Three
-passed_from t = passing (moved_from t)
+passed_from t = passing the_message (moved_from t)
 
 abbrev pub sent_on_from : Three → Three
 sent_on_from t = run (done_at third_line.here Takes ∷ []) (passed_from t)
@@ -77,7 +77,13 @@ failed_on-keeps point =
     ∙ steps-keep (done_at second_line.there Delivers ∷ []) moved point
     ∙ moved-keeps point
 
-kept : (point : ℕ) (w : NetworkState) (s : Three) → w ≡ network_of s → (w.node point).exchange.settings ≡ row point → (node_at s point).exchange.settings ≡ row point
+pub come-keeps : (point : ℕ) → (come.node point).exchange.settings ≡ row point
+come-keeps point =
+    steps-keep (done_at fourth_line.there Delivers ∷ sends (turned fourth_line) ++ sends (turned second_line)) moved_on point
+    ∙ steps-keep (done_at fourth_line.here Delivers ∷ answering fourth_line) failed_on point
+    ∙ failed_on-keeps point
+
+pub kept : (point : ℕ) (w : NetworkState) (s : Three) → w ≡ network_of s → (w.node point).exchange.settings ≡ row point → (node_at s point).exchange.settings ≡ row point
 kept point w s same e = sym (ap (λ (v : NetworkState). (v.node point).exchange.settings) same) ∙ e
 
 -- ---- the message is submitted
@@ -96,7 +102,7 @@ pub third-settings : (served_from first_three).third.exchange.settings ≡ third
 third-settings = kept 3 served (served_from first_three) served-is (served-keeps 3)
 
 submitted-is : submitted ≡ network_of (submitted_from first_three)
-submitted-is = submits-on served (served_from first_three) served-is third-settings third-unheld
+submitted-is = submits-on served (served_from first_three) served-is the_message message-on third-settings third-unheld
 
 pub sent-is : sent ≡ network_of (sent_from first_three)
 sent-is = runs-on submitted (submitted_from first_three) submitted-is (done_at first_line.here Takes ∷ [])
@@ -148,7 +154,7 @@ near-free =
     free-ended 1 0 _ (Changeover 0) _ _
     (free-less 1 0 _ _ (free-less 1 0 _ _ (free-flows 1 0 _ (Code 0 0) _ (free-flows 1 0 (no_holds 4 2 2) (Code 1 0) _ (free-none 1 0 4 2 2) refl) refl))) refl
 
-comes-on : ComesOn (next_text 1 (moved_from first_three).first) (next_accepted (moved_from first_three).first) (moved_from first_three).first
+comes-on : ComesOn the_message (next_text 1 (moved_from first_three).first) (next_accepted (moved_from first_three).first) (moved_from first_three).first
 comes-on = record {
   settings = kept 1 moved (moved_from first_three) moved-is (moved-keeps 1);
   there = is-next 1 (moved_from first_three).first near-there;
@@ -158,7 +164,7 @@ comes-on = record {
 }
 
 pub passed-is : passed ≡ network_of (passed_from first_three)
-passed-is = passes-on moved (moved_from first_three) moved-is comes-on []
+passed-is = passes-on moved (moved_from first_three) moved-is the_message message-on comes-on []
 
 pub sent_on-is : sent_on ≡ network_of (sent_on_from first_three)
 sent_on-is = runs-on passed (passed_from first_three) passed-is (done_at third_line.here Takes ∷ [])

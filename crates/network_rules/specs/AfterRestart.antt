@@ -1,6 +1,6 @@
--- A run of the three nodes in a row of `TwoFailures`. The middle node starts again while a link from there to either end
--- is in service, and T1 of both ends runs out, which counts as losses; then the network is quiet. The links return, and
--- a message comes from end to end, once.
+-- A run of the three nodes in a row of `TwoFailures`. The middle node starts again while a link from there to either
+-- end is in service, and T1 of both ends runs out, which counts as losses; then the network is quiet. The links return,
+-- and a message comes from end to end, once.
 use Rattle.std.specs.Prelude.{◌≡◌, true, map, replicate, List, [], ◌∷◌, ◌++◌}
 use Rattle.exchange_rules.specs.Conserving.{standing}
 use Rattle.exchange_rules.specs.State.{lost_any}
@@ -8,8 +8,10 @@ use Rattle.pair_rules.specs.Pairs.{Submits, Takes, Delivers, Loses, Ticks}
 use Rattle.neighbour_rules.specs.ThirdNode.{the_message}
 use Rattle.network_rules.specs.Networks.{NetworkNode, NetworkState, Place, Step, after_steps, first_network}
 use Rattle.network_rules.specs.Totals.{IsJoined}
-use Rattle.network_rules.specs.Anew.{Change, HaveLostNothingSince, IsQuietNetwork, Restarts, Steps, after_all, begun_anew}
-use Rattle.network_rules.specs.TwoFailures.{aligns, done_at, row, second_line, sends, serves, third_line, turned, users_come}
+use Rattle.network_rules.specs.Anew.{Change, HaveLostNothingSince, IsQuietNetwork, Restarts, Steps, after_all}
+use Rattle.network_rules.specs.Anew.{begun_anew}
+use Rattle.network_rules.specs.TwoFailures.{aligns, done_at, row, second_line, sends, serves, third_line, turned}
+use Rattle.network_rules.specs.TwoFailures.{users_come}
 
 -- ---- steps
 
@@ -32,8 +34,8 @@ breaking = Restarts 1 ∷ map Steps (loses second_line.here ++ loses third_line.
 abbrev pub returning : List Step
 returning =
     opening
-    ++ sends third_line ++ sends third_line ++ sends third_line ++ sends (turned third_line) ++ sends (turned third_line)
-    ++ sends second_line ++ sends second_line ++ sends (turned second_line)
+    ++ sends third_line ++ sends third_line ++ sends third_line ++ sends (turned third_line)
+    ++ sends (turned third_line) ++ sends second_line ++ sends second_line ++ sends (turned second_line)
 
 -- ---- states, each reached from the one before
 

@@ -9,3 +9,4 @@ pub mod Paths
 pub mod TwoFailures
 pub mod AfterRestart
 pub mod Hops
+pub mod NextMessage

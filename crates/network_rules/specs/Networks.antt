@@ -220,7 +220,7 @@ did_here (DoublesStatus link) x =
     change_statuses (slice_get (in_flight x.incoming.statuses link) 0) (with_status_twice link x.incoming) x
 did_here (Loses link) x = happens (WentDown link) x
 did_here Ticks x = happens Ticked x
-did_here (Activates link) x = happens (Activated link) x
+did_here (Activates link emergency) x = happens (Activated link emergency) x
 did_here (Deactivates link) x = happens (Deactivated link) x
 did_here (AddsTitle row is_memory_refused) x = happens (TitleAdded row is_memory_refused) x
 did_here (RemovesTitle key digits) x = happens (TitleRemoved key digits) x

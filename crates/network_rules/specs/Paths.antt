@@ -12,7 +12,8 @@ use Rattle.pair_rules.specs.Sharing.{AreSharing}
 use Rattle.neighbour_rules.specs.Neighbours.{far_end}
 use Rattle.neighbour_rules.specs.Promises.{accepted_there}
 use Rattle.neighbour_rules.specs.Anew.{IsQuietPair, LostNothingSince, Stays, times_late}
-use Rattle.network_rules.specs.Networks.{NetworkNode, NetworkState, Step, after_steps, first_network, goes_onward}
+use Rattle.network_rules.specs.Networks.{NetworkNode, NetworkState, first_network, goes_onward}
+use Rattle.network_rules.specs.Outside.{Move, after_moves}
 use Rattle.network_rules.specs.Pairs.{AreTheirPoints, AreWellOrAlone, came_from, pair_of}
 use Rattle.network_rules.specs.Totals.{received_at}
 use Rattle.network_rules.specs.Anew.{AfterChanges, Change, IsStepOrThird, after_all, begun_anew}
@@ -44,6 +45,11 @@ abbrev pub each_node_passes_in_order : Type 0
 each_node_passes_in_order =
     (w : NetworkState) (changes : List Change) (point : ℕ) →
     PassesInOrder ((after_all changes (begun_anew w)).node point)
+
+-- and whatever comes from outside
+abbrev pub each_node_passes_what_comes_in_order : Type 0
+each_node_passes_what_comes_in_order =
+    (w : NetworkState) (moves : List Move) (point : ℕ) → PassesInOrder ((after_moves moves (begun_anew w)).node point)
 
 -- at first nothing is booked
 abbrev pub books_begin_empty : Type 0
@@ -130,14 +136,14 @@ paths_keep_the_order_of_their_hops =
 -- ---- the last hop, where the flow is for the last point
 
 -- it keeps the flow in order while neither of its two nodes may have lost a message, and no timer of the former one
--- ended a hold
+-- ended a hold, whatever comes from outside
 abbrev pub last_hops_keep_flows_in_order : Type 0
 last_hops_keep_flows_in_order =
-    (settings : (point : ℕ) → Configuration) (steps : List Step) (near far sls : ℕ) → AreTheirPoints settings →
+    (settings : (point : ℕ) → Configuration) (moves : List Move) (near far sls : ℕ) → AreTheirPoints settings →
     AreWellOrAlone settings → AreSharing (settings near) (settings far) →
-    LostNothing (pair_of (after_steps steps (first_network settings)) near far) →
-    IsPunctual (pair_of (after_steps steps (first_network settings)) near far) →
-    KeepsInOrder (record { point = far; sls = sls }) (after_steps steps (first_network settings)) near far
+    LostNothing (pair_of (after_moves moves (first_network settings)) near far) →
+    IsPunctual (pair_of (after_moves moves (first_network settings)) near far) →
+    KeepsInOrder (record { point = far; sls = sls }) (after_moves moves (first_network settings)) near far
 
 -- and anew whenever nothing is left between the two
 abbrev pub last_hops_begin_anew : Type 0

@@ -17,7 +17,8 @@ use Rattle.neighbour_rules.specs.ThirdNode.{the_message}
 use Rattle.network_rules.specs.Networks.{Arrival, NetworkNode, NetworkState, Place, Step, after_steps, end_of, first_network}
 use Rattle.network_rules.specs.Pairs.{AreTheirPoints, AreWellOrAlone}
 use Rattle.network_rules.specs.Totals.{HaveLostNothing, IsJoined}
-use Rattle.network_rules.specs.Paths.{EachHopInOrder, EachOnlyPasses}
+use Rattle.network_rules.specs.Paths.{ComesInOrder, EachHopInOrder, EachOnlyPasses}
+use Rattle.network_rules.specs.Hops.{AreOpenHops}
 
 -- a point at an end of the row, with two links to point 1, by which it reaches the other end too
 abbrev pub end_settings : (own other : ℕ) → Configuration
@@ -213,6 +214,9 @@ pub record CrossesTwoFailures : Type 0 where
   -- each hop keeps its flow in order, and at point 1 it comes from point 3 alone
   pub hops : EachHopInOrder (flow_of the_message) come 3 (1 ∷ 2 ∷ [])
   pub passes_only : EachOnlyPasses (flow_of the_message) come 3 (1 ∷ 2 ∷ [])
+  -- each hop has what the law of paths asks, so the flow came over the path in order
+  pub open_hops : AreOpenHops row come (flow_of the_message) 3 (1 ∷ 2 ∷ [])
+  pub in_order : ComesInOrder (flow_of the_message) come 3 (1 ∷ 2 ∷ [])
   -- no flag is raised, nothing was refused, and nothing waits any more
   pub third_done : IsDone (come.node 3)
   pub near_done : IsDone (come.node 1)

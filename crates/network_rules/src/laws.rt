@@ -1,17 +1,20 @@
-//! What holds of each two nodes of a network that share a link set, and of all its nodes together, after every list of
-//! steps from newly booted exchanges on (`specs/Networks.antt`). What is said of each two nodes holds also after whatever
-//! comes by links that lead out of the network (`specs/Outside.antt`). Each function says its law by its contract, and
-//! does nothing.
+//! What holds of each two nodes of a network that share a link set, and of all its nodes together. Most laws speak of
+//! every list of steps from newly booted exchanges on (`specs/Networks.antt`); those that say so, of steps from any
+//! network on, restarts among them. The laws of each two nodes in `specs/Pairs.antt` and `Links.antt`, and those of
+//! hops, hold also after whatever comes by links that lead out of the network (`specs/Outside.antt`). The last two are
+//! single runs. Each function says its law by its contract, and does nothing.
 
 ghost use Rattle.network_rules.specs.AfterRestart.{ComesAfterRestart};
 ghost use Rattle.network_rules.specs.Anew.{neighbours_begin_anew, nobody_ever_speaks_for_another};
 ghost use Rattle.network_rules.specs.Anew.{destinations_begin_anew, networks_begin_anew, networks_begin_quietly};
 ghost use Rattle.network_rules.specs.Hops.{hops_keep_flows_in_order, paths_keep_flows_in_order};
 ghost use Rattle.network_rules.specs.Links.{frames_carry, moves_are_lacked, none_is_left, words_are_final};
+ghost use Rattle.network_rules.specs.NextMessage.{BothComeInOrder};
 ghost use Rattle.network_rules.specs.Pairs.{books_are_of_the_two, each_flow_in_order, each_message_once};
 ghost use Rattle.network_rules.specs.Pairs.{flows_stay_between, nothing_is_awaited_in_vain, nothing_is_held_in_vain};
 ghost use Rattle.network_rules.specs.Pairs.{nobody_speaks_for_another, runs_are_runs_of_neighbours};
 ghost use Rattle.network_rules.specs.Paths.{books_begin_empty, each_node_passes_in_order, last_hops_begin_anew};
+ghost use Rattle.network_rules.specs.Paths.{each_node_passes_what_comes_in_order};
 ghost use Rattle.network_rules.specs.Paths.{last_hops_keep_flows_in_order, paths_keep_the_order_of_their_hops};
 ghost use Rattle.network_rules.specs.Totals.{each_message_is_accounted_for, messages_come_from_end_to_end};
 ghost use Rattle.network_rules.specs.Transit.{messages_pass_through};
@@ -121,12 +124,14 @@ pub fn messages_pass_through()
     ensures { messages_pass_through }
 {}
 
-/// A node accepts what it is to pass on in the order in which it came: of the user messages, what came for another point
-/// is made up of those that it accepted and those that it refused, and what it accepted of these and those that entered
-/// there, each in order. This holds whatever is done or lost, and however often nodes start again; in which order they
-/// leave, the hops say.
+/// A node accepts what it is to pass on in the order in which it came: of the user messages, what came for another
+/// point is made up of those that it accepted and those that it refused, and what it accepted of these and those that
+/// entered there, each in order. This holds whatever is done or lost, and however often nodes start again, or whatever
+/// comes from outside; in which
+/// order they leave, the hops say.
 pub fn nodes_pass_on_in_order()
     ensures each { each_node_passes_in_order }
+    ensures outside { each_node_passes_what_comes_in_order }
     ensures first { books_begin_empty }
 {}
 
@@ -141,11 +146,11 @@ pub fn paths_keep_the_order_of_their_hops()
     ensures anew { last_hops_begin_anew }
 {}
 
-/// So flows come over a path in order, without a premise on its hops. A hop keeps the order of a flow that goes on
-/// beyond the next node by the set between the two alone, while no status about its route (TFP, TFR, TFA, Q.704 §13)
-/// comes from there, neither node may have lost a message, and no timer of the former ended a hold. So over nodes in a
-/// row, to which the flow comes from the one before alone, what came to the last node is in the order in which the first
-/// accepted it.
+/// So flows come over a path in order, by settings, books and flags alone. A hop keeps the order of a flow that is for
+/// the next node, or goes on beyond it by the set between the two alone, while no status about its route (TFP, TFR,
+/// TFA, Q.704 §13) is among what came from there, neither node may have lost a message, and no timer of the former
+/// ended a hold. So over nodes in a row, to which the flow comes from the one before alone, what came to the last node
+/// is in the order in which the first accepted it. Both hold whatever comes from outside.
 pub fn paths_keep_flows_in_order()
     ensures hops { hops_keep_flows_in_order }
     ensures paths { paths_keep_flows_in_order }
@@ -181,14 +186,22 @@ pub fn networks_begin_anew()
 /// These laws aren't empty: three nodes in a row keep the premises, those of the whole network too. Each two neighbours
 /// share two links, and a user message that one end of the row has for the other is sent on a link that fails at both
 /// ends before it comes, on either side of the middle node. By the other links it comes to each node on its way, once;
-/// no flag is raised, and nothing waits in the end. Each hop of its path keeps its flow in order.
+/// no flag is raised, and nothing waits in the end. Each hop of its path keeps its flow in order, and has what the law
+/// of paths asks; so the flow came over the path in order.
 pub fn a_message_crosses_two_failures()
     ensures { CrossesTwoFailures }
 {}
 
+/// Nor do they hold of one message alone: the run goes on with the next message of the flow, which differs from the
+/// first. Each hop of their path has what the law of paths asks, and both come to each node of it in the order in which
+/// they were accepted.
+pub fn two_messages_come_in_order()
+    ensures { BothComeInOrder }
+{}
+
 /// Nor are those that begin anew: the middle one of three nodes in a row starts again, by which both others lose
-/// messages. Then the network is quiet, and a user message comes from end to end, once; no node counts one loss more, and
-/// nothing waits in the end.
+/// messages. Then the network is quiet, and a user message comes from end to end, once; no node counts one loss more,
+/// and nothing waits in the end.
 pub fn a_message_comes_after_a_restart()
     ensures { ComesAfterRestart }
 {}

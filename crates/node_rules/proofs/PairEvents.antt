@@ -96,7 +96,7 @@ module _ (c z : Configuration) (a : AreFacing c z) (near far : Books) (air : ℕ
           far_received = b.far_received;
         });
   })
-  own-happens (Activated link) own = by-plain (pairs.Activates link) (Activated link) refl refl refl refl
+  own-happens (Activated link emergency) own = by-plain (pairs.Activates link emergency) (Activated link emergency) refl refl refl refl
   own-happens (Deactivated link) own = by-plain (pairs.Deactivates link) (Deactivated link) refl refl refl refl
   own-happens (TitleAdded row refused) own = by-plain (pairs.AddsTitle row refused) (TitleAdded row refused) refl refl refl refl
   own-happens (TitleRemoved key digits) own = by-plain (pairs.RemovesTitle key digits) (TitleRemoved key digits) refl refl refl refl
@@ -145,7 +145,7 @@ module _ (c z : Configuration) (a : AreFacing c z) (near far : Books) (air : ℕ
   })
   brings Ticked may = absurd may
   brings (Submitted m) may = absurd may
-  brings (Activated link) may = absurd may
+  brings (Activated link emergency) may = absurd may
   brings (Deactivated link) may = absurd may
   brings (TitleAdded row refused) may = absurd may
   brings (TitleRemoved key digits) may = absurd may

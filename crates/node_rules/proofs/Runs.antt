@@ -185,7 +185,7 @@ module _ (near far : Make) (f : AreFacing near.configuration far.configuration) 
           elsewhere-of (WentDown k) may i o l link of q = of
           elsewhere-of Ticked may i o l link of q = may
           elsewhere-of (Submitted m) may i o l link of q = may
-          elsewhere-of (Activated its) may i o l link of q = may
+          elsewhere-of (Activated its emergency) may i o l link of q = may
           elsewhere-of (Deactivated its) may i o l link of q = may
           elsewhere-of (TitleAdded row refused) may i o l link of q = may
           elsewhere-of (TitleRemoved key digits) may i o l link of q = may

@@ -162,12 +162,14 @@ module _ (c : Configuration) (l : ℕ) where
         (λ q h. absurd (complete (changeover_of n.parts link) (at (λ (j : ℕ). Restarts (changeover_of n.parts j)) link q h.restarts) e));
     answered = λ link s n e f w. changed link s n _ refl refl
         (λ q h. restarts-so s f (λ a. unawaited (changeover_of n.parts link) (at (λ (j : ℕ). Restarts (changeover_of n.parts j)) link q h.restarts) (w a)));
-    linked = λ link x n e. linked link x n _ refl refl (same-down link x n e.alignment);
+    linked = λ link x n e o. linked link x n _ refl refl (same-down link x n e.alignment);
     parted = λ link n e. let x : Link = record (link_at n.parts link) { association = false } in
         linked link x n _ refl refl (same-down link x n refl);
     opened = λ link n own there e f. linked link _ n _ refl refl (λ q h. absurd (own q));
     stepped = λ link input step n own e. linked link _ n _ refl refl
         (λ q h. absurd (goes-nowhere link input (link_at n.parts link).period (link_at n.parts link).alignment (at (λ (j : ℕ). down n.parts j ≡ true) link q h.down) step e));
+    passed = λ link n e. let x : Link = record (link_at n.parts link) { test_failed = false; untested = false } in
+        linked link x n _ refl refl (same-down link x n refl);
     busied = λ link n own e f. let x : Link = record (link_at n.parts link) { peer_busy = true } in
         linked link x n _ refl refl (same-down link x n refl);
     resumed = λ link n own e f. let x : Link = record (link_at n.parts link) { peer_busy = false } in
@@ -195,7 +197,7 @@ module _ (c : Configuration) (l : ℕ) where
 pub own-of : (what : Happening) (l : ℕ) → IsOwn what → (link : ℕ) → IsOf what link → link ≢ l
 own-of Ticked l own link of e = of
 own-of (Submitted message) l own link of e = of
-own-of (Activated its) l own link of e = of
+own-of (Activated its emergency) l own link of e = of
 own-of (Deactivated its) l own link of e = of
 own-of (TitleAdded row is_memory_refused) l own link of e = of
 own-of (TitleRemoved key digits) l own link of e = of

@@ -178,7 +178,7 @@ IsOwn (WentDown link) = ⊥
 IsOwn (FrameCame link text) = ⊥
 IsOwn Ticked = Unit {0}
 IsOwn (Submitted message) = Unit {0}
-IsOwn (Activated link) = Unit {0}
+IsOwn (Activated link emergency) = Unit {0}
 IsOwn (Deactivated link) = Unit {0}
 IsOwn (TitleAdded row is_memory_refused) = Unit {0}
 IsOwn (TitleRemoved key digits) = Unit {0}
@@ -219,7 +219,7 @@ MayBring own other (FrameCame link text) =
     LeadsElsewhere own other link × (speaks_for own.own other.own text ≡ false)
 MayBring own other Ticked = ⊥
 MayBring own other (Submitted message) = ⊥
-MayBring own other (Activated link) = ⊥
+MayBring own other (Activated link emergency) = ⊥
 MayBring own other (Deactivated link) = ⊥
 MayBring own other (TitleAdded row is_memory_refused) = ⊥
 MayBring own other (TitleRemoved key digits) = ⊥

@@ -14,6 +14,7 @@ use Rattle.exchange.specs.Calls.{Kept}
 use Rattle.exchange_rules.specs.Queues.{WholeQueues, whole}
 use Rattle.sctp_gate.specs.Gates.{Gate, Did}
 use Rattle.sctp_gate.specs.Calling.{Call, called}
+use Rattle.gate_rules.specs.Calls.{books_kept}
 use Rattle.gate_rules.specs.Worlds.{Port, Node, port_after, done_by, with_call}
 use Rattle.gate_rules.proofs.Seen.{in-either, in-front, in-behind}
 use Rattle.node_world.specs.Kept.{KeptPort, KeptNode}
@@ -96,7 +97,7 @@ is-same j i e = grind (arith, nat_tests, e)
 
 module _ (link : ℕ) (call : Call) (was is : KeptNode) (n : Node) (h : NodeStands was n) (c : NodeCalls link call was is n.books.exchange) where
   abbrev d : Did WholeQueues
-  d = done_by call link n
+  d = done_by books_kept call link n
 
   old : PortStands c.old_port (n.ports link)
   old = h.ports link c.old_port c.old_is
@@ -115,7 +116,7 @@ module _ (link : ℕ) (call : Call) (was is : KeptNode) (n : Node) (h : NodeStan
       (set-same was.ports link c.new_port port (subst (λ (j : ℕ). slice_get (slice_set was.ports link c.new_port) j ≡ Some port) (is-same other link e) there)) new-port
   port-by false other port e there = h.ports other port (sym (set-other was.ports link other c.new_port (is-other other link e)) ∙ there)
 
-  pub node-calls : NodeStands is (with_call call link d n)
+  pub node-calls : NodeStands is (with_call books_kept call link d n)
   node-calls = record {
     exchange = calls-so.stands;
     ports = λ other port there. port-by (nat_eq other link) other port refl (subst (λ (l : List KeptPort). slice_get l other ≡ Some port) c.new_is there);

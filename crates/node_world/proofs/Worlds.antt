@@ -84,7 +84,7 @@ goes-far what k far w h may n many = record {
 -- ---- something happens to an exchange
 
 own-order : (order : Order) (outcome : Outcome) → IsOwn (exchanges.happened (event.Order order) outcome)
-own-order (Activate link) outcome = tt
+own-order (Activate link emergency) outcome = tt
 own-order (Deactivate link) outcome = tt
 own-order (AddTitle row) outcome = tt
 own-order (RemoveTitle key digits) outcome = tt

@@ -1,6 +1,6 @@
 -- User messages after a number: there are as many if a node makes only management.
 use Rattle.pair_rules.proofs.Basics.{◌≡◌, ◌≤◌, ◌+◌, ◌&&◌, ℕ, zero, suc, Bool, true, false, not, List, [], ◌∷◌, ◌++◌, length, drop, Option, Some, None, refl, ap, ◌∙◌, arith, if◌then◌else◌, count_by}
-use Rattle.pair_rules.proofs.Definitions.{in_service, Message, flow_of, is_management, Cause, Configuration, Queue, appended, first_queue, named_count, Facts, Node, with_parts, WholeQueues, whole, queue_at, queue_on, no_room, link_of, send, entry_of, peer_of, set_of, ChangebackDeclaration, advance, enters, return_if, loses_flows, hold_flows, code_for, declaration, take_back_each, facts, after}
+use Rattle.pair_rules.proofs.Definitions.{in_service, Message, flow_of, is_management, Cause, Configuration, Queue, appended, first_queue, named_count, Facts, Node, with_parts, WholeQueues, whole, queue_at, queue_on, no_room, link_of, send, entry_of, peer_of, set_of, ChangebackDeclaration, advance, enters, enters_traffic, return_if, loses_flows, hold_flows, code_for, declaration, take_back_each, facts, after}
 use Rattle.std.specs.Prelude.{unwrap_or}
 use Rattle.link.specs.declared.action.Transition.{Transition}
 use Rattle.exchange_rules.specs.ChangingBack.{code_in_use, declare_by}
@@ -153,5 +153,5 @@ module _ (number : ℕ) (c : Configuration) where
         let took : Node WholeQueues = take_step whole c link step n in
         both n took (advance whole c link step n)
         (both n (with_parts n (moved_on c link step n.parts)) took (record { held = refl; each = λ l. refl })
-        (returned-same (enters link step n.parts) (facts c n.parts) (with_parts n (moved_on c link step n.parts))))
+        (returned-same (enters_traffic link step n.parts) (facts c n.parts) (with_parts n (moved_on c link step n.parts))))
         (test_if-same (enters link step n.parts) took)

@@ -9,7 +9,8 @@ pub use Rattle.exchange_rules.proofs.Serving.{data-serves, each-step, serves-in}
 pub use Rattle.exchange_rules.proofs.Sound.{done-waits}
 pub use Rattle.exchange_rules.proofs.SteppingEvents.{owing-steps, run_timer-steps, go_by-steps, take-steps}
 pub use Rattle.exchange_rules.proofs.SteppingFailures.{concluded-steps, fail-links, failing_by_peer-steps, fell-steps, timed_changeover-timed}
-pub use Rattle.exchange_rules.proofs.SteppingLinks.{advance-serves, anew-steps, stepped-at, stepped-other, stepping-there, failed_if_up-down, set_active-steps}
+pub use Rattle.exchange_rules.proofs.SteppingEntries.{anew-steps}
+pub use Rattle.exchange_rules.proofs.SteppingLinks.{advance-serves, stepped-at, stepped-other, stepping-there, failed_if_up-down, set_active-steps}
 pub use Rattle.exchange_rules.proofs.Steps.{IsOfSteps, AreRerouted, AreOwnAllowed, any_status, ways_of, status_over, confirming, with_busy, without_busy}
 pub use Rattle.exchange_rules.proofs.TakenPairs.{IsAlike, take_back_each-alike}
 pub use Rattle.exchange_rules.specs.Conserving.{answered_in, brought_by, brought_here, brought_in, brought_to, taken_in, unitdata_in}
@@ -18,7 +19,10 @@ unfoldable pub use Rattle.exchange_rules.specs.ChangingBack.{take_back_each}
 pub use Rattle.exchange_rules.specs.ChangingOver.{acknowledge_changeover, changeover_acknowledgement, complete_by_order, complete_if, fail_by_order, on_changeover_order, on_changeover_acknowledgement, send_each, with_changeover_acknowledged, concluded, lose, lose_each, on_changeover_timer, with_expiry, begin_by_peer, changeover_of, fail_by_peer, make_unavailable, with_changeover, fail, begin, change_over, changeover_order, changing, fail_link, has_other}
 pub use Rattle.exchange_rules.specs.Exchange.{settled, handle_event, wants_of, outcome_of, after, frame_to_take, release, go, go_by, go_each, go_on}
 unfoldable pub use Rattle.exchange_rules.specs.Exchange.{apply}
-pub use Rattle.exchange_rules.specs.Frames.{Carrying, accept, act_by_data, empty_data, handle_by, message_data, numbers, owing, data_of, receive, receive_frame, read, carries, carry, advance, begun_anew_if, enters, return_if, step_on, act_by_status, act_by_timer, on_link_status, run_out, serve_status}
+pub use Rattle.exchange_rules.specs.Entering.{begun_anew_if, begun_anew, return_if, begin_traffic}
+pub use Rattle.exchange_rules.specs.Opening.{opened_by}
+pub use Rattle.exchange_rules.specs.State.{in_traffic}
+pub use Rattle.exchange_rules.specs.Frames.{Carrying, accept, act_by_data, empty_data, handle_by, message_data, numbers, owing, data_of, receive, receive_frame, read, carries, carry, advance, enters, enters_traffic, step_on, act_by_status, act_by_timer, on_link_status, run_out, serve_status}
 pub use Rattle.exchange_rules.specs.State.{CameUp, Happening, FrameCame, Submitted, down, is_link, in_service, link_at, links_with, flagged, flagged_late, note_outcome, Node, Done, answer, Parts, with_parts, Found, refuse, lost_any, Noted, late_any}
 pub use Rattle.exchange_rules.specs.Routing.{all_wait, waits, is_held_at, is_flow_held, entry_of, peer_of, set_of, no_room, is_share_full, no_room_on, queue_on, link_of, facts, network_of, goes_by, sets_in}
 pub use Rattle.exchange_rules.specs.Laws.{accept_data, accept_frame, accept_text}
@@ -54,7 +58,7 @@ pub use Rattle.mtp3_codec.specs.declared.label.Label.{Label}
 pub use Rattle.mtp3_codec.specs.declared.management.Management.{Management}
 pub use Rattle.mtp3_codec.specs.declared.management.Management.TheVariants.{ExtendedChangeoverAcknowledgement, ChangebackDeclaration, ExtendedChangeoverOrder, ChangebackAcknowledgement}
 pub use Rattle.node_links.proofs.Serving.{serving_none, serving_alike, facts_alike, serving_set}
-pub use Rattle.node_links.specs.NodeLinks.{acts_on, Link, after_failure, down_link, is_down, is_in_service, opened, stepped, link_in}
+pub use Rattle.node_links.specs.NodeLinks.{acts_on, Link, after_failure, carries_traffic, down_link, is_down, is_in_service, opened, stepped, link_in}
 pub use Rattle.pair_moves.specs.Ends.{Pair, LinkEnd, Line, Side, closed_end, first_side, Frame}
 pub use Rattle.pair_moves.specs.Failing.{without_wait, ChangesOnly, with_completion, with_failure, Suspends}
 pub use Rattle.pair_moves.specs.Passing.{BecomeAt, MayGo}

@@ -1,6 +1,6 @@
 -- A link opens at one end: by one move.
 use Rattle.pair_rules.proofs.Basics.{◌≡◌, ◌≢◌, ◌<◌, ◌&&◌, ℕ, Bool, true, false, not, List, length, refl, ap, sym, subst, ◌∙◌, nat_lt, arith, if◌then◌else◌, and_parts, nat_tests}
-use Rattle.pair_rules.proofs.Definitions.{period_of, Handled, Configuration, first_queue, Standing, may_restart, Alignment, Link, down_link, is_down, is_in_service, opened, serving_alike, Nothing, Open, Close, Node, Parts, Done, answer, down, is_link, link_at, WholeQueues, queue_at, whole, changeover_of, association_up, may_open, open_link, wanted, wanted_down, facts, sets_in, Fits, MayOpen, opened_end}
+use Rattle.pair_rules.proofs.Definitions.{period_of, Handled, Configuration, first_queue, Standing, may_restart, Alignment, Link, down_link, is_down, is_in_service, opened_by, serving_alike, Nothing, Open, Close, Node, Parts, Done, answer, down, is_link, link_at, WholeQueues, queue_at, whole, changeover_of, association_up, may_open, open_link, wanted, wanted_down, facts, sets_in, Fits, MayOpen, opened_end}
 use Rattle.pair_rules.proofs.Deliveries.{serving-up}
 use Rattle.pair_rules.proofs.World.{Flying, World, end_of}
 use Rattle.pair_rules.proofs.Lines.{end-by, end_by, link-here, link-other, queue-here, queue-other}
@@ -76,20 +76,20 @@ module _ (c z : Configuration) (n : Node WholeQueues) (link : ℕ) (m : MayComeU
 
   pub opened-here : Fits c n → end_of o link ≡ opened_end
   opened-here f =
-      end-by c z n o link first_queue (opened (period_of c link n.parts) (link_at n.parts link)) (changeover_of n.parts link) (queue-here c z n link first_queue f (listed f))
-      (link-here c z n.parts link (opened (period_of c link n.parts) (link_at n.parts link)) (subst (λ (k : ℕ). link < k) (sym f.places.parts.links) (listed f))) refl
-      ∙ ap (λ (b : Bool). end_by c z first_queue (opened (period_of c link n.parts) (link_at n.parts link)) (record { incomplete = b; awaited = (changeover_of n.parts link).awaited })) (restarts-complete (changeover_of n.parts link) m.restarts)
-      ∙ ap (λ (b : Bool). end_by c z first_queue (opened (period_of c link n.parts) (link_at n.parts link)) (record { incomplete = false; awaited = b })) (restarts-unawaited (changeover_of n.parts link) m.restarts)
+      end-by c z n o link first_queue (opened_by c (period_of c link n.parts) (link_at n.parts link)) (changeover_of n.parts link) (queue-here c z n link first_queue f (listed f))
+      (link-here c z n.parts link (opened_by c (period_of c link n.parts) (link_at n.parts link)) (subst (λ (k : ℕ). link < k) (sym f.places.parts.links) (listed f))) refl
+      ∙ ap (λ (b : Bool). end_by c z first_queue (opened_by c (period_of c link n.parts) (link_at n.parts link)) (record { incomplete = b; awaited = (changeover_of n.parts link).awaited })) (restarts-complete (changeover_of n.parts link) m.restarts)
+      ∙ ap (λ (b : Bool). end_by c z first_queue (opened_by c (period_of c link n.parts) (link_at n.parts link)) (record { incomplete = false; awaited = b })) (restarts-unawaited (changeover_of n.parts link) m.restarts)
 
   pub opened-other : (other : ℕ) → other ≢ link → end_of o other ≡ end_of n other
   opened-other other d =
       end-by c z n o other (queue_at n.queues other) (link_at n.parts other) (changeover_of n.parts other) (queue-other c z n.queues link other first_queue d)
-      (link-other c z n.parts link other (opened (period_of c link n.parts) (link_at n.parts link)) d) refl
+      (link-other c z n.parts link other (opened_by c (period_of c link n.parts) (link_at n.parts link)) d) refl
 
   pub opened-known : facts c o.parts ≡ facts c n.parts
   opened-known =
       ap (λ (serving : List Bool). record { sets = sets_in c; in_service = serving; routes = n.parts.routes })
-      (serving_alike n.parts.links link down_link (opened (period_of c link n.parts) (link_at n.parts link)) (sym (down-unserved (link_at n.parts link).alignment m.down)))
+      (serving_alike n.parts.links link down_link (opened_by c (period_of c link n.parts) (link_at n.parts link)) (sym (ap (λ (b : Bool). b && not (link_at n.parts link).untested) (down-unserved (link_at n.parts link).alignment m.down))))
 
   pub may_open-end : MayOpen (end_of n link)
   may_open-end = record {

@@ -43,6 +43,7 @@ settings_of own adjacent = record {
   subsystem_tests = false;
   user_part_unavailable = false;
   processor_outage = false;
+  out_of_service = false;
   timers = ticks;
   sets = record { name = 97 ∷ []; adjacent = adjacent } ∷ [];
   links =

@@ -59,7 +59,7 @@ pub data Doing : Type 0 where
   Loses : (link : ℕ) → Doing
   Ticks : Doing
   -- the operator lets a link open, or keeps it from it
-  Activates : (link : ℕ) → Doing
+  Activates : (link : ℕ) (emergency : Bool) → Doing
   Deactivates : (link : ℕ) → Doing
   -- the operator adds a translation row, if memory for it isn't refused, or removes one
   AddsTitle : (row : TitleEntry) (is_memory_refused : Bool) → Doing
@@ -225,7 +225,7 @@ did (DoublesStatus link) p =
     change_statuses (slice_get (in_flight p.near.incoming.statuses link) 0) (with_status_twice link p.near.incoming) p
 did (Loses link) p = happens (WentDown link) p
 did Ticks p = happens Ticked p
-did (Activates link) p = happens (Activated link) p
+did (Activates link emergency) p = happens (Activated link emergency) p
 did (Deactivates link) p = happens (Deactivated link) p
 did (AddsTitle row is_memory_refused) p = happens (TitleAdded row is_memory_refused) p
 did (RemovesTitle key digits) p = happens (TitleRemoved key digits) p

@@ -13,7 +13,7 @@ use Rattle.exchange_rules.specs.Telling as telling
 use Rattle.exchange_rules.specs.Telling.{send, send_routed, route_message, told_parts, may_tell, tell_if, tell_each, tell_owed}
 use Rattle.exchange_rules.specs.Opening.{open_link, association_up}
 use Rattle.exchange_rules.specs.Exchange.{go_on, go_by, go, go_each, release, settled, apply, outcome_of, after, wants_of}
-use Rattle.exchange_rules.proofs.Definitions.{Configuration, period_of, Owed, owed, may_restart, Link, is_down, opened, down_link, changeover_of}
+use Rattle.exchange_rules.proofs.Definitions.{Configuration, period_of, Owed, owed, may_restart, Link, is_down, opened_by, down_link, changeover_of}
 use Rattle.sctp_gate.specs.Rising.{ComesUp}
 
 module _ {Q : Type 0} (q : QueueKind Q) (c : Configuration) where
@@ -95,17 +95,17 @@ module _ {Q : Type 0} (q : QueueKind Q) (link : ℕ) (s : State Q) (wants : want
       goes-on (is_link s.node.parts link) (link_at s.node.parts link).association (link_at s.node.parts link).active (may_restart (changeover_of s.node.parts link)) _ _ _ _
       may.is_there may.has_none may.is_active may.may_restart
 
-  links : (after q (CameUp link) s).node.parts.links ≡ links_with s.node.parts link (opened (period_of s.settings link s.node.parts) (link_at s.node.parts link))
+  links : (after q (CameUp link) s).node.parts.links ≡ links_with s.node.parts link (opened_by s.settings (period_of s.settings link s.node.parts) (link_at s.node.parts link))
   unfolding apply
   links =
       settled-links q s.settings (association_up q s.settings link s.node)
       ∙ ap (λ (d : Done Q). d.left.parts.links) opens
 
-  here : link_at (after q (CameUp link) s).node.parts link ≡ opened (period_of s.settings link s.node.parts) (link_at s.node.parts link)
+  here : link_at (after q (CameUp link) s).node.parts link ≡ opened_by s.settings (period_of s.settings link s.node.parts) (link_at s.node.parts link)
   here =
       let there : link < length s.node.parts.links = (let t = may.is_there in grind (arith, nat_tests, t)) in
       ap (λ (ls : List Link). slice_index_or ls link down_link) links
-      ∙ get_or-set_same s.node.parts.links link (opened (period_of s.settings link s.node.parts) (link_at s.node.parts link)) down_link there
+      ∙ get_or-set_same s.node.parts.links link (opened_by s.settings (period_of s.settings link s.node.parts) (link_at s.node.parts link)) down_link there
 
   handled : outcome_of q (CameUp link) s ≡ Handled
   unfolding apply
