@@ -217,7 +217,14 @@ impl World {
 
     /// An operator lets a link open.
     pub(crate) fn activate(&mut self, place: Place) {
-        self.act(place.point, Doing::Activate(place.link()));
+        let link = place.link();
+        self.act(
+            place.point,
+            Doing::Activate {
+                link,
+                emergency: false,
+            },
+        );
     }
 
     /// An operator keeps a link from opening.

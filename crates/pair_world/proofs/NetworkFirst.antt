@@ -12,15 +12,16 @@ use Rattle.exchange.specs.Calls.{kept_of}
 use Rattle.exchange.proofs.Standing.{stands-first}
 use Rattle.network_rules.specs.Networks.{first_network, first_node}
 use Rattle.network_rules.specs.Totals.{IsPlaced}
-use Rattle.pair_world.specs.Joined.{no_settings, AreJoined, AreWell, are_apart, settings_at, settings_for, settings_or}
+use Rattle.pair_world.specs.Joined.{AreJoined, AreWell, are_apart, settings_at, settings_for, settings_or}
 use Rattle.pair_world.specs.KeptNodes.{KeptNode, kept_node_of}
 use Rattle.pair_world.specs.KeptNetworks.{kept_at, points_of}
+use Rattle.pair_world.specs.NetworkAnew.{RunsSince}
 use Rattle.pair_world.specs.NetworkPromised.{ShareAll}
 use Rattle.pair_world.specs.NetworkStands.{IsNodeAt, NetworkStandsFor}
 use Rattle.pair_world.proofs.FirstPoints.{for-listed, once-there, own}
 use Rattle.pair_world.proofs.NodePlaces.{equal}
 
-first-sound : (c : Configuration) → IsWell c → IsSound (first_state c)
+pub first-sound : (c : Configuration) → IsWell c → IsSound (first_state c)
 first-sound c well = (stands-first c (kept_of (first_state c)) well.window.below refl).sound
 
 -- ---- the settings of a point
@@ -126,4 +127,16 @@ module _ (settings : List Configuration) (apart : are_apart settings ≡ true) (
     nodes = λ point.
         subst (λ (o : Option KeptNode). IsNodeAt point o (first_node (its point))) (sym (kept-same settings point))
         (node-by point (settings_for settings point) refl);
+  }
+
+  -- and no change was made since
+  pub first-runs : RunsSince (map booted settings) (first_network its) []
+  first-runs = record {
+    changed = record {
+      settings = its;
+      placed = subst (IsPlaced its) (sym (points-same settings)) is-placed;
+      changes = [];
+      by = refl;
+    };
+    nodes = first-stands.nodes;
   }

@@ -18,8 +18,9 @@ use Rattle.pair_world.specs.declared.doing.Reach.{Reach}
 use Rattle.pair_world.specs.declared.doing.Reach.TheVariants as reach
 use Rattle.pair_world.specs.KeptNodes.{BothTurn, KeptNode, NodeTurn, both_did, kept_node_of, node_did}
 use Rattle.pair_world.specs.KeptNetworks.{NetworkTurn, both_turned, kept_at, network_ignored, one_turned, place_at, points_of, reached_at}
-use Rattle.pair_world.specs.NetworkStands.{IsNetworkReached, IsNodeAt, IsNodeOf, NetworkStandsFor, first_outcome, here_outcome, if_any}
-use Rattle.pair_world.proofs.NodeFits.{Fits, here-fits, reached-fit}
+use Rattle.pair_world.specs.NetworkStands.{IsNetworkReached, IsNodeAt, IsNodeOf, first_outcome, here_outcome, if_any}
+use Rattle.pair_world.proofs.AsKept.{IsKept, own-point}
+use Rattle.pair_world.proofs.NodeFits.{Fits, here-fits}
 use Rattle.pair_world.proofs.NodePlaces.{equal, unlike, gets, has-point, keeps, places-same, points-same, put-nodes}
 use Rattle.pair_world.proofs.NodeReaches.{AreBothSame, fetch-same, led_by, open-same, open_outcome, opened_by, reached_with, sent_by}
 use Rattle.pair_world.proofs.NodeRules.{IsNodeSame, here-same}
@@ -38,10 +39,6 @@ reached-more move w r = record {
   by = ap (after_move move) r.by ∙ sym (moves-more r.moves move (first_network r.settings));
 }
 
--- each node is told its point
-pub own-point : {points : List ℕ} (w : NetworkState) → IsNetworkReached points w → (point : ℕ) → (w.node point).exchange.settings.own ≡ point
-own-point w r point = ap (λ (c : Configuration). c.own) (reached-fit w r point).settings ∙ r.placed.own point
-
 -- the nodes that are kept are those of a state
 abbrev pub AreNodes : List KeptNode → NetworkState → Type 0
 AreNodes k w = (point : ℕ) → IsNodeAt point (kept_at point k) (w.node point)
@@ -51,12 +48,9 @@ pub record IsTurn (points : List ℕ) (t : NetworkTurn) (outcome : Outcome) (w :
   pub points_same : points_of t.left ≡ points
   pub nodes : AreNodes t.left w
 
-module _ (k : List KeptNode) (w : NetworkState) (s : NetworkStandsFor k w) where
-  r : IsNetworkReached (points_of k) w
-  r = s.reached
-
+module _ (k : List KeptNode) (w : NetworkState) (s : IsKept k w) where
   fits-at : (point : ℕ) → Fits (w.node point)
-  fits-at point = (reached-fit w r point).fits
+  fits-at point = (s.fits point).fits
 
   -- ---- a node whose place is known
 
@@ -95,12 +89,12 @@ module _ (k : List KeptNode) (w : NetworkState) (s : NetworkStandsFor k w) where
         (put-one (done n) outcome change same own)
 
     pub own-x : x.exchange.settings.own ≡ point
-    own-x = own-point w r point
+    own-x = own-point k w s point
 
     -- its point stays the same
     own-here : (what : Doing) → (did_here what x).exchange.settings.own ≡ point
     own-here what =
-        ap (λ (d : Configuration). d.own) (here-fits (r.settings point) x (reached-fit w r point) what).settings ∙ r.placed.own point
+        ap (λ (d : Configuration). d.own) (here-fits (s.settings point) x (s.fits point) what).settings ∙ s.placed.own point
 
     -- what is done here alone
     pub here-turn : (what : Doing) → IsTurn (points_of k) (one_turned place (node_did what) (slice_get k place) k) (here_outcome what x) (changed point (did_here what) w)
@@ -164,7 +158,7 @@ module _ (k : List KeptNode) (w : NetworkState) (s : NetworkStandsFor k w) where
         }
 
       own-y : y.exchange.settings.own ≡ far
-      own-y = own-point w r far
+      own-y = own-point k w s far
 
       -- two changes
       both-changed : (t : BothTurn) (outcome : Outcome) (change lead : NetworkNode → NetworkNode) → AreBothSame t outcome (change x) (lead y)

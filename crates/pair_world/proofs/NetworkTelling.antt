@@ -103,7 +103,7 @@ module _ (k : List KeptNode) (w : NetworkState) (s : NetworkStandsFor k w) (near
   here (pairs.DoublesStatus link) = tt
   here (pairs.Loses link) = tt
   here pairs.Ticks = tt
-  here (pairs.Activates link) = tt
+  here (pairs.Activates link emergency) = tt
   here (pairs.Deactivates link) = tt
   here (pairs.AddsTitle row is_memory_refused) = tt
   here (pairs.RemovesTitle key digits) = tt

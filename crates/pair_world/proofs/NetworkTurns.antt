@@ -21,21 +21,18 @@ use Rattle.pair_world.specs.declared.doing.Reach.TheVariants as reach
 use Rattle.pair_world.specs.KeptNodes.{KeptNode, kept_node_of, node_did, node_takes}
 use Rattle.pair_world.specs.KeptNetworks.{KeptPlace, end_at, end_by, kept_did, kept_did_at, kept_other_end, network_ignored, network_turn, one_turned, place_at, points_of, reached_by}
 use Rattle.pair_world.specs.NetworkStands.{IsNetworkReached, IsNodeAt, NetworkStandsFor, did_outcome, first_outcome, has_node, here_outcome, if_any, step_outcome, stepped}
+use Rattle.pair_world.proofs.AsKept.{IsKept, as-kept, own-point}
 use Rattle.pair_world.proofs.Listed.{leads-apart}
-use Rattle.pair_world.proofs.NodeFits.{reached-fit}
 use Rattle.pair_world.proofs.NodePlaces.{itself-eq, keeps-none, points-same, put-nodes}
 use Rattle.pair_world.proofs.NodeReaches.{sent_by, take-alone}
 use Rattle.pair_world.proofs.NodeRules.{IsNodeSame}
 use Rattle.pair_world.proofs.Ready.{far-there}
 use Rattle.pair_world.proofs.NetworkSteps as steps
-use Rattle.pair_world.proofs.NetworkSteps.{IsTurn, own-point, reached-more}
+use Rattle.pair_world.proofs.NetworkSteps.{IsTurn, reached-more}
 
 -- ---- at a node whose place is known
 
-module _ (k : List KeptNode) (w : NetworkState) (s : NetworkStandsFor k w) where
-  r : IsNetworkReached (points_of k) w
-  r = s.reached
-
+module _ (k : List KeptNode) (w : NetworkState) (s : IsKept k w) where
   module _ (point place : ℕ) (e : place_at point k ≡ Some place) where
     abbrev x : NetworkNode
     x = w.node point
@@ -50,7 +47,7 @@ module _ (k : List KeptNode) (w : NetworkState) (s : NetworkStandsFor k w) where
     got = steps.got k w s point place e
 
     own-x : x.exchange.settings.own ≡ point
-    own-x = own-point w r point
+    own-x = own-point k w s point
 
     here-turn : (what : Doing) → IsTurn (points_of k) (one_turned place (node_did what) (slice_get k place) k) (here_outcome what x) (changed point (did_here what) w)
     here-turn = steps.here-turn k w s point place e
@@ -72,12 +69,12 @@ module _ (k : List KeptNode) (w : NetworkState) (s : NetworkStandsFor k w) where
       abbrev z : Configuration
       z = (w.node far_point).exchange.settings
 
-      c-same : c ≡ r.settings point
-      c-same = (reached-fit w r point).settings
+      c-same : c ≡ s.settings point
+      c-same = (s.fits point).settings
 
       far-apart : far_point ≢ point
       far-apart i =
-          leads-apart r.settings (points_of k) r.placed point link l (ap (λ (d : Configuration). slice_get d.links link) (sym c-same) ∙ is)
+          leads-apart s.settings (points_of k) s.placed point link l (ap (λ (d : Configuration). slice_get d.links link) (sym c-same) ∙ is)
           (ap (λ (d : Configuration). adjacent_of d l.set) (sym c-same) ∙ i)
 
       -- no link is at a point without a node
@@ -88,7 +85,7 @@ module _ (k : List KeptNode) (w : NetworkState) (s : NetworkStandsFor k w) where
 
       leads-here : (o : Option ℕ) → link_with_code z c.own l.slc ≡ o → end_there c z (Some l) ≡ o
       leads-here o g =
-          ap (λ (b : Bool). if b then link_with_code z c.own l.slc else None) (ap (nat_eq far_point) (own-point w r far_point) ∙ itself-eq far_point) ∙ g
+          ap (λ (b : Bool). if b then link_with_code z c.own l.slc else None) (ap (nat_eq far_point) (own-point k w s far_point) ∙ itself-eq far_point) ∙ g
 
       ends-at : (other : ℕ) → place_at far_point k ≡ Some other → (o : Option ℕ) → link_with_code z c.own l.slc ≡ o
           → AreEndsOf (end_at c l other (Some (kept_node_of (w.node far_point)))) (option_map (λ (away : ℕ). record { point = far_point; link = away }) (link_with_code z c.own l.slc))
@@ -174,7 +171,7 @@ module _ (k : List KeptNode) (w : NetworkState) (s : NetworkStandsFor k w) where
     did-turn (DoublesStatus link) = here-turn (DoublesStatus link)
     did-turn (Loses link) = here-turn (Loses link)
     did-turn Ticks = here-turn Ticks
-    did-turn (Activates link) = here-turn (Activates link)
+    did-turn (Activates link emergency) = here-turn (Activates link emergency)
     did-turn (Deactivates link) = here-turn (Deactivates link)
     did-turn (AddsTitle row refused) = here-turn (AddsTitle row refused)
     did-turn (RemovesTitle key digits) = here-turn (RemovesTitle key digits)
@@ -182,7 +179,7 @@ module _ (k : List KeptNode) (w : NetworkState) (s : NetworkStandsFor k w) where
 
 -- ---- at whatever point
 
-module _ (k : List KeptNode) (w : NetworkState) (s : NetworkStandsFor k w) (what : Doing) (point : ℕ) where
+module _ (k : List KeptNode) (w : NetworkState) (s : IsKept k w) (what : Doing) (point : ℕ) where
   abbrev step : Step
   step = record { point = point; what = what }
 
@@ -190,20 +187,27 @@ module _ (k : List KeptNode) (w : NetworkState) (s : NetworkStandsFor k w) (what
   turn-by None e = record { outcome_same = refl; points_same = refl; nodes = s.nodes }
   turn-by (Some place) e = did-turn k w s point place e what
 
-  turns : IsTurn (points_of k) (network_turn what point k) (step_outcome (has_node point k) step w) (stepped (has_node point k) step w)
+  pub turns : IsTurn (points_of k) (network_turn what point k) (step_outcome (has_node point k) step w) (stepped (has_node point k) step w)
   turns = turn-by (place_at point k) refl
 
-  pub turn-outcome : (network_turn what point k).outcome ≡ step_outcome (has_node point k) step w
-  turn-outcome = turns.outcome_same
+module _ (k : List KeptNode) (w : NetworkState) (s : NetworkStandsFor k w) (what : Doing) (point : ℕ) where
+  abbrev done : Step
+  done = record { point = point; what = what }
 
-  reached-by : (b : Bool) → IsNetworkReached (points_of k) (stepped b step w)
-  reached-by true = reached-more (Within step) w s.reached
+  turn : IsTurn (points_of k) (network_turn what point k) (step_outcome (has_node point k) done w) (stepped (has_node point k) done w)
+  turn = turns k w (as-kept k w s) what point
+
+  pub turn-outcome : (network_turn what point k).outcome ≡ step_outcome (has_node point k) done w
+  turn-outcome = turn.outcome_same
+
+  reached-by : (b : Bool) → IsNetworkReached (points_of k) (stepped b done w)
+  reached-by true = reached-more (Within done) w s.reached
   reached-by false = s.reached
 
-  pub turn-stands : NetworkStandsFor (network_turn what point k).left (stepped (has_node point k) step w)
+  pub turn-stands : NetworkStandsFor (network_turn what point k).left (stepped (has_node point k) done w)
   turn-stands = record {
     reached =
-        subst (λ (points : List ℕ). IsNetworkReached points (stepped (has_node point k) step w)) (sym turns.points_same)
+        subst (λ (points : List ℕ). IsNetworkReached points (stepped (has_node point k) done w)) (sym turn.points_same)
         (reached-by (has_node point k));
-    nodes = turns.nodes;
+    nodes = turn.nodes;
   }

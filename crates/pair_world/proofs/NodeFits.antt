@@ -139,7 +139,7 @@ module _ (c : Configuration) (x : NetworkNode) (f : FitsTo c x) where
   here-fits (DoublesStatus link) = double-status (slice_get (in_flight x.incoming.statuses link) 0) link
   here-fits (Loses link) = happens-fits _
   here-fits Ticks = happens-fits _
-  here-fits (Activates link) = happens-fits _
+  here-fits (Activates link emergency) = happens-fits _
   here-fits (Deactivates link) = happens-fits _
   here-fits (AddsTitle row is_memory_refused) = happens-fits _
   here-fits (RemovesTitle key digits) = happens-fits _
@@ -150,7 +150,7 @@ module _ (c : Configuration) (x : NetworkNode) (f : FitsTo c x) where
 -- ---- at all
 
 module _ (settings : (point : ℕ) → Configuration) where
-  abbrev AllFit : NetworkState → Type 0
+  abbrev pub AllFit : NetworkState → Type 0
   AllFit w = (point : ℕ) → FitsTo (settings point) (w.node point)
 
   changed-fit : (point : ℕ) (change : NetworkNode → NetworkNode) (w : NetworkState) → AllFit w
@@ -179,7 +179,7 @@ module _ (settings : (point : ℕ) → Configuration) where
   first-fit wants.Nothing may point link there w all = all
   first-fit wants.Close may point link there w all = all
 
-  did-fit : (what : Doing) (point : ℕ) (w : NetworkState) → AllFit w → AllFit (did what point w)
+  pub did-fit : (what : Doing) (point : ℕ) (w : NetworkState) → AllFit w → AllFit (did what point w)
   did-fit (Takes link) point w all = take-fit (frame_to_take whole (w.node point).exchange link) point link (other_end w point link) w all
   did-fit (OpensFirst link) point w all =
       first-fit (wants_of (w.node point).exchange link) (may_open_there w (other_end w point link)) point link (other_end w point link) w all
@@ -190,7 +190,7 @@ module _ (settings : (point : ℕ) → Configuration) where
   did-fit (DoublesStatus link) point w all = changed-fit point (did_here (DoublesStatus link)) w all (λ c x f. here-fits c x f (DoublesStatus link))
   did-fit (Loses link) point w all = changed-fit point (did_here (Loses link)) w all (λ c x f. here-fits c x f (Loses link))
   did-fit Ticks point w all = changed-fit point (did_here Ticks) w all (λ c x f. here-fits c x f Ticks)
-  did-fit (Activates link) point w all = changed-fit point (did_here (Activates link)) w all (λ c x f. here-fits c x f (Activates link))
+  did-fit (Activates link emergency) point w all = changed-fit point (did_here (Activates link emergency)) w all (λ c x f. here-fits c x f (Activates link emergency))
   did-fit (Deactivates link) point w all = changed-fit point (did_here (Deactivates link)) w all (λ c x f. here-fits c x f (Deactivates link))
   did-fit (AddsTitle row refused) point w all = changed-fit point (did_here (AddsTitle row refused)) w all (λ c x f. here-fits c x f (AddsTitle row refused))
   did-fit (RemovesTitle key digits) point w all = changed-fit point (did_here (RemovesTitle key digits)) w all (λ c x f. here-fits c x f (RemovesTitle key digits))
@@ -216,11 +216,11 @@ module _ (settings : (point : ℕ) → Configuration) where
 
 -- ---- from the first on
 
-few-links : (c : Configuration) → IsWell c ⊎ (c.links ≡ []) → length c.links ≤ LINKS
+pub few-links : (c : Configuration) → IsWell c ⊎ (c.links ≡ []) → length c.links ≤ LINKS
 few-links c (inl well) = well.link_count.below
 few-links c (inr e) = subst (λ (links : List _). length links ≤ LINKS) (sym e) (omega arith)
 
-first-fits : (c : Configuration) → length c.links ≤ LINKS → FitsTo c (first_node c)
+pub first-fits : (c : Configuration) → length c.links ≤ LINKS → FitsTo c (first_node c)
 first-fits c few = record {
   settings = refl;
   fits = record {

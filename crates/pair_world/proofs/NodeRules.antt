@@ -158,7 +158,7 @@ module _ (x : NetworkNode) (sound : IsSound x.exchange) (places : HasAllPlaces x
   here-same (DoublesStatus link) = change-by (slice_get (in_flight x.incoming.statuses link) 0) (with_status_twice link x.incoming)
   here-same (Loses link) = happens-same (WentDown link)
   here-same Ticks = happens-same Ticked
-  here-same (Activates link) = happens-same (Activated link)
+  here-same (Activates link emergency) = happens-same (Activated link emergency)
   here-same (Deactivates link) = happens-same (Deactivated link)
   here-same (AddsTitle row is_memory_refused) = happens-same (TitleAdded row is_memory_refused)
   here-same (RemovesTitle key digits) = happens-same (TitleRemoved key digits)

@@ -24,9 +24,10 @@ use Rattle.pair_world.specs.KeptNodes.{KeptNode, NodeTurn, kept_node_of, node_ha
 use Rattle.pair_world.specs.KeptNetworks.{NetworkTurn, network_ignored, node_at, one_turned, place_at, points_of}
 use Rattle.pair_world.specs.KeptOutside.{FrameOut, comes_outside, has_sets, kept_hears_outside, kept_leads_by, kept_leads_out, kept_management_within, kept_opens_outside, kept_sends_outside, kept_speaks_within, kept_within, node_hears_outside, sent_out}
 use Rattle.pair_world.specs.NetworkStands.{IsNetworkReached, IsNodeAt, NetworkStandsFor, if_any, outside_outcome, sent_outside, stepped}
-use Rattle.pair_world.proofs.NetworkLaws.{node-there}
+use Rattle.pair_world.proofs.AsKept.{IsKept, as-kept, own-point}
+use Rattle.pair_world.proofs.LeadingOut.{leads-same, none-out, speaks-same}
 use Rattle.pair_world.proofs.NetworkSteps as steps
-use Rattle.pair_world.proofs.NetworkSteps.{AreNodes, IsTurn, own-point, reached-more}
+use Rattle.pair_world.proofs.NetworkSteps.{AreNodes, IsTurn, reached-more}
 use Rattle.pair_world.proofs.NodeFits.{reached-fit}
 use Rattle.pair_world.proofs.NetworkTurns.{sent-alone}
 use Rattle.pair_world.proofs.NodePlaces.{keeps-none}
@@ -34,34 +35,8 @@ use Rattle.pair_world.proofs.NodeReaches.{take-alone, text-same}
 use Rattle.pair_world.proofs.NodeRules.{IsNodeSame, frame-node, happens-same}
 
 module _ (k : List KeptNode) (w : NetworkState) (s : NetworkStandsFor k w) where
-  -- ---- what leads out, and who speaks
-
-  within-by : (point : ℕ) (o : Option KeptNode) → IsNodeAt point o (w.node point) → has_sets o ≡ is_within w point
-  within-by point (Some n) is = ap (λ (m : KeptNode). nat_lt 0 (length m.exchange.settings.sets)) is.kept
-  within-by point None is = sym (ap (λ (y : NetworkNode). nat_lt 0 (length y.exchange.settings.sets)) is)
-
-  within-same : (point : ℕ) → kept_within point k ≡ is_within w point
-  within-same point = within-by point (node_at point k) (node-there k w s point)
-
-  leads-by : (c : Configuration) (entry : Option LinkEntry) → kept_leads_by k c entry ≡ leads_out_by w c entry
-  leads-by c (Some l) = ap not (within-same (adjacent_of c l.set))
-  leads-by c None = refl
-
-  speaks-by : (o : Option Message) → list_any (kept_management_within k) (option_to_list o) ≡ list_any (is_management_within w) (option_to_list o)
-  speaks-by None = refl
-  speaks-by (Some m) =
-      ap (λ (b : Bool). (nat_eq (service_indicator m) 0 && (b && kept_within (dpc_of m) k)) || false) (within-same (opc_of m))
-      ∙ ap (λ (b : Bool). (nat_eq (service_indicator m) 0 && (is_within w (opc_of m) && b)) || false) (within-same (dpc_of m))
-
-  speaks-same : (text : List ℕ) → kept_speaks_within k text ≡ speaks_within w text
-  speaks-same text = speaks-by (carried_message (read_frame text))
-
-  -- ---- where no node is at the point
-
-  none-out : (point link : ℕ) → place_at point k ≡ None → leads_out w point link ≡ false
-  none-out point link e =
-      let first : w.node point ≡ first_node (no_settings point) = subst (λ (o : Option KeptNode). IsNodeAt point o (w.node point)) (keeps-none k point e) (s.nodes point) in
-      ap (λ (y : NetworkNode). leads_out_by w y.exchange.settings (slice_get y.exchange.settings.links link)) first
+  abbrev k-is : IsKept k w
+  k-is = as-kept k w s
 
   idle : IsTurn (points_of k) (network_ignored k) Ignored w
   idle = record { outcome_same = refl; points_same = refl; nodes = s.nodes }
@@ -73,13 +48,10 @@ module _ (k : List KeptNode) (w : NetworkState) (s : NetworkStandsFor k w) where
     x = w.node point
 
     x-sound : IsSound x.exchange
-    x-sound = steps.x-sound k w s point place e
+    x-sound = steps.x-sound k w k-is point place e
 
     got : slice_get k place ≡ Some (kept_node_of x)
-    got = steps.got k w s point place e
-
-    leads-same : (link : ℕ) → kept_leads_out k (slice_get k place) link ≡ leads_out w point link
-    leads-same link = ap (λ (o : Option KeptNode). kept_leads_out k o link) got ∙ leads-by x.exchange.settings (slice_get x.exchange.settings.links link)
+    got = steps.got k w k-is point place e
 
     -- something comes, if it may
     comes-turn : (out speaks : Bool) (done : KeptNode → NodeTurn) (what : Happening) (change : NetworkNode → NetworkNode) (v : NetworkState)
@@ -88,8 +60,8 @@ module _ (k : List KeptNode) (w : NetworkState) (s : NetworkStandsFor k w) where
         → IsTurn (points_of k) (comes_outside out speaks place done k) (outside_outcome out speaks what x) v
     comes-turn true false done what change v same kept does idles still =
         subst (IsTurn (points_of k) (one_turned place done (slice_get k place) k) (outcome_of whole what x.exchange)) (does refl refl)
-        (steps.one-by k w s point place e done (outcome_of whole what x.exchange) change same
-        (ap (λ (c : Configuration). c.own) kept ∙ own-point w s.reached point))
+        (steps.one-by k w k-is point place e done (outcome_of whole what x.exchange) change same
+        (ap (λ (c : Configuration). c.own) kept ∙ own-point k w k-is point))
     comes-turn true true done what change v same kept does idles still = subst (IsTurn (points_of k) (network_ignored k) Ignored) (still refl) idle
     comes-turn false speaks done what change v same kept does idles still = subst (IsTurn (points_of k) (network_ignored k) Ignored) (idles refl) idle
 
@@ -117,24 +89,24 @@ module _ (k : List KeptNode) (w : NetworkState) (s : NetworkStandsFor k w) where
   open-by : (point link : ℕ) (o : Option ℕ) → place_at point k ≡ o
       → IsTurn (points_of k) (kept_opens_outside o link k) (outside_outcome (leads_out w point link) false (CameUp link) (w.node point)) (after_move (OpensOutside point link) w)
   open-by point link None e =
-      subst (λ (out : Bool). IsTurn (points_of k) (network_ignored k) (outside_outcome out false (CameUp link) (w.node point)) (opens_outside out point link w)) (sym (none-out point link e)) idle
+      subst (λ (out : Bool). IsTurn (points_of k) (network_ignored k) (outside_outcome out false (CameUp link) (w.node point)) (opens_outside out point link w)) (sym (none-out k w k-is point link e)) idle
   open-by point link (Some place) e =
       subst (λ (out : Bool). IsTurn (points_of k) (comes_outside out false place (node_happens (CameUp link)) k) (outside_outcome (leads_out w point link) false (CameUp link) (w.node point))
-      (opens_outside (leads_out w point link) point link w)) (sym (leads-same point place e link)) (open-turn point place e link (leads_out w point link))
+      (opens_outside (leads_out w point link) point link w)) (sym (leads-same k w k-is point place e link)) (open-turn point place e link (leads_out w point link))
 
   hear-by : (point link : ℕ) (text : List ℕ) (o : Option ℕ) → place_at point k ≡ o
       → IsTurn (points_of k) (kept_hears_outside o link text k) (outside_outcome (leads_out w point link) (speaks_within w text) (FrameCame link text) (w.node point))
       (after_move (HearsOutside point link text) w)
   hear-by point link text None e =
       subst (λ (out : Bool). IsTurn (points_of k) (network_ignored k) (outside_outcome out (speaks_within w text) (FrameCame link text) (w.node point)) (hears_outside out (speaks_within w text) point link text w))
-      (sym (none-out point link e)) idle
+      (sym (none-out k w k-is point link e)) idle
   hear-by point link text (Some place) e =
       let out : Bool = leads_out w point link in
       let speaks : Bool = speaks_within w text in
       subst (λ (b : Bool). IsTurn (points_of k) (comes_outside b (kept_speaks_within k text) place (node_hears_outside link text) k) (outside_outcome out speaks (FrameCame link text) (w.node point))
-      (hears_outside out speaks point link text w)) (sym (leads-same point place e link))
+      (hears_outside out speaks point link text w)) (sym (leads-same k w k-is point place e link))
       (subst (λ (b : Bool). IsTurn (points_of k) (comes_outside out b place (node_hears_outside link text) k) (outside_outcome out speaks (FrameCame link text) (w.node point))
-      (hears_outside out speaks point link text w)) (sym (speaks-same text)) (hear-turn point place e link text out speaks))
+      (hears_outside out speaks point link text w)) (sym (speaks-same k w k-is text)) (hear-turn point place e link text out speaks))
 
   stands-by : (t : NetworkTurn) (outcome : Outcome) (move : Move) → IsTurn (points_of k) t outcome (after_move move w) → NetworkStandsFor t.left (after_move move w)
   stands-by t outcome move turn = record {
@@ -202,23 +174,23 @@ module _ (k : List KeptNode) (w : NetworkState) (s : NetworkStandsFor k w) where
         → IsSent (sent_out out place link (slice_get k place) k) (sent_outside out link sender) (stepped out takes w)
     send-turn place e false f = none-sent
     send-turn place e true f =
-        let sound : IsSound sender.exchange = steps.x-sound k w s point place e in
+        let sound : IsSound sender.exchange = steps.x-sound k w k-is point place e in
         let n : KeptNode = kept_node_of sender in
-        let at : slice_get k place ≡ Some n = steps.got k w s point place e in
+        let at : slice_get k place ≡ Some n = steps.got k w k-is point place e in
         let turn : IsTurn (points_of k) (one_turned place (node_takes link) (Some n) k) (if_any frame) (stepped true takes w) =
         subst (λ (o : Option KeptNode). IsTurn (points_of k) (one_turned place (node_takes link) o k) (if_any frame) (stepped true takes w)) at
         (subst (IsTurn (points_of k) (one_turned place (node_takes link) (slice_get k place) k) (if_any frame)) (goes-nowhere f)
-        (sent-alone k w s point place e link frame (take-alone sender sound link))) in
+        (sent-alone k w k-is point place e link frame (take-alone sender sound link))) in
         subst (λ (o : Option KeptNode). IsSent (sent_out true place link o k) (sent_outside true link sender) (stepped true takes w)) (sym at)
         (record { text_same = text-same sender sound link; points_same = turn.points_same; nodes = turn.nodes })
 
     send-by : (o : Option ℕ) → place_at point k ≡ o
         → IsSent (kept_sends_outside o link k) (sent_outside (leads_out w point link) link sender) (stepped (leads_out w point link) takes w)
     send-by None e =
-        subst (λ (out : Bool). IsSent (record { text = None; left = k }) (sent_outside out link sender) (stepped out takes w)) (sym (none-out point link e)) none-sent
+        subst (λ (out : Bool). IsSent (record { text = None; left = k }) (sent_outside out link sender) (stepped out takes w)) (sym (none-out k w k-is point link e)) none-sent
     send-by (Some place) e =
         subst (λ (out : Bool). IsSent (sent_out out place link (slice_get k place) k) (sent_outside (leads_out w point link) link sender) (stepped (leads_out w point link) takes w))
-        (sym (leads-same point place e link)) (send-turn place e (leads_out w point link) refl)
+        (sym (leads-same k w k-is point place e link)) (send-turn place e (leads_out w point link) refl)
 
     sent : IsSent (kept_sends_outside (place_at point k) link k) (sent_outside (leads_out w point link) link sender) (stepped (leads_out w point link) takes w)
     sent = send-by (place_at point k) refl

@@ -11,3 +11,5 @@ pub mod KeptNetworks
 pub mod KeptOutside
 pub mod NetworkStands
 pub mod NetworkPromised
+pub mod KeptAnew
+pub mod NetworkAnew

@@ -73,7 +73,7 @@ here_outcome (LosesStatus link) x = if_any (slice_get (in_flight x.incoming.stat
 here_outcome (DoublesStatus link) x = if_any (slice_get (in_flight x.incoming.statuses link) 0)
 here_outcome (Loses link) x = outcome_of whole (WentDown link) x.exchange
 here_outcome Ticks x = outcome_of whole Ticked x.exchange
-here_outcome (Activates link) x = outcome_of whole (Activated link) x.exchange
+here_outcome (Activates link emergency) x = outcome_of whole (Activated link emergency) x.exchange
 here_outcome (Deactivates link) x = outcome_of whole (Deactivated link) x.exchange
 here_outcome (AddsTitle row is_memory_refused) x = outcome_of whole (TitleAdded row is_memory_refused) x.exchange
 here_outcome (RemovesTitle key digits) x = outcome_of whole (TitleRemoved key digits) x.exchange
@@ -109,3 +109,7 @@ sent_outside false link x = None
 
 abbrev pub has_node : (point : ℕ) → List KeptNode → Bool
 has_node point k = is_some (place_at point k)
+
+-- something is done to the node at a point, if there is one
+abbrev pub if_there : (is_there : Bool) → Outcome
+if_there is_there = if is_there then Handled else Ignored

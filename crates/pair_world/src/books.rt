@@ -1,6 +1,6 @@
 //! What a node of a network books.
 
-ghost use Rattle.std.specs.Prelude.{◌≡◌, ◌<◌, ◌++◌, option_to_list, vec_len, vec_capacity, OnOk};
+ghost use Rattle.std.specs.Prelude.{◌≡◌, ◌<◌, ◌++◌, [], option_to_list, vec_len, vec_capacity, OnOk};
 ghost use Rattle.network_rules.specs.Networks.{goes_onward, is_refused};
 ghost use Rattle.pair_world.specs.KeptNodes.{arrivals, entered_of, refused_of};
 
@@ -37,6 +37,19 @@ pub(crate) fn make_room(books: &mut Books) -> Result<(), NoMemory>
     books.entered.reserve(1)?;
     books.refused.reserve(1)?;
     Ok(())
+}
+
+/// All books begin anew.
+pub(crate) fn begin_anew(books: &mut Books)
+    ensures accepted { books.new.accepted.items ≡ [] }
+    ensures arrived { books.new.arrived.items ≡ [] }
+    ensures entered { books.new.entered.items ≡ [] }
+    ensures refused { books.new.refused.items ≡ [] }
+{
+    books.accepted.clear();
+    books.arrived.clear();
+    books.entered.clear();
+    books.refused.clear();
 }
 
 /// Books what a user part handed over: what that brought in.

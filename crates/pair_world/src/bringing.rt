@@ -19,7 +19,7 @@ use std::alloc::Global;
 const SCCP: u8 = 3;
 
 /// The choice of all messages.
-struct Every;
+pub(crate) struct Every;
 
 impl Pick for Every {
     ghost picks = { λ choice message. true };

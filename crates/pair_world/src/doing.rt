@@ -25,7 +25,12 @@ pub enum Doing {
     /// A tick passes.
     Tick,
     /// The operator lets a link open.
-    Activate(LinkId),
+    Activate {
+        /// The link.
+        link: LinkId,
+        /// Whether emergency proving is asked for.
+        emergency: bool,
+    },
     /// The operator keeps a link from opening; it fails if it isn't down.
     Deactivate(LinkId),
     /// The operator adds a translation row. Refused DuplicateRow where there is one with its key and digits, else

@@ -16,6 +16,7 @@ mod node;
 mod outside;
 mod reaching;
 mod reading;
+mod restarting;
 mod site;
 
 pub use arrival::Arrival;

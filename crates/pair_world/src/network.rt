@@ -1,44 +1,45 @@
 //! Any number of exchanges, joined by links in any shape.
 
+mod anew;
+mod booting;
 mod outside;
 
-ghost use Rattle.std.specs.Prelude.{◌≡◌, ◌≢◌, ◌↔◌, ℕ, true, false, is_some, IfOk, IfErr, IfSome, OnOk, OnErr, count_by};
+ghost use Rattle.std.specs.Prelude.{◌≡◌, ℕ, List, is_some, IfOk, IfSome, OnErr, count_by};
 ghost use Rattle.exchange.specs.Calls as exchanges;
 ghost use Rattle.neighbour_rules.specs.Awaiting.{AwaitsNothingInVain};
 ghost use Rattle.neighbour_rules.specs.Laws.{AreFinal, MovesLacked, NoneIsLeft};
 ghost use Rattle.neighbour_rules.specs.Promises as promises;
 ghost use Rattle.pair_rules.specs.Pairs as pairs;
 ghost use Rattle.pair_rules.specs.Promises.{user};
+ghost use Rattle.network_rules.specs.Anew.{Change, Steps};
 ghost use Rattle.network_rules.specs.Links.{IsCarriedBetween};
 ghost use Rattle.network_rules.specs.Pairs.{pair_of};
-ghost use Rattle.pair_world.specs.Joined.{AreJoined, are_apart, settings_at};
 ghost use Rattle.pair_world.specs.NetworkPromised.{AcceptedInOrder, AcceptedOnce, AcceptedOrWait, AreBookedBetween, ArrivedInOrder, ArrivedOnce, ComeToEach, HoldsBetween, HoldsNothingInVain, ShareAll, ShareSet, TellsBetween};
 ghost use Rattle.pair_world.specs.KeptNetworks.{network_turn, points_of};
+ghost use Rattle.pair_world.specs.NetworkAnew.{RunsSince, and_then, since};
 ghost use Rattle.pair_world.specs.Told.{doing_told};
 ghost use Rattle.pair_world.specs.NetworkStands.{NetworkStandsFor, has_node, step_outcome, stepped};
-ghost use Rattle.network_rules.specs.Networks.{NetworkState, end_of, first_network};
+ghost use Rattle.network_rules.specs.Networks.{NetworkState, end_of};
 ghost use Rattle.network_rules.specs.Outside.{Move, after_move};
 ghost use Rattle.network_rules.specs.Totals.{HaveLostNothing, IsAccounted};
 
 use crate::arrival::Arrival;
 use crate::doing::{Doing, Reach};
-use crate::fault::NetworkFault;
-use crate::joining::{are_apart, are_joined, are_well, boot_all};
 use crate::node::Node;
 use crate::reaching::{act_at, place_of, reach_from};
 use crate::reading::{
     accepted_at, arrived_at, entered_at, exchange_at, follows_at, refused_at, waiting_between,
 };
 use exchange::{Exchange, NoMemory, Pick};
-use settings::{LinkId, Msu, Outcome, PointCode, Settings};
-use std::alloc::Global;
+use settings::{LinkId, Msu, Outcome, PointCode};
 use std::marker::Model;
 
 /// Any number of exchanges, joined by links in any shape, the frames in flight between them, and what each of them
 /// books: all that it accepted, whomever it is for, and all that came to it. Links may lead out, to other nodes.
 ///
 /// It stands for an abstract network that some steps led to from the first on (`NetworkStandsFor`): `new` makes it so,
-/// and each `turn` keeps it.
+/// and each `turn` keeps it. Once a node starts again it stands for none, but still for one that some changes led to
+/// since its books began anew (`RunsSince`).
 pub struct Network {
     nodes: Vec<Node>,
 }
@@ -66,64 +67,6 @@ impl Model for Network {
 }
 
 impl Network {
-    /// A network of nodes that were just booted with these settings, with nothing in flight.
-    ///
-    /// SamePoint where two of them are for the same point; else NotJoined where a link leads to no node with which its
-    /// own shares a link set (`Settings::shares_set_with`); NoMemory comes only where a growth was refused.
-    pub fn new(alloc: Global, settings: Vec<Settings>) -> Result<Network, NetworkFault>
-        // It stands for the first network of these settings.
-        ensures first { IfOk result (λ network.
-            NetworkStandsFor network (first_network (settings_at settings.items))) }
-        // There is one only if each has a point of its own, and all links are joined,
-        ensures apart { OnOk result (are_apart settings.items ≡ true) }
-        ensures joined { OnOk result (AreJoined settings.items) }
-        ensures shared { OnOk result (ShareAll (first_network (settings_at settings.items))) }
-        // and the fault says whether they do.
-        ensures same_point { IfErr result (λ fault.
-            (fault ≡ NetworkFault.SamePoint) ↔ (are_apart settings.items ≡ false)) }
-        ensures not_joined { IfErr result (λ fault.
-            (fault ≡ NetworkFault.NotJoined) ↔ (are_apart settings.items ≡ true) × (¬ (AreJoined settings.items))) }
-    {
-        are_well(&settings);
-        if !are_apart(&settings) {
-            return Err(NetworkFault::SamePoint);
-        }
-        if !are_joined(&settings) {
-            return Err(NetworkFault::NotJoined);
-        }
-        match boot_all(alloc, settings) {
-            Ok(nodes) => Ok(Network { nodes }),
-            Err(NoMemory) => Err(NetworkFault::NoMemory),
-        }
-    }
-
-    /// The same, of nodes whose links may lead out, or to a node with which their own shares no set: what two nodes
-    /// that share a set promise each other stands, but not what holds from end to end.
-    ///
-    /// SamePoint where two of them are for the same point; NoMemory comes only where a growth was refused.
-    pub fn new_part(alloc: Global, settings: Vec<Settings>) -> Result<Network, NetworkFault>
-        // It stands for the first network of these settings.
-        ensures first { IfOk result (λ network.
-            NetworkStandsFor network (first_network (settings_at settings.items))) }
-        // There is one only if each has a point of its own,
-        ensures apart { OnOk result (are_apart settings.items ≡ true) }
-        // and the fault says whether they do.
-        ensures same_point { IfErr result (λ fault.
-            (fault ≡ NetworkFault.SamePoint) ↔ (are_apart settings.items ≡ false)) }
-        ensures not_joined { IfErr result (λ fault. fault ≢ NetworkFault.NotJoined) }
-    {
-        are_well(&settings);
-        if !are_apart(&settings) {
-            return Err(NetworkFault::SamePoint);
-        }
-        match boot_all(alloc, settings) {
-            Ok(nodes) => Ok(Network { nodes }),
-            Err(NoMemory) => Err(NetworkFault::NoMemory),
-        }
-    }
-}
-
-impl Network {
     /// Does one thing at the node at a point, and says what became of it. Where no node is at the point, it is Ignored,
     /// and nothing changes.
     ///
@@ -140,6 +83,13 @@ impl Network {
         // and the network stands for the one after it.
         ensures state { (w : NetworkState) → NetworkStandsFor self.old w → IfOk result (λ outcome. NetworkStandsFor
             self.new (stepped (has_node at self.old) (record { point = at; what = doing_told doing outcome }) w)) }
+        // So it is, too, of what it stood for since its books began anew, though nodes had started again before.
+        ensures outcome_since { (from : NetworkState) (changes : List Change) → RunsSince self.old from changes →
+            IfOk result (λ outcome. outcome ≡ step_outcome (has_node at self.old)
+            (record { point = at; what = doing_told doing outcome }) (since from changes)) }
+        ensures since { (from : NetworkState) (changes : List Change) → RunsSince self.old from changes →
+            IfOk result (λ outcome. RunsSince self.new from (and_then (has_node at self.old)
+            (Steps (record { point = at; what = doing_told doing outcome })) changes)) }
         ensures unchanged { OnErr result (self.new ≡ self.old) }
     {
         self.apply(at, doing)
@@ -149,6 +99,8 @@ impl Network {
     /// Empty where no node is at the point.
     pub fn accepted(&self, at: PointCode) -> &[Msu]
         ensures accepted { (w : NetworkState) → NetworkStandsFor self.now w → result.now ≡ (w.node at).accepted }
+        ensures since { (from : NetworkState) (changes : List Change) → RunsSince self.now from changes →
+            result.now ≡ ((since from changes).node at).accepted }
         // "Exactly once", of what is for a node with which it shares a set
         ensures once { (w : NetworkState) → NetworkStandsFor self.now w → (far : ℕ) →
             AcceptedOnce w at far result.now }
@@ -163,6 +115,8 @@ impl Network {
     /// Empty where no node is at the point.
     pub fn arrived(&self, at: PointCode) -> &[Arrival]
         ensures arrived { (w : NetworkState) → NetworkStandsFor self.now w → result.now ≡ (w.node at).arrived }
+        ensures since { (from : NetworkState) (changes : List Change) → RunsSince self.now from changes →
+            result.now ≡ ((since from changes).node at).arrived }
         // "Exactly once", of what is for this node, and came from one with which it shares a set
         ensures once { (w : NetworkState) → NetworkStandsFor self.now w → (far : ℕ) →
             ArrivedOnce w at far result.now }
@@ -176,7 +130,9 @@ impl Network {
     /// Of the messages that the node at a point took in, those that entered the network there, in order: all but those
     /// for other points that came by a frame. Empty where no node is at the point.
     pub fn entered(&self, at: PointCode) -> &[Msu]
-        ensures { (w : NetworkState) → NetworkStandsFor self.now w → result.now ≡ (w.node at).entered }
+        ensures entered { (w : NetworkState) → NetworkStandsFor self.now w → result.now ≡ (w.node at).entered }
+        ensures since { (from : NetworkState) (changes : List Change) → RunsSince self.now from changes →
+            result.now ≡ ((since from changes).node at).entered }
     {
         entered_at(&self.nodes, at)
     }
@@ -184,7 +140,9 @@ impl Network {
     /// The user messages for other points that frames newly brought to the node at a point, and that it refused, in
     /// order. Empty where no node is at the point.
     pub fn refused(&self, at: PointCode) -> &[Msu]
-        ensures { (w : NetworkState) → NetworkStandsFor self.now w → result.now ≡ (w.node at).refused }
+        ensures refused { (w : NetworkState) → NetworkStandsFor self.now w → result.now ≡ (w.node at).refused }
+        ensures since { (from : NetworkState) (changes : List Change) → RunsSince self.now from changes →
+            result.now ≡ ((since from changes).node at).refused }
     {
         refused_at(&self.nodes, at)
     }
@@ -198,6 +156,9 @@ impl Network {
             ShareSet w at far → result ≡ count_by (user (P.picks pick.now)) (promises.waiting (pair_of w at far)) }
         ensures once { (w : NetworkState) → NetworkStandsFor self.now w →
             AcceptedOrWait w at far (P.picks pick.now) result }
+        ensures since { (from : NetworkState) (changes : List Change) → RunsSince self.now from changes →
+            ShareSet (since from changes) at far → result ≡
+            count_by (user (P.picks pick.now)) (promises.waiting (pair_of (since from changes) at far)) }
     {
         waiting_between(&self.nodes, at, far, pick)
     }
@@ -207,6 +168,8 @@ impl Network {
         ensures there { is_some result ≡ has_node at self.now }
         ensures stands { (w : NetworkState) → NetworkStandsFor self.now w →
             IfSome result (λ exchange. exchanges.StandsFor exchange.now (w.node at).exchange) }
+        ensures since { (from : NetworkState) (changes : List Change) → RunsSince self.now from changes →
+            IfSome result (λ exchange. exchanges.StandsFor exchange.now ((since from changes).node at).exchange) }
     {
         exchange_at(&self.nodes, at)
     }
@@ -214,8 +177,10 @@ impl Network {
     /// Whether the node at a point may follow the other end of a link, which opened there first. False where no node is
     /// at the point.
     pub fn may_follow(&self, at: PointCode, link: LinkId) -> bool
-        ensures { (w : NetworkState) → NetworkStandsFor self.now w →
+        ensures follows { (w : NetworkState) → NetworkStandsFor self.now w →
             result ≡ pairs.may_follow (end_of (w.node at)) link }
+        ensures since { (from : NetworkState) (changes : List Change) → RunsSince self.now from changes →
+            result ≡ pairs.may_follow (end_of ((since from changes).node at)) link }
     {
         follows_at(&self.nodes, at, link)
     }
@@ -229,8 +194,8 @@ impl Network {
     ///
     /// And what holds between any two nodes that share a set, the laws (i) to (iv) of a pair and that nothing is
     /// awaited in vain while neither of the two may have lost a message; and whatever was lost, that nothing is held in
-    /// vain, and that what is booked of the two is for the one or the other (`laws` of `network_rules`). This says so by
-    /// its contract, and does nothing.
+    /// vain, and that what is booked of the two is for the one or the other (`laws` of `network_rules`). This says so
+    /// by its contract, and does nothing.
     pub fn laws(&self)
         ensures accounted { (w : NetworkState) → NetworkStandsFor self.now w → ShareAll w →
             HaveLostNothing (points_of self.now) w → IsAccounted (points_of self.now) w }
@@ -269,7 +234,9 @@ impl Network {
             Doing::DoubleStatus(link) => act_at(&mut self.nodes, place, Doing::DoubleStatus(link)),
             Doing::Lose(link) => act_at(&mut self.nodes, place, Doing::Lose(link)),
             Doing::Tick => act_at(&mut self.nodes, place, Doing::Tick),
-            Doing::Activate(link) => act_at(&mut self.nodes, place, Doing::Activate(link)),
+            Doing::Activate { link, emergency } => {
+                act_at(&mut self.nodes, place, Doing::Activate { link, emergency })
+            }
             Doing::Deactivate(link) => act_at(&mut self.nodes, place, Doing::Deactivate(link)),
             Doing::AddTitle(row) => act_at(&mut self.nodes, place, Doing::AddTitle(row)),
             Doing::RemoveTitle(key, digits) => {

@@ -1,5 +1,7 @@
 //! One node of a network.
 
+mod anew;
+
 ghost use Rattle.std.specs.Prelude.{◌≡◌, ◌<◌, false, slice_index_or, IfOk, OnOk, OnErr};
 ghost use Rattle.exchange.specs.Calls.{happened};
 ghost use Rattle.network_rules.specs.Networks.{first_node};
@@ -151,7 +153,9 @@ impl Node {
             Doing::DoubleStatus(link) => self.site.double_status(link),
             Doing::Lose(link) => Ok(self.happen(&Event::AssociationDown(link))),
             Doing::Tick => Ok(self.happen(&Event::Tick)),
-            Doing::Activate(link) => Ok(self.happen(&Event::Order(Order::Activate(link)))),
+            Doing::Activate { link, emergency } => {
+                Ok(self.happen(&Event::Order(Order::Activate { link, emergency })))
+            }
             Doing::Deactivate(link) => Ok(self.happen(&Event::Order(Order::Deactivate(link)))),
             Doing::AddTitle(row) => Ok(self.happen(&Event::Order(Order::AddTitle(row)))),
             Doing::RemoveTitle(key, digits) => {

@@ -1,5 +1,7 @@
 //! An exchange, and what is in flight to it.
 
+mod anew;
+
 ghost use Rattle.std.specs.Prelude.{◌≡◌, ◌<◌, false, ◌&&◌, nat_lt, length, option_to_list, slice_get, slice_index_or, IfOk, OnOk, OnErr};
 ghost use Rattle.exchange_rules.specs.Exchange.{after, outcome_of, taken, wants_of};
 ghost use Rattle.exchange_rules.specs.State.{FrameCame, Submitted};

@@ -99,6 +99,13 @@ impl World {
 
     /// An operator lets a link open.
     pub fn activate(&mut self, end: End, link: LinkId) {
-        self.act(end, Doing::Activate(self.shape.at(end, link)));
+        let link = self.shape.at(end, link);
+        self.act(
+            end,
+            Doing::Activate {
+                link,
+                emergency: false,
+            },
+        );
     }
 }

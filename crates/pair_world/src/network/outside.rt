@@ -1,12 +1,14 @@
 //! What comes to a network by links that lead out of it, and what goes out by them.
 
-ghost use Rattle.std.specs.Prelude.{◌≡◌, ℕ, false, IfOk, OnOk, OnErr};
+ghost use Rattle.std.specs.Prelude.{◌≡◌, ℕ, List, false, IfOk, OnOk, OnErr};
 ghost use Rattle.exchange_rules.specs.State.{CameUp, FrameCame};
+ghost use Rattle.network_rules.specs.Anew.{Change};
 ghost use Rattle.network_rules.specs.Networks.{NetworkState};
 ghost use Rattle.network_rules.specs.Outside.{HearsOutside, OpensOutside, after_move, leads_out, speaks_within};
 ghost use Rattle.pair_rules.specs.Pairs.{Takes};
 ghost use Rattle.pair_world.specs.KeptNetworks.{place_at};
 ghost use Rattle.pair_world.specs.KeptOutside.{kept_hears_outside, kept_opens_outside, kept_sends_outside};
+ghost use Rattle.pair_world.specs.NetworkAnew.{RunsSince, since};
 ghost use Rattle.pair_world.specs.NetworkStands.{NetworkStandsFor, outside_outcome, sent_outside, stepped};
 
 use crate::network::Network;
@@ -22,6 +24,8 @@ impl Network {
             result ≡ outside_outcome (leads_out w at link) false (CameUp link) (w.node at) }
         ensures state { (w : NetworkState) → NetworkStandsFor self.old w →
             NetworkStandsFor self.new (after_move (OpensOutside at link) w) }
+        ensures since { (from : NetworkState) (changes : List Change) → RunsSince self.old from changes →
+            leads_out (since from changes) at link ≡ false → self.new ≡ self.old }
     {
         self.opened(at, link)
     }
@@ -41,6 +45,8 @@ impl Network {
             outside_outcome (leads_out w at link) (speaks_within w text.now) (FrameCame link text.now) (w.node at)) }
         ensures state { (w : NetworkState) → NetworkStandsFor self.old w →
             OnOk result (NetworkStandsFor self.new (after_move (HearsOutside at link text.now) w)) }
+        ensures since { (from : NetworkState) (changes : List Change) → RunsSince self.old from changes →
+            leads_out (since from changes) at link ≡ false → OnOk result (self.new ≡ self.old) }
         ensures unchanged { OnErr result (self.new ≡ self.old) }
     {
         self.heard(at, link, text)
@@ -53,6 +59,8 @@ impl Network {
             result ≡ sent_outside (leads_out w at link) link (w.node at) }
         ensures state { (w : NetworkState) → NetworkStandsFor self.old w → NetworkStandsFor self.new
             (stepped (leads_out w at link) (record { point = at; what = Takes link }) w) }
+        ensures since { (from : NetworkState) (changes : List Change) → RunsSince self.old from changes →
+            leads_out (since from changes) at link ≡ false → self.new ≡ self.old }
     {
         self.sent(at, link)
     }

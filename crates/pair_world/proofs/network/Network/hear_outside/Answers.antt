@@ -4,6 +4,9 @@ use Rattle.std.proofs.lemmas.Result.{IfOk-weaker}
 use Rattle.network_rules.specs.Outside.{HearsOutside, after_move}
 use Rattle.pair_world.specs.KeptNodes.{KeptNode}
 use Rattle.pair_world.specs.NetworkStands.{NetworkStandsFor}
+use Rattle.pair_world.specs.NetworkAnew.{since}
+use Rattle.pair_world.proofs.LeadingOut.{hears-still}
+use Rattle.pair_world.proofs.Runs.{runs-kept}
 use Rattle.pair_world.proofs.OutsideTurns.{hear-outcome, hear-stands}
 use Rattle.pair_world.proofs.network.Network.hear_outside.Goals as goal
 
@@ -17,4 +20,10 @@ returns-clause-state c = λ w s.
     (λ outcome e.
     subst (λ (k : List KeptNode). NetworkStandsFor k (after_move (HearsOutside c.args.at c.args.link c.args.text.now) w)) (sym e)
     (hear-stands c.args.self.now w s c.args.at c.args.link c.args.text.now))
+    c.heard.ensures.state
+
+pub returns-clause-since : goal.returns-clause-since
+returns-clause-since c = λ from changes s within.
+    IfOk-weaker c.heard.result _ _
+    (λ outcome e. e ∙ hears-still c.args.self.now (since from changes) (runs-kept c.args.self.now from changes s) c.args.at c.args.link within c.args.text.now)
     c.heard.ensures.state

@@ -3,6 +3,9 @@ use Rattle.std.proofs.Common.{List, sym, subst, ◌∙◌}
 use Rattle.network_rules.specs.Outside.{OpensOutside, after_move}
 use Rattle.pair_world.specs.KeptNodes.{KeptNode}
 use Rattle.pair_world.specs.NetworkStands.{NetworkStandsFor}
+use Rattle.pair_world.specs.NetworkAnew.{since}
+use Rattle.pair_world.proofs.LeadingOut.{opens-still}
+use Rattle.pair_world.proofs.Runs.{runs-kept}
 use Rattle.pair_world.proofs.OutsideTurns.{open-outcome, open-stands}
 use Rattle.pair_world.proofs.network.Network.open_outside.Goals as goal
 
@@ -13,3 +16,7 @@ pub returns-clause-state : goal.returns-clause-state
 returns-clause-state c = λ w s.
     subst (λ (k : List KeptNode). NetworkStandsFor k (after_move (OpensOutside c.args.at c.args.link) w)) (sym c.opened.ensures.state)
     (open-stands c.args.self.now w s c.args.at c.args.link)
+
+pub returns-clause-since : goal.returns-clause-since
+returns-clause-since c = λ from changes s within.
+    c.opened.ensures.state ∙ opens-still c.args.self.now (since from changes) (runs-kept c.args.self.now from changes s) c.args.at c.args.link within

@@ -4,6 +4,9 @@ use Rattle.network_rules.specs.Outside.{leads_out}
 use Rattle.pair_rules.specs.Pairs.{Takes}
 use Rattle.pair_world.specs.KeptNodes.{KeptNode}
 use Rattle.pair_world.specs.NetworkStands.{NetworkStandsFor, stepped}
+use Rattle.pair_world.specs.NetworkAnew.{since}
+use Rattle.pair_world.proofs.LeadingOut.{sends-still}
+use Rattle.pair_world.proofs.Runs.{runs-kept}
 use Rattle.pair_world.proofs.OutsideTurns.{send-stands, send-text}
 use Rattle.pair_world.proofs.network.Network.send_outside.Goals as goal
 
@@ -14,3 +17,7 @@ pub returns-clause-state : goal.returns-clause-state
 returns-clause-state c = λ w s.
     subst (λ (k : List KeptNode). NetworkStandsFor k (stepped (leads_out w c.args.at c.args.link) (record { point = c.args.at; what = Takes c.args.link }) w))
     (sym c.sent.ensures.state) (send-stands c.args.self.now w s c.args.at c.args.link)
+
+pub returns-clause-since : goal.returns-clause-since
+returns-clause-since c = λ from changes s within.
+    c.sent.ensures.state ∙ sends-still c.args.self.now (since from changes) (runs-kept c.args.self.now from changes s) c.args.at c.args.link within

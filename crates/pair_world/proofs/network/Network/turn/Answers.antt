@@ -2,11 +2,14 @@
 use Rattle.std.proofs.Common.{List, sym, subst, ◌∙◌}
 use Rattle.std.proofs.lemmas.Result.{IfOk-weaker}
 use Rattle.pair_world.specs.KeptNodes.{KeptNode}
+use Rattle.network_rules.specs.Anew.{Steps}
+use Rattle.pair_world.specs.NetworkAnew.{RunsSince, and_then}
 use Rattle.pair_world.specs.NetworkPromised.{TellsBetween}
 use Rattle.pair_world.specs.NetworkStands.{NetworkStandsFor, has_node, stepped}
 use Rattle.pair_world.specs.Told.{doing_told}
 use Rattle.pair_world.proofs.NetworkTelling.{tells}
 use Rattle.pair_world.proofs.NetworkTurns.{turn-outcome, turn-stands}
+use Rattle.pair_world.proofs.Runs.{turn-outcome-since, turn-runs}
 use Rattle.pair_world.proofs.network.Network.turn.Goals as goal
 
 pub returns-clause-outcome : goal.returns-clause-outcome
@@ -29,4 +32,18 @@ returns-clause-state c = λ w s.
     (λ outcome e.
     subst (λ (k : List KeptNode). NetworkStandsFor k (stepped (has_node c.args.at c.args.self.now) (record { point = c.args.at; what = doing_told c.args.doing outcome }) w))
     (sym e) (turn-stands c.args.self.now w s (doing_told c.args.doing outcome) c.args.at))
+    c.apply.ensures.state
+
+pub returns-clause-outcome_since : goal.returns-clause-outcome_since
+returns-clause-outcome_since c = λ from changes s.
+    IfOk-weaker c.apply.result _ _
+    (λ outcome e. e ∙ turn-outcome-since c.args.self.now from changes s (doing_told c.args.doing outcome) c.args.at)
+    c.apply.ensures.outcome
+
+pub returns-clause-since : goal.returns-clause-since
+returns-clause-since c = λ from changes s.
+    IfOk-weaker c.apply.result _ _
+    (λ outcome e.
+    subst (λ (k : List KeptNode). RunsSince k from (and_then (has_node c.args.at c.args.self.now) (Steps (record { point = c.args.at; what = doing_told c.args.doing outcome })) changes))
+    (sym e) (turn-runs c.args.self.now from changes s (doing_told c.args.doing outcome) c.args.at))
     c.apply.ensures.state
