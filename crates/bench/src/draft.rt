@@ -147,6 +147,7 @@ pub(crate) fn draft_with(alloc: Global, shape: &Shape) -> Result<Draft, AllocErr
         subsystem_tests: false,
         user_part_unavailable: false,
         processor_outage: false,
+        out_of_service: false,
         timers: timers(),
         sets: set_drafts(alloc, set_count)?,
         links: link_drafts(alloc, shape.links, shape.sets)?,

@@ -17,7 +17,7 @@ use Rattle.console.specs.declared.commands.Command.TheVariants as command
 
 -- an order; a link goes by a name, which no link need have
 pub data Instruction : Type 0 where
-  ToActivate : (link : List ℕ) → Instruction
+  ToActivate : (link : List ℕ) (emergency : Bool) → Instruction
   ToDeactivate : (link : List ℕ) → Instruction
   ToAddTitle : (row : TitleEntry) → Instruction
   ToRemoveTitle : (key : TitleKey) (digits : List ℕ) → Instruction
@@ -47,7 +47,7 @@ instructed_by points command.Title behind = title_order points behind
 instructed_by points _ behind = None
 
 abbrev pub instruction : OrderText → Instruction
-instruction (text.Activate link) = ToActivate link.now
+instruction (text.Activate link emergency) = ToActivate link.now emergency
 instruction (text.Deactivate link) = ToDeactivate link.now
 instruction (text.AddTitle row) = ToAddTitle row
 instruction (text.RemoveTitle key digits) = ToRemoveTitle key digits.items
@@ -58,7 +58,7 @@ instruction_of (Some order) = Some (instruction order)
 
 -- the order to a node with these settings, if a link has that name
 abbrev pub order_named : Configuration → Instruction → Option Order
-order_named c (ToActivate name) = option_map (λ link. Activate link) (link_place c name)
+order_named c (ToActivate name emergency) = option_map (λ link. Activate link emergency) (link_place c name)
 order_named c (ToDeactivate name) = option_map (λ link. Deactivate link) (link_place c name)
 order_named c (ToAddTitle row) = Some (AddTitle row)
 order_named c (ToRemoveTitle key digits) = Some (RemoveTitle key (record { items = digits }))

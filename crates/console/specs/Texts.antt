@@ -21,6 +21,7 @@ use Rattle.routes.specs.Routes.{status_name}
 use Rattle.exchange.specs.declared.view.LinkView.{LinkView}
 use Rattle.exchange.specs.declared.view.RouteView.{RouteView}
 use Rattle.exchange_rules.specs.State.{QueueKind, State}
+use Rattle.sccp_relay.specs.declared.subsystem.Subsystem.{Subsystem}
 use Rattle.exchange.specs.Views.{link_view, route_view, standing_name}
 use Rattle.console.specs.Names.{name_in, set_name_in}
 
@@ -174,3 +175,14 @@ title_text points row =
 -- the line of row k, in the order of the rows
 abbrev pub title_line : {Q : Type 0} → PointFormat → State Q → ℕ → Option (List ℕ)
 title_line points s k = option_map (title_text points) (slice_get s.node.parts.titles.rows k)
+
+-- ---- prohibited subsystems
+
+abbrev pub subsystem_text : PointFormat → Subsystem → List ℕ
+subsystem_text points subsystem =
+    codes "subsystem " ++ point_text points subsystem.point ++ codes " " ++ decimal subsystem.ssn ++ codes " prohibited"
+
+-- the line of prohibited subsystem k, in the order in which they were heard of
+abbrev pub subsystem_line : {Q : Type 0} → PointFormat → State Q → ℕ → Option (List ℕ)
+subsystem_line points s k =
+    option_map (λ prohibited. subsystem_text points prohibited.subsystem) (slice_get s.node.parts.titles.prohibited k)

@@ -20,7 +20,7 @@ pub enum Command {
     Take,
     /// `wants LINK`: what the link wants from its caller.
     Wants,
-    /// `activate LINK`: the link may open.
+    /// `activate LINK`, then perhaps `emergency`: the link may open, with emergency proving if that is asked for.
     Activate,
     /// `deactivate LINK`: the link goes out of service, and can't open.
     Deactivate,
@@ -28,7 +28,7 @@ pub enum Command {
     /// `changed PLAN NATURE REMOVE ADD` if titles change, or `title remove T P N DIGITS`: a translation row is added or
     /// removed.
     Title,
-    /// `show links`, `show routes`, `show titles` or `show notices`.
+    /// `show links`, `show routes`, `show titles`, `show subsystems`, `show notices` or `show flags`.
     Show,
 }
 

@@ -14,10 +14,12 @@ use settings::{Settings, TitleRow};
 /// An order as it was written.
 #[derive(Drop)]
 pub enum OrderText<'a> {
-    /// `activate LINK`: the link may open.
+    /// `activate LINK`, then perhaps `emergency`: the link may open, with emergency proving if that is asked for.
     Activate {
         /// The link's name; there may be no such link.
         link: &'a [u8],
+        /// Whether `emergency` is behind it.
+        emergency: bool,
     },
     /// `deactivate LINK`: the link fails if it isn't down, and can't open.
     Deactivate {
@@ -79,9 +81,9 @@ impl OrderText<'_> {
         ensures { result ≡ order_named settings.now (instruction self.entry) }
     {
         match self {
-            OrderText::Activate { link } => {
+            OrderText::Activate { link, emergency } => {
                 let link = settings.link_named(link)?;
-                Some(Order::Activate(link))
+                Some(Order::Activate { link, emergency })
             }
             OrderText::Deactivate { link } => {
                 let link = settings.link_named(link)?;

@@ -6,11 +6,12 @@ help                      these lines
 show links                each link: its state, how many messages wait, the last numbers
 show routes               each destination: the sets that messages take, and their status
 show titles               the translation rows
+show subsystems           the subsystems at other points that are prohibited
 show notices              the last 64 notices
 show flags                how often a message may have been lost, or flows gone out of order
 show counters             what passed on each link since the start: counter NAME LINK VALUE
 submit HEX                a user part submits a message: its SIO, then its SIF
-activate LINK             the link may open
+activate LINK             the link may open; activate LINK emergency: with emergency proving
 deactivate LINK           the link goes out of service, and stays out
 title add T P N DIGITS POINT ROUTE SSN
                           a translation row is added; behind SSN perhaps backup POINT, then perhaps

@@ -159,7 +159,9 @@ impl<N: Net + RandomSource> DatagramBench<'_, N> {
     /// A tick passes at an end, and then the time of its gates.
     fn tick_once(&mut self, end: End) {
         self.times.pass(end, TICK_MS);
-        self.node_mut(end).step(&Event::Tick);
+        let node = self.node_mut(end);
+        node.step(&Event::Tick);
+        node.test_subsystems();
         let circuits = &mut *self.circuits;
         tick_all(circuits, end, self.near, self.far, self.times);
     }

@@ -4,8 +4,8 @@ use exchange::{
     BUFFER_OCTETS, Event, Exchange, Frame, Limits, LinkId, MsuRef, Outcome, Wants, decode,
 };
 
-/// Statuses that wait on a link, at most: Alignment, Proving Normal and Ready (docs/ALIGNMENT.md).
-const WAITING_STATUSES: usize = 3;
+/// Statuses that wait on a link, at most: Out of Service, Alignment, Proving and Ready (docs/ALIGNMENT.md).
+const WAITING_STATUSES: usize = 4;
 
 /// What comes next to a node.
 pub(crate) enum Received {
@@ -65,6 +65,7 @@ pub(crate) fn serve<N: Network, U: UserParts>(
             Received::Submit(sio, count) => submit(exchange, sio, front(&buffer, count), users),
             Received::Tick => {
                 let _ticked = exchange.step(&Event::Tick);
+                exchange.test_subsystems();
             }
             Received::Gone(link) => {
                 let _down = exchange.step(&Event::AssociationDown(link));

@@ -36,6 +36,7 @@ pub(crate) fn draft(alloc: Global) -> Result<Draft, AllocError> {
         subsystem_tests: false,
         user_part_unavailable: false,
         processor_outage: false,
+        out_of_service: false,
         timers: timers(),
         sets,
         links,

@@ -67,6 +67,7 @@ settings-meant d h =
       h.subsystem_tests,
       h.user_part_unavailable,
       h.processor_outage,
+      h.out_of_service,
       h.timers,
       sets-meant d.sets.items h.sets,
       links-meant d.sets.items d.links.items h.sets h.links,

@@ -2,7 +2,8 @@
 use Rattle.std.proofs.Common.{◌≡◌, ℤ, pos, true, List, [], ◌∷◌, None, map, refl, codes, string_bytes}
 use Rattle.std.specs.declared.alloc.Global.{Global}
 use Rattle.std.specs.Prelude.{String}
-use Rattle.settings.specs.FirstFault.{first_fault, scalars_fault, timers_fault, link_tests_fault, arrays_fault, tables_fault, sets_fault, links_fault, destinations_fault, titles_fault, unreached_fault, set_list_fault, is_first_name}
+use Rattle.settings.specs.FirstFault.{first_fault, scalars_fault, timers_fault, link_tests_fault, arrays_fault, tables_fault, sets_fault, links_fault, destinations_fault, unreached_fault, set_list_fault, is_first_name}
+use Rattle.settings.specs.TitleFaults.{titles_fault}
 use Rattle.settings.specs.Checks.{numbers_fault}
 use Rattle.settings_rows.specs.declared.key.Key.{Key}
 use Rattle.settings_rows.specs.declared.key.Key.TheVariants.{Users, Subsystems}

@@ -131,7 +131,7 @@ fn form(command: Command) -> &'static str {
             "submit HEX, where HEX is 1 to 4096 octets of two hex digits each, without spaces",
         Command::Take => "take LINK",
         Command::Wants => "wants LINK",
-        Command::Activate => "activate LINK",
+        Command::Activate => "activate LINK, then perhaps emergency",
         Command::Deactivate => "deactivate LINK",
         Command::Title => {
             "title add T P N DIGITS POINT ROUTE SSN, then perhaps backup POINT, then perhaps changed PLAN NATURE \
@@ -139,6 +139,7 @@ fn form(command: Command) -> &'static str {
              DIGITS and ADD 1 to 32 of 0 to 9 and a to f, POINT 0 to 16383, ROUTE title or ssn, SSN 1 to 255, or - \
              if ROUTE is title, REMOVE 0 to 32; PLAN, NATURE and ADD may be -"
         }
-        Command::Show => "show links, show routes, show titles, show notices or show flags",
+        Command::Show =>
+            "show links, show routes, show titles, show subsystems, show notices or show flags",
     }
 }

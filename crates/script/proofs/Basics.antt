@@ -18,7 +18,7 @@ pub use Rattle.exchange_rules.specs.Queues.{whole, WholeQueues}
 pub use Rattle.exchange_rules.specs.First.{Abstract}
 pub use Rattle.point_format.specs.declared.point.PointFormat.TheVariants.{Plain}
 pub use Rattle.script.specs.Asking.{AskOrder, asked_behind, Asked, Reading, Asks, IsMalformed, parsed_line, Skips, asked_line}
-pub use Rattle.script.specs.Doing.{printed, done, after_ticks, Meaning, Calls, Passes, Shows, Refuses, meaning, answer_text, meaning_printed, meaning_done}
+pub use Rattle.script.specs.Doing.{printed, done, after_tick, after_ticks, Meaning, Calls, Passes, Shows, Refuses, meaning, answer_text, meaning_printed, meaning_done}
 pub use Rattle.script.specs.Lines.{is_octets, octets_of, lines}
 pub use Rattle.script.specs.Runs.{Reached, silent, stopped, line_run, whole_line, open_run, onto, unless_ended, behind, first_of, behind_first, lines_run, Does, run_so_far, whole_run, RunsBy, Runs, LeadsTo}
 pub use Rattle.script.specs.Showing.{line_of, most_lines, ended, first_lines, shown_text}

@@ -1,8 +1,9 @@
 -- A run over what an exchange keeps is the run over the abstract state that it stands for.
-use Rattle.script.proofs.Basics.{◌≡◌, ℕ, zero, suc, ◌+◌, List, [], ◌∷◌, Option, None, Some, Result, Ok, Err, refl, sym, ◌∙◌, ap, subst, inl, inr, ◌++◌, Bool, true, false, nat_lt, length, option_to_list, if◌then◌else◌, Appends, WholeQueues, whole, KeptQueues, kept, Abstract, Kept, StandsFor, kept_of, after, Ticked, Asked, Reading, Skips, IsMalformed, Asks, Meaning, Calls, Passes, Shows, Refuses, meaning, answer_text, after_ticks, meaning_printed, meaning_done, printed, done, AppendsFirst, AppendsAtLeast, lines, Reached, silent, stopped, line_run, whole_line, onto, unless_ended, behind, first_of, behind_first, lines_run, run_so_far, whole_run, LeadsTo, Does, RunsBy, Runs, LINE_OCTETS, ScriptFault, Read, Write, Line, TooManyReads, NoMemory}
+use Rattle.script.proofs.Basics.{◌≡◌, ℕ, zero, suc, ◌+◌, List, [], ◌∷◌, Option, None, Some, Result, Ok, Err, refl, sym, ◌∙◌, ap, subst, inl, inr, ◌++◌, Bool, true, false, nat_lt, length, option_to_list, if◌then◌else◌, Appends, WholeQueues, whole, KeptQueues, kept, Abstract, Kept, StandsFor, kept_of, after, Ticked, Asked, Reading, Skips, IsMalformed, Asks, Meaning, Calls, Passes, Shows, Refuses, meaning, answer_text, after_tick, after_ticks, meaning_printed, meaning_done, printed, done, AppendsFirst, AppendsAtLeast, lines, Reached, silent, stopped, line_run, whole_line, onto, unless_ended, behind, first_of, behind_first, lines_run, run_so_far, whole_run, LeadsTo, Does, RunsBy, Runs, LINE_OCTETS, ScriptFault, Read, Write, Line, TooManyReads, NoMemory}
 use Rattle.exchange.specs.declared.event.Answer.{Answer}
 use Rattle.exchange.proofs.Calls.{stands-answer, stands-call}
 use Rattle.exchange.proofs.Standing.{stands-after}
+use Rattle.exchange.proofs.SubsystemTests.{stands-tests}
 use Rattle.script.proofs.Shown.{shown-stands}
 
 -- ---- one line
@@ -15,7 +16,7 @@ meaning-printed (Refuses cause) a s = refl
 
 ticks-stand : (ticks : ℕ) (k : Kept) (a : Abstract) → StandsFor k a → StandsFor (after_ticks kept ticks k) (after_ticks whole ticks a)
 ticks-stand zero k a s = s
-ticks-stand (suc more) k a s = ticks-stand more (after kept Ticked k) (after whole Ticked a) (stands-after Ticked k a s)
+ticks-stand (suc more) k a s = ticks-stand more (after_tick kept k) (after_tick whole a) (stands-tests (after kept Ticked k) (after whole Ticked a) (stands-after Ticked k a s))
 
 meaning-stands : (m : Meaning) (k : Kept) (a : Abstract) → StandsFor k a → StandsFor (meaning_done kept m k) (meaning_done whole m a)
 meaning-stands (Calls asking) k a s = stands-call asking k a s

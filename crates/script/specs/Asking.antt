@@ -1,5 +1,5 @@
 -- What the lines of a script ask for, with points in the format that they are written and shown in.
-use Rattle.std.specs.Prelude.{ℕ, Bool, true, ◌==◌, ◌&&◌, if◌then◌else◌, List, [], ◌∷◌, codes}
+use Rattle.std.specs.Prelude.{ℕ, Bool, true, false, ◌==◌, ◌&&◌, if◌then◌else◌, List, [], ◌∷◌, codes}
 use Rattle.std.specs.Prelude.{Option, None, Some, Result, Ok, Err, bytes_eq}
 use Rattle.std.specs.Option.{option_map}
 use Rattle.console.specs.Commands.{command_named}
@@ -15,7 +15,7 @@ use Rattle.script.specs.declared.line.Line.{Line}
 use Rattle.script.specs.declared.line.Line.TheVariants as line
 use Rattle.script.specs.declared.line.Malformed.{Malformed}
 use Rattle.script.specs.declared.line.Show.{Show}
-use Rattle.script.specs.declared.line.Show.TheVariants.{Links, Routes, Titles, Notices, Flags}
+use Rattle.script.specs.declared.line.Show.TheVariants.{Links, Routes, Titles, Subsystems, Notices, Flags}
 
 -- what a line asks for; a link goes by a name, which no link need have
 pub data Asked : Type 0 where
@@ -35,6 +35,7 @@ show_named points word =
     if bytes_eq word (codes "links") then Some Links
     else if bytes_eq word (codes "routes") then Some (Routes points)
     else if bytes_eq word (codes "titles") then Some (Titles points)
+    else if bytes_eq word (codes "subsystems") then Some (Subsystems points)
     else if bytes_eq word (codes "notices") then Some (Notices points)
     else if bytes_eq word (codes "flags") then Some Flags
     else None
@@ -48,7 +49,8 @@ asked_with_one points command.Tick word = option_map (λ ticks. AskTick ticks) (
 asked_with_one points command.Take word = if is_some_word word then Some (AskTake word) else None
 asked_with_one points command.Wants word = if is_some_word word then Some (AskWants word) else None
 asked_with_one points command.Submit word = if is_octets word then Some (AskSubmit (octets_of word)) else None
-asked_with_one points command.Activate word = if is_some_word word then Some (AskOrder (ToActivate word)) else None
+asked_with_one points command.Activate word =
+    if is_some_word word then Some (AskOrder (ToActivate word false)) else None
 asked_with_one points command.Deactivate word = if is_some_word word then Some (AskOrder (ToDeactivate word)) else None
 asked_with_one points command.Title word = None
 asked_with_one points command.Show word = option_map (λ what. AskShow what) (show_named points word)
@@ -57,6 +59,8 @@ asked_with_one points command.Show word = option_map (λ what. AskShow what) (sh
 abbrev pub asked_with_two : Command → List ℕ → List ℕ → Option Asked
 asked_with_two command.Frame first second =
     if is_some_word first && is_octets second then Some (AskFrame first (octets_of second)) else None
+asked_with_two command.Activate first second =
+    if is_some_word first && bytes_eq second (codes "emergency") then Some (AskOrder (ToActivate first true)) else None
 asked_with_two _ first second = None
 
 -- the words after a command; with three and more it is an order

@@ -61,6 +61,7 @@ pub record IsBuiltIn (d : Draft) : Type 0 where
   pub subsystem_tests : d.subsystem_tests ≡ false
   pub user_part_unavailable : d.user_part_unavailable ≡ false
   pub processor_outage : d.processor_outage ≡ false
+  pub out_of_service : d.out_of_service ≡ false
   pub timers : d.timers ≡ built_in_ticks
   pub sets : IsSets d.sets.items
   pub links : IsLinks d.links.items
@@ -80,6 +81,7 @@ built_in_settings = record {
   subsystem_tests = false;
   user_part_unavailable = false;
   processor_outage = false;
+  out_of_service = false;
   timers = record {
     l1 = 10;
     l2 = 10;

@@ -13,7 +13,7 @@ use Rattle.exchange.specs.declared.event.Answer.{Answer}
 use Rattle.exchange.specs.declared.event.Answer.TheVariants.{Stepped, Taken, Wanted}
 use Rattle.exchange.specs.declared.event.Order.{Order}
 use Rattle.exchange_rules.specs.State.{State, QueueKind, CameUp, WentDown, FrameCame, Ticked, Submitted, Asking, Happens, Takes, AsksWants}
-use Rattle.exchange_rules.specs.Exchange.{after}
+use Rattle.exchange_rules.specs.Exchange.{after, after_tests}
 use Rattle.exchange.specs.Runs.{answer_to_call, after_call}
 use Rattle.console.specs.Names.{name_in}
 use Rattle.console.specs.Orders.{order_named}
@@ -86,10 +86,14 @@ answer_text c asking (Stepped outcome) = report c outcome
 answer_text c asking (Taken frame) = taken_text (name_asked c asking) frame
 answer_text c asking (Wanted wants) = wants_line wants
 
+-- the state after a tick, and after the tests of subsystems that are due by it
+abbrev pub after_tick : {Q : Type 0} → QueueKind Q → State Q → State Q
+after_tick q s = after_tests q (after q Ticked s)
+
 -- the state after this many ticks
 abbrev pub after_ticks : {Q : Type 0} → QueueKind Q → ℕ → State Q → State Q
 after_ticks q zero s = s
-after_ticks q (suc more) s = after_ticks q more (after q Ticked s)
+after_ticks q (suc more) s = after_ticks q more (after_tick q s)
 
 -- what is printed for a meaning, and the state after it
 abbrev pub meaning_printed : {Q : Type 0} → QueueKind Q → Meaning → State Q → List ℕ

@@ -1,16 +1,17 @@
 -- What is shown, line by line.
 use Rattle.std.specs.Prelude.{ℕ, zero, suc, List, [], ◌++◌, length, codes, Option, Some, None}
 use Rattle.exchange_rules.specs.State.{QueueKind, State}
-use Rattle.console.specs.Texts.{link_line, route_line, title_line, notice_line, flag_line}
+use Rattle.console.specs.Texts.{link_line, route_line, title_line, subsystem_line, notice_line, flag_line}
 use Rattle.console.specs.declared.flags.TheConstants.{FLAGS}
 use Rattle.script.specs.declared.line.Show.{Show}
-use Rattle.script.specs.declared.line.Show.TheVariants.{Links, Routes, Titles, Notices, Flags}
+use Rattle.script.specs.declared.line.Show.TheVariants.{Links, Routes, Titles, Subsystems, Notices, Flags}
 
 -- a line of a text by its number, from 0
 abbrev pub line_of : {Q : Type 0} → QueueKind Q → Show → State Q → ℕ → Option (List ℕ)
 line_of q Links s k = link_line q s k
 line_of q (Routes points) s k = route_line points s k
 line_of q (Titles points) s k = title_line points s k
+line_of q (Subsystems points) s k = subsystem_line points s k
 line_of q (Notices points) s k = notice_line points s k
 line_of q Flags s k = flag_line s k
 
@@ -19,6 +20,7 @@ abbrev pub most_lines : {Q : Type 0} → Show → State Q → ℕ
 most_lines Links s = length s.settings.links
 most_lines (Routes points) s = length s.settings.destinations
 most_lines (Titles points) s = length s.node.parts.titles.rows
+most_lines (Subsystems points) s = length s.node.parts.titles.prohibited
 most_lines (Notices points) s = length s.node.parts.notices.last
 most_lines Flags s = FLAGS
 

@@ -29,6 +29,7 @@ pub fn built_in(alloc: Global) -> Result<Draft, AllocError>
         subsystem_tests: false,
         user_part_unavailable: false,
         processor_outage: false,
+        out_of_service: false,
         timers: timers(),
         sets: sets(alloc)?,
         links: links(alloc)?,

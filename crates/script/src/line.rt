@@ -29,6 +29,8 @@ pub enum Show {
     Routes(PointFormat),
     /// The translation rows, with points in this format.
     Titles(PointFormat),
+    /// The prohibited subsystems, with points in this format.
+    Subsystems(PointFormat),
     /// The notices, with points in this format.
     Notices(PointFormat),
     /// The flags.
@@ -75,12 +77,14 @@ pub enum Line<'a> {
         /// The service information octet, and the signalling information field after it.
         octets: HexOctets<'a>,
     },
-    /// `activate LINK`, `deactivate LINK`, `title add ..` or `title remove ..`: an order of the operator.
+    /// `activate LINK`, then perhaps `emergency`; `deactivate LINK`, `title add ..` or `title remove ..`: an order of
+    /// the operator.
     Order {
         /// The order.
         order: OrderText<'a>,
     },
-    /// `show links`, `show routes`, `show titles` or `show notices`: a text of the console.
+    /// `show links`, `show routes`, `show titles`, `show subsystems`, `show notices` or `show flags`: a text of the
+    /// console.
     Show {
         /// Which.
         what: Show,
@@ -142,7 +146,10 @@ pub fn line_with_one_word(command: Command, word: &[u8], points: PointFormat) ->
         Command::Take if !word.is_empty() => Some(Line::Take { link: word }),
         Command::Wants if !word.is_empty() => Some(Line::Wants { link: word }),
         Command::Activate if !word.is_empty() => {
-            let order = OrderText::Activate { link: word };
+            let order = OrderText::Activate {
+                link: word,
+                emergency: false,
+            };
             Some(Line::Order { order })
         }
         Command::Deactivate if !word.is_empty() => {
@@ -177,6 +184,13 @@ fn asked_with_two<'a>(command: Command, first: &'a [u8], second: &'a [u8]) -> Op
                 octets,
             })
         }
+        Command::Activate if !first.is_empty() && second == b"emergency".as_slice() => {
+            let order = OrderText::Activate {
+                link: first,
+                emergency: true,
+            };
+            Some(Line::Order { order })
+        }
         _ => None,
     }
 }
@@ -191,6 +205,8 @@ fn show_named(word: &[u8], points: PointFormat) -> Option<Show>
         Some(Show::Routes(points))
     } else if word == b"titles".as_slice() {
         Some(Show::Titles(points))
+    } else if word == b"subsystems".as_slice() {
+        Some(Show::Subsystems(points))
     } else if word == b"notices".as_slice() {
         Some(Show::Notices(points))
     } else if word == b"flags".as_slice() {

@@ -81,13 +81,14 @@ fn obey(exchange: &mut Exchange, order: OrderText<'_>) -> Outcome
     }
 }
 
-/// Lets this many ticks pass.
+/// Lets this many ticks pass. After each the tests of subsystems that are due are submitted.
 fn pass(exchange: &mut Exchange, ticks: u16) -> Outcome
     ensures outcome { result ≡ Outcome.Handled }
     ensures state { exchange.new ≡ after_ticks kept ticks exchange.old }
 {
     for _ in 0..ticks {
         exchange.step(&Event::Tick);
+        exchange.test_subsystems();
     }
     Outcome::Handled
 }

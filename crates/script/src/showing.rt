@@ -13,7 +13,10 @@ use crate::performing::{Reply, report};
 use crate::sink::{Sink, WriteFailed};
 use crate::text::console_line;
 use arrayvec::ArrayString;
-use console::{FLAGS, LINE_OCTETS, show_flags, show_links, show_notices, show_routes, show_titles};
+use console::{
+    FLAGS, LINE_OCTETS, show_flags, show_links, show_notices, show_routes, show_subsystems,
+    show_titles,
+};
 use exchange::Exchange;
 
 /// Prints the outcome of a line. It allocates no memory.
@@ -79,6 +82,7 @@ fn write_line(
         Show::Links => show_links(exchange, k, line),
         Show::Routes(points) => show_routes(exchange, k, points, line),
         Show::Titles(points) => show_titles(exchange, k, points, line),
+        Show::Subsystems(points) => show_subsystems(exchange, k, points, line),
         Show::Notices(points) => show_notices(exchange, k, points, line),
         Show::Flags => show_flags(exchange, k, line),
     }
@@ -92,6 +96,7 @@ fn most_lines(exchange: &Exchange, what: Show) -> usize
         Show::Links => exchange.settings().links().len(),
         Show::Routes(_) => exchange.settings().destinations().len(),
         Show::Titles(_) => exchange.title_count(),
+        Show::Subsystems(_) => exchange.titles().prohibited_len(),
         Show::Notices(_) => exchange.notices().len(),
         Show::Flags => FLAGS,
     }

@@ -3,8 +3,9 @@
 ghost use Rattle.std.specs.Prelude.{◌≡◌, IfOk, length};
 ghost use Rattle.exchange.specs.KeptQueues.{kept};
 ghost use Rattle.exchange.specs.Calls.{kept_of, happened};
-ghost use Rattle.exchange_rules.specs.Exchange.{outcome_of, after};
+ghost use Rattle.exchange_rules.specs.Exchange.{outcome_of, after, after_tests};
 ghost use Rattle.exchange_rules.specs.First.{first_state};
+ghost use Rattle.exchange_rules.specs.State.{Ticked};
 ghost use Rattle.served_link.specs.Counting.{first_counters};
 
 use crate::fault::OpenFault;
@@ -70,6 +71,16 @@ impl Node {
         let outcome = self.exchange.step(event);
         self.look(dropped, log);
         outcome
+    }
+
+    /// Lets a tick pass, submits the tests of subsystems that are due by it, and tells what is new. A failure whose
+    /// notice was dropped for later ones is counted as one by a timer.
+    pub fn tick<W: Sink>(&mut self, log: &mut Log<'_, W>)
+        ensures { self.new.exchange ≡ after_tests kept (after kept Ticked self.old.exchange) }
+    {
+        self.exchange.step(&Event::Tick);
+        self.exchange.test_subsystems();
+        self.look(FailureReason::Timer, log);
     }
 
     /// Does the lines that clients of the console wrote. True if one of them stops the node.

@@ -109,11 +109,7 @@ impl Server {
     /// connections again: one that came may still be waiting because there were no sockets left.
     pub fn tick<W: Sink>(&mut self, now: Duration, log: &mut W) {
         self.is_busy = true;
-        self.node.step(
-            &Event::Tick,
-            FailureReason::Timer,
-            &mut Log { sink: log, now },
-        );
+        self.node.tick(&mut Log { sink: log, now });
         self.tcp.mark_listeners();
         self.node.observers.clients.listener.mark();
         if let Some(page) = &mut self.page {

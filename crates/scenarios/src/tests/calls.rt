@@ -126,7 +126,13 @@ impl NodeTrial for Absent {
         is_refused(node, &Event::AssociationUp(self.link))
             && is_refused(node, &Event::AssociationDown(self.link))
             && is_refused(node, &Event::Frame(self.link, b""))
-            && is_refused(node, &Event::Order(Order::Activate(self.link)))
+            && is_refused(
+                node,
+                &Event::Order(Order::Activate {
+                    link: self.link,
+                    emergency: false,
+                }),
+            )
             && is_refused(node, &Event::Order(Order::Deactivate(self.link)))
             && node.take(self.link, &mut [0; BUFFER_OCTETS]).is_none()
             && shows_nothing(node, self.link)

@@ -19,7 +19,7 @@ absent 1 L1 1; absent 1 L1 255; absent 1 L2 255; absent 1 L3 255; absent 1 L4 25
 absent 1 T1 1; absent 1 T1 255; absent 1 T2 255; absent 1 T3 255; absent 1 T4 0 16; absent 1 T4 0 255; absent 1 T4 1 0
 absent 1 T4 255 15; absent 1 T6 2; absent 1 T6 65535; absent 1 T8 0 2; absent 1 T8 0 65535; absent 1 T8 1 0
 absent 1 T8 255 0; absent 1 T10 0 2; absent 1 T10 0 65535; absent 1 T10 255 65535; tick 1; due 0 T6 1; due 0 none
-set 1 Sst; set 1 Slt2 0; set 1 Slt1 0; set 1 T10 0 1; tick 1; due 0 T10 0 1; due 0 Slt1 0; due 0 Slt2 0; due 0 Sst
+set 1 Slt2 0; set 1 Slt1 0; set 1 T10 0 1; tick 1; due 0 T10 0 1; due 0 Slt1 0; due 0 Slt2 0
 absent 1 Slt1 1; absent 1 Slt1 255; absent 1 Slt2 1; absent 1 Slt2 255; due 0 none
 ";
 
@@ -45,7 +45,6 @@ fn named(call: &str) -> Option<TimerName> {
         "T10" => TimerName::T10(set, second),
         "Slt1" => TimerName::Slt1(link),
         "Slt2" => TimerName::Slt2(link),
-        "Sst" => TimerName::Sst,
         _ => return None,
     })
 }
