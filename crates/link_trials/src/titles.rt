@@ -1,7 +1,7 @@
 //! The translation row that operators add and remove.
 
 use exchange::{PointCode, TitleDigits, TitleKey, TitleRoute, TitleRow};
-use pair_world::Doing;
+use network_world::Doing;
 
 /// What the row has besides its digits.
 const KEY: TitleKey = TitleKey {

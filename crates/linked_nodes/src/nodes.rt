@@ -7,7 +7,7 @@ use crate::receiving::{Received, count_users_for, receive};
 use exchange::{
     FrameText, LinkId, LinkStanding, Msu, NoMemory, Outcome, Pick, PointCode, SetId, Settings,
 };
-use pair_world::{Doing, Network};
+use network_world::{Doing, Network};
 use std::alloc::Global;
 use std::marker::Model;
 

@@ -3,7 +3,7 @@
 use crate::ends::{End, other};
 use crate::nodes::point_of;
 use exchange::{Exchange, Label, LinkId, Msu, PointCode};
-use pair_world::{Arrival, Network};
+use network_world::{Arrival, Network};
 use std::alloc::Global;
 
 /// What one of two nodes received from the other.

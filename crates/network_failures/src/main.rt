@@ -1,6 +1,6 @@
 //! `network_failures N`: networks of four shapes, whose links fail and return at random; N runs of each.
 //!
-//! A network (`Network` of `pair_world`) is a line of four nodes, a triangle, a square, or a mated pair: two ends,
+//! A network (`Network` of `network_world`) is a line of four nodes, a triangle, a square, or a mated pair: two ends,
 //! points 1 and 4, and two transfer points, each joined to both ends and to the other. Each set has two links, in the
 //! line three. One set alone leads to an adjacent point. In the square two lead to the opposite one, and each end of
 //! the mated pair shares its messages for the other among two. To point 9, which isn't there, sets lead by which the

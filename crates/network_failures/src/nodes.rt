@@ -4,7 +4,7 @@ use crate::node_settings::settings_at;
 use crate::shape::{Place, Shape};
 use exchange::{Exchange, LinkStanding, Msu, NoMemory, PointCode, SetId, Settings};
 use linked_nodes::Became;
-use pair_world::{Arrival, Doing, Network};
+use network_world::{Arrival, Doing, Network};
 use std::alloc::Global;
 use std::marker::Model;
 

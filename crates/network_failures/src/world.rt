@@ -6,7 +6,7 @@ use crate::shape::{Place, Shape};
 use crate::tally::Tally;
 use exchange::SetId;
 use linked_nodes::Became;
-use pair_world::Doing;
+use network_world::Doing;
 use std::alloc::Global;
 use std::marker::Model;
 

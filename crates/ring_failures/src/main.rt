@@ -1,7 +1,7 @@
 //! Two nodes that have a third neighbour each, with a link between them that stops at each place while routes fail and
 //! return and messages pass through them.
 //!
-//! Four nodes stand in a ring. Points 1 and 2 are the two ends (`Network` of `pair_world`), with two links between
+//! Four nodes stand in a ring. Points 1 and 2 are the two ends (`Network` of `network_world`), with two links between
 //! them. Two more lead from end 1 to point 3, and from end 2 to point 4; one more is between these. All have the
 //! built-in timers. The ends know each link by another number. Frames from and to their neighbours are those of
 //! `Network::hear_outside` and `Network::send_outside`. A round is that of `link_failures`, and then a frame each way

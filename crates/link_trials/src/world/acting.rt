@@ -3,7 +3,7 @@
 use crate::world::World;
 use exchange::LinkId;
 use linked_nodes::{Became, End};
-use pair_world::Doing;
+use network_world::Doing;
 
 impl World {
     /// Does something at an end.

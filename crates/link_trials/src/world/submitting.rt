@@ -5,7 +5,7 @@ use crate::titles::title_order;
 use crate::world::World;
 use exchange::Msu;
 use linked_nodes::{End, points};
-use pair_world::Doing;
+use network_world::Doing;
 
 impl World {
     /// An operator adds a translation row, or removes it if it is there.

@@ -1,9 +1,0 @@
--- One more began anew.
-use Rattle.std.proofs.Common.{arith}
-use Rattle.std.proofs.lemmas.Grind.{common_steps}
-use Rattle.std.proofs.lemmas.List.Edits.{map_over_more}
-use Rattle.pair_world.specs.KeptAnew.{node_begins_anew}
-use Rattle.pair_world.proofs.restarting.begin_anew.Goals as goal
-
-pub loop-node-preserved : goal.loop-node-preserved
-loop-node-preserved c = grind (arith, common_steps, map_over_more node_begins_anew)
