@@ -101,6 +101,7 @@ pub mod QuietReturns
 pub mod QuietLinks
 pub mod NamedLosses
 pub mod NamedAll
+pub mod Countdowns
 pub mod Counting
 pub mod AddingUp
 pub mod SettingTimers
@@ -123,6 +124,7 @@ pub mod FacingNodes
 pub mod SharingNodes
 pub mod MadeManagement
 pub mod HeardManagement
+pub mod HeardNews
 pub mod CarriedMessages
 pub mod RuleExamples
 pub mod LeadingCells

@@ -1,5 +1,5 @@
 -- Tests of prohibited subsystems: when they are due, what they say, and how long subsystems stay prohibited.
-use Rattle.std.proofs.Common.{◌≡◌, ℕ, zero, suc, ◌+◌, ◌-◌, ◌*◌, ◌%◌, ◌^◌, ◌<◌, ◌≤◌, Bool, true, false, not, List, [], ◌∷◌, ◌++◌, Option, Some, None, Result, Ok, Err, refl, sym, ap, subst, ◌∙◌, arith, map, filter, drop}
+use Rattle.std.proofs.Common.{◌≡◌, ◌≢◌, ℕ, zero, suc, ◌+◌, ◌-◌, ◌*◌, ◌%◌, ◌^◌, ◌<◌, ◌≤◌, Bool, true, false, not, List, [], ◌∷◌, ◌++◌, Option, Some, None, Result, Ok, Err, refl, sym, ap, subst, ◌∙◌, arith, map, filter, drop}
 use Rattle.std.proofs.lemmas.Bool.{and_parts, eqb-true}
 use Rattle.std.proofs.lemmas.Bool.Decides.{nat_tests}
 use Rattle.std.proofs.lemmas.Nat.{mod-mul-add}
@@ -30,7 +30,7 @@ use Rattle.sccp_relay.specs.declared.subsystem.Subsystem.{Subsystem}
 use Rattle.sccp_relay.proofs.SaidMessages.{octets-back}
 use Rattle.exchange_rules.specs.Exchange.{after}
 use Rattle.exchange_rules.specs.First.{Abstract}
-use Rattle.exchange_rules.specs.LawsOfSubsystems.{ReadsAsTest, counted_times, known_of, none_is_where_nothing_leads, reached_ones_stay, tests_come_in_turn, tests_read_as_such, titles_are_led_on, unreached_points_bar_nothing}
+use Rattle.exchange_rules.specs.LawsOfSubsystems.{ReadsAsTest, counted_times, known_of, none_is_where_nothing_leads, points_are_open_or_shut, reached_ones_stay, tests_come_in_turn, tests_read_as_such, titles_are_led_on, unreached_points_bar_nothing}
 use Rattle.exchange_rules.specs.Messages.{own_of, sst_ticks, test_of}
 use Rattle.exchange_rules.specs.Queues.{whole}
 use Rattle.exchange_rules.specs.Routing.{facts}
@@ -39,7 +39,7 @@ use Rattle.exchange_rules.proofs.KeptTitles.{counts-them}
 
 -- ---- a subsystem whose point is reached stays
 
-same-point : (s x : Subsystem) → is_same s x ≡ true → x ≡ s
+pub same-point : (s x : Subsystem) → is_same s x ≡ true → x ≡ s
 same-point s x e =
     let parts = and_parts (nat_eq s.point x.point) (nat_eq s.ssn x.ssn) e in
     λ i. record { point = sym (eqb-true s.point x.point parts.0) i; ssn = sym (eqb-true s.ssn x.ssn parts.1) i }
@@ -232,3 +232,33 @@ pub unreached-bar-nothing : unreached_points_bar_nothing
 unfolding is_barred
 unreached-bar-nothing own prohibited sender sls row e f =
     barred-open own prohibited sender sls (is_barred own prohibited sender sls row) row (unreached-barred own prohibited sender sls row.route row.point row.backup e f)
+
+and-turned : (a b : Bool) → (a && b) ≡ (b && a)
+and-turned true true = refl
+and-turned true false = refl
+and-turned false true = refl
+and-turned false false = refl
+
+and-true : (a : Bool) → (a && true) ≡ a
+and-true true = refl
+and-true false = refl
+
+same-here : (point : ℕ) (leads : Bool) → (nat_eq point point || leads) ≡ true
+same-here point leads =
+    let same : nat_eq point point ≡ true = grind (arith, nat_tests) in
+    ap (λ (b : Bool). b || leads) same
+
+not-here : (point own : ℕ) (leads : Bool) → point ≢ own → (nat_eq point own || leads) ≡ leads
+not-here point own leads e =
+    let other : nat_eq point own ≡ false = grind (arith, nat_tests, e) in
+    ap (λ (b : Bool). b || leads) other
+
+pub open-or-shut : points_are_open_or_shut
+open-or-shut own prohibited sls point = record {
+  here = same-here own.point (own.leads own.point sls);
+  elsewhere = λ e. not-here point own.point (own.leads point sls) e;
+  by_number = λ ssn. refl;
+  shut_by_number = λ ssn. and-turned (is_out prohibited (route.Ssn ssn) point) (is_reached own sls point);
+  by_title = λ number. and-true (is_reached own sls point);
+  shut_by_title = λ number. refl;
+}

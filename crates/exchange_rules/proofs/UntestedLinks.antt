@@ -225,14 +225,20 @@ waits c link step n there =
     let steps : link_at (advance whole c link step n).parts link ≡ stepped step l =
     ap (λ (links : List Link). link_in links link) (advance-links c link step n) ∙ moved-at c link link step n.parts ∙ stepped-at c link step n.parts there in
     let passes : Link = record l { test_failed = false; untested = false } in
+    let begun : (pass_test whole c link n).parts.links ≡ links_with n.parts link passes =
+    begun-links (is_first_test link n.parts) c link (test_passed c link n.parts) n in
+    let passed : link_at (pass_test whole c link n).parts link ≡ passes =
+    ap (λ (links : List Link). link_in links link) begun ∙ get_or-set_same n.parts.links link passes down_link there in
     record {
       opens = ap (λ (x : Link). x.untested) opened;
       fresh = ap (λ (x : Link). x.test_failed) opened;
       steps = ap (λ (x : Link). x.untested) steps;
+      failed = ap (λ (x : Link). x.test_failed) steps;
       waits = λ u. ap carries_traffic steps ∙ untested-out (is_in_service step.state) l.untested u;
-      begins = λ e.
-          ap (λ (links : List Link). carries_traffic (link_in links link)) (begun-links (is_first_test link n.parts) c link (test_passed c link n.parts) n)
-          ∙ ap carries_traffic (get_or-set_same n.parts.links link passes down_link there) ∙ ap (λ (b : Bool). b && true) e;
+      begins = λ e. ap carries_traffic passed ∙ ap (λ (b : Bool). b && true) e;
+      passes = passed;
+      others = λ other apart.
+          ap (λ (links : List Link). link_in links other) begun ∙ get_or-set_other n.parts.links link other passes down_link apart;
     }
 
 pub forgets : failures_forget_tests

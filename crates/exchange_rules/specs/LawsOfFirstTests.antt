@@ -18,14 +18,20 @@ use Rattle.exchange_rules.specs.First.{first_state}
 use Rattle.exchange_rules.specs.Lasting.{after_each}
 
 -- a link that opens has a test to pass, just where links are tested, and has failed none. A step of its alignment
--- leaves that as it is, so as it enters service it carries no traffic; in service it does as its first test passes
+-- leaves both as they are, so as it enters service it carries no traffic; in service it does as its first test passes.
+-- As a test passes it has none to pass and has failed none, so a failure after that is the first one; and every other
+-- link stays as it is
 pub record WaitsForTest (c : Configuration) (link : ℕ) (step : Transition) (node : Node WholeQueues) : Type 0 where
   pub opens : (link_at (open_link whole c link node).parts link).untested ≡ tests_links c
   pub fresh : (link_at (open_link whole c link node).parts link).test_failed ≡ false
   pub steps : (link_at (advance whole c link step node).parts link).untested ≡ (link_at node.parts link).untested
+  pub failed : (link_at (advance whole c link step node).parts link).test_failed ≡ (link_at node.parts link).test_failed
   pub waits : (link_at node.parts link).untested ≡ true →
       in_traffic (advance whole c link step node).parts link ≡ false
   pub begins : in_service node.parts link ≡ true → in_traffic (pass_test whole c link node).parts link ≡ true
+  pub passes : link_at (pass_test whole c link node).parts link
+      ≡ record (link_at node.parts link) { test_failed = false; untested = false }
+  pub others : (other : ℕ) → other ≢ link → link_at (pass_test whole c link node).parts other ≡ link_at node.parts other
 
 abbrev pub links_wait_for_their_test : Type 0
 links_wait_for_their_test =

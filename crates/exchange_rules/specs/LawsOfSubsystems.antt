@@ -1,6 +1,6 @@
 -- What is known of subsystems at other points, how they are tested, and what that does to messages by title: laws
 -- (Q.714 §5.2.3, §5.3.2 to §5.3.4).
-use Rattle.std.specs.Prelude.{◌≡◌, ◌≤◌, ◌<◌, ◌^◌, ◌%◌, ◌&&◌, ◌||◌, ℕ, zero, suc, Bool, true, false, not, is_some, nat_eq, List, [], drop, filter, map, Option, Some, None, Ok, Err}
+use Rattle.std.specs.Prelude.{◌≡◌, ◌≢◌, ◌≤◌, ◌<◌, ◌^◌, ◌%◌, ◌&&◌, ◌||◌, ℕ, zero, suc, Bool, true, false, not, is_some, nat_eq, List, [], drop, filter, map, Option, Some, None, Ok, Err}
 use Rattle.std.specs.List.{list_any}
 use Rattle.std.specs.Option.{option_map_or}
 use Rattle.signalling_types.specs.declared.cause.Cause.TheVariants.{SubsystemProhibited}
@@ -12,6 +12,7 @@ use Rattle.mtp3_codec.specs.Headings.{label_at}
 use Rattle.sccp_codec.specs.declared.address.Routing.TheVariants.{Ssn}
 use Rattle.sccp_codec.specs.declared.title.TitleKey.{TitleKey}
 use Rattle.sccp_codec.specs.Management.{ManagementValue, read_management}
+use Rattle.sccp_codec.specs.declared.management.ManagementKind.TheVariants as kinds
 use Rattle.sccp_codec.specs.declared.management.ManagementKind.TheVariants.{SubsystemStatusTest}
 use Rattle.sccp_codec.specs.Messages.{AddressValue, PartsValue, UdtValue}
 use Rattle.sccp_relay.specs.Points.{OwnValue, is_backup_open, is_open, is_reached, is_shut, point_by, unless_barred}
@@ -46,6 +47,17 @@ pub record Says (c : Configuration) (m : Message) (about : ManagementValue) : Ty
   pub elsewhere : nat_eq (label_at m.sif).opc c.own ≡ false
   pub says : read_management parts.data ≡ Ok about
   pub status : is_status about.kind ≡ true
+
+-- news say from which point they came, which subsystem they are about, and that it is prohibited where they came in an
+-- SSP, and allowed where in an SSA
+pub record IsNewsOf (sender : ℕ) (about : ManagementValue) (news : SubsystemNews) : Type 0 where
+  pub from : news.sender ≡ sender
+  pub subsystem : news.subsystem ≡ record { point = about.point; ssn = about.ssn }
+  pub ssp : about.kind ≡ kinds.SubsystemProhibited → news.is_prohibited ≡ true
+  pub ssa : about.kind ≡ kinds.SubsystemAllowed → news.is_prohibited ≡ false
+
+abbrev pub news_say_what_came : Type 0
+news_say_what_came = (sender : ℕ) (about : ManagementValue) → IsNewsOf sender about (news_from sender about)
 
 -- it is handled, and nothing changes but what is known of subsystems
 abbrev pub statuses_are_heard : Type 0
@@ -98,6 +110,22 @@ abbrev pub nothing_else_changes_titles : Type 0
 nothing_else_changes_titles =
     (what : Happening) (a : Abstract) → changes_titles what a ≡ false →
     (after whole what a).node.parts.titles ≡ a.node.parts.titles
+
+-- by one that brings a message that is heard, what that says changes them, and nothing else
+pub record IsHeardAs (c : Configuration) (m : Message) (old new : TitlesValue) : Type 0 where
+  pub about : ManagementValue
+  pub says : Says c m about
+  pub is : new ≡ heard (sst_ticks c) (news_from (label_at m.sif).opc about) old
+
+pub record IsHeardIn (m : Message) (a : Abstract) : Type 0 where
+  pub framed : (link : ℕ) (text : List ℕ) → new_message link text a ≡ Some m →
+      IsHeardAs a.settings m a.node.parts.titles (after whole (FrameCame link text) a).node.parts.titles
+  pub submitted :
+      IsHeardAs a.settings m a.node.parts.titles (after whole (Submitted m) a).node.parts.titles
+
+abbrev pub what_is_heard_changes_titles : Type 0
+what_is_heard_changes_titles =
+    (m : Message) (a : Abstract) → is_heard a.settings m ≡ true → IsHeardIn m a
 
 -- and an order about rows leaves which are prohibited
 abbrev pub orders_leave_subsystems : Type 0
@@ -172,8 +200,24 @@ tests_read_as_such =
 
 -- ---- where a row leads
 
--- Where a row leads a message of a link selection that came from this sender, if from any. It is open if messages reach
--- the point and its subsystem isn't prohibited, and shut if they reach it and its subsystem is.
+-- Messages reach a point if it is this one, or a link leads to it. For a row by number it is open if they do and that
+-- subsystem isn't prohibited there, and shut if they do and it is. A row by title knows of no subsystem.
+pub record IsSeenAs (own : OwnValue) (prohibited : List ProhibitedSubsystem) (sls point : ℕ) : Type 0 where
+  pub here : is_reached own sls own.point ≡ true
+  pub elsewhere : point ≢ own.point → is_reached own sls point ≡ own.leads point sls
+  pub by_number : (ssn : ℕ) → is_open own prohibited sls (route.Ssn ssn) point
+      ≡ (is_reached own sls point && not (is_prohibited prohibited (record { point = point; ssn = ssn })))
+  pub shut_by_number : (ssn : ℕ) → is_shut own prohibited sls (route.Ssn ssn) point
+      ≡ (is_reached own sls point && is_prohibited prohibited (record { point = point; ssn = ssn }))
+  pub by_title : (number : Option ℕ) → is_open own prohibited sls (route.Title number) point
+      ≡ is_reached own sls point
+  pub shut_by_title : (number : Option ℕ) → is_shut own prohibited sls (route.Title number) point ≡ false
+
+abbrev pub points_are_open_or_shut : Type 0
+points_are_open_or_shut =
+    (own : OwnValue) (prohibited : List ProhibitedSubsystem) (sls point : ℕ) → IsSeenAs own prohibited sls point
+
+-- Where a row leads a message of a link selection that came from this sender, if from any.
 pub record IsChoice (own : OwnValue) (prohibited : List ProhibitedSubsystem) (sender : Option ℕ) (sls : ℕ)
     (row : TitleEntry) : Type 0 where
   -- an open point is taken

@@ -41,5 +41,6 @@ pub mod LawsOfUserParts
 pub mod LawsOfOutage
 pub mod LawsOfLosses
 pub mod LawsOfCauses
+pub mod LawsOfCountdowns
 pub mod LawsOfSubsystems
 pub mod RuleExamples

@@ -24,7 +24,8 @@ pub fn links_are_tested()
 
 /// Where the settings have link tests, a link carries traffic only after its first test passed (Q.707 §2.2). One that
 /// opens has a test to pass, and enters service with it; in service it carries traffic once it passes one. Until then
-/// no flow takes it, and no user message ever is in its queue. A link that fails forgets what its tests said. Without
+/// no flow takes it, and no user message ever is in its queue. A link that passes one has none to pass and has failed
+/// none, and leaves all other links as they are. A link that fails forgets what its tests said. Without
 /// link tests in the settings no link has a test to pass, and one that takes a step does no more than that.
 pub fn links_carry_traffic_after_their_first_test()
     ensures waits { links_wait_for_their_test }

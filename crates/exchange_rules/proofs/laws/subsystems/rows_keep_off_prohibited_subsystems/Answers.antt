@@ -1,5 +1,5 @@
 use Rattle.exchange_rules.proofs.Subsystems.{choices}
-use Rattle.exchange_rules.proofs.SubsystemTests.{titles-led-on, unreached-bar-nothing}
+use Rattle.exchange_rules.proofs.SubsystemTests.{open-or-shut, titles-led-on, unreached-bar-nothing}
 use Rattle.exchange_rules.proofs.laws.subsystems.rows_keep_off_prohibited_subsystems.Goals as goal
 
 pub returns-clause-choice : goal.returns-clause-choice
@@ -10,3 +10,6 @@ returns-clause-titles c = titles-led-on
 
 pub returns-clause-unreached : goal.returns-clause-unreached
 returns-clause-unreached c = unreached-bar-nothing
+
+pub returns-clause-points : goal.returns-clause-points
+returns-clause-points c = open-or-shut
